@@ -1,0 +1,4 @@
+pub mod PartsLemmas
+pub mod OrderLemmas
+pub mod PlaceLemmas
+pub mod TupleLemmas

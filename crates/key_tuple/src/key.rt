@@ -1,0 +1,122 @@
+//! A key: a tuple with at least one field.
+ghost use Rattle.std.specs.Prelude.{◌≡◌, ◌<◌, ◌⊎◌, length, map, IfOk, IfErr, IfSome, Some};
+ghost use Rattle.key_tuple.specs.Limits.{IsWithinLimits, refusal_of};
+
+use crate::error::KeyError;
+use crate::fields::Fields;
+use crate::order::compare_whole;
+use crate::tuple::Tuple;
+use std::alloc::{AllocError, Global};
+use std::cmp::Ordering;
+
+/// A whole key. Its fields are those of `tuple`; `room` is the number of fields that its buffer was
+/// made to be refilled with, 0 for a key that isn't refilled, and plays no part in comparisons.
+#[derive(Debug, Drop)]
+pub struct Key {
+    tuple: Tuple,
+    room: u8,
+    ghost some: { 0 < length tuple },
+}
+
+impl Key {
+    /// The key of these fields. Refuses too many fields first, then too many bytes.
+    pub fn try_new(alloc: Global, fields: Vec<Vec<u8>>) -> Result<Key, KeyError>
+        requires { 0 < length fields.items }
+        ensures ok { IfOk result (λ k. k.tuple ≡ map (λ f. f.items) fields.items) }
+        ensures room { IfOk result (λ k. k.room ≡ 0) }
+        ensures refused { IfSome (refusal_of (map (λ f. f.items) fields.items)) (λ e. (result ≡ Err e) ⊎ (result ≡ Err KeyError.NoMemory)) }
+        ensures cause { IfErr result (λ e. (refusal_of (map (λ f. f.items) fields.items) ≡ Some e) ⊎ (e ≡ KeyError.NoMemory)) }
+    {
+        let tuple = Tuple::try_new(alloc, fields)?;
+        Ok(Key { tuple, room: 0 })
+    }
+
+    /// The key's fields as a tuple.
+    pub fn tuple(&self) -> &Tuple
+        ensures fields { result.now ≡ self.now.tuple }
+        ensures some { 0 < length self.now.tuple }
+    {
+        &self.tuple
+    }
+}
+
+impl Clone for Key {
+    ghost is_clone = { λ k c. (c.tuple ≡ k.tuple) × (c.room ≡ 0) };
+
+    fn clone(&self) -> Result<Key, AllocError> {
+        Ok(Key {
+            tuple: self.tuple.clone()?,
+            room: 0,
+        })
+    }
+}
+
+impl PartialEq for Key {
+    ghost use Rattle.std.specs.Ordering.{eq_by_cmp, on};
+    ghost use Rattle.std.specs.Cmp.{partial_equiv_from_equiv, on_equiv};
+    ghost use Rattle.key_tuple.specs.Order.{key_cmp};
+    ghost use Rattle.key_tuple.specs.Total.{key_eq_equiv};
+
+    ghost eq = { on (λ k. k.tuple) (eq_by_cmp key_cmp) };
+
+    ghost laws = { partial_equiv_from_equiv (on_equiv (λ k. k.tuple) key_eq_equiv) };
+
+    fn eq(&self, other: &Key) -> bool {
+        compare_whole(self, other) == Ordering::Equal
+    }
+}
+
+impl Eq for Key {
+    ghost use Rattle.std.specs.Cmp.{on_equiv};
+    ghost use Rattle.key_tuple.specs.Total.{key_eq_equiv};
+
+    ghost laws = { on_equiv (λ k. k.tuple) key_eq_equiv };
+}
+
+impl PartialOrd for Key {
+    ghost use Rattle.std.specs.Prelude.{refl};
+    ghost use Rattle.std.specs.Ordering.{as_partial_cmp, on};
+    ghost use Rattle.std.specs.Cmp.{partial_order_from_agreeing_total, on_total};
+    ghost use Rattle.key_tuple.specs.Order.{key_cmp};
+    ghost use Rattle.key_tuple.specs.Total.{key_total};
+
+    ghost partial_cmp = { as_partial_cmp (on (λ k. k.tuple) key_cmp) };
+
+    ghost laws = { partial_order_from_agreeing_total (on (λ k. k.tuple) key_cmp) (on_total (λ k. k.tuple) key_total) (λ _ _. refl) (λ _ _. refl) };
+
+    fn partial_cmp(&self, other: &Key) -> Option<Ordering> {
+        Some(compare_whole(self, other))
+    }
+}
+
+impl Ord for Key {
+    ghost use Rattle.std.specs.Prelude.{refl};
+    ghost use Rattle.std.specs.Ordering.{on};
+    ghost use Rattle.std.specs.Cmp.{on_total};
+    ghost use Rattle.key_tuple.specs.Order.{key_cmp};
+    ghost use Rattle.key_tuple.specs.Total.{key_total};
+
+    ghost cmp = { on (λ k. k.tuple) key_cmp };
+
+    ghost total = { on_total (λ k. k.tuple) key_total };
+
+    ghost matches_partial_cmp = { λ _ _. refl };
+
+    ghost matches_eq = { λ _ _. refl };
+
+    fn cmp(&self, other: &Key) -> Ordering {
+        compare_whole(self, other)
+    }
+}
+
+impl Fields for Key {
+    ghost fields_of = { λ k. k.tuple };
+
+    fn count(&self) -> u8 {
+        self.tuple.count()
+    }
+
+    fn field(&self, i: u8) -> &[u8] {
+        self.tuple.field(i)
+    }
+}

@@ -1,0 +1,35 @@
+//! Modes of a search, and figures of an agreement.
+
+/// Which row a search asks for.
+#[derive(Debug, Clone, Copy, PartialEq, Eq)]
+pub enum Mode {
+    /// The first row that isn't below the tuple.
+    Ge,
+    /// The first row that is above the tuple.
+    G,
+    /// The last row that isn't above the tuple.
+    Le,
+    /// The last row that is below the tuple.
+    L,
+}
+
+/// A prefix of a key: whole fields, then first bytes of the next field; and which end of a group of
+/// rows with one prefix is meant.
+#[derive(Debug, Clone, Copy, PartialEq, Eq)]
+pub struct Params {
+    /// Whole fields.
+    pub fields: u8,
+    /// First bytes of the field after them.
+    pub bytes: u16,
+    /// The first row of a group, else the last.
+    pub left: bool,
+}
+
+/// How far a tuple and a key agree.
+#[derive(Debug, Clone, Copy, PartialEq, Eq)]
+pub struct Match {
+    /// Equal first fields.
+    pub fields: u8,
+    /// Equal first bytes of the field after them.
+    pub bytes: u16,
+}

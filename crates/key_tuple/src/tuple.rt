@@ -1,0 +1,159 @@
+//! A tuple: the first fields of a key, perhaps none.
+ghost use Rattle.std.specs.Prelude.{◌≡◌, ◌≤◌, ◌⊎◌, length, map, IfOk, IfErr, IfSome, Some};
+ghost use Rattle.key_tuple.specs.Order.{byte_count};
+ghost use Rattle.key_tuple.specs.Limits.{IsWithinLimits, refusal_of, MAX_FIELDS, MAX_KEY_BYTES};
+
+use crate::buffer::FieldBuffer;
+use crate::error::KeyError;
+use crate::fields::Fields;
+use crate::order::compare_whole;
+use crate::{MAX_FIELDS, MAX_KEY_BYTES};
+use std::alloc::{AllocError, Global};
+use std::cmp::Ordering;
+use std::marker::Model;
+
+/// Up to [`MAX_FIELDS`] fields of up to [`MAX_KEY_BYTES`] bytes together, seen as the list of them.
+#[derive(Debug, Drop)]
+pub struct Tuple {
+    buffer: FieldBuffer,
+}
+
+impl Model for Tuple {
+    ghost use Rattle.key_tuple.specs.Order.{FieldList};
+    ghost use Rattle.key_tuple.specs.Limits.{IsWithinLimits};
+
+    ghost Value = { FieldList };
+
+    ghost view = { λ t. t.buffer.fields };
+
+    ghost invariant = { λ t. IsWithinLimits t.buffer.fields };
+}
+
+impl Tuple {
+    /// The tuple of these fields. Refuses too many fields first, then too many bytes.
+    pub fn try_new(alloc: Global, fields: Vec<Vec<u8>>) -> Result<Tuple, KeyError>
+        ensures ok { IfOk result (λ t. t ≡ map (λ f. f.items) fields.items) }
+        ensures refused { IfSome (refusal_of (map (λ f. f.items) fields.items)) (λ e. (result ≡ Err e) ⊎ (result ≡ Err KeyError.NoMemory)) }
+        ensures cause { IfErr result (λ e. (refusal_of (map (λ f. f.items) fields.items) ≡ Some e) ⊎ (e ≡ KeyError.NoMemory)) }
+    {
+        let count = fields.len();
+        if count > usize::from(MAX_FIELDS) {
+            return Err(KeyError::TooManyFields(count));
+        }
+        let total = total_len(&fields).ok_or(KeyError::NoMemory)?;
+        if total > MAX_KEY_BYTES {
+            return Err(KeyError::TooLong(total));
+        }
+        let buffer = gather(alloc, &fields, total)?;
+        Ok(Tuple { buffer })
+    }
+
+    /// The tuple is within the limits.
+    pub fn is_within_limits(&self)
+        ensures { IsWithinLimits self.now }
+    {
+        let _ = &self.buffer;
+    }
+}
+
+impl Clone for Tuple {
+    ghost is_clone = { λ t c. c ≡ t };
+
+    fn clone(&self) -> Result<Tuple, AllocError> {
+        Ok(Tuple {
+            buffer: self.buffer.clone()?,
+        })
+    }
+}
+
+impl PartialEq for Tuple {
+    ghost use Rattle.std.specs.Ordering.{eq_by_cmp};
+    ghost use Rattle.key_tuple.specs.Order.{key_cmp};
+    ghost use Rattle.key_tuple.specs.Total.{key_eq_equiv};
+    ghost use Rattle.std.specs.Cmp.{partial_equiv_from_equiv};
+
+    ghost eq = { eq_by_cmp key_cmp };
+
+    ghost laws = { partial_equiv_from_equiv key_eq_equiv };
+
+    fn eq(&self, other: &Tuple) -> bool {
+        compare_whole(self, other) == Ordering::Equal
+    }
+}
+
+impl Eq for Tuple {
+    ghost use Rattle.key_tuple.specs.Total.{key_eq_equiv};
+
+    ghost laws = { key_eq_equiv };
+}
+
+impl PartialOrd for Tuple {
+    ghost use Rattle.std.specs.Ordering.{as_partial_cmp};
+    ghost use Rattle.std.specs.Cmp.{partial_order_from_agreeing_total};
+    ghost use Rattle.std.specs.Prelude.{refl};
+    ghost use Rattle.key_tuple.specs.Order.{key_cmp};
+    ghost use Rattle.key_tuple.specs.Total.{key_total};
+
+    ghost partial_cmp = { as_partial_cmp key_cmp };
+
+    ghost laws = { partial_order_from_agreeing_total key_cmp key_total (λ _ _. refl) (λ _ _. refl) };
+
+    fn partial_cmp(&self, other: &Tuple) -> Option<Ordering> {
+        Some(compare_whole(self, other))
+    }
+}
+
+impl Ord for Tuple {
+    ghost use Rattle.key_tuple.specs.Order.{key_cmp};
+    ghost use Rattle.key_tuple.specs.Total.{key_total};
+    ghost use Rattle.std.specs.Prelude.{refl};
+
+    ghost cmp = { key_cmp };
+
+    ghost total = { key_total };
+
+    ghost matches_partial_cmp = { λ _ _. refl };
+
+    ghost matches_eq = { λ _ _. refl };
+
+    fn cmp(&self, other: &Tuple) -> Ordering {
+        compare_whole(self, other)
+    }
+}
+
+impl Fields for Tuple {
+    ghost fields_of = { λ t. t };
+
+    fn count(&self) -> u8 {
+        self.buffer.count()
+    }
+
+    fn field(&self, i: u8) -> &[u8] {
+        self.buffer.field(i)
+    }
+}
+
+/// How many bytes there are together, if a `usize` can say so.
+fn total_len(fields: &[Vec<u8>]) -> Option<usize>
+    ensures { IfSome result (λ n. n ≡ byte_count (map (λ f. f.items) fields.now)) }
+{
+    let mut total: usize = 0;
+    for field in fields {
+        total = total.checked_add(field.len())?;
+    }
+    Some(total)
+}
+
+/// The fields in one buffer of that many bytes.
+fn gather(alloc: Global, fields: &[Vec<u8>], total: usize) -> Result<FieldBuffer, AllocError>
+    requires few { length fields.now ≤ MAX_FIELDS }
+    requires total { total ≡ byte_count (map (λ f. f.items) fields.now) }
+    requires short { total ≤ MAX_KEY_BYTES }
+    ensures { IfOk result (λ b. b.fields ≡ map (λ f. f.items) fields.now) }
+{
+    let mut buffer = FieldBuffer::with_capacity(alloc, total)?;
+    for field in fields {
+        buffer.push(field)?;
+    }
+    Ok(buffer)
+}
