@@ -1,0 +1,10 @@
+pub mod Map
+pub mod Operation
+pub mod Reply
+pub mod Told
+pub mod Text
+pub mod Report
+pub mod Spelling
+pub mod Scans
+pub mod Statistics
+pub mod LegalReport
