@@ -1,3 +1,5 @@
 pub mod Faults
+pub mod MemoryShelf
+pub mod MemorySink
 pub mod Shelf
 pub mod Sink

@@ -1,12 +1,17 @@
 -- What a load answers.
-use Rattle.std.specs.Prelude.{◌≡◌, ℕ, ◌<◌, List, length, Option, Some, Result, Ok, Err, IsSomeAnd, ⊤}
+use Rattle.std.specs.Prelude.{◌≡◌, ℕ, ◌<◌, List, length, Option, Some, Result, Ok, Err, IsSomeAnd, find, option_map, ⊤}
 use Rattle.std.specs.Option.{ForSome}
+use Rattle.std.specs.Str.{bytes_eq}
 use Rattle.io_port.specs.declared.shelf.ShelfError.{ShelfError}
 use Rattle.io_port.specs.declared.shelf.ShelfError.TheVariants.{Failed, TooLong, NoMemory}
 
 -- what a shelf holds: the bytes of each name that it has
 abbrev pub Files : Type 0
 Files = List ℕ → Option (List ℕ)
+
+-- the files of a list of names and bytes; of two of one name the first counts
+abbrev pub files_of : List (List ℕ × List ℕ) → Files
+files_of list name = option_map (λ file. file.1) (find (λ file. bytes_eq file.0 name) list)
 
 -- where the files are told, the file of this name has these bytes
 abbrev pub IsFileOf : Option Files → List ℕ → List ℕ → Type 0

@@ -2,8 +2,14 @@
 //! are put. Neither has a clock, and an answer that something failed always shows in a count of faults.
 #![tactic(auto)]
 
+mod memory_shelf;
+mod memory_sink;
+mod no_memory;
 mod shelf;
 mod sink;
 
+pub use memory_shelf::MemoryShelf;
+pub use memory_sink::MemorySink;
+pub use no_memory::NoMemory;
 pub use shelf::{Shelf, ShelfError};
 pub use sink::{Sink, SinkError};
