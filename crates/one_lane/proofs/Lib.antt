@@ -1,0 +1,10 @@
+pub mod Places
+pub mod SoFar
+pub mod Outcomes
+pub mod Forms
+pub mod OneMore
+pub mod Step
+pub mod Marks
+pub mod Fold
+pub mod Dashes
+pub mod Legal
