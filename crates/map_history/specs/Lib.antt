@@ -1,4 +1,5 @@
 pub mod Map
+pub mod Pairs
 pub mod Operation
 pub mod Reply
 pub mod Told

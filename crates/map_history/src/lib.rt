@@ -2,16 +2,22 @@
 //! Nothing here knows of pages, threads or files.
 #![tactic(auto)]
 
+mod answers;
 mod change;
+mod changes;
 mod columns;
 mod counts;
 mod op;
 mod reply;
+mod row_buf;
 mod sizes;
 
+pub use answers::answer;
 pub use change::Change;
+pub use changes::{apply, pairs_ascend};
 pub use columns::{How, Note};
 pub use counts::Counts;
 pub use op::{Op, OpRef};
 pub use reply::{Piece, Reply, Told};
+pub use row_buf::RowBuf;
 pub use sizes::Sizes;

@@ -1,0 +1,4 @@
+pub mod EachLemmas
+pub mod PairsLemmas
+pub mod ApplyLemmas
+pub mod AnswerLemmas
