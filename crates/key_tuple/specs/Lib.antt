@@ -1,5 +1,6 @@
 pub mod Order
 pub mod Total
+pub mod Hashed
 pub mod Place
 pub mod Figures
 pub mod Limits

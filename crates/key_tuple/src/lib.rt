@@ -9,11 +9,10 @@ mod key;
 mod laws;
 mod mode;
 mod order;
+#[cfg(test)]
+mod tests;
 mod tuple;
 mod value;
-
-//#[cfg(test)]
-//mod tests;
 
 pub use buffer::FieldBuffer;
 pub use error::{KeyError, NoMemory};
