@@ -1,6 +1,6 @@
 //! All lanes at once.
 ghost use Rattle.std.specs.List.{AllZip};
-ghost use Rattle.std.specs.Thread.{IsSync, IsSend};
+ghost use Rattle.std.specs.Thread.{IsSync};
 
 use crate::{Doer, Gate};
 use std::sync::Wait;
