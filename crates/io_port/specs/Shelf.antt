@@ -40,3 +40,10 @@ UnlessFailed (Ok x) P = P
 UnlessFailed (Err Failed) P = ⊤
 UnlessFailed (Err (TooLong n)) P = P
 UnlessFailed (Err NoMemory) P = P
+
+-- P, if the file was too long
+abbrev pub OnTooLong : {T : Type 0} → Result T ShelfError → Type 0 → Type 0
+OnTooLong (Ok x) P = ⊤
+OnTooLong (Err Failed) P = ⊤
+OnTooLong (Err (TooLong n)) P = P
+OnTooLong (Err NoMemory) P = ⊤

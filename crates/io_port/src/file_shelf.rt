@@ -1,6 +1,7 @@
 //! The real files of a runtime.
 ghost use Rattle.std.specs.Prelude.{◌≤◌, None, IfOk, IfErr, vec_len};
-ghost use Rattle.io_port.specs.Shelf.{IsTooLong};
+ghost use Rattle.io_port.specs.Shelf.{IsTooLong, OnTooLong};
+ghost use Rattle.io_port.specs.Streams.{IsAllOf, HasMore};
 
 use crate::streams::read_within;
 use crate::{Shelf, ShelfError};
@@ -44,7 +45,10 @@ impl<'a, R> FileShelf<'a, R> {
 }
 
 impl<R: Files> Shelf for FileShelf<'_, R> {
-    ghost use Rattle.std.specs.Prelude.{None};
+    ghost use Rattle.std.specs.Prelude.{◌≡◌, ◌≤◌, None, IfOk, IfErr, vec_len};
+    ghost use Rattle.io_port.specs.Shelf.{IsTooLong, OnTooLong, OnFailed, UnlessFailed};
+    ghost use Rattle.io_port.specs.Streams.{IsAllOf, HasMore};
+    ghost use Rattle.io_port.specs.FileShelf.{after_failure};
 
     ghost holds = { λ _. None };
 
@@ -53,7 +57,18 @@ impl<R: Files> Shelf for FileShelf<'_, R> {
     ghost failed = { λ s. s.failed };
 
     /// A file that can't be opened, and a read that fails, fail the load.
-    fn load(&mut self, alloc: Global, name: &str, limit: u64) -> Result<Vec<u8>, ShelfError> {
+    fn load(&mut self, alloc: Global, name: &str, limit: u64) -> Result<Vec<u8>, ShelfError>
+        // A file was opened, and these are all its bytes, or they are too many, where its reads tell them.
+        ensures read { IfOk result (λ bytes. (file : R.File) × IsAllOf (R.File.remaining file) bytes.items) }
+        ensures more { OnTooLong result ((file : R.File) × HasMore (R.File.remaining file) limit) }
+
+        ensures within { IfOk result (λ bytes. vec_len bytes ≤ limit) }
+        ensures too_long { IfErr result (IsTooLong None name.now limit) }
+
+        ensures failed { OnFailed result (self.new ≡ after_failure self.old name.now) }
+        ensures others { UnlessFailed result (self.new ≡ self.old) }
+        ensures kept { self.old.faults ≤ self.new.faults }
+    {
         let name_copy = String::from_str(alloc, name)?;
         match load_file(self.rt, alloc, name, limit) {
             Ok(bytes) => Ok(bytes),
@@ -69,6 +84,8 @@ impl<R: Files> Shelf for FileShelf<'_, R> {
 }
 
 fn load_file<R: Files>(rt: &R, alloc: Global, name: &str, limit: u64) -> Result<Vec<u8>, ShelfError>
+    ensures read { IfOk result (λ bytes. (file : R.File) × IsAllOf (R.File.remaining file) bytes.items) }
+    ensures more { OnTooLong result ((file : R.File) × HasMore (R.File.remaining file) limit) }
     ensures within { IfOk result (λ bytes. vec_len bytes ≤ limit) }
     ensures too_long { IfErr result (IsTooLong None name.now limit) }
 {
