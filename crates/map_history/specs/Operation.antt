@@ -52,3 +52,10 @@ is_scan (Get k) = false
 is_scan (Make c) = false
 is_scan (Seek mode tuple) = false
 is_scan (Scan from to limit) = true
+
+-- the map after the change that is asked for, if one is
+abbrev pub after_ask : map.Map → Ask → map.Map
+after_ask m (Get key) = m
+after_ask m (Make c) = map.after_change m c
+after_ask m (Seek mode tuple) = m
+after_ask m (Scan from to limit) = m

@@ -1,11 +1,12 @@
 //! A change, made on an ordered map of the program.
 ghost use Rattle.std.specs.Prelude.{◌≡◌, OnOk, OnErr};
 ghost use Rattle.map_history.specs.Map.{Ascends, after_change};
-ghost use Rattle.map_history.specs.Operation.{change_of};
+ghost use Rattle.map_history.specs.Operation.{change_of, operation_of, after_ask};
 ghost use Rattle.map_history.specs.Pairs.{pairs};
 ghost use Rattle.map_history.specs.Map as by;
 
 use crate::change::Change;
+use crate::op::Op;
 use key_tuple::{Key, NoMemory, Value};
 use std::alloc::AllocError;
 use std::collections::BTreeMap;
@@ -20,6 +21,20 @@ pub fn apply(map: &mut BTreeMap<Key, Value>, change: &Change) -> Result<(), NoMe
         Change::Put { key, value } => put(map, key, value)?,
         Change::Set { key, value } => set(map, key, value)?,
         Change::Del { key } => del(map, key),
+    }
+    Ok(())
+}
+
+/// Makes the change that an operation asks for, if it asks for one, as `apply` does.
+pub fn make(map: &mut BTreeMap<Key, Value>, op: &Op) -> Result<(), NoMemory>
+    ensures ok { OnOk result (pairs map.new ≡ after_ask (pairs map.old) (operation_of op.now).ask) }
+    ensures err { OnErr result (pairs map.new ≡ pairs map.old) }
+{
+    match op {
+        Op::Put { key, value, .. } => put(map, key, value)?,
+        Op::Set { key, value, .. } => set(map, key, value)?,
+        Op::Del { key, .. } => del(map, key),
+        Op::Get { .. } | Op::Seek { .. } | Op::Scan { .. } => {}
     }
     Ok(())
 }

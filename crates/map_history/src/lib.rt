@@ -14,7 +14,7 @@ mod sizes;
 
 pub use answers::answer;
 pub use change::Change;
-pub use changes::{apply, pairs_ascend};
+pub use changes::{apply, make, pairs_ascend};
 pub use columns::{How, Note};
 pub use counts::Counts;
 pub use op::{Op, OpRef};
