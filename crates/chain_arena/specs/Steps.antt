@@ -40,6 +40,10 @@ module _ {A : Type 0} (v : Vec Slot A) where
   abbrev pub ChainedWithout : ℕ → ℕ → ℕ → Type 0
   ChainedWithout cells end out = AreChained (vec_ptr v) v.items cells end out
 
+  -- the slot at q is a node's, and all nodes are in their cells' chains
+  abbrev pub IsChainedNode : ℕ → Ptr → Type 0
+  IsChainedNode cells q = (end : ℕ) × IsNodeBelow cells end q × AllChained cells end
+
   -- in the cell's chain the slot at q is the one before that at `target`
   abbrev pub Precedes : ℕ → Ptr → Ptr → Type 0
   Precedes cell target q = IsBefore (vec_ptr v) v.items cell (number_at target) q
@@ -70,6 +74,10 @@ module _ {A : Type 0} (old new : Vec Slot A) where
   -- the node is in the slot `at` now, and the others are where they were
   abbrev pub PutsNode : ℕ → Node → Type 0
   PutsNode at node = (node_at new.items at ≡ node) × ((i : ℕ) → ¬ (i ≡ at) → node_at new.items i ≡ node_at old.items i)
+
+  -- wherever the nodes end, that at q is in no chain now, and the others are still in theirs
+  abbrev pub Unlinks : ℕ → Ptr → Type 0
+  Unlinks cells q = (end : ℕ) → IsNodeBelow old cells end q → AllChained old cells end → ChainedWithout new cells end (number_at old q)
 
   -- the node at q is gone: the last one is in its place
   abbrev pub Removes : ℕ → Ptr → Type 0

@@ -1,10 +1,11 @@
 //! Writes of slots and links: a node comes in, and a node goes out.
 ghost use Rattle.std.specs.Prelude.{◌+◌, ◌<◌, ◌≤◌, length};
-ghost use Rattle.chain_arena.specs.Steps.{AllChained, ChainedWithout, IsNodeBelow, IsSlot, PutsNode, Removes, SameNodes, SamePlace, WritesNext, WritesSlot, number_at};
+ghost use Rattle.chain_arena.specs.Steps.{AllChained, ChainedWithout, IsChainedNode, IsNodeBelow, IsSlot, number_at};
+ghost use Rattle.chain_arena.specs.Steps.{PutsNode, Removes, SameNodes, SamePlace, Unlinks, WritesNext, WritesSlot};
 
 use crate::raw::{address, follow, follow_mut, same};
 use crate::slot::{Node, Slot};
-use crate::walk::before;
+use crate::walk::{before, cell_of};
 
 // Writes what follows one slot.
 fn set_next(slots: &mut Vec<Slot>, at: *mut Slot, next: Option<*mut Slot>)
@@ -32,7 +33,7 @@ pub(crate) fn push(slots: &mut Vec<Slot>, cells: u32, end: usize, node: Node)
     ensures chained { AllChained slots.new cells (end + 1) }
     ensures nodes { PutsNode slots.old slots.new end node }
 {
-    let cell = (node.fold % cells as u64) as usize;
+    let cell = cell_of(node.fold, cells);
     let head = address(slots, slots.as_ptr(), cell);
     let at = address(slots, slots.as_ptr(), end);
     let next = unsafe { follow(slots, head) }.next;
@@ -40,17 +41,16 @@ pub(crate) fn push(slots: &mut Vec<Slot>, cells: u32, end: usize, node: Node)
     set_next(slots, head, Some(at));
 }
 
-// Takes the slot at `at` out of its chain. The nodes end below `end`.
-fn unlink(slots: &mut Vec<Slot>, cells: u32, end: usize, at: *mut Slot)
-    requires node { IsNodeBelow slots.old cells end at }
+// Takes the slot at `at` out of its chain.
+fn unlink(slots: &mut Vec<Slot>, cells: u32, at: *mut Slot)
     requires slot { IsSlot slots.old at }
-    requires chained { AllChained slots.old cells end }
+    requires chained { IsChainedNode slots.old cells at }
     ensures place { SamePlace slots.old slots.new }
-    ensures chained { ChainedWithout slots.new cells end (number_at slots.old at) }
+    ensures chained { Unlinks slots.old slots.new cells at }
     ensures nodes { SameNodes slots.old slots.new }
 {
     let slot = *unsafe { follow(slots, at) };
-    let cell = (slot.node.fold % cells as u64) as usize;
+    let cell = cell_of(slot.node.fold, cells);
     let prior = before(slots, cell, at);
     set_next(slots, prior, slot.next);
 }
@@ -67,7 +67,7 @@ fn fill(slots: &mut Vec<Slot>, cells: u32, last: usize, at: *mut Slot)
 {
     let end = address(slots, slots.as_ptr(), last);
     let slot = *unsafe { follow(slots, end) };
-    let cell = (slot.node.fold % cells as u64) as usize;
+    let cell = cell_of(slot.node.fold, cells);
     let prior = before(slots, cell, end);
     set_next(slots, prior, Some(at));
     set_slot(slots, at, slot);
@@ -82,7 +82,7 @@ pub(crate) fn remove(slots: &mut Vec<Slot>, cells: u32, last: usize, at: *mut Sl
     ensures chained { AllChained slots.new cells last }
     ensures nodes { Removes slots.old slots.new last at }
 {
-    unlink(slots, cells, last + 1, at);
+    unlink(slots, cells, at);
     let end = address(slots, slots.as_ptr(), last);
     if !same(slots, at, end) {
         fill(slots, cells, last, at);

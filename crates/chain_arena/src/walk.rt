@@ -1,9 +1,18 @@
 //! Walks along one chain, from its cell's own slot on.
+ghost use Rattle.std.specs.Prelude.{◌≡◌, ◌%◌, ◌<◌};
 ghost use Rattle.chain_arena.specs.Steps.{HasChain, IsInChain, IsSlot, Locates, Precedes};
 
 use crate::raw::{address, follow, same};
 use crate::slot::Slot;
 use crate::sought::Sought;
+
+// The cell of the nodes with that fold.
+pub(crate) fn cell_of(fold: u64, cells: u32) -> usize
+    requires { 0 < cells }
+    ensures { result ≡ fold % cells }
+{
+    (fold % cells as u64) as usize
+}
 
 // The slot before `target`.
 pub(crate) fn before(slots: &Vec<Slot>, cell: usize, target: *mut Slot) -> *mut Slot

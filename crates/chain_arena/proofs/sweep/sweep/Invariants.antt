@@ -1,7 +1,7 @@
 use Rattle.std.proofs.Common.{◌+◌, ◌≤◌}
 use Rattle.chain_arena.specs.Slots.{node_at, nodes_from}
 use Rattle.chain_arena.specs.Steps.{AllChained, SamePlace}
-use Rattle.chain_arena.proofs.Blocks.{IsSwept}
+use Rattle.chain_arena.proofs.SweepLemmas.{IsSwept}
 use Rattle.chain_arena.proofs.sweep.sweep.Given as goal
 
 abbrev pub invariant-loop-left : goal.invariant-loop-left

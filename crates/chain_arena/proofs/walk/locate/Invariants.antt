@@ -2,7 +2,7 @@ use Rattle.std.proofs.Common.{false, ◌≡◌, ℕ, List, length, ◌≤◌}
 use Rattle.chain_arena.specs.Count.{tally}
 use Rattle.chain_arena.specs.Slots.{slot_index, node_at}
 use Rattle.chain_arena.specs.Sought.{fits}
-use Rattle.chain_arena.proofs.Hops.{hops, IsAt}
+use Rattle.chain_arena.proofs.WalkLemmas.{hops, IsAt}
 use Rattle.chain_arena.proofs.walk.locate.Given as goal
 
 abbrev pub invariant-loop-next : goal.invariant-loop-next

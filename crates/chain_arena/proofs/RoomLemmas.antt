@@ -3,7 +3,7 @@ use Rattle.std.proofs.Common.{◌≡◌, ℕ, ◌+◌, refl, subst, arith}
 use Rattle.chain_arena.specs.declared.slot.Node.{Node}
 use Rattle.chain_arena.specs.Slots.{nodes_from}
 use Rattle.chain_arena.specs.Table.{Table, KeepsRoom}
-use Rattle.chain_arena.proofs.Bags.{length_nodes}
+use Rattle.chain_arena.proofs.BagLemmas.{length_nodes}
 
 -- a table with as many used and spare slots together keeps its room
 pub keeps_room : (t : Table) (node node' : ℕ → Node) (cells used used' spare spare' : ℕ)
