@@ -36,12 +36,13 @@ pub(crate) fn locate(slots: &Vec<Slot>, cell: usize, sought: &Sought) -> Option<
     requires chain { HasChain slots.now cell }
     ensures { Locates slots.now cell sought.now result }
 {
-    let mut at = address(slots, slots.as_ptr(), cell);
-    while let Some(next) = unsafe { follow(slots, at) }.next {
-        if sought.fits(&unsafe { follow(slots, next) }.node) {
-            return Some(next);
+    let mut next = unsafe { follow(slots, address(slots, slots.as_ptr(), cell)) }.next;
+    while let Some(at) = next {
+        let slot = unsafe { follow(slots, at) };
+        if sought.fits(&slot.node) {
+            return Some(at);
         }
-        at = next;
+        next = slot.next;
     }
     None
 }
