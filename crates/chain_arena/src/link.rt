@@ -3,8 +3,9 @@ ghost use Rattle.std.specs.Prelude.{◌+◌, ◌<◌, ◌≤◌, length};
 ghost use Rattle.chain_arena.specs.Steps.{AllChained, ChainedWithout, IsChainedNode, IsNodeBelow, IsSlot, number_at};
 ghost use Rattle.chain_arena.specs.Steps.{PutsNode, Removes, SameNodes, SamePlace, Unlinks, WritesNext, WritesSlot};
 
+use crate::node::Node;
 use crate::raw::{address, follow, follow_mut, same};
-use crate::slot::{Node, Slot};
+use crate::slot::Slot;
 use crate::walk::{before, cell_of};
 
 // Writes what follows one slot.

@@ -3,7 +3,7 @@ ghost use Rattle.std.specs.Prelude.{◌≡◌};
 ghost use Rattle.chain_arena.specs.Bag.{same_node};
 ghost use Rattle.chain_arena.specs.Sought.{fits};
 
-use crate::slot::Node;
+use crate::node::Node;
 
 #[derive(Clone, Copy)]
 pub(crate) enum Sought {
