@@ -19,7 +19,7 @@ pub(crate) fn sweep(slots: &mut Vec<Slot>, cells: u32, used: u32, block: u32) ->
     while left > 0 {
         left -= 1;
         let at = address(slots, slots.as_ptr(), cells as usize + left as usize);
-        if unsafe { follow(slots, at) }.node.block == block {
+        if follow(slots, at).node.block == block {
             kept -= 1;
             remove(slots, cells, cells as usize + kept as usize, at);
         }
