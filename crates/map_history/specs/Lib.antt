@@ -7,5 +7,6 @@ pub mod Text
 pub mod Report
 pub mod Spelling
 pub mod Scans
+pub mod Rows
 pub mod Statistics
 pub mod LegalReport

@@ -8,8 +8,10 @@ mod changes;
 mod columns;
 mod counts;
 mod op;
+mod part_list;
 mod reply;
 mod row_buf;
+mod rows;
 mod sizes;
 
 pub use answers::answer;
@@ -20,4 +22,5 @@ pub use counts::Counts;
 pub use op::{Op, OpRef};
 pub use reply::{Piece, Reply, Told};
 pub use row_buf::RowBuf;
+pub use rows::{RowIn, Rows};
 pub use sizes::Sizes;
