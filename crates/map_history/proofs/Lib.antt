@@ -4,3 +4,6 @@ pub mod ApplyLemmas
 pub mod CutLemmas
 pub mod RowsLemmas
 pub mod AnswerLemmas
+pub mod WriteLemmas
+pub mod HistoryLemmas
+pub mod SearchLemmas

@@ -1,5 +1,5 @@
 -- Rows that lie in one buffer: how many, which parts, after one more, and the first of them.
-use Rattle.std.proofs.Common.{◌≡◌, ℕ, zero, suc, ◌+◌, ◌-◌, ◌<◌, ◌≤◌, List, [], ◌∷◌, ◌++◌, length, take, drop, get_or, refl, ap, sym, ◌∙◌, arith, length-drop, length-take, map, length-append, subst}
+use Rattle.std.proofs.Common.{◌≡◌, ℕ, zero, suc, ◌+◌, ◌-◌, ◌<◌, ◌≤◌, List, [], ◌∷◌, ◌++◌, length, take, drop, get_or, refl, ap, ◌∙◌, arith, length-drop, length-take, map, length-append, subst}
 use Rattle.std.proofs.lemmas.List.{map-append, get_or-drop, get_or-take}
 use Rattle.std.proofs.Math.ListN.{get_or-map}
 use Rattle.std.proofs.lemmas.Grind.{get_or_after_one}
@@ -7,7 +7,7 @@ use Rattle.std.specs.List.{slice_range, AllByRecursion}
 use Rattle.key_tuple.specs.Order.{FieldList}
 use Rattle.key_tuple.proofs.PartsLemmas.{IsRange, range_of_part}
 use Rattle.map_history.specs.Map.{Pair, Map}
-use Rattle.map_history.specs.Rows.{cuts, ClimbTo, row_of_parts, rows_of_parts, row_at, IsReadable, AreRows}
+use Rattle.map_history.specs.Rows.{cuts, row_of_parts, rows_of_parts, row_at, IsReadable, AreRows}
 use Rattle.map_history.proofs.CutLemmas.{length-cuts, get_or-cuts, cuts-push, cuts-take, climb-rise, climbs, ClimbTo-push, ClimbTo-take, rises_to}
 
 length-map : {A B : Type 0} (f : A → B) (xs : List A) → length (map f xs) ≡ length xs

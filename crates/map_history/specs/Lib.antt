@@ -10,3 +10,4 @@ pub mod Scans
 pub mod Rows
 pub mod Statistics
 pub mod LegalReport
+pub mod Laws

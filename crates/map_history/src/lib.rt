@@ -7,6 +7,7 @@ mod change;
 mod changes;
 mod columns;
 mod counts;
+mod laws;
 mod op;
 mod part_list;
 mod reply;
@@ -19,6 +20,9 @@ pub use change::Change;
 pub use changes::{apply, pairs_ascend};
 pub use columns::{How, Note};
 pub use counts::Counts;
+pub use laws::{
+    changes_are_local, lists_grow, maps_ascend, replies_stay, searches_find, slices_change,
+};
 pub use op::{Op, OpRef};
 pub use reply::{Piece, Reply, Told};
 pub use row_buf::RowBuf;

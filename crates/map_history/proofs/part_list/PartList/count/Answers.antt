@@ -1,4 +1,4 @@
-use Rattle.std.proofs.Common.{◌≡◌, length, ap, arith}
+use Rattle.std.proofs.Common.{length, ap, arith}
 use Rattle.key_tuple.specs.Order.{FieldList}
 use Rattle.map_history.proofs.CutLemmas.{length-cuts}
 use Rattle.map_history.proofs.part_list.PartList.count.Goals as goal

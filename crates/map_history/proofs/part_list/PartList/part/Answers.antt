@@ -1,6 +1,5 @@
 use Rattle.std.proofs.Common.{◌≡◌, ◌<◌, ◌∷◌, [], length, ap, arith, sym, get_or, ◌∙◌}
 use Rattle.std.proofs.lemmas.List.{get_or_default}
-use Rattle.std.specs.List.{slice_range}
 use Rattle.key_tuple.specs.Order.{FieldList}
 use Rattle.key_tuple.proofs.PartsLemmas.{IsRange, range_of_part}
 use Rattle.map_history.proofs.CutLemmas.{length-cuts, get_or-cuts}

@@ -1,8 +1,6 @@
 use Rattle.std.proofs.Common.{◌≡◌, ◌+◌, ◌++◌, ◌∷◌, [], ◌∙◌, ap, sym, length, arith, length-append}
 use Rattle.key_tuple.specs.Order.{FieldList}
-use Rattle.key_tuple.specs.Parts.{RiseTo}
 use Rattle.key_tuple.proofs.PartsLemmas.{RiseTo-push}
-use Rattle.map_history.specs.Rows.{cuts}
 use Rattle.map_history.proofs.CutLemmas.{cuts-push}
 use Rattle.map_history.proofs.EachLemmas.{as_ok}
 use Rattle.map_history.proofs.part_list.PartList.push.Goals as goal

@@ -1,7 +1,6 @@
-use Rattle.std.proofs.Common.{◌≡◌, ◌<◌, ◌≤◌, ◌∷◌, ◌∙◌, ap, sym, length, take, get_or, arith, length-take}
+use Rattle.std.proofs.Common.{◌≡◌, ◌≤◌, ◌∷◌, ◌∙◌, ap, sym, length, take, get_or, arith, length-take}
 use Rattle.std.proofs.lemmas.List.{take_all}
 use Rattle.key_tuple.specs.Order.{FieldList}
-use Rattle.map_history.specs.Rows.{cuts}
 use Rattle.map_history.proofs.CutLemmas.{cuts-take, RiseTo-take, rises_to, length-cuts}
 use Rattle.map_history.proofs.part_list.PartList.truncate.Goals as goal
 

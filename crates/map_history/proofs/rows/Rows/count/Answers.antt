@@ -1,4 +1,4 @@
-use Rattle.std.proofs.Common.{◌≡◌, length, ap, arith}
+use Rattle.std.proofs.Common.{length, ap, arith}
 use Rattle.map_history.specs.Map.{Map}
 use Rattle.map_history.proofs.RowsLemmas.{length-rows}
 use Rattle.map_history.proofs.rows.Rows.count.Goals as goal

@@ -1,4 +1,4 @@
-use Rattle.std.proofs.Common.{◌≡◌, ◌<◌, ◌-◌, ◌∷◌, ◌∙◌, ap, sym, get_or, length, arith, Fits}
+use Rattle.std.proofs.Common.{◌∷◌, ◌∙◌, ap, get_or, length, arith}
 use Rattle.std.proofs.lemmas.List.{get_or_default}
 use Rattle.map_history.proofs.RowsLemmas.{row_found}
 use Rattle.map_history.proofs.rows.Rows.field_count.Goals as goal

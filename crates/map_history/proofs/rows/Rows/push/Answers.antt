@@ -1,4 +1,4 @@
-use Rattle.std.proofs.Common.{◌≡◌, ◌++◌, ◌∷◌, [], ◌∙◌, ap, sym, length, arith, List}
+use Rattle.std.proofs.Common.{◌++◌, ◌∷◌, [], ◌∙◌, ap, sym, arith}
 use Rattle.map_history.specs.Map.{Map}
 use Rattle.map_history.proofs.EachLemmas.{as_ok, of_ok}
 use Rattle.map_history.proofs.RowsLemmas.{AreRows-push, rows-push}

@@ -1,4 +1,4 @@
-use Rattle.std.proofs.Common.{◌≡◌, ◌∷◌, [], ◌∙◌, ap, sym, get_or, length, arith}
+use Rattle.std.proofs.Common.{◌∷◌, [], ◌∙◌, ap, sym, get_or, length, arith}
 use Rattle.map_history.proofs.RowsLemmas.{row_found}
 use Rattle.map_history.proofs.rows.Rows.value.Goals as goal
 
