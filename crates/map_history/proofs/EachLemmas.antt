@@ -1,5 +1,5 @@
 -- Filters, and what holds of each element.
-use Rattle.std.proofs.Common.{◌≡◌, Bool, true, false, cond, List, [], ◌∷◌, refl, ap}
+use Rattle.std.proofs.Common.{◌≡◌, Bool, true, false, cond, List, [], ◌∷◌, refl, ap, Result, Ok, Err, IsOk, OnOk, is_ok, is_err, rules}
 use Rattle.std.specs.List.{filter, AllByRecursion}
 
 pub filter_each : {A : Type 0} (t : A → Bool) (xs : List A) → AllByRecursion (λ x. t x ≡ true) xs → filter t xs ≡ xs
@@ -25,3 +25,13 @@ each_filter P t (x ∷ xs) a = go (t x) refl (each_filter P t xs a.1)
     go : (b : Bool) → t x ≡ b → AllByRecursion (λ x. (t x ≡ true) × P x) (filter t xs) → AllByRecursion (λ x. (t x ≡ true) × P x) (cond b (x ∷ filter t xs) (filter t xs))
     go true e r = ((e, a.0), r)
     go false e r = r
+
+-- a list after a call that succeeded
+pub as_ok : {T E X : Type 0} (r : Result T E) (xs a b : List X) → IsOk r → xs ≡ cond (is_ok r) a b → xs ≡ a
+as_ok (Ok x) xs a b h e = e
+as_ok (Err x) xs a b h e = absurd (search rules)
+
+-- what holds of a success
+pub of_ok : {T E P : Type 0} (r : Result T E) → is_err r ≡ false → OnOk r P → P
+of_ok (Ok x) e p = p
+of_ok (Err x) e p = absurd cc

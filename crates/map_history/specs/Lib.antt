@@ -7,5 +7,7 @@ pub mod Text
 pub mod Report
 pub mod Spelling
 pub mod Scans
+pub mod Rows
 pub mod Statistics
 pub mod LegalReport
+pub mod Laws
