@@ -1,5 +1,5 @@
 -- Lines, words, names, fields, keys and values, as lists of bytes.
-use Rattle.std.specs.Prelude.{ℕ, ◌+◌, ◌-◌, ◌*◌, Bool, true, false, ◌&&◌, ◌||◌, ◌==◌, nat_le, nat_lt, if◌then◌else◌, Option, Some, None, option_and_then, option_map, is_none, List, [], ◌∷◌, length, Result, Ok, Err}
+use Rattle.std.specs.Prelude.{ℕ, ◌+◌, ◌-◌, ◌*◌, Bool, true, false, ◌&&◌, ◌||◌, ◌==◌, nat_le, nat_lt, if◌then◌else◌, Option, Some, None, option_and_then, option_map, List, [], ◌∷◌, length, Result, Ok, Err}
 use Rattle.std.specs.List.{slice_split, onto_first, list_all}
 use Rattle.key_tuple.specs.declared.TheConstants.{MAX_KEY_BYTES, MAX_VALUE_BYTES}
 use Rattle.key_tuple.specs.Order.{FieldList, byte_count}
@@ -97,8 +97,12 @@ abbrev pub tuple_of : List ℕ → Option FieldList
 tuple_of word = fields_in (slice_split (λ (b : ℕ). b == 44) word)
 
 -- a key has exactly the index's number of fields
+abbrev pub exactly : ℕ → Option FieldList → Option FieldList
+exactly n None = None
+exactly n (Some fields) = if length fields == n then Some fields else None
+
 abbrev pub key_of : ℕ → List ℕ → Option FieldList
-key_of n word = option_and_then (λ (fields : FieldList). if length fields == n then Some fields else None) (tuple_of word)
+key_of n word = exactly n (tuple_of word)
 
 -- a key, and a value, within their limits
 abbrev pub short_key : FieldList → Result FieldList Flaw
