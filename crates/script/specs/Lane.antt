@@ -83,6 +83,12 @@ lane_from n s (line ∷ lines) = do
 unfoldable pub lane_of : SchemaText → List ℕ → Result (List Line) ScriptError
 lane_of s bytes = lane_from 1 s (lines_of bytes)
 
+-- `new` is `old` and what the line says, if it says something
+pub record TakesLine (s : SchemaText) (n : ℕ) (line : List ℕ) (old new : List Line) : Type 0 where
+  pub said : Option Operation
+  pub says : lane_line s line ≡ Ok said
+  pub grown : new ≡ old ++ line_said n said
+
 -- a get, a put or a del of a key
 abbrev pub HasKey : Ask → FieldList → Type 0
 HasKey (Get k) key = k ≡ key

@@ -7,6 +7,7 @@ mod entry;
 mod error;
 mod field;
 mod lane;
+mod laws;
 mod names;
 mod pieces;
 mod reading;
@@ -16,6 +17,8 @@ mod words;
 
 pub use error::ScriptError;
 pub use lane::Line;
+pub use laws::fields_are_read_again;
+pub use reading::{read_lane, read_schema};
 pub use schema::Schema;
 
 use map_history::Sizes;
