@@ -1,10 +1,10 @@
 -- A field that is written is read again.
-use Rattle.std.proofs.Common.{◌≡◌, ℕ, zero, suc, ◌+◌, ◌-◌, ◌*◌, ◌/◌, ◌%◌, ◌<◌, ◌≤◌, ◌&&◌, ◌⊎◌, inl, inr, not, Bool, true, false, cond, eqb, leb, ltb, List, [], ◌∷◌, ◌++◌, length, Option, Some, None, refl, sym, ap, subst, ◌∙◌, append_assoc, arith}
-use Rattle.std.specs.List.{AllByRecursion, flat_map}
+use Rattle.std.proofs.Common.{◌≡◌, ℕ, ◌+◌, ◌-◌, ◌*◌, ◌/◌, ◌%◌, ◌<◌, ◌≤◌, ◌&&◌, inl, inr, not, Bool, true, false, eqb, leb, ltb, List, [], ◌∷◌, ◌++◌, Some, refl, ap, ◌∙◌, arith}
+use Rattle.std.specs.List.{flat_map}
 use Rattle.std.proofs.lemmas.Bool.{leb-true, le-leb, lt-leb, lt-ltb, le-ltb, ne_eqb, cases_lt}
 use Rattle.map_history.specs.Text.{is_plain, hex_digit, byte_text, field_text}
-use Rattle.script.specs.Grammar.{is_from, digit_of, byte_of, plain, in_front, bytes_of, is_tilde, field_of}
-use Rattle.script.specs.Laws.{AreBytes, FieldsAreReadAgain}
+use Rattle.script.specs.Grammar.{is_from, digit_of, byte_of, in_front, bytes_of, is_tilde, field_of}
+use Rattle.script.specs.Laws.{AreBytes}
 use Rattle.script.proofs.Results.{both_so}
 
 is_between : (low high b : ℕ) → low ≤ b → b ≤ high → is_from low high b ≡ true

@@ -1,15 +1,14 @@
 -- What holds of each line of a lane that is spelled.
-use Rattle.std.proofs.Common.{◌≡◌, ℕ, suc, ◌+◌, ◌<◌, ◌≤◌, Bool, true, false, cond, eqb, ltb, List, [], ◌∷◌, ◌++◌, length, Option, Some, None, Result, Ok, Err, refl, sym, ap, subst, ◌∙◌, arith}
+use Rattle.std.proofs.Common.{◌≡◌, ℕ, ◌+◌, ◌<◌, Bool, true, false, cond, eqb, List, [], ◌∷◌, ◌++◌, length, Option, Some, None, Result, Ok, Err, refl, ap, subst}
 use Rattle.std.specs.Prelude.{slice_index, ok_or, IfOk}
 use Rattle.std.specs.List.{AllByRecursion}
 use Rattle.std.specs.Str.{bytes_eq}
 use Rattle.std.proofs.lemmas.List.Quantifiers.{position-Some}
 use Rattle.std.proofs.lemmas.Bool.{eqb-true}
-use Rattle.key_tuple.specs.Order.{FieldList, byte_count}
+use Rattle.key_tuple.specs.Order.{FieldList}
 use Rattle.map_history.specs.Map.{Put, Del}
 use Rattle.map_history.specs.Operation.{Operation, Ask, Get, Make}
 use Rattle.map_history.specs.LegalReport.{Line}
-use Rattle.script.specs.declared.error.Flaw.{Flaw}
 use Rattle.script.specs.declared.error.Flaw.TheVariants.{BadLine, UnknownIndex, TooLong}
 use Rattle.script.specs.declared.error.ScriptError.{ScriptError}
 use Rattle.script.specs.declared.verb.Verb.{Verb}
@@ -18,7 +17,7 @@ use Rattle.script.specs.Steps.{◌>>=◌, or_bad, numbered, GivesWhole}
 use Rattle.script.specs.Grammar.{only, both, exactly, key_of, tuple_of, field_of, short_key, short_value, is_name, says_nothing, words_of, lines_of}
 use Rattle.script.specs.Schema.{SchemaText, index_of}
 use Rattle.script.specs.Lane.{verb_of, index_named, key_parts, row_parts, ask_of, operation_for, operation_in, lane_line, lane_from, lane_of, line_said, HasKey, IsLaneLine}
-use Rattle.script.proofs.Results.{bind_ok, some_of, chosen, not_chosen, given, unnumbered}
+use Rattle.script.proofs.Results.{bind_ok, some_of, not_chosen, given, unnumbered}
 
 exactly_so : (n : ℕ) (o : Option FieldList) (fields : FieldList) → exactly n o ≡ Some fields → length fields ≡ n
 exactly_so n None fields h = absurd cc
@@ -102,7 +101,7 @@ said_is n false s words said h =
     let is : Some op.0 ≡ said = cc in
     let holds = operation_is s words op.0 op.1 in
     subst (λ (o : Option Operation). AllByRecursion (IsLaneLine s) (line_said n o)) is
-        (record { key = holds.keyed.key; about = holds.keyed.about; known = holds.known; fields = holds.keyed.counted }, tt)
+    (record { key = holds.keyed.key; about = holds.keyed.about; known = holds.known; fields = holds.keyed.counted }, tt)
 
 line_is : (n : ℕ) (s : SchemaText) (line : List ℕ) (said : Option Operation) → lane_line s line ≡ Ok said → AllByRecursion (IsLaneLine s) (line_said n said)
 unfolding lane_line
@@ -122,7 +121,7 @@ from_is n s (line ∷ lines) said h =
     let more = bind_ok (lane_from (n + 1) s lines) (λ (m : List Line). Ok (line_said n one.0 ++ m)) said one.2 in
     let is : line_said n one.0 ++ more.0 ≡ said = cc in
     subst (λ (o : List Line). AllByRecursion (IsLaneLine s) o) is
-        (joined s n one.0 more.0 (line_is n s line one.0 (unnumbered n _ _ one.1)) (from_is (n + 1) s lines more.0 more.1))
+    (joined s n one.0 more.0 (line_is n s line one.0 (unnumbered n _ _ one.1)) (from_is (n + 1) s lines more.0 more.1))
 
 -- each line of a lane that a file spells asks a get, put or del with a key of its index
 pub spelled_lane : (s : SchemaText) (bytes : List ℕ) (said : List Line) → lane_of s bytes ≡ Ok said → AllByRecursion (IsLaneLine s) said

@@ -1,7 +1,6 @@
 -- What a step that didn't fail says of the steps before it.
 use Rattle.std.proofs.Common.{◌≡◌, ℕ, ◌&&◌, Bool, true, false, cond, Option, Some, None, Result, Ok, Err, refl}
 use Rattle.script.specs.declared.error.Flaw.{Flaw}
-use Rattle.script.specs.declared.error.ScriptError.{ScriptError}
 use Rattle.script.specs.Steps.{◌>>=◌, or_bad, numbered}
 
 pub bind_ok : {A B E : Type 0} (r : Result A E) (f : A → Result B E) (y : B) → (r >>= f) ≡ Ok y → (x : A) × (r ≡ Ok x) × (f x ≡ Ok y)

@@ -1,21 +1,18 @@
 -- What holds of each schema that is spelled.
-use Rattle.std.proofs.Common.{◌≡◌, ℕ, zero, suc, ◌+◌, ◌-◌, ◌<◌, ◌≤◌, ◌&&◌, Bool, true, false, cond, eqb, leb, ltb, List, [], ◌∷◌, ◌++◌, length, Option, Some, None, Result, Ok, Err, refl, sym, ap, subst, ◌∙◌, arith}
+use Rattle.std.proofs.Common.{◌≡◌, ℕ, ◌+◌, ◌-◌, ◌<◌, ◌≤◌, Bool, true, false, cond, eqb, leb, List, [], ◌∷◌, length, Some, Ok, Err, refl, subst, ◌∙◌, arith}
 use Rattle.std.specs.List.{list_all}
 use Rattle.std.proofs.lemmas.List.{length-append}
 use Rattle.std.proofs.lemmas.List.Folds.{list_all-append}
 use Rattle.std.proofs.lemmas.Bool.{leb-true, le-leb, ltb-true, eqb-false}
-use Rattle.script.specs.declared.TheConstants.{DEFAULT_SIZES, MAX_INDEXES, MAX_FIELD_COUNT}
+use Rattle.script.specs.declared.TheConstants.{MAX_INDEXES, MAX_FIELD_COUNT}
 use Rattle.script.specs.declared.entry.Entry.{Entry}
 use Rattle.script.specs.declared.entry.Entry.TheVariants.{Index}
-use Rattle.script.specs.declared.error.Flaw.{Flaw}
-use Rattle.script.specs.declared.error.ScriptError.{ScriptError}
 use Rattle.script.specs.declared.error.ScriptError.TheVariants as error
 use Rattle.script.specs.declared.error.Flaw.TheVariants.{BadLine}
-use Rattle.script.specs.Steps.{◌>>=◌, or_bad, numbered}
+use Rattle.script.specs.Steps.{or_bad, numbered}
 use Rattle.script.specs.Grammar.{is_from, is_name, both, says_nothing, words_of, lines_of}
-use Rattle.script.specs.Schema.{SchemaText, IsSchema, count_of, takes_name, with_index, index_line, index_of, entry_of, after_entry, after_words, schema_line, schema_from, schema_of}
+use Rattle.script.specs.Schema.{SchemaText, IsSchema, count_of, takes_name, with_index, index_line, entry_of, after_entry, after_words, schema_line, schema_from, schema_of}
 use Rattle.script.proofs.Results.{bind_ok, some_of, chosen, given, both_so, unnumbered}
-
 
 -- what holds from the first line on
 record IsDraft (s : SchemaText) : Type 0 where

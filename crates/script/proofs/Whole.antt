@@ -1,5 +1,5 @@
 -- A file, one line after another.
-use Rattle.std.proofs.Common.{◌≡◌, ℕ, suc, ◌+◌, ◌≤◌, Bool, true, false, cond, eqb, List, [], ◌∷◌, ◌++◌, length, Result, Ok, Err, refl, arith}
+use Rattle.std.proofs.Common.{◌≡◌, ℕ, ◌+◌, ◌≤◌, Bool, true, false, cond, eqb, List, [], ◌∷◌, ◌++◌, length, Result, Ok, Err, refl, arith}
 use Rattle.std.specs.List.{onto_first}
 use Rattle.map_history.specs.LegalReport.{Line}
 use Rattle.script.specs.declared.error.ScriptError.{ScriptError}

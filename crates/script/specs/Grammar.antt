@@ -6,7 +6,7 @@ use Rattle.key_tuple.specs.Order.{FieldList, byte_count}
 use Rattle.map_history.specs.Text.{is_plain}
 use Rattle.script.specs.declared.TheConstants.{MAX_NAME_BYTES}
 use Rattle.script.specs.declared.error.Flaw.{Flaw}
-use Rattle.script.specs.declared.error.Flaw.TheVariants.{BadLine, TooLong}
+use Rattle.script.specs.declared.error.Flaw.TheVariants.{TooLong}
 
 -- the lines of a file: each ends with the byte 10, and the last may lack it
 abbrev pub lines_of : List ℕ → List (List ℕ)

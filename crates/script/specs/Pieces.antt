@@ -1,5 +1,5 @@
 -- What is left to come of the parts of some bytes.
-use Rattle.std.specs.Prelude.{ℕ, ◌≡◌, ◌==◌, false, Option, Some, None, List, [], ◌∷◌, ◌++◌}
+use Rattle.std.specs.Prelude.{ℕ, ◌≡◌, ◌==◌, false, Some, None, List, [], ◌∷◌, ◌++◌}
 use Rattle.std.specs.List.{slice_split, All}
 use Rattle.script.specs.declared.pieces.Pieces.{Pieces}
 use Rattle.script.specs.declared.pieces.Lines.{Lines}

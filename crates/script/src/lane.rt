@@ -48,7 +48,13 @@ fn read_operation(alloc: Global, line: &[u8], schema: &Schema) -> Result<Op, Ref
     read_parts(alloc, verb, index, count, words)
 }
 
-fn read_parts(alloc: Global, verb: Verb, index: u32, count: u8, words: Pieces<'_>) -> Result<Op, Refusal>
+fn read_parts(
+    alloc: Global,
+    verb: Verb,
+    index: u32,
+    count: u8,
+    words: Pieces<'_>,
+) -> Result<Op, Refusal>
     requires some { 0 < count }
     requires few { count ≤ MAX_FIELD_COUNT }
     ensures { Gives operation_of result (operation_for verb index count (pieces_left words.entry)) }

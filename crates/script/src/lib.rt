@@ -18,10 +18,9 @@ mod words;
 pub use error::ScriptError;
 pub use lane::Line;
 pub use laws::fields_are_read_again;
+use map_history::Sizes;
 pub use reading::{read_lane, read_schema};
 pub use schema::Schema;
-
-use map_history::Sizes;
 
 /// The most bytes of a file that is read: 64 MiB.
 pub const MAX_FILE_BYTES: usize = 67_108_864;
