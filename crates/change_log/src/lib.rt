@@ -3,5 +3,9 @@
 #![tactic(auto)]
 
 mod entry;
+mod lane_log;
+mod merging;
 
 pub use entry::Entry;
+pub use lane_log::LaneLog;
+pub use merging::merge;
