@@ -5,6 +5,8 @@
 mod entry;
 mod lane_log;
 mod merging;
+#[cfg(test)]
+mod tests;
 
 pub use entry::Entry;
 pub use lane_log::LaneLog;
