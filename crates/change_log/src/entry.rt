@@ -7,3 +7,10 @@ pub struct Entry {
     pub lane: u32,
     pub line: u32,
 }
+
+/// An entry with the index that was changed.
+#[derive(Debug, Clone, Copy)]
+pub struct Noted {
+    pub index: u32,
+    pub entry: Entry,
+}

@@ -3,5 +3,11 @@
 #![tactic(auto)]
 
 mod entry;
+mod lane_log;
+mod merging;
+#[cfg(test)]
+mod tests;
 
 pub use entry::Entry;
+pub use lane_log::LaneLog;
+pub use merging::merge;
