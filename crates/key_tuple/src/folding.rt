@@ -11,8 +11,8 @@ pub(crate) const BASIS: u64 = 0xcbf2_9ce4_8422_2325;
 /// The prime of 64-bit FNV-1a.
 const PRIME: u64 = 0x100_0000_01b3;
 
-/// The fold of a prefix of the fields of a row of that index, cut to its low bits. The side that
-/// the parameters name plays no part.
+/// The fold of a prefix of the fields of a row of that index, cut to its low bits. There have to be
+/// as many fields as [`Params::asked_fields`] says. The parameters' side plays no part.
 pub fn fold<A: Fields>(index: u32, fields: &A, params: &Params, bits: u8) -> u64
     requires asked { asked_fields params.now ≤ length (A.fields_of fields.now) }
     requires some { 1 ≤ bits }
