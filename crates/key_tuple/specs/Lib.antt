@@ -7,3 +7,7 @@ pub mod Limits
 pub mod Parts
 pub mod Buffer
 pub mod Laws
+pub mod Fold
+pub mod FoldLaws
+pub mod Sizes
+pub mod SizeLaws

@@ -176,3 +176,77 @@ fn keys_stand_in_a_map(rt: HostRuntime) -> Result<(), Fail> {
     assert_eq!(rt; rows.values().copied().next(), Some(1));
     Ok(())
 }
+
+/// The fold of a prefix of these fields.
+fn fold_of<A: Fields>(
+    rt: &impl Abort,
+    index: u32,
+    fields: &A,
+    (whole, bytes): (u8, u16),
+    bits: u8,
+) -> u64 {
+    let params = Params {
+        fields: whole,
+        bytes,
+        left: true,
+    };
+    assert!(rt; params.asked_fields() <= u16::from(fields.count()));
+    assert!(rt; 1 <= bits && bits <= 64);
+    fold(index, fields, &params, bits)
+}
+
+#[test]
+fn prefixes_are_folded(rt: HostRuntime) -> Result<(), Fail> {
+    let alloc = rt.alloc();
+    assert_eq!(rt;
+        folding::hash_bytes(folding::BASIS, b"a"),
+        0xaf63_dc4c_8601_ec8c
+    );
+    for (field, lowest) in [(b"a", 1), (b"b", 0), (b"c", 1), (b"d", 0), (b"e", 1)] {
+        let key = tuple_of(alloc, &[field.as_slice()])?;
+        assert_eq!(rt; fold_of(&rt, 0, &key, (1, 0), 1), lowest, "{field:?}");
+    }
+    let key = tuple_of(alloc, &[b"ab", b"xyz"])?;
+    let table = [
+        ((0, 0), 64, 0x4d25_6f7f_9dce_0810),
+        ((0, 1), 64, 0xe4a4_e6d9_2518_5803),
+        ((1, 9), 64, 0x013f_0a6f_8855_05f0),
+        ((1, 9), 20, 0x5_05f0),
+    ];
+    for (prefix, bits, want) in table {
+        assert_eq!(rt;
+            fold_of(&rt, 7, &key, prefix, bits),
+            want,
+            "{prefix:?} at {bits}"
+        );
+    }
+    let long = tuple_of(alloc, &[zeros(alloc, 300)?.as_slice()])?;
+    assert_eq!(rt;
+        fold_of(&rt, 0x0102_0304, &long, (1, 0), 64),
+        0x7f5e_bf75_e890_9b68
+    );
+    Ok(())
+}
+
+#[test]
+fn lengths_past_127_take_two_bytes(rt: HostRuntime) -> Result<(), Fail> {
+    let alloc = rt.alloc();
+    let table: [(&[usize], usize, u16, u16); 7] = [
+        (&[1], 1, 9, 11),
+        (&[1], 127, 135, 11),
+        (&[1], 128, 137, 11),
+        (&[1], 2000, 2009, 11),
+        (&[127], 0, 134, 137),
+        (&[128], 0, 136, 139),
+        (&[128, 128, 128, 383], 2048, MAX_ROW_SIZE, MAX_POINTER_SIZE),
+    ];
+    for (lengths, length, row, pointer) in table {
+        let fields = of_lengths(alloc, lengths)?;
+        assert!(rt; !fields.is_empty());
+        let key = Key::try_new(alloc, fields)?;
+        let value = Value::try_new(zeros(alloc, length)?)?;
+        assert_eq!(rt; row_size(&key, &value), row, "{lengths:?} and {length}");
+        assert_eq!(rt; pointer_size(&key), pointer, "{lengths:?}");
+    }
+    Ok(())
+}
