@@ -1,7 +1,7 @@
 -- What a count of faults tells.
 use Rattle.std.specs.Prelude.{◌≡◌, ℕ, ◌+◌, ◌-◌, ◌^◌, ◌<◌, ◌⊎◌, min}
 
--- between two moments a fault came: the count rose, or it stands at its last value, from which it can't rise
+-- between two moments a fault came: the count rose, or stands at its last value and can't rise
 abbrev pub ShowsFault : ℕ → ℕ → Type 0
 ShowsFault before now = (before < now) ⊎ (now + 1 ≡ 2 ^ 64)
 

@@ -7,7 +7,7 @@ use Rattle.io_port.specs.Shelf.{files_of}
 use Rattle.io_port.specs.declared.shelf.ShelfError.{ShelfError}
 use Rattle.io_port.specs.declared.shelf.ShelfError.TheVariants.{Failed, TooLong, NoMemory}
 
--- the files in order, the numbers of the loads that are to fail, and what the loads so far left behind
+-- the files in order, the numbers of the loads to fail, and what the loads so far left behind
 pub record ShelfState : Type 0 where
   pub files : List (List ℕ × List ℕ)
   pub fail : List ℕ
@@ -29,7 +29,11 @@ after_load shelf = record shelf { calls = next_count shelf.calls }
 
 -- the shelf after a load of this name that failed
 abbrev pub after_failure : ShelfState → List ℕ → ShelfState
-after_failure shelf name = record shelf { calls = next_count shelf.calls; faults = next_count shelf.faults; failed = Some name }
+after_failure shelf name = record shelf {
+  calls = next_count shelf.calls;
+  faults = next_count shelf.faults;
+  failed = Some name;
+}
 
 -- the next load is to fail: its number is listed, or the name isn't held
 abbrev pub IsDue : ShelfState → List ℕ → Type 0
@@ -42,8 +46,10 @@ IsWithin bytes limit (Err Failed) = ⊥
 IsWithin bytes limit (Err (TooLong n)) = (n ≡ limit) × (limit < length bytes)
 IsWithin bytes limit (Err NoMemory) = ⊤
 
--- a load fails only where it is due to; else it gives the file's bytes, or that they are more than the limit
+-- a load fails only where it is due to; else it gives the bytes, or that they are too many
 abbrev pub IsAnswer : ShelfState → List ℕ → ℕ → Result (Vec ℕ Global) ShelfError → Type 0
 IsAnswer shelf name limit (Err Failed) = IsDue shelf name
 IsAnswer shelf name limit (Err NoMemory) = ⊤
-IsAnswer shelf name limit result = (IsDue shelf name → ⊥) × (bytes : List ℕ) × (files_of shelf.files name ≡ Some bytes) × IsWithin bytes limit result
+IsAnswer shelf name limit result =
+    (IsDue shelf name → ⊥)
+    × (bytes : List ℕ) × (files_of shelf.files name ≡ Some bytes) × IsWithin bytes limit result

@@ -2,7 +2,7 @@
 use Rattle.std.specs.Prelude.{ℕ, ◌+◌, ◌<◌, ◌⊎◌, List, [], ◌++◌, length, Contains}
 use Rattle.io_port.specs.Faults.{next_count}
 
--- the bytes so far, how many there is room for, the numbers of the puts that are to fail, and two counts
+-- the bytes so far, how many there is room for, the numbers of the puts to fail, and two counts
 pub record SinkState : Type 0 where
   pub written : List ℕ
   pub room : ℕ
@@ -20,7 +20,10 @@ IsDue sink bytes = Contains sink.fail sink.calls ⊎ (sink.room < length sink.wr
 
 -- the sink after a put of these bytes
 abbrev pub after_put : SinkState → List ℕ → SinkState
-after_put sink bytes = record sink { written = sink.written ++ bytes; calls = next_count sink.calls }
+after_put sink bytes = record sink {
+  written = sink.written ++ bytes;
+  calls = next_count sink.calls;
+}
 
 -- the sink after a put that failed: nothing is written
 abbrev pub after_failure : SinkState → SinkState

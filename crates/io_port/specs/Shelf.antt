@@ -19,7 +19,8 @@ IsFileOf told name bytes = ForSome told (λ files. files name ≡ Some bytes)
 
 -- where the files are told, the file of this name has more bytes than the limit
 abbrev pub IsLonger : Option Files → List ℕ → ℕ → Type 0
-IsLonger told name limit = ForSome told (λ files. IsSomeAnd (files name) (λ bytes. limit < length bytes))
+IsLonger told name limit =
+    ForSome told (λ files. IsSomeAnd (files name) (λ bytes. limit < length bytes))
 
 -- the answer that a file is too long names the limit, which the file exceeds
 abbrev pub IsTooLong : Option Files → List ℕ → ℕ → ShelfError → Type 0

@@ -10,8 +10,8 @@ use std::fs::File;
 use std::marker::Model;
 use std::rt::Files;
 
-/// The files that a runtime opens by their paths. What bytes they have is not told: that a load gives the file's own
-/// bytes is taken on trust and tested.
+/// The files that a runtime opens by their paths. What bytes a path has is not told: that a load
+/// gives them is taken on trust and tested.
 #[derive(Drop)]
 pub struct FileShelf<'a, R> {
     rt: &'a R,
@@ -58,8 +58,9 @@ impl<R: Files> Shelf for FileShelf<'_, R> {
 
     /// A file that can't be opened, and a read that fails, fail the load.
     fn load(&mut self, alloc: Global, name: &str, limit: u64) -> Result<Vec<u8>, ShelfError>
-        // A file was opened, and these are all its bytes, or they are too many, where its reads tell them.
-        ensures read { IfOk result (λ bytes. (file : R.File) × IsAllOf (R.File.remaining file) bytes.items) }
+        // A file was opened, and these are all that its reads gave, or they gave too many.
+        ensures read { IfOk result (λ bytes.
+            (file : R.File) × IsAllOf (R.File.remaining file) bytes.items) }
         ensures more { OnTooLong result ((file : R.File) × HasMore (R.File.remaining file) limit) }
 
         ensures within { IfOk result (λ bytes. vec_len bytes ≤ limit) }
@@ -84,7 +85,8 @@ impl<R: Files> Shelf for FileShelf<'_, R> {
 }
 
 fn load_file<R: Files>(rt: &R, alloc: Global, name: &str, limit: u64) -> Result<Vec<u8>, ShelfError>
-    ensures read { IfOk result (λ bytes. (file : R.File) × IsAllOf (R.File.remaining file) bytes.items) }
+    ensures read { IfOk result (λ bytes.
+        (file : R.File) × IsAllOf (R.File.remaining file) bytes.items) }
     ensures more { OnTooLong result ((file : R.File) × HasMore (R.File.remaining file) limit) }
     ensures within { IfOk result (λ bytes. vec_len bytes ≤ limit) }
     ensures too_long { IfErr result (IsTooLong None name.now limit) }

@@ -1,5 +1,5 @@
-//! The outside of a program as two traits: a shelf, from which files are loaded by name, and a sink, to which bytes
-//! are put. Neither has a clock, and an answer that something failed always shows in a count of faults.
+//! The outside of a program as two traits: files that are loaded by name, and bytes that are put.
+//! There is no clock, and an answer that something failed always shows in a count of faults.
 #![tactic(auto)]
 
 mod file_shelf;

@@ -40,7 +40,7 @@ impl MemoryShelf {
     ghost use Rattle.std.specs.Prelude.{◌≡◌};
     ghost use Rattle.io_port.specs.MemoryShelf.{new_shelf, pairs_of};
 
-    /// A shelf with these files, whose loads with the numbers in `fail`, counted from 0, are to fail.
+    /// A shelf with these files. The loads with the numbers in `fail`, from 0 on, are to fail.
     pub fn new(files: Vec<(String, Vec<u8>)>, fail: Vec<u64>) -> Self
         ensures { result ≡ new_shelf (pairs_of files.items) fail.items }
     {
@@ -88,7 +88,8 @@ impl Shelf for MemoryShelf {
 
 // The first file of that name.
 fn file_named<'a>(files: &'a [(String, Vec<u8>)], name: &str) -> Option<&'a (String, Vec<u8>)>
-    ensures { option_copied result ≡ find (λ file. bytes_eq (string_bytes file.0) name.now) files.now }
+    ensures { option_copied result
+        ≡ find (λ file. bytes_eq (string_bytes file.0) name.now) files.now }
 {
     files.iter().find(|file| file.0.as_str() == name)
 }

@@ -37,7 +37,7 @@ impl MemorySink {
     ghost use Rattle.std.specs.Prelude.{◌≡◌, IfOk};
     ghost use Rattle.io_port.specs.MemorySink.{new_sink};
 
-    /// An empty sink with this room, whose puts with the numbers in `fail`, counted from 0, are to fail.
+    /// An empty sink with this room. The puts with the numbers in `fail`, from 0 on, are to fail.
     pub fn with_room(alloc: Global, room: usize, fail: Vec<u64>) -> Result<Self, NoMemory>
         ensures { IfOk result (λ sink. sink ≡ new_sink room fail.items) }
     {

@@ -4,8 +4,8 @@ use crate::{Sink, SinkError};
 use std::io;
 use std::marker::Model;
 
-/// The standard output. What was written is not told: that a put writes its bytes is taken on trust and tested.
-/// Nothing is kept back: each put has reached the stream, or has failed.
+/// The standard output. What was written is not told: that a put writes its bytes is taken on
+/// trust and tested. Nothing is kept back: each put has reached the stream, or has failed.
 #[derive(Drop)]
 pub struct OutSink<'a, R> {
     rt: &'a R,

@@ -51,9 +51,9 @@ pub trait Shelf {
         // By the two clauses above a longer file is never `Ok`.
         ensures too_long { IfErr result (IsTooLong (holds self.old) name.now limit) }
 
-        // A failure has a cause and names the file. No other answer changes what is told of failures.
-        ensures failed { OnFailed result
-            (ShowsFault (faults self.old) (faults self.new) × (failed self.new ≡ Some name.now)) }
+        // A failure has a cause and names the file. No other answer changes what is told of them.
+        ensures failed { OnFailed result (ShowsFault (faults self.old) (faults self.new)
+            × (failed self.new ≡ Some name.now)) }
         ensures others { UnlessFailed result
             ((faults self.new ≡ faults self.old) × (failed self.new ≡ failed self.old)) }
 

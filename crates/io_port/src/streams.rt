@@ -10,7 +10,7 @@ use std::io::{Read, Write};
 // How many bytes one read asks for at most.
 const PIECE: usize = 4096;
 
-/// Reads to the end, which is a read that gives nothing, and never more than one byte past the limit.
+/// Reads to the end, which is a read that gives nothing, and at most one byte past the limit.
 pub(crate) fn read_within<R: Read>(
     alloc: Global,
     reader: &mut R,
@@ -39,7 +39,8 @@ pub(crate) fn read_within<R: Read>(
 /// Writes all the bytes and flushes them. A write that takes none of them is a failure.
 pub(crate) fn write_through<W: Write>(writer: &mut W, bytes: &[u8]) -> Result<(), SinkError>
     ensures ok { OnOk result (Appends (W.contents writer.old) (W.contents writer.new) bytes.now) }
-    ensures err { OnErr result (AppendsSome (W.contents writer.old) (W.contents writer.new) bytes.now) }
+    ensures err { OnErr result
+        (AppendsSome (W.contents writer.old) (W.contents writer.new) bytes.now) }
 {
     let mut done = 0;
     'writes: while done < bytes.len() {

@@ -21,7 +21,7 @@ fn three_files(alloc: Global) -> Result<Vec<(String, Vec<u8>)>, AllocError> {
 fn two_files_are_copied_and_each_refusal_is_told(rt: HostRuntime) -> Result<(), Fail> {
     let alloc = rt.alloc();
     let rows = [
-        // first name, second name, the load and the put that are to fail, the answer, what is written
+        // two names, the load and the put that are to fail, the answer, what is written
         ("a", "b", 9, 9, Copied::Done, "oneseven"),
         ("b", "a", 9, 9, Copied::Done, "sevenone"),
         ("a", "c", 9, 9, Copied::ShelfFault, ""),

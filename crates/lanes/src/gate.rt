@@ -1,8 +1,8 @@
 //! What a lane asks before each of its lines.
 use std::marker::Sync;
 
-/// Called by a lane before each of its lines. All lanes share it, and a lane waits for as long as the call does.
-/// It promises nothing.
+/// Called by a lane before each of its lines. All lanes share it, and a lane waits for as long as
+/// the call does. It promises nothing.
 pub trait Gate: Sync {
     fn before(&self, lane: u32, line: u32);
 }

@@ -1,5 +1,5 @@
-//! Lanes of work in threads of their own: each doer works once, and all come back in order. Nothing is said of which
-//! of them work at the same time.
+//! Lanes of work in threads of their own: each doer works once, and all come back in order.
+//! Nothing is said of which of them work at the same time.
 #![tactic(auto)]
 
 mod doer;

@@ -6,7 +6,8 @@ use crate::{Doer, Gate};
 use std::sync::Wait;
 use std::thread::{Threads, join_mut};
 
-/// Lets each doer work once, each in a thread of its own where one can be made, and gives them back in order.
+/// Lets each doer work once, in a thread of its own where one can be made, and gives them back in
+/// order.
 pub fn run_lanes<R: Threads + Sync, W: Wait + Sync, D: Doer, G: Gate>(
     rt: &R,
     wait: &W,

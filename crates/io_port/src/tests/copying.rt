@@ -28,7 +28,8 @@ pub(crate) fn copy_two<F: Shelf, K: Sink>(
     ensures done { result ≡ Copied.Done → ForSome (F.holds shelf.old) (λ files.
         ForSome (files first.now) (λ a. ForSome (files second.now) (λ b.
         Puts (K.written sink.old) (K.written sink.new) (a ++ b)))) }
-    ensures shelf { result ≡ Copied.ShelfFault → ShowsFault (F.faults shelf.old) (F.faults shelf.new)
+    ensures shelf { result ≡ Copied.ShelfFault →
+        ShowsFault (F.faults shelf.old) (F.faults shelf.new)
         × ((F.failed shelf.new ≡ Some first.now) ⊎ (F.failed shelf.new ≡ Some second.now)) }
     ensures sink { result ≡ Copied.SinkFault → ShowsFault (K.faults sink.old) (K.faults sink.new) }
 {

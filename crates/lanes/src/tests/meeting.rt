@@ -6,7 +6,7 @@ use std::sync::atomic::{AtomicBool, AtomicU64, Ordering};
 // How often a lane looks for the other before it gives up.
 const TURNS: u32 = 10_000_000;
 
-/// Holds lane 0 and lane 1 before line n until both have come before it, and gives up after so many turns.
+/// Holds lanes 0 and 1 before line n until both have come before it. Gives up after so many turns.
 #[derive(Drop)]
 pub(crate) struct Meeting {
     // How many lines each lane has come before.
