@@ -38,59 +38,41 @@ pub trait World {
 
     // Which changes of held objects may be: of the values before, the values after,
     // and the change, if there is one, with its index.
-    ghost follows: {
-        Terms Self.Shape → List (Option Self.Object) → List (Option Self.Object)
-            → Option (ℕ × Self.Change) → Type 0
-    };
+    ghost follows: { Terms Self.Shape → List (Option Self.Object) → List (Option Self.Object)
+        → Option (ℕ × Self.Change) → Type 0 };
 
     // Which answers are lawful in a whole state: of the index, the point and the answer.
-    ghost answers: {
-        Whole Self.Shape Self.Object Self.Change → ℕ → ℕ → Self.Answer → Type 0
-    };
+    ghost answers: { Whole Self.Shape Self.Object Self.Change → ℕ → ℕ → Self.Answer → Type 0 };
 
     // Which references are lawful in a whole state.
-    ghost refers: {
-        Whole Self.Shape Self.Object Self.Change → Reference Self.Object → Type 0
-    };
+    ghost refers: { Whole Self.Shape Self.Object Self.Change → Reference Self.Object → Type 0 };
 
     // A lawful state stays lawful when a free object is taken.
-    ghost taken: {
-        (w : Whole Self.Shape Self.Object Self.Change) (k name : ℕ) → lawful w → IsFree w k
-            → name < w.passes → lawful (latched w k (name + 1))
-    };
+    ghost taken: { (w : Whole Self.Shape Self.Object Self.Change) (k name : ℕ) → lawful w → IsFree w k
+        → name < w.passes → lawful (latched w k (name + 1)) };
 
     // A lawful state stays lawful when a pass changes what it holds as `follows` allows.
-    ghost follows_keeps: {
-        (name : ℕ) (w w' : Whole Self.Shape Self.Object Self.Change) → lawful w
-            → name < w.passes → Moves follows name w w' → lawful w'
-    };
+    ghost follows_keeps: { (name : ℕ) (w w' : Whole Self.Shape Self.Object Self.Change) → lawful w
+        → name < w.passes → Moves follows name w w' → lawful w' };
 
     // A lawful answer stays lawful in every state that follows.
-    ghost answers_stay: {
-        (name : ℕ) (w w' : Whole Self.Shape Self.Object Self.Change) → lawful w → lawful w'
-            → Next follows name w w' → (i p : ℕ) (a : Self.Answer) → answers w i p a
-            → answers w' i p a
-    };
+    ghost answers_stay: { (name : ℕ) (w w' : Whole Self.Shape Self.Object Self.Change) → lawful w → lawful w'
+        → Next follows name w w' → (i p : ℕ) (a : Self.Answer) → answers w i p a
+        → answers w' i p a };
 
     // A lawful reference stays lawful in every state that follows.
-    ghost refers_stay: {
-        (name : ℕ) (w w' : Whole Self.Shape Self.Object Self.Change) → lawful w → lawful w'
-            → Next follows name w w' → (q : Reference Self.Object) → refers w q → refers w' q
-    };
+    ghost refers_stay: { (name : ℕ) (w w' : Whole Self.Shape Self.Object Self.Change) → lawful w → lawful w'
+        → Next follows name w w' → (q : Reference Self.Object) → refers w q → refers w' q };
 
     // Right after a take the object as it is makes a lawful reference.
-    ghost refers_new: {
-        (w : Whole Self.Shape Self.Object Self.Change) (k name : ℕ) (x : Self.Object)
-            → lawful w → IsFree w k → get_elem? w.objects k ≡ some x
-            → refers (latched w k (name + 1)) (reference k x x)
-    };
+    ghost refers_new: { (w : Whole Self.Shape Self.Object Self.Change) (k name : ℕ) (x : Self.Object)
+        → lawful w → IsFree w k → get_elem? w.objects k ≡ some x
+        → refers (latched w k (name + 1)) (reference k x x) };
 
     // While the holder changes the object, it goes on to make a lawful reference. So the one
     // that a release makes is lawful in the state that it leaves.
-    ghost refers_held: {
-        (name : ℕ) (w w' : Whole Self.Shape Self.Object Self.Change) → lawful w → lawful w'
-            → Next follows name w w' → (k : ℕ) (t x y : Self.Object) → IsHeldBy w k name
-            → get_elem? w.objects k ≡ some x → get_elem? w'.objects k ≡ some y
-            → refers w (reference k t x) → refers w' (reference k t y)
-    };
+    ghost refers_held: { (name : ℕ) (w w' : Whole Self.Shape Self.Object Self.Change) → lawful w → lawful w'
+        → Next follows name w w' → (k : ℕ) (t x y : Self.Object) → IsHeldBy w k name
+        → get_elem? w.objects k ≡ some x → get_elem? w'.objects k ≡ some y
+        → refers w (reference k t x) → refers w' (reference k t y) };
 }
