@@ -132,6 +132,7 @@ impl<W: World> Space<W> {
         ensures told { Ends W.lawful W.answers W.refers (view pass.old) index (values pass.old)
             (N.meaning change.now) result (view pass.new) }
         ensures hands { Changes pass.old result pass.new }
+        ensures kept { (values pass.new ≡ values pass.old) × (count pass.new ≡ count pass.old) }
     {
         self.commit_in(
             &mut pass.seat,

@@ -24,6 +24,11 @@ commit_in-requires-clause-whole g c = let p = c.args.pass.now in
     subst (λ (z : List (Place g.row.W-Object.Denot)). AreValuesOf p.seat.me.0 (spread (length p.seat.me.0.held) z)) (sym c.as_slice.ensures.value)
     record { counted = length-values p; each = c.requires.whole; only = value_held p.seat.me.0.held p.hand.items p.holding }
 
+pub returns-clause-kept : goal.returns-clause-kept
+returns-clause-kept g c = let p = c.args.pass.now in let n = p.numbers in
+    let s = ends_stay g.W.World.lawful g.W.World.answers g.W.World.refers p.seat.me.0 c.commit_in.new.seat.me.0 c.args.index (spread (length p.seat.me.0.held) c.as_slice.result.now) (g.N.Means.meaning c.args.change.now) c.commit_in.result c.commit_in.ensures.told in
+    (ap (λ z. spread z p.hand.items) s.held, refl)
+
 pub returns-clause-hands : goal.returns-clause-hands
 returns-clause-hands g c = let p = c.args.pass.now in
     changes_of g.W.World.lawful g.W.World.answers g.W.World.refers p _ c.args.index (g.N.Means.meaning c.args.change.now) c.commit_in.result
