@@ -35,9 +35,8 @@ impl<W: World> Space<W> {
             .shared
             .compare_exchange::<Takes<W>>(&mut pass.seat, slot, 0, pass.low as u64 + 1);
         if word != 0 {
-            return Take::Busy {
-                holder: (word - 1) as u32,
-            };
+            let holder = (word - 1) as u32;
+            return Take::Busy { holder };
         }
         let value = self.table.shared.exchange(&mut pass.seat, slot, None);
         pass.seat.turn();

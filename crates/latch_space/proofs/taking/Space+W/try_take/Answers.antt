@@ -16,8 +16,8 @@ compare_exchange-word-requires g c = let p = c.args.pass.now in let n = p.number
       takes _ _ _ _ _ _ _ _ record { taken = g.W.World.taken; answers_stay = g.W.World.answers_stay; follows_keeps = g.W.World.follows_keeps; refers_stay = g.W.World.refers_stay; refers_new = g.W.World.refers_new; refers_held = g.W.World.refers_held } _ _ _ _ _ _ (omega (arith, n.0, n.1, n.2)) c.requires.lacks (ap (λ (z : ℕ). z + 1) n.0),
     )
 
-pub overflow_cast-result : goal.overflow_cast-result
-overflow_cast-result g c = let t = c.compare_exchange-word.ensures.2.1 (omega (arith, c.if-word-ne0.true)) in let below = t.0.another.0 in let same : c.args.pass.now.seat.me.0.terms.passes ≡ c.args.self.now.terms.passes = ap (λ z. z.passes) c.requires.own.1 in
+pub overflow_cast-holder : goal.overflow_cast-holder
+overflow_cast-holder g c = let t = c.compare_exchange-word.ensures.2.1 (omega (arith, c.if-word-ne0.true)) in let below = t.0.another.0 in let same : c.args.pass.now.seat.me.0.terms.passes ≡ c.args.self.now.terms.passes = ap (λ z. z.passes) c.requires.own.1 in
     let small = c.args.self.now.small in omega (arith, below, same, small.0)
 
 pub exchange-value-requires : goal.exchange-value-requires
