@@ -8,3 +8,6 @@ pub mod Marks
 pub mod Fold
 pub mod Dashes
 pub mod Legal
+pub mod Maps
+pub mod TextLemmas
+pub mod LaneLemmas

@@ -53,7 +53,7 @@ change_reply-Done true c e = refl
 change_reply-Done false c e = absurd (refusal-Done c e)
 
 -- only a change that the map allows is done
-done_is_allowed : (list : List Line) (ask : Ask) → reply_of (map_after (changes_by list)) ask ≡ Done → IsAllowed list ask
+pub done_is_allowed : (list : List Line) (ask : Ask) → reply_of (map_after (changes_by list)) ask ≡ Done → IsAllowed list ask
 done_is_allowed list (Get k) e = absurd (value_reply-Done (value_at k (map_after (changes_by list))) e)
 done_is_allowed list (Make c) e = record { asked = refl; allowed = change_reply-Done (is_allowed (map_after (changes_by list)) c) c e }
 done_is_allowed list (Seek mode tuple) e = absurd (row_reply-Done (sought mode tuple (map_after (changes_by list))) e)
