@@ -9,7 +9,7 @@ use Rattle.io_port.specs.Faults.{ShowsFault}
 use Rattle.io_port.specs.Sink.{Puts, PutsSome}
 use Rattle.ahi_cli.specs.declared.halt.Halt.{Halt}
 use Rattle.ahi_cli.specs.declared.halt.Halt.TheVariants.{SinkFault, NoMemory}
-use Rattle.ahi_cli.specs.Prints.{SinkView, Prints}
+use Rattle.ahi_cli.specs.Prints.{Prints}
 
 -- nothing was put
 pub Puts-none : (a : Option (List ℕ)) → Puts a a []
@@ -41,12 +41,16 @@ faults-le a b c le (inl rose) = inl (omega arith)
 faults-le a b c le (inr last) = inr last
 
 -- the first text was put, and then the second or a part of it
-pub Prints-then : (a b c : SinkView) (x y : List ℕ) (r : Result (Unit {0}) Halt) → Puts a.written b.written x → a.faults ≤ b.faults → Prints b c y r → Prints a c (x ++ y) r
-Prints-then a b c x y (Ok done) p le q = (Puts-append a.written b.written c.written x y p q.0, omega (arith, q.1))
-Prints-then a b c x y (Err SinkFault) p le q = (PutsSome-second a.written b.written c.written x y p q.0, faults-le a.faults b.faults c.faults le q.1)
-Prints-then a b c x y (Err NoMemory) p le q = (PutsSome-second a.written b.written c.written x y p q.0, omega (arith, q.1))
+pub Prints-then : (a b c : Option (List ℕ)) (f g h : ℕ) (x y : List ℕ) (r : Result (Unit {0}) Halt) → Prints a b f g x (Ok tt) → Prints b c g h y r → Prints a c f h (x ++ y) r
+Prints-then a b c f g h x y (Ok done) p q = (Puts-append a b c x y p.0 q.0, omega (arith, p.1, q.1))
+Prints-then a b c f g h x y (Err SinkFault) p q = (PutsSome-second a b c x y p.0 q.0, faults-le f g h p.1 q.1)
+Prints-then a b c f g h x y (Err NoMemory) p q = (PutsSome-second a b c x y p.0 q.0, omega (arith, p.1, q.1))
 
 -- the first text wasn't put whole
-pub Prints-halt : (a b : SinkView) (x y : List ℕ) (h : Halt) → Prints a b x (Err h) → Prints a b (x ++ y) (Err h)
-Prints-halt a b x y SinkFault q = (PutsSome-first a.written b.written x y q.0, q.1)
-Prints-halt a b x y NoMemory q = (PutsSome-first a.written b.written x y q.0, q.1)
+pub Prints-halt : (a b : Option (List ℕ)) (f g : ℕ) (x y : List ℕ) (h : Halt) → Prints a b f g x (Err h) → Prints a b f g (x ++ y) (Err h)
+Prints-halt a b f g x y SinkFault q = (PutsSome-first a b x y q.0, q.1)
+Prints-halt a b f g x y NoMemory q = (PutsSome-first a b x y q.0, q.1)
+
+-- nothing was put yet
+pub Prints-none : (a : Option (List ℕ)) (f : ℕ) → Prints a a f f [] (Ok tt)
+Prints-none a f = (Puts-none a, omega arith)

@@ -5,13 +5,9 @@ use Rattle.io_port.specs.Sink.{Puts, PutsSome}
 use Rattle.ahi_cli.specs.declared.halt.Halt.{Halt}
 use Rattle.ahi_cli.specs.declared.halt.Halt.TheVariants.{SinkFault, NoMemory}
 
--- what a sink tells: the bytes written, and how often a put failed
-pub record SinkView : Type 0 where
-  pub written : Option (List ℕ)
-  pub faults : ℕ
-
--- the text was put whole, or a first part of it: then a put failed, or there was no memory
-abbrev pub Prints : SinkView → SinkView → List ℕ → Result (Unit {0}) Halt → Type 0
-Prints old new text (Ok done) = Puts old.written new.written text × (old.faults ≤ new.faults)
-Prints old new text (Err SinkFault) = PutsSome old.written new.written text × ShowsFault old.faults new.faults
-Prints old new text (Err NoMemory) = PutsSome old.written new.written text × (old.faults ≤ new.faults)
+-- of a text, put between two moments with these bytes written and these faults counted: it was put whole, or
+-- a first part of it was, and then a put failed or there was no memory
+abbrev pub Prints : Option (List ℕ) → Option (List ℕ) → ℕ → ℕ → List ℕ → Result (Unit {0}) Halt → Type 0
+Prints old new faults faults' text (Ok done) = Puts old new text × (faults ≤ faults')
+Prints old new faults faults' text (Err SinkFault) = PutsSome old new text × ShowsFault faults faults'
+Prints old new faults faults' text (Err NoMemory) = PutsSome old new text × (faults ≤ faults')

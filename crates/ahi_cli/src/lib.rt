@@ -2,3 +2,11 @@
 #![tactic(auto)]
 
 mod halt;
+mod status;
+mod stop;
+mod words;
+
+pub use stop::Stop;
+pub use words::{Command, accept};
+pub use halt::Halt;
+pub use status::Status;

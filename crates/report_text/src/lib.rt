@@ -14,4 +14,6 @@ mod word;
 pub use answers::answer;
 pub use changes::change;
 pub use heads::{changes_head, lane_head, report_end, report_head};
+pub use line::put_line;
 pub use statistics::stats;
+pub use word::Word;

@@ -10,7 +10,7 @@ use key_tuple::{Fields, NoMemory};
 use std::alloc::AllocError;
 
 /// Appends the whole line, or nothing.
-pub(crate) fn put_line<K: Fields>(out: &mut Vec<u8>, words: &[Word<'_, K>]) -> Result<(), NoMemory>
+pub fn put_line<K: Fields>(out: &mut Vec<u8>, words: &[Word<'_, K>]) -> Result<(), NoMemory>
     ensures ok { OnOk result (out.new.items ≡ out.old.items
         ++ line_of (map (text_of K.fields_of) words.now)) }
     ensures err { OnErr result (out.new.items ≡ out.old.items) }

@@ -10,7 +10,7 @@ use std::alloc::AllocError;
 
 /// One word of a line.
 #[derive(Clone, Copy)]
-pub(crate) enum Word<'a, K> {
+pub enum Word<'a, K> {
     /// A text that is written as it is.
     Text(&'a str),
     /// A number in decimal digits.
