@@ -1,1 +1,4 @@
 pub mod PrintLemmas
+pub mod FileLemmas
+pub mod LoopLemmas
+pub mod TextsLemmas

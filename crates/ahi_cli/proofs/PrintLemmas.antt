@@ -36,7 +36,7 @@ PutsSome-first a b x y p =
 pub PutsSome-second : (a b c : Option (List ℕ)) (x y : List ℕ) → Puts a b x → PutsSome b c y → PutsSome a c (x ++ y)
 PutsSome-second a b c x y p q = (length x + q.0, Puts-append a b c x (take q.0 y) p q.1 ∙ ap (λ t. option_map (λ w. w ++ t) a) (sym (take-append-add x y q.0)))
 
-faults-le : (a b c : ℕ) → a ≤ b → ShowsFault b c → ShowsFault a c
+pub faults-le : (a b c : ℕ) → a ≤ b → ShowsFault b c → ShowsFault a c
 faults-le a b c le (inl rose) = inl (omega arith)
 faults-le a b c le (inr last) = inr last
 

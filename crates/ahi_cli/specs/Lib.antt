@@ -1,3 +1,5 @@
 pub mod Words
 pub mod Prints
 pub mod Stops
+pub mod Files
+pub mod Entries
