@@ -16,7 +16,7 @@ use Rattle.script.specs.Lane.{lane_of, IsLaneLine, HasKey}
 use Rattle.one_lane.specs.OneLane.{IsAskable, AreAskable, HasReply}
 use Rattle.one_lane.proofs.Places.{All-map}
 use Rattle.ahi_cli.specs.declared.stop.Stop.{Stop}
-use Rattle.ahi_cli.specs.declared.stop.Stop.TheVariants.{Usage, Script, Shelf, TooLarge, Sink, NoMemory}
+use Rattle.ahi_cli.specs.declared.stop.Stop.TheVariants.{Usage, Script, Shelf, TooLarge, NoMemory}
 use Rattle.ahi_cli.specs.Stops.{schema_stop, lane_stop, stop_in}
 use Rattle.ahi_cli.specs.Files.{Failures, FailsOn, StopsLoading, StopsFile, StopsReading, RefusesFile, RefusesLane, SpellsSchema}
 use Rattle.ahi_cli.proofs.PrintLemmas.{faults-le}
@@ -33,7 +33,6 @@ unloaded told failures file name limit refusal (Shelf n) longer h = h
 unloaded told failures file name limit refusal (TooLarge n) longer h = λ files e.
     let found = there (files name) limit (h.1 files e) in
     record { bytes = found.0; there = found.1; refused = longer found.0 found.2 ∙ ap (λ m. Some (TooLarge m)) (sym h.0) }
-unloaded told failures file name limit refusal Sink longer h = absurd h
 unloaded told failures file name limit refusal NoMemory longer h = h
 
 -- files that are too long are refused for that
@@ -62,5 +61,4 @@ unread_lane told told' before between now failed schema_name lane_name schema si
 unread_lane told told' before between now failed schema_name lane_name schema size (Script n line code) same le spelled h = λ files e. inr record { schema = schema; size = size; schema_file = spelled files e; lane_file = h files (same ∙ e) }
 unread_lane told told' before between now failed schema_name lane_name schema size (Shelf n) same le spelled h = inr (h.0, (faults-le before between now le h.1.0, h.1.1))
 unread_lane told told' before between now failed schema_name lane_name schema size (TooLarge n) same le spelled h = λ files e. inr record { schema = schema; size = size; schema_file = spelled files e; lane_file = h files (same ∙ e) }
-unread_lane told told' before between now failed schema_name lane_name schema size Sink same le spelled h = absurd h
 unread_lane told told' before between now failed schema_name lane_name schema size NoMemory same le spelled h = h

@@ -2,3 +2,4 @@ pub mod PrintLemmas
 pub mod FileLemmas
 pub mod LoopLemmas
 pub mod TextsLemmas
+pub mod SpellLemmas

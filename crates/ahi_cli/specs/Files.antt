@@ -8,7 +8,7 @@ use Rattle.script.specs.declared.TheConstants.{MAX_FILE_BYTES}
 use Rattle.script.specs.Schema.{SchemaText, schema_of}
 use Rattle.script.specs.Lane.{lane_of}
 use Rattle.ahi_cli.specs.declared.stop.Stop.{Stop}
-use Rattle.ahi_cli.specs.declared.stop.Stop.TheVariants.{Usage, Script, Shelf, TooLarge, Sink, NoMemory}
+use Rattle.ahi_cli.specs.declared.stop.Stop.TheVariants.{Usage, Script, Shelf, TooLarge, NoMemory}
 use Rattle.ahi_cli.specs.Stops.{schema_stop, lane_stop}
 
 -- what a shelf tells of its failures around a call: how many there were, how many there are, the last one's name

@@ -3,3 +3,4 @@ pub mod Prints
 pub mod Stops
 pub mod Files
 pub mod Entries
+pub mod Ends

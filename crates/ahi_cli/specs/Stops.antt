@@ -6,23 +6,16 @@ use Rattle.script.specs.declared.error.ScriptError.{ScriptError}
 use Rattle.script.specs.declared.error.ScriptError.TheVariants as error
 use Rattle.script.specs.Schema.{SchemaText, schema_of}
 use Rattle.script.specs.Lane.{lane_of}
-use Rattle.ahi_cli.specs.declared.halt.Halt.{Halt}
-use Rattle.ahi_cli.specs.declared.halt.Halt.TheVariants as halt
 use Rattle.ahi_cli.specs.declared.status.Status.{Status}
 use Rattle.ahi_cli.specs.declared.status.Status.TheVariants as status
 use Rattle.ahi_cli.specs.declared.stop.Stop.{Stop}
-use Rattle.ahi_cli.specs.declared.stop.Stop.TheVariants.{Usage, Script, Shelf, TooLarge, Sink, NoMemory}
-
-abbrev pub stop_by : Halt → Stop
-stop_by halt.SinkFault = Sink
-stop_by halt.NoMemory = NoMemory
+use Rattle.ahi_cli.specs.declared.stop.Stop.TheVariants.{Usage, Script, Shelf, TooLarge, NoMemory}
 
 abbrev pub status_of : Stop → Status
 status_of Usage = status.Usage
 status_of (Script file line code) = status.Script
 status_of (Shelf file) = status.ShelfFault
 status_of (TooLarge file) = status.TooLarge
-status_of Sink = status.SinkFault
 status_of NoMemory = status.NoMemory
 
 -- the line that tells a refusal
@@ -31,7 +24,6 @@ stop_text Usage = line_of (codes "usage: ahi run SCHEMA LANE.. | ahi page FILE |
 stop_text (Script file line code) = line_of (codes "script" ∷ decimal file ∷ decimal line ∷ decimal code ∷ [])
 stop_text (Shelf file) = line_of (codes "shelf" ∷ decimal file ∷ [])
 stop_text (TooLarge file) = line_of (codes "too-large" ∷ decimal file ∷ [])
-stop_text Sink = []
 stop_text NoMemory = []
 
 -- the refusal that an error of a file is

@@ -3,15 +3,12 @@
 
 mod files;
 mod halt;
-mod status;
 mod print;
 mod report;
+mod run;
+mod status;
 mod stop;
 mod words;
 
-pub use stop::Stop;
-pub use words::{Command, accept};
-pub use files::{Script, read_script};
-pub use report::put_report;
-pub use halt::Halt;
+pub use run::run_words;
 pub use status::Status;

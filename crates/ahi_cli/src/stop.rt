@@ -2,7 +2,6 @@
 ghost use Rattle.std.specs.Prelude.{◌≡◌, ◌++◌, OnOk, OnErr};
 ghost use Rattle.ahi_cli.specs.Stops.{stop_text, status_of};
 
-use crate::halt::Halt;
 use crate::status::Status;
 use key_tuple::{Blank, NoMemory};
 use report_text::{Word, put_line};
@@ -18,35 +17,8 @@ pub enum Stop {
     Shelf { file: u32 },
     /// The files up to this one are too long together.
     TooLarge { file: u32 },
-    /// The output didn't take a line.
-    Sink,
     /// There was no memory.
     NoMemory,
-}
-
-impl From<Halt> for Stop {
-    ghost use Rattle.ahi_cli.specs.Stops.{stop_by};
-    ghost use Rattle.std.specs.Prelude.{◌≡◌};
-
-    ghost from_gives = { λ h s. s ≡ stop_by h };
-
-    fn from(halt: Halt) -> Stop {
-        match halt {
-            Halt::SinkFault => Stop::Sink,
-            Halt::NoMemory => Stop::NoMemory,
-        }
-    }
-}
-
-impl From<NoMemory> for Stop {
-    ghost use Rattle.ahi_cli.specs.declared.stop.Stop.TheVariants as stop;
-    ghost use Rattle.std.specs.Prelude.{◌≡◌};
-
-    ghost from_gives = { λ _ s. s ≡ stop.NoMemory };
-
-    fn from(_refused: NoMemory) -> Stop {
-        Stop::NoMemory
-    }
 }
 
 impl Stop {
@@ -59,7 +31,6 @@ impl Stop {
             Stop::Script { .. } => Status::Script,
             Stop::Shelf { .. } => Status::ShelfFault,
             Stop::TooLarge { .. } => Status::TooLarge,
-            Stop::Sink => Status::SinkFault,
             Stop::NoMemory => Status::NoMemory,
         }
     }
@@ -82,7 +53,7 @@ impl Stop {
             ),
             Stop::Shelf { file } => put_line::<Blank>(out, &[Word::Text("shelf"), Word::Number(u64::from(*file))]),
             Stop::TooLarge { file } => put_line::<Blank>(out, &[Word::Text("too-large"), Word::Number(u64::from(*file))]),
-            Stop::Sink | Stop::NoMemory => Ok(()),
+            Stop::NoMemory => Ok(()),
         }
     }
 }
