@@ -1,5 +1,5 @@
 -- A call from its load and its exchange.
-use Rattle.std.proofs.Common.{◌≡◌, ◌≢◌, ℕ, suc, zero, ◌+◌, ◌<◌, ◌≤◌, ◌==◌, cond, List, [], ◌∷◌, ◌++◌, length, set, sym, refl, ap, ◌∙◌, subst, arith, eq-eqb, ne_eqb, Option, Some, None}
+use Rattle.std.proofs.Common.{◌≡◌, ◌≢◌, ℕ, suc, zero, ◌<◌, cond, List, [], ◌∷◌, ◌++◌, length, set, sym, refl, ap, ◌∙◌, subst, arith, eq-eqb, ne_eqb, Some}
 use mathlib.Core.Option.{some}
 use lib.ListN.{get_elem?}
 use Rattle.atomic_table.proofs.Lists.{set_here}
@@ -17,9 +17,9 @@ use Rattle.search_info.specs.declared.knows.Opening.{Opening}
 use Rattle.search_info.specs.declared.outcome.Learn.{Learn}
 use Rattle.search_info.specs.declared.outcome.Learn.TheVariants.{Learnt, Raced, Worn}
 use Rattle.search_info.specs.History.{Start, IsStart, known_after}
-use Rattle.search_info.specs.Steps.{StandsIn, with_seen, with_try, entry_of, counting, Loaded, Hits, Misses}
+use Rattle.search_info.specs.Steps.{with_seen, with_try, entry_of, Loaded, Hits, Misses}
 use Rattle.search_info.specs.Exchanges.{HasRead, Overtakes, ExchangeTells}
-use Rattle.search_info.specs.Outcomes.{Recommends, Counts, IsOvertaken, IsWorn, Tells}
+use Rattle.search_info.specs.Outcomes.{Counts, IsOvertaken, Tells}
 use Rattle.search_info.proofs.ListLemmas.{inside, one_value}
 use Rattle.search_info.proofs.StepLemmas.{loading_keeps}
 

@@ -20,8 +20,8 @@ impl Learner {
         ensures own { IsSamePass pass.old pass.new × IsPassOf self.now pass.new }
         ensures told { Recommends (view pass.old) index result (view pass.new) }
     {
-        let word = self.load_at::<Brand>(&mut pass.seat, index as usize, &None);
-        unpack(word)
+        let found = self.load_at::<Brand>(&mut pass.seat, index as usize, &None);
+        unpack(found)
     }
 
     /// Counts that the hash answered a search.
@@ -60,7 +60,8 @@ impl Learner {
         requires figures { AreFiguresOf unique figures.now }
         requires advice { fields_asked block.old.advice ≤ unique }
         ensures own { IsSamePass pass.old pass.new × IsPassOf self.now pass.new }
-        ensures told { Tells (view pass.old) index (kind.Descent (descent_of unique figures.now block.old rows)) result (view pass.new) }
+        ensures told { let d = descent_of unique figures.now block.old rows in
+            Tells (view pass.old) index (kind.Descent d) result (view pass.new) }
         ensures block { TellsBlock (descent_of unique figures.now block.old rows) result block.new }
     {
         let descent = Descent {

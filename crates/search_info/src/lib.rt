@@ -4,14 +4,16 @@
 
 mod calls;
 mod knows;
-mod opens;
 mod law;
 mod learner;
+mod opens;
 mod outcome;
 mod parts;
 mod pass;
 mod plays;
 mod steps;
+#[cfg(test)]
+mod tests;
 
 pub use knows::{Entry, Fate, Knows, Opening, Try};
 pub use law::{Law, Settings};

@@ -1,8 +1,8 @@
-use Rattle.std.proofs.Common.{◌≡◌, ap, ◌∙◌, sym, arith, length, Some}
+use Rattle.std.proofs.Common.{ap, ◌∙◌}
 use lib.ListN.{get_elem?}
 use Rattle.search_info.specs.declared.knows.Opening.{Opening}
 use Rattle.search_info.proofs.ListLemmas.{inside}
-use Rattle.search_info.proofs.CallLemmas.{has_read, worn_tells, tells}
+use Rattle.search_info.proofs.CallLemmas.{has_read, tells}
 use Rattle.search_info.proofs.learner.Learner.after.Goals as goal
 
 pub load_at-word-requires-clause-index : goal.load_at-word-requires-clause-index
