@@ -61,7 +61,7 @@ and_false false = refl
 true-ne-false : true ≡ false → ⊥
 true-ne-false e = cc
 
-count_cons : {X : Type 0} (p : X → Bool) (x : X) (xs : List X) → count_by p (x ∷ xs) ≡ cond (p x) 1 0 + count_by p xs
+pub count_cons : {X : Type 0} (p : X → Bool) (x : X) (xs : List X) → count_by p (x ∷ xs) ≡ cond (p x) 1 0 + count_by p xs
 count_cons p x xs = sum_by-append (λ z. cond (p z) 1 0) (x ∷ []) xs ∙ ap (λ (k : ℕ). k + count_by p xs) (zero-add (cond (p x) 1 0))
 
 -- a filter that lets all pass that are counted keeps their number

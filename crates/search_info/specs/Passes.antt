@@ -19,6 +19,10 @@ pub use Rattle.search_info.specs.Rule.{first_knows}
 abbrev pub view : LearnPass → Knows
 view p = p.seat.me.0
 
+-- the pass has all numbers
+abbrev pub HasAllNumbers : Knows → Type 0
+HasAllNumbers v = (v.low ≡ 0) × (v.end ≡ v.opening.passes)
+
 -- what `open` fixed
 abbrev pub opening : Learner → Opening
 opening l = opening_of l.settings

@@ -37,6 +37,10 @@ is_counted Worn = false
 abbrev pub times_counted : ℕ → ℕ → List Try → ℕ
 times_counted i n tries = count_by (λ q. is_counted q.fate && (q.index == i) && (q.by == n)) tries
 
+-- how many of the tries were counted in the list i
+abbrev pub tries_counted : ℕ → List Try → ℕ
+tries_counted i tries = count_by (λ q. is_counted q.fate && (q.index == i)) tries
+
 -- how many events of a list have the number n
 abbrev pub times_made : ℕ → List Entry → ℕ
 times_made n xs = count_by (λ e. e.by == n) xs

@@ -3,7 +3,7 @@ ghost use Rattle.std.specs.Prelude.{◌≡◌, ◌<◌, ◌≤◌, length};
 ghost use Rattle.learning.specs.declared.event.Event.TheVariants as kind;
 ghost use Rattle.key_tuple.specs.declared.TheConstants.{MAX_KEY_BYTES};
 ghost use Rattle.learning.specs.Bounds.{fields_asked, AreFiguresOf};
-ghost use Rattle.search_info.specs.Outcomes.{Recommends, Tells, TellsBlock, descent_of};
+ghost use Rattle.search_info.specs.Outcomes.{Recommends, CountsAll, Tells, TellsBlock, descent_of};
 ghost use Rattle.search_info.specs.Passes.{view, opening, IsPassOf, IsSamePass, HasUnique, IsEventAt};
 
 use crate::learner::Learner;
@@ -19,6 +19,7 @@ impl Learner {
         requires index { index < length (opening self.now).starts }
         ensures own { IsSamePass pass.old pass.new × IsPassOf self.now pass.new }
         ensures told { Recommends (view pass.old) index result (view pass.new) }
+        ensures all { CountsAll (view pass.new) index result }
     {
         let found = self.load_at::<Brand>(&mut pass.seat, index as usize, &None);
         unpack(found)

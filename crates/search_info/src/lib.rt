@@ -18,5 +18,6 @@ mod tests;
 pub use knows::{Entry, Fate, Knows, Opening, Try};
 pub use law::{Law, Settings};
 pub use learner::Learner;
+pub use learning::{BlockFigures, Descent, Event, Figures, Info};
 pub use outcome::Learn;
 pub use pass::LearnPass;

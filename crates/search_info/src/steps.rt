@@ -1,12 +1,8 @@
 //! The steps on the table: a load, and an exchange after it.
-ghost use Rattle.std.specs.Prelude.{◌≡◌, ◌≢◌, ◌<◌, List, length, Some};
-ghost use mathlib.Core.Option.{some};
-ghost use lib.ListN.{get_elem?};
-ghost use Rattle.search_info.specs.declared.knows.Entry.{Entry};
+ghost use Rattle.std.specs.Prelude.{◌≡◌, ◌<◌, length, Some};
 ghost use Rattle.search_info.specs.Exchanges.{HasRead, ExchangeTells};
-ghost use Rattle.search_info.specs.History.{Start};
 ghost use Rattle.search_info.specs.Passes.{view, opening, IsPassOf, IsSamePass, IsSeatOf, IsSameSeat};
-ghost use Rattle.search_info.specs.Steps.{Loaded, Hits, Misses, MayExchange, KeepsNumbers};
+ghost use Rattle.search_info.specs.Steps.{Loaded, HitTells, MissTells, MayExchange, KeepsNumbers};
 
 use crate::knows::Knows;
 use crate::learner::Learner;
@@ -51,11 +47,8 @@ impl Learner {
         requires index { index < length (opening self.now).starts }
         requires rule { MayExchange seat.old.me.0 index old new event.now }
         ensures own { IsSameSeat seat.old seat.new }
-        ensures hit { let v = seat.old.me.0 in (xs : List Entry) → get_elem? v.seen index ≡ some xs
-            → result ≡ old → Hits v index xs event.now seat.new.me.0 }
-        ensures missed { let v = seat.old.me.0 in (s : Start) (xs : List Entry) → get_elem? v.opening.starts index ≡ some s
-            → get_elem? v.seen index ≡ some xs → result ≢ old
-            → Misses v index s xs event.now result seat.new.me.0 }
+        ensures hit { HitTells seat.old.me.0 index event.now old result seat.new.me.0 }
+        ensures missed { MissTells seat.old.me.0 index event.now old result seat.new.me.0 }
         ensures same { KeepsNumbers seat.old.me.0 seat.new.me.0 }
         ensures slots { seat.new.me.1 ≡ seat.old.me.1 }
     {
