@@ -1,7 +1,6 @@
 //! The calls that look and learn. Each makes one load and at most one exchange.
-ghost use Rattle.std.specs.Prelude.{◌≡◌, ◌<◌, ◌≤◌, length};
+ghost use Rattle.std.specs.Prelude.{◌<◌, ◌≤◌, length};
 ghost use Rattle.learning.specs.declared.event.Event.TheVariants as kind;
-ghost use Rattle.key_tuple.specs.declared.TheConstants.{MAX_KEY_BYTES};
 ghost use Rattle.learning.specs.Bounds.{fields_asked, AreFiguresOf};
 ghost use Rattle.search_info.specs.Outcomes.{Recommends, CountsAll, Tells, TellsBlock, descent_of};
 ghost use Rattle.search_info.specs.Passes.{view, opening, IsPassOf, IsSamePass, HasUnique, IsEventAt};

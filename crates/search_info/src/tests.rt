@@ -1,5 +1,5 @@
 //! The learner from outside: whole runs, a race, a worn word, and threads.
-ghost use Rattle.std.specs.Prelude.{◌≡◌, ◌≢◌, ◌<◌, IfOk, IfSome, length, Some};
+ghost use Rattle.std.specs.Prelude.{◌≡◌, ◌<◌, IfOk, IfSome, Some};
 ghost use Rattle.learning.specs.declared.event.Event.TheVariants as kind;
 ghost use Rattle.learning.specs.Bounds.{IsInfoOf};
 ghost use Rattle.search_info.specs.Exchanges.{HasRead};
