@@ -1,21 +1,13 @@
 //! What an index of so many fields may ask for, and be told.
 ghost use Rattle.std.specs.Prelude.{◌≡◌, ◌↔◌, ◌<◌, ◌≤◌, IsTrue};
 ghost use Rattle.key_tuple.specs.declared.TheConstants.{MAX_KEY_BYTES};
-ghost use Rattle.learning.specs.Bounds.{fields_asked, IsDescentOf, IsInfoOf};
+ghost use Rattle.learning.specs.Bounds.{IsDescentOf, IsInfoOf};
 ghost use Rattle.learning.specs.Word.{FitsWord};
 
 use crate::event::Descent;
 use crate::info::Info;
 use crate::{ANALYSIS_WIDTH, BYTES_WIDTH, EVENTS_PLACE, FIELDS_WIDTH, POTENTIAL_WIDTH};
-use key_tuple::{MAX_KEY_BYTES, Match, Params};
-
-/// How many fields a prefix asks for: its whole fields, and one more where it has bytes besides.
-pub fn fields_asked(prefix: &Params) -> u16
-    ensures { result ≡ fields_asked prefix.now }
-{
-    let fields = u16::from(prefix.fields);
-    if prefix.bytes > 0 { fields + 1 } else { fields }
-}
+use key_tuple::{MAX_KEY_BYTES, Match};
 
 /// Whether a descent is one in an index of so many fields.
 pub fn is_descent_of(unique: u8, descent: &Descent) -> bool
@@ -25,7 +17,7 @@ pub fn is_descent_of(unique: u8, descent: &Descent) -> bool
     descent.unique == unique
         && is_within(unique, &figures.low)
         && is_within(unique, &figures.up)
-        && fields_asked(&descent.block.advice) <= u16::from(unique)
+        && descent.block.advice.asked_fields() <= u16::from(unique)
 }
 
 fn is_within(unique: u8, row: &Match) -> bool
@@ -38,7 +30,7 @@ fn is_within(unique: u8, row: &Match) -> bool
 pub fn is_info_of(unique: u8, info: &Info) -> bool
     ensures { IsTrue result ↔ IsInfoOf unique info.now }
 {
-    let asks = fields_asked(&info.params) <= u16::from(unique);
+    let asks = info.params.asked_fields() <= u16::from(unique);
     asks && fits_word(info)
 }
 

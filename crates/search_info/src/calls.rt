@@ -1,7 +1,8 @@
 //! The calls that look and learn. Each makes one load and at most one exchange.
 ghost use Rattle.std.specs.Prelude.{◌<◌, ◌≤◌, length};
 ghost use Rattle.learning.specs.declared.event.Event.TheVariants as kind;
-ghost use Rattle.learning.specs.Bounds.{fields_asked, AreFiguresOf};
+ghost use Rattle.key_tuple.specs.Fold.{asked_fields};
+ghost use Rattle.learning.specs.Bounds.{AreFiguresOf};
 ghost use Rattle.search_info.specs.Outcomes.{Recommends, CountsAll, Tells, TellsBlock, descent_of};
 ghost use Rattle.search_info.specs.Passes.{view, opening, IsPassOf, IsSamePass, HasUnique, IsEventAt};
 
@@ -58,7 +59,7 @@ impl Learner {
         requires own { IsPassOf self.now pass.old }
         requires unique { HasUnique self.now index unique }
         requires figures { AreFiguresOf unique figures.now }
-        requires advice { fields_asked block.old.advice ≤ unique }
+        requires advice { asked_fields block.old.advice ≤ unique }
         ensures own { IsSamePass pass.old pass.new × IsPassOf self.now pass.new }
         ensures told { let d = descent_of unique figures.now block.old rows in
             Tells (view pass.old) index (kind.Descent d) result (view pass.new) }

@@ -7,7 +7,7 @@ ghost use Rattle.search_info.specs.Passes.{view, opening, IsPassOf, HasUnique};
 
 use crate::{Learn, LearnPass, Learner};
 use key_tuple::{Match, NoMemory};
-use learning::{BlockFigures, Event, Figures, Info, fields_asked, is_info_of, pack, unpack};
+use learning::{BlockFigures, Event, Figures, Info, is_info_of, pack, unpack};
 use std::alloc::Global;
 use std::marker::Brand;
 use std::process::Abort;
@@ -45,7 +45,7 @@ fn descend(
     requires near { (up.fields < 2) × (up.bytes ≡ 0) }
     ensures { IsPassOf learner.now pass.new }
 {
-    assert!(rt; fields_asked(&block.advice) <= 1);
+    assert!(rt; block.advice.asked_fields() <= 1);
     let figures = Figures { low: NONE, up };
     let learn = learner.after_descent(pass, 0, 1, &figures, block, 3);
     matches!(&learn, Learn::Learnt { build: true, .. })

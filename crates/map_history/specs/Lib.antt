@@ -1,0 +1,13 @@
+pub mod Map
+pub mod Pairs
+pub mod Operation
+pub mod Reply
+pub mod Told
+pub mod Text
+pub mod Report
+pub mod Spelling
+pub mod Scans
+pub mod Rows
+pub mod Statistics
+pub mod LegalReport
+pub mod Laws
