@@ -1,5 +1,5 @@
 -- What learning keeps.
-use Rattle.std.proofs.Common.{◌≡◌, ℕ, ◌+◌, ◌<◌, ◌≤◌, Bool, true, false, not, ◌&&◌, ◌||◌, cond, nat_lt, nat_le, List, [], ◌∷◌, length, refl, ◌∙◌, sym, subst, ◌⊎◌, inl, inr, arith}
+use Rattle.std.proofs.Common.{◌≡◌, ℕ, ◌+◌, ◌<◌, ◌≤◌, Bool, true, false, not, ◌&&◌, ◌||◌, ◌==◌, cond, nat_lt, nat_le, List, [], ◌∷◌, length, refl, ◌∙◌, sym, subst, ◌⊎◌, inl, inr, arith}
 use Rattle.std.proofs.lemmas.Bool.Decides.{nat_tests}
 use Rattle.std.specs.Ordering.{nat_cmp, ordering_then, is_le}
 use Rattle.std.specs.declared.cmp.Ordering.{Ordering}
@@ -12,7 +12,8 @@ use Rattle.learning.specs.declared.event.Descent.{Descent}
 use Rattle.learning.specs.declared.event.Event.{Event}
 use Rattle.learning.specs.declared.event.Event.TheVariants.{Hit, Miss, Descent as Down}
 use Rattle.learning.specs.declared.event.Figures.{Figures}
-use Rattle.learning.specs.Bounds.{fields_asked, IsInfoOf, AreFiguresOf, IsDescentOf, IsEventOf}
+use Rattle.key_tuple.specs.Fold.{asked_fields}
+use Rattle.learning.specs.Bounds.{IsInfoOf, AreFiguresOf, IsDescentOf, IsEventOf}
 use Rattle.learning.specs.Learning.{learn, learn_descent, is_early, waiting, reviewed, info_after, one_more}
 use Rattle.learning.specs.Recommendation.{extent_cmp, recommendation, recommendation_by, parting, promise, promise_by, stands_after, confirms}
 
@@ -44,7 +45,7 @@ one_more_below limit n top l h = let P : ℕ → Type 0 = λ k. k < top in
 
 -- a prefix asks for so many fields at most, and for few enough bytes
 record IsPrefixOf (unique : ℕ) (p : Params) : Type 0 where
-  asks : fields_asked p ≤ unique
+  asks : asked_fields p ≤ unique
   bytes : p.bytes < 1024
 
 parting_asks : (unique : ℕ) (near far : Match) (left : Bool) → far.bytes ≤ 767 → near.fields ≤ unique → far.fields ≤ unique
@@ -100,8 +101,9 @@ recommendation_asks unique f one figures = cases (extent_cmp f.up f.low) refl
     cases Greater e = parting_asks unique f.up f.low true figures.low_bytes figures.up_fields figures.low_fields (nearer_fields f.up f.low (extent_greater f.up f.low e))
     cases Less e = parting_asks unique f.low f.up false figures.up_bytes figures.low_fields figures.up_fields (nearer_fields f.low f.up (extent_less f.up f.low e))
 
-fields_of_prefix : (unique : ℕ) (p : Params) → fields_asked p ≤ unique → p.fields ≤ unique
-fields_of_prefix unique p h = omega arith
+fields_of_prefix : (unique : ℕ) (p : Params) → asked_fields p ≤ unique → p.fields ≤ unique
+fields_of_prefix unique p h = let P : ℕ → Type 0 = λ n. n ≤ unique → p.fields ≤ unique in
+    either_way P (p.bytes == 0) p.fields (p.fields + 1) (λ _ k. k) (λ _ k. omega arith) h
 
 promise_small : (o : Ordering) → promise_by o < 128
 promise_small Equal = omega arith

@@ -1,8 +1,7 @@
 //! What an event teaches an index, and the block that a descent came to.
-ghost use Rattle.std.specs.Prelude.{◌≡◌, ◌≢◌, ◌+◌, ◌<◌, ◌≤◌, ℕ};
-ghost use Rattle.learning.specs.declared.event.Event.TheVariants as kind;
-ghost use Rattle.learning.specs.Bounds.{IsEventOf, IsDescentOf, AreFiguresOf};
-ghost use Rattle.learning.specs.Learning.{learn, learn_descent, learn_block, is_early, waiting, reviewed, has_helped, is_hashed_with, one_more};
+ghost use Rattle.std.specs.Prelude.{◌≡◌, ◌+◌, ◌<◌, ℕ};
+ghost use Rattle.learning.specs.Bounds.{IsEventOf, IsDescentOf};
+ghost use Rattle.learning.specs.Learning.{learn, learn_descent, learn_block, is_early, waiting, reviewed, has_helped, one_more};
 
 use crate::event::{BlockFigures, Descent, Event};
 use crate::info::Info;

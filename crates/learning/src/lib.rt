@@ -13,7 +13,7 @@ mod recommend;
 mod tests;
 mod word;
 
-pub use bounds::{fields_asked, is_descent_of};
+pub use bounds::{is_descent_of, is_info_of};
 pub use build::should_build;
 pub use event::{BlockFigures, Descent, Event, Figures};
 pub use info::Info;

@@ -1,6 +1,6 @@
 //! How a search recommends a prefix, and when it confirms one.
 ghost use Rattle.std.specs.Prelude.{◌≡◌, ◌<◌};
-ghost use Rattle.learning.specs.Recommendation.{extent_cmp, extent_of, parting, recommendation, promise, has_prefix, confirms};
+ghost use Rattle.learning.specs.Recommendation.{extent_cmp, parting, recommendation, promise, has_prefix, confirms};
 
 use crate::event::Figures;
 use crate::info::Info;

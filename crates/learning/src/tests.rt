@@ -1,6 +1,6 @@
 //! Whole runs of searches, and the words that they end with.
-ghost use Rattle.std.specs.Prelude.{◌≡◌, ◌<◌, ℕ, IsTrue};
-ghost use Rattle.learning.specs.Bounds.{IsEventOf, IsDescentOf};
+ghost use Rattle.std.specs.Prelude.{◌<◌, ℕ};
+ghost use Rattle.learning.specs.Bounds.{IsEventOf};
 
 use crate::{
     BlockFigures, Descent, Event, Figures, Info, is_descent_of, learn, learn_block, pack,

@@ -1,5 +1,5 @@
 -- A call from its load and its exchange.
-use Rattle.std.proofs.Common.{◌≡◌, ◌≢◌, ℕ, suc, zero, ◌+◌, ◌<◌, ◌≤◌, ◌==◌, cond, List, [], ◌∷◌, ◌++◌, length, set, sym, refl, ap, ◌∙◌, subst, arith, eq-eqb, ne_eqb, Option, Some, None}
+use Rattle.std.proofs.Common.{◌≡◌, ◌≢◌, ℕ, suc, zero, ◌<◌, cond, List, [], ◌∷◌, ◌++◌, length, set, sym, refl, ap, ◌∙◌, subst, arith, eq-eqb, ne_eqb, Some, None, ◌+◌}
 use mathlib.Core.Option.{some}
 use lib.ListN.{get_elem?}
 use Rattle.atomic_table.proofs.Lists.{set_here}
@@ -17,9 +17,11 @@ use Rattle.search_info.specs.declared.knows.Opening.{Opening}
 use Rattle.search_info.specs.declared.outcome.Learn.{Learn}
 use Rattle.search_info.specs.declared.outcome.Learn.TheVariants.{Learnt, Raced, Worn}
 use Rattle.search_info.specs.History.{Start, IsStart, known_after}
-use Rattle.search_info.specs.Steps.{StandsIn, with_seen, with_try, entry_of, counting, Loaded, Hits, Misses}
+use Rattle.search_info.specs.Steps.{with_seen, with_try, entry_of, Loaded, Hits, Misses}
 use Rattle.search_info.specs.Exchanges.{HasRead, Overtakes, ExchangeTells}
-use Rattle.search_info.specs.Outcomes.{Recommends, Counts, IsOvertaken, IsWorn, Tells}
+use Rattle.search_info.specs.Outcomes.{Counts, IsOvertaken, Tells, CountsAll, Recommends}
+use Rattle.search_info.proofs.HistoryLemmas.{known_events}
+use Rattle.search_info.proofs.TotalLemmas.{all_tried}
 use Rattle.search_info.proofs.ListLemmas.{inside, one_value}
 use Rattle.search_info.proofs.StepLemmas.{loading_keeps}
 
@@ -126,3 +128,24 @@ module _ (v v1 : Knows) (i : ℕ) (event : Event) (word : ℕ) (before : Info) (
     tells (Learnt b a build) x = subst (λ (z : Info). Counts v i event z a v2 × (build ≡ should_build z event)) (sym x.0) (counts a x.1 (x.3 l.list read.is_seen), x.2)
     tells (Raced b found) x = subst (λ (z : Info). IsOvertaken v i event z found v2) (sym x.0) (overtaken found (λ e. x.1 (x.0 ∙ e)) (subst (λ (z : Info). Overtakes v1 i l.start l.list event z found v2) x.0 (x.2 l.start l.list at_later read.is_seen)))
     tells Worn x = absurd x
+
+-- what a load without an event found is what a pass with all numbers has counted
+pub counts_all : (v v1 : Knows) (i word : ℕ) (info : Info) → Loaded None v i word v1 → ((k : Info) → FitsWord k → word_of k ≡ word → info ≡ k) → CountsAll v1 i info
+counts_all v v1 i word info l un all s at = let f = l.stands.fits in let bounded = f.history.infos i s l.list at l.stands.list in
+    let same : l.start ≡ s = one_value v.opening.starts i l.start s l.is_start (ap (λ (z : Knows). get_elem? z.opening.starts i) (sym l.told) ∙ at) in
+    ap (λ (k : Info). k.events) (un (known_after s l.list) bounded.fits (sym (l.word_is ∙ ap (λ (z : Start). word_of (known_after z l.list)) same)))
+    ∙ (known_events s l.list ∙ ap (λ (n : ℕ). s.0.events + n) (sym (all_tried l.stands.lists v1 i l.list f all l.stands.list)))
+
+-- what a load without an event tells
+pub recommends : (v v1 : Knows) (i word : ℕ) (info : Info) → Loaded None v i word v1 → ((k : Info) → FitsWord k → word_of k ≡ word → info ≡ k) → Recommends v i info v1
+recommends v v1 i word info l un = let at : get_elem? v1.opening.starts i ≡ some l.start = ap (λ (z : Knows). get_elem? z.opening.starts i) l.told ∙ l.is_start in
+    let bounded = l.stands.fits.history.infos i l.start l.list at l.stands.list in let is : info ≡ known_after l.start l.list = un (known_after l.start l.list) bounded.fits (sym l.word_is) in record {
+      start = l.start;
+      is_start = l.is_start;
+      list = l.list;
+      extends = l.extends;
+      is = is;
+      bounded = subst (IsInfoOf l.start.1) (sym is) bounded;
+      stands = l.stands;
+      told = l.told;
+    }

@@ -1,12 +1,11 @@
 -- What an index knows from its list, and what one event more changes.
-use Rattle.std.proofs.Common.{◌≡◌, ◌≢◌, ◌⊎◌, ℕ, suc, zero, ◌+◌, ◌<◌, ◌≤◌, List, [], ◌∷◌, ◌++◌, map, length, set, sym, refl, ap, ◌∙◌, subst, inl, inr, ⊎_elim, arith, length-set, length-append, append_assoc, append-nil}
+use Rattle.std.proofs.Common.{◌≡◌, ◌≢◌, ◌⊎◌, ℕ, suc, ◌+◌, ◌<◌, ◌≤◌, List, [], ◌∷◌, ◌++◌, map, length, set, sym, refl, ap, ◌∙◌, subst, inl, inr, ⊎_elim, arith, length-set, length-append, append_assoc}
 use lib.ListN.{get_elem?, length-map}
-use mathlib.Core.Option.{some, some-injective, some-ne-none}
+use mathlib.Core.Option.{some}
 use mathlib.Core.Logic.{dite}
 use native.Mathlib.Decide.{ℕ_discrete}
-use Rattle.atomic_table.proofs.Lists.{at_set, set_here, set_else, at_longer, at_last}
+use Rattle.atomic_table.proofs.Lists.{at_set, set_here, set_else, at_longer}
 use Rattle.key_tuple.specs.declared.TheConstants.{MAX_FIELDS}
-use Rattle.learning.specs.declared.event.Event.{Event}
 use Rattle.learning.specs.declared.info.Info.{Info}
 use Rattle.learning.specs.Bounds.{IsInfoOf, IsEventOf}
 use Rattle.learning.specs.Learning.{learn, info_after}
@@ -18,7 +17,7 @@ use Rattle.search_info.specs.declared.knows.Fate.{Fate}
 use Rattle.search_info.specs.declared.knows.Fate.TheVariants.{Counted, Raced, Worn}
 use Rattle.search_info.specs.declared.knows.Opening.{Opening}
 use Rattle.search_info.specs.declared.knows.Try.{Try}
-use Rattle.search_info.specs.History.{Start, History, IsStart, AreStarts, known_after, IsEntry, IsBeginning, WasKnown, IsHistory}
+use Rattle.search_info.specs.History.{Start, History, known_after, IsEntry, IsBeginning, WasKnown, IsHistory}
 use Rattle.search_info.specs.Rule.{IsSoBy, IsSo}
 use Rattle.search_info.proofs.ListLemmas.{inside, one_value, at_end, empty_list}
 

@@ -1,6 +1,6 @@
 -- The rule holds at the start.
-use Rattle.std.proofs.Common.{◌≡◌, ℕ, suc, zero, ◌+◌, ◌<◌, ◌≤◌, List, [], ◌∷◌, ◌++◌, map, length, get_or, replicate, sym, refl, ap, ◌∙◌, subst, arith, le_refl, append-nil}
-use mathlib.Core.Option.{some, some-injective, some-ne-none}
+use Rattle.std.proofs.Common.{◌≡◌, ℕ, ◌<◌, List, [], ◌∷◌, map, length, get_or, replicate, sym, ap, ◌∙◌, subst, le_refl, append-nil}
+use mathlib.Core.Option.{some, some-ne-none}
 use lib.ListN.{get_elem?, length-replicate}
 use Rattle.atomic_table.specs.Table.{opening}
 use Rattle.atomic_table.proofs.Lists.{at_map, at_longer}

@@ -3,21 +3,20 @@ use Rattle.std.proofs.Common.{◌≡◌, ◌≢◌, ◌⊎◌, ℕ, suc, zero, �
 use Rattle.std.proofs.lemmas.Bool.Decides.{nat_tests}
 use Rattle.std.proofs.lemmas.List.Sums.{sum_by-append}
 use mathlib.Core.Logic.{dite}
-use mathlib.Core.Option.{some, some-injective, some-ne-none}
-use native.Mathlib.Decide.{ℕ_discrete, dec_le}
+use mathlib.Core.Option.{some}
+use native.Mathlib.Decide.{dec_le}
 use lib.ListN.{get_elem?}
-use Rattle.atomic_table.specs.Table.{State, Splits, Joins}
-use Rattle.atomic_table.proofs.Lists.{at_set, at_longer, set_here, set_else}
-use Rattle.learning.proofs.LearningLemmas.{either_way}
+use Rattle.atomic_table.specs.Table.{Splits, Joins}
+use Rattle.atomic_table.proofs.Lists.{at_set, at_longer, set_else}
 use Rattle.search_info.specs.declared.knows.Entry.{Entry}
 use Rattle.search_info.specs.declared.knows.Knows.{Knows}
 use Rattle.search_info.specs.declared.knows.Opening.{Opening}
 use Rattle.search_info.specs.declared.knows.Try.{Try}
 use Rattle.search_info.specs.declared.law.Settings.{Settings}
-use Rattle.search_info.specs.History.{History, IsEntry}
-use Rattle.search_info.specs.Rule.{Kept, Fits, IsSo, opening_of, is_counted, times_counted, times_made, counted_try}
-use Rattle.search_info.specs.Parts.{tries_below, tries_from, longer, middle, left_part, right_part, both_parts, spent_part}
-use Rattle.search_info.proofs.ListLemmas.{inside, one_value, at_end, at_more, at_further, filter_at, at_filter}
+use Rattle.search_info.specs.History.{History}
+use Rattle.search_info.specs.Rule.{Kept, Fits, IsSo, opening_of, is_counted, times_counted}
+use Rattle.search_info.specs.Parts.{longer, middle, left_part, right_part, both_parts, spent_part}
+use Rattle.search_info.proofs.ListLemmas.{at_end, at_more, at_further, filter_at, at_filter}
 use Rattle.search_info.proofs.StepLemmas.{is_at}
 
 pub middle_is : (a e : ℕ) → a + 2 ≤ e → (a < a + (e - a) / 2) × (a + (e - a) / 2 < e)
@@ -62,7 +61,7 @@ and_false false = refl
 true-ne-false : true ≡ false → ⊥
 true-ne-false e = cc
 
-count_cons : {X : Type 0} (p : X → Bool) (x : X) (xs : List X) → count_by p (x ∷ xs) ≡ cond (p x) 1 0 + count_by p xs
+pub count_cons : {X : Type 0} (p : X → Bool) (x : X) (xs : List X) → count_by p (x ∷ xs) ≡ cond (p x) 1 0 + count_by p xs
 count_cons p x xs = sum_by-append (λ z. cond (p z) 1 0) (x ∷ []) xs ∙ ap (λ (k : ℕ). k + count_by p xs) (zero-add (cond (p x) 1 0))
 
 -- a filter that lets all pass that are counted keeps their number

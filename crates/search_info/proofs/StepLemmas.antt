@@ -1,5 +1,5 @@
 -- A load and an exchange keep the rule.
-use Rattle.std.proofs.Common.{◌≡◌, ◌≢◌, ◌⊎◌, ℕ, suc, zero, ◌+◌, ◌<◌, ◌≤◌, Bool, true, false, ◌&&◌, ◌==◌, cond, eqb, List, [], ◌∷◌, ◌++◌, map, length, get_or, set, count_by, sym, refl, ap, ◌∙◌, subst, inl, inr, ⊎_elim, arith, length-set, length-append, append_assoc, append-nil, eq-eqb, ne_eqb, zero-add, add-zero, Option, Some, None}
+use Rattle.std.proofs.Common.{◌≡◌, ◌≢◌, ◌⊎◌, ℕ, ◌+◌, ◌<◌, ◌≤◌, Bool, true, false, ◌&&◌, ◌==◌, cond, eqb, List, [], ◌∷◌, ◌++◌, length, get_or, set, count_by, sym, refl, ap, ◌∙◌, subst, inl, inr, ⊎_elim, arith, length-set, append-nil, eq-eqb, ne_eqb, zero-add, add-zero, Option, Some, None}
 use Rattle.std.proofs.lemmas.Bool.Decides.{nat_tests}
 use Rattle.std.proofs.lemmas.List.Sums.{sum_by-append}
 use mathlib.Core.Logic.{dite}
@@ -24,11 +24,11 @@ use Rattle.search_info.specs.declared.knows.Knows.{Knows}
 use Rattle.search_info.specs.declared.knows.Opening.{Opening}
 use Rattle.search_info.specs.declared.knows.Try.{Try}
 use Rattle.search_info.specs.declared.law.Settings.{Settings}
-use Rattle.search_info.specs.History.{Start, History, known_after, IsEntry, IsBeginning, WasKnown, IsHistory}
-use Rattle.search_info.specs.Rule.{Kept, Fits, IsSo, IsSoBy, opening_of, is_counted, times_counted, times_made, counted_try}
-use Rattle.search_info.specs.Steps.{KeepsNumbers, StandsIn, Extends, with_seen, with_try, entry_of, counting, loading, Loaded, loaded, Hits, Misses, exchanged}
-use Rattle.search_info.proofs.ListLemmas.{inside, there, reads, one_value, at_end, same_some}
-use Rattle.search_info.proofs.HistoryLemmas.{known_snoc, beginning_info, same_word, grown, grown_here, grown_begins, grown_known, grown_entry, entry_grown, grown_so, grown_history}
+use Rattle.search_info.specs.History.{Start, History, known_after, IsEntry, IsHistory}
+use Rattle.search_info.specs.Rule.{Kept, Fits, IsSo, opening_of, is_counted, times_counted, times_made, counted_try}
+use Rattle.search_info.specs.Steps.{KeepsNumbers, Extends, with_seen, with_try, entry_of, counting, loading, loaded, Hits, Misses, exchanged}
+use Rattle.search_info.proofs.ListLemmas.{inside, there, reads, one_value, same_some}
+use Rattle.search_info.proofs.HistoryLemmas.{known_snoc, beginning_info, same_word, grown, grown_here, grown_begins, entry_grown, grown_so, grown_history}
 
 pub is_at : (n m : ℕ) → (n == m) ≡ true → n ≡ m
 is_at n m e = grind (arith, nat_tests)
@@ -175,19 +175,22 @@ module _ (t : Settings) where
         keeps,
         tt,
         unmoved s r id v v' (set s.words i (get_or s.words i 0)) at live keeps_all.0 keeps_all.1 keeps_all.2 (set-get_or s.words i 0) fits,
-        (record {
-          start = start;
-          is_start = is_start;
-          list = xs.0;
-          extends = extends_of r.lists v i xs.0 f xs.1;
-          word_is = reads s.words i (word_of (known_after start xs.0)) 0 (r.words i start xs.0 at_start xs.1);
-          stands = record { lists = r.lists; fits = fits; list = xs.1 };
-          told = refl;
-        }, refl),
+        (
+          record {
+            start = start;
+            is_start = is_start;
+            list = xs.0;
+            extends = extends_of r.lists v i xs.0 f xs.1;
+            word_is = reads s.words i (word_of (known_after start xs.0)) 0 (r.words i start xs.0 at_start xs.1);
+            stands = record { lists = r.lists; fits = fits; list = xs.1 };
+            told = refl;
+          },
+          refl,
+        ),
       )
 
   -- what an exchange tells of the event, the start and the list that it is for
-  abbrev Told :  ℕ → ℕ → Me ℕ Knows → ℕ → Me ℕ Knows → Event × Start × List Entry → Type 0
+  abbrev Told : ℕ → ℕ → Me ℕ Knows → ℕ → Me ℕ Knows → Event × Start × List Entry → Type 0
   Told i old me found me' z = (found ≡ old → Hits me.0 i z.2 z.0 me'.0) × (found ≢ old → Misses me.0 i z.1 z.2 z.0 found me'.0) × (me'.1 ≡ me.1)
 
   told_so : (asked : Option Event) (slots id : ℕ) (me me' : Me ℕ Knows) (i old new found : ℕ) (event : Event) (start : Start) (xs : List Entry) → asked ≡ Some event → get_elem? me.0.opening.starts i ≡ some start → get_elem? me.0.seen i ≡ some xs
@@ -209,8 +212,7 @@ module _ (t : Settings) where
       let e : Entry = entry_of v event in let after : History = grown r.lists i xs e list in let v' : Knows = counting v i xs event in
       let history : IsHistory v.opening after = grown_history r.lists i xs e list v.opening start f.history is_start (let most = f.numbers in omega arith) fair room in
       let fits = counting_fits r.lists v i xs event list f live history in
-      let history' : IsHistory (opening_of t) after = subst (λ (o : Opening). IsHistory o after) same history in
-      (
+      let history' : IsHistory (opening_of t) after = subst (λ (o : Opening). IsHistory o after) same history in (
         v',
         keeps,
         tt,

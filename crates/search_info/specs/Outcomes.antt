@@ -1,5 +1,5 @@
 -- What a call tells.
-use Rattle.std.specs.Prelude.{◌≡◌, ◌≢◌, ℕ, ◌<◌, List, [], ◌∷◌, ◌++◌}
+use Rattle.std.specs.Prelude.{◌≡◌, ◌≢◌, ℕ, ◌+◌, ◌<◌, List, [], ◌∷◌, ◌++◌}
 use mathlib.Core.Option.{some}
 use lib.ListN.{get_elem?}
 use Rattle.learning.specs.declared.info.Info.{Info}
@@ -16,6 +16,8 @@ use Rattle.search_info.specs.declared.knows.Knows.{Knows}
 use Rattle.search_info.specs.declared.outcome.Learn.{Learn}
 use Rattle.search_info.specs.declared.outcome.Learn.TheVariants.{Learnt, Raced, Worn}
 use Rattle.search_info.specs.History.{Start, known_after}
+use Rattle.search_info.specs.Rule.{tries_counted}
+use Rattle.search_info.specs.Passes.{HasAllNumbers}
 use Rattle.search_info.specs.Steps.{StandsIn, Extends, with_seen, with_try, counting, entry_of}
 
 -- the info is what the index knows from a list that begins with all that the pass had seen, and now
@@ -29,6 +31,10 @@ pub record Recommends (v : Knows) (i : ℕ) (info : Info) (v' : Knows) : Type 0 
   pub bounded : IsInfoOf start.1 info
   pub stands : StandsIn v' i list
   pub told : v' ≡ with_seen v i list
+
+-- a pass with all numbers has counted all events since the opening
+abbrev pub CountsAll : Knows → ℕ → Info → Type 0
+CountsAll v i info = HasAllNumbers v → (s : Start) → get_elem? v.opening.starts i ≡ some s → info.events ≡ s.0.events + tries_counted i v.tries
 
 -- the event was counted right behind the list that was loaded
 pub record Counts (v : Knows) (i : ℕ) (event : Event) (before after : Info) (v' : Knows) : Type 0 where

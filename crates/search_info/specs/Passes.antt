@@ -1,8 +1,11 @@
 -- What a clause says of a learner and a pass.
-use Rattle.std.specs.Prelude.{◌≡◌, ℕ}
+use Rattle.std.specs.Prelude.{◌≡◌, ℕ, List}
+use Rattle.std.specs.List.{zip}
 use mathlib.Core.Option.{some}
 use lib.ListN.{get_elem?}
+use Rattle.atomic_table.specs.declared.shared.Seat.{Seat}
 use Rattle.learning.specs.declared.event.Event.{Event}
+use Rattle.learning.specs.declared.info.Info.{Info}
 use Rattle.learning.specs.Bounds.{IsEventOf}
 use Rattle.search_info.specs.declared.knows.Knows.{Knows}
 use Rattle.search_info.specs.declared.knows.Opening.{Opening}
@@ -16,17 +19,33 @@ pub use Rattle.search_info.specs.Rule.{first_knows}
 abbrev pub view : LearnPass → Knows
 view p = p.seat.me.0
 
+-- the pass has all numbers
+abbrev pub HasAllNumbers : Knows → Type 0
+HasAllNumbers v = (v.low ≡ 0) × (v.end ≡ v.opening.passes)
+
 -- what `open` fixed
 abbrev pub opening : Learner → Opening
 opening l = opening_of l.settings
 
+-- what is fixed by opening a learner with these infos, numbers of fields and number of passes
+abbrev pub opened : List Info → List ℕ → ℕ → Opening
+opened first unique passes = record { starts = zip first unique; passes = passes }
+
+-- it is a seat at this learner's table
+abbrev pub IsSeatOf : Learner → Seat ℕ Knows → Type 0
+IsSeatOf l s = (s.table_id ≡ l.table.shared.table_id) × (s.me.0.opening ≡ opening l)
+
+-- it is the same seat, later
+abbrev pub IsSameSeat : Seat ℕ Knows → Seat ℕ Knows → Type 0
+IsSameSeat s s' = (s'.table_id ≡ s.table_id) × (s'.id ≡ s.id)
+
 -- it is a pass of this learner
 abbrev pub IsPassOf : Learner → LearnPass → Type 0
-IsPassOf l p = (p.seat.table_id ≡ l.table.shared.table_id) × ((view p).opening ≡ opening l)
+IsPassOf l p = IsSeatOf l p.seat
 
 -- it is the same pass, later
 abbrev pub IsSamePass : LearnPass → LearnPass → Type 0
-IsSamePass p q = (q.seat.table_id ≡ p.seat.table_id) × (q.seat.id ≡ p.seat.id)
+IsSamePass p q = IsSameSeat p.seat q.seat
 
 -- the index exists, and has so many fields
 abbrev pub HasUnique : Learner → ℕ → ℕ → Type 0

@@ -1,5 +1,5 @@
 -- The rule of a learner's table.
-use Rattle.std.specs.Prelude.{◌≡◌, ◌≢◌, ◌⊎◌, ℕ, ◌+◌, ◌<◌, ◌≤◌, Bool, true, false, ◌&&◌, ◌==◌, List, [], ◌∷◌, ◌++◌, map, length, replicate, count_by}
+use Rattle.std.specs.Prelude.{◌≡◌, ◌≢◌, ◌⊎◌, ℕ, ◌<◌, ◌≤◌, Bool, true, false, ◌&&◌, ◌==◌, List, [], ◌∷◌, ◌++◌, map, length, replicate, count_by}
 use mathlib.Core.Option.{some}
 use lib.ListN.{get_elem?}
 use Rattle.atomic_table.specs.Table.{State}
@@ -36,6 +36,10 @@ is_counted Worn = false
 -- how many of the tries were counted in the list i under the number n
 abbrev pub times_counted : ℕ → ℕ → List Try → ℕ
 times_counted i n tries = count_by (λ q. is_counted q.fate && (q.index == i) && (q.by == n)) tries
+
+-- how many of the tries were counted in the list i
+abbrev pub tries_counted : ℕ → List Try → ℕ
+tries_counted i tries = count_by (λ q. is_counted q.fate && (q.index == i)) tries
 
 -- how many events of a list have the number n
 abbrev pub times_made : ℕ → List Entry → ℕ

@@ -89,3 +89,11 @@ pub record MayExchange (v : Knows) (i old new : ℕ) (event : Event) : Type 0 wh
   pub new_is : new ≡ word_of (learn (known_after start list) event)
   pub fair : IsEventOf start.1 event
   pub room : (known_after start list).events < 4294967295
+
+-- an exchange that found the old word counted the event
+abbrev pub HitTells : Knows → ℕ → Event → ℕ → ℕ → Knows → Type 0
+HitTells v i event old found v' = (xs : List Entry) → get_elem? v.seen i ≡ some xs → found ≡ old → Hits v i xs event v'
+
+-- an exchange that found another word did not
+abbrev pub MissTells : Knows → ℕ → Event → ℕ → ℕ → Knows → Type 0
+MissTells v i event old found v' = (s : Start) (xs : List Entry) → get_elem? v.opening.starts i ≡ some s → get_elem? v.seen i ≡ some xs → found ≢ old → Misses v i s xs event found v'

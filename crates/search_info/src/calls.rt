@@ -1,9 +1,9 @@
 //! The calls that look and learn. Each makes one load and at most one exchange.
-ghost use Rattle.std.specs.Prelude.{◌≡◌, ◌<◌, ◌≤◌, length};
+ghost use Rattle.std.specs.Prelude.{◌<◌, ◌≤◌, length};
 ghost use Rattle.learning.specs.declared.event.Event.TheVariants as kind;
-ghost use Rattle.key_tuple.specs.declared.TheConstants.{MAX_KEY_BYTES};
-ghost use Rattle.learning.specs.Bounds.{fields_asked, AreFiguresOf};
-ghost use Rattle.search_info.specs.Outcomes.{Recommends, Tells, TellsBlock, descent_of};
+ghost use Rattle.key_tuple.specs.Fold.{asked_fields};
+ghost use Rattle.learning.specs.Bounds.{AreFiguresOf};
+ghost use Rattle.search_info.specs.Outcomes.{Recommends, CountsAll, Tells, TellsBlock, descent_of};
 ghost use Rattle.search_info.specs.Passes.{view, opening, IsPassOf, IsSamePass, HasUnique, IsEventAt};
 
 use crate::learner::Learner;
@@ -19,9 +19,10 @@ impl Learner {
         requires index { index < length (opening self.now).starts }
         ensures own { IsSamePass pass.old pass.new × IsPassOf self.now pass.new }
         ensures told { Recommends (view pass.old) index result (view pass.new) }
+        ensures all { CountsAll (view pass.new) index result }
     {
-        let word = self.load_at::<Brand>(&mut pass.seat, index as usize, &None);
-        unpack(word)
+        let found = self.load_at::<Brand>(&mut pass.seat, index as usize, &None);
+        unpack(found)
     }
 
     /// Counts that the hash answered a search.
@@ -58,9 +59,10 @@ impl Learner {
         requires own { IsPassOf self.now pass.old }
         requires unique { HasUnique self.now index unique }
         requires figures { AreFiguresOf unique figures.now }
-        requires advice { fields_asked block.old.advice ≤ unique }
+        requires advice { asked_fields block.old.advice ≤ unique }
         ensures own { IsSamePass pass.old pass.new × IsPassOf self.now pass.new }
-        ensures told { Tells (view pass.old) index (kind.Descent (descent_of unique figures.now block.old rows)) result (view pass.new) }
+        ensures told { let d = descent_of unique figures.now block.old rows in
+            Tells (view pass.old) index (kind.Descent d) result (view pass.new) }
         ensures block { TellsBlock (descent_of unique figures.now block.old rows) result block.new }
     {
         let descent = Descent {

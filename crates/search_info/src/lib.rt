@@ -4,17 +4,20 @@
 
 mod calls;
 mod knows;
-mod opens;
 mod law;
 mod learner;
+mod opens;
 mod outcome;
 mod parts;
 mod pass;
 mod plays;
 mod steps;
+#[cfg(test)]
+mod tests;
 
 pub use knows::{Entry, Fate, Knows, Opening, Try};
 pub use law::{Law, Settings};
 pub use learner::Learner;
+pub use learning::{BlockFigures, Descent, Event, Figures, Info};
 pub use outcome::Learn;
 pub use pass::LearnPass;

@@ -2,7 +2,7 @@
 ghost use Rattle.std.specs.Prelude.{◌≡◌, ◌^◌, ◌<◌, length, IfOk};
 ghost use Rattle.std.specs.List.{zip};
 ghost use Rattle.search_info.specs.History.{AreStarts};
-ghost use Rattle.search_info.specs.Passes.{view, opening, IsPassOf, HasUnique, first_knows};
+ghost use Rattle.search_info.specs.Passes.{view, opening, IsPassOf, HasUnique, opened, first_knows};
 ghost use Rattle.search_info.specs.Rule.{first_words};
 
 use crate::law::Settings;
@@ -26,7 +26,7 @@ impl Learner {
         requires each { length unique.now ≡ length first.now }
         requires starts { AreStarts (zip first.now unique.now) }
         requires one { 0 < passes }
-        ensures opening { IfOk result (λ r. opening r.0 ≡ record { starts = zip first.now unique.now; passes = passes }) }
+        ensures opening { IfOk result (λ r. opening r.0 ≡ opened first.now unique.now passes) }
         ensures own { IfOk result (λ r. IsPassOf r.0 r.1) }
         ensures pass { IfOk result (λ r. view r.1 ≡ first_knows (opening r.0)) }
     {

@@ -17,7 +17,8 @@ pub struct LearnPass {
 
 impl LearnPass {
     pub(crate) fn into_seat(self) -> Seat<u64, Knows>
-        ensures { (result.table_id ≡ self.seat.table_id) × (result.id ≡ self.seat.id) × (result.me ≡ self.seat.me) }
+        ensures seat { (result.table_id ≡ self.seat.table_id) × (result.id ≡ self.seat.id) }
+        ensures me { result.me ≡ self.seat.me }
     {
         let Self {
             seat,

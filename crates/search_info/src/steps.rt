@@ -1,12 +1,8 @@
 //! The steps on the table: a load, and an exchange after it.
-ghost use Rattle.std.specs.Prelude.{◌≡◌, ◌≢◌, ◌<◌, List, length, Some};
-ghost use mathlib.Core.Option.{some};
-ghost use lib.ListN.{get_elem?};
-ghost use Rattle.search_info.specs.declared.knows.Entry.{Entry};
+ghost use Rattle.std.specs.Prelude.{◌≡◌, ◌<◌, length, Some};
 ghost use Rattle.search_info.specs.Exchanges.{HasRead, ExchangeTells};
-ghost use Rattle.search_info.specs.History.{Start};
-ghost use Rattle.search_info.specs.Passes.{view, opening, IsPassOf, IsSamePass};
-ghost use Rattle.search_info.specs.Steps.{Loaded, Hits, Misses, MayExchange, KeepsNumbers};
+ghost use Rattle.search_info.specs.Passes.{view, opening, IsPassOf, IsSamePass, IsSeatOf, IsSameSeat};
+ghost use Rattle.search_info.specs.Steps.{Loaded, HitTells, MissTells, MayExchange, KeepsNumbers};
 
 use crate::knows::Knows;
 use crate::learner::Learner;
@@ -25,11 +21,11 @@ impl Learner {
         index: usize,
         event: &Option<Event>,
     ) -> u64
-        requires own { (seat.old.table_id ≡ self.now.table.shared.table_id) × (seat.old.me.0.opening ≡ opening self.now) }
+        requires own { IsSeatOf self.now seat.old }
         requires picked { X.event ≡ event.now }
         requires live { seat.old.me.0.low < seat.old.me.0.end }
         requires index { index < length (opening self.now).starts }
-        ensures own { (seat.new.table_id ≡ seat.old.table_id) × (seat.new.id ≡ seat.old.id) }
+        ensures own { IsSameSeat seat.old seat.new }
         ensures told { Loaded event.now seat.old.me.0 index result seat.new.me.0 }
         ensures same { KeepsNumbers seat.old.me.0 seat.new.me.0 }
         ensures slots { seat.new.me.1 ≡ seat.old.me.1 }
@@ -45,14 +41,14 @@ impl Learner {
         old: u64,
         new: u64,
     ) -> u64
-        requires own { (seat.old.table_id ≡ self.now.table.shared.table_id) × (seat.old.me.0.opening ≡ opening self.now) }
+        requires own { IsSeatOf self.now seat.old }
         requires picked { X.event ≡ Some event.now }
         requires live { seat.old.me.0.low < seat.old.me.0.end }
         requires index { index < length (opening self.now).starts }
         requires rule { MayExchange seat.old.me.0 index old new event.now }
-        ensures own { (seat.new.table_id ≡ seat.old.table_id) × (seat.new.id ≡ seat.old.id) }
-        ensures hit { (xs : List Entry) → get_elem? seat.old.me.0.seen index ≡ some xs → result ≡ old → Hits seat.old.me.0 index xs event.now seat.new.me.0 }
-        ensures missed { (s : Start) (xs : List Entry) → get_elem? seat.old.me.0.opening.starts index ≡ some s → get_elem? seat.old.me.0.seen index ≡ some xs → result ≢ old → Misses seat.old.me.0 index s xs event.now result seat.new.me.0 }
+        ensures own { IsSameSeat seat.old seat.new }
+        ensures hit { HitTells seat.old.me.0 index event.now old result seat.new.me.0 }
+        ensures missed { MissTells seat.old.me.0 index event.now old result seat.new.me.0 }
         ensures same { KeepsNumbers seat.old.me.0 seat.new.me.0 }
         ensures slots { seat.new.me.1 ≡ seat.old.me.1 }
     {

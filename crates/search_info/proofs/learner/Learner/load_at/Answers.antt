@@ -1,9 +1,6 @@
-use Rattle.std.proofs.Common.{◌≡◌, ap, ◌∙◌, arith, length, length-set, Some, None, Option, cond, refl}
+use Rattle.std.proofs.Common.{ap, ◌∙◌, arith}
 use lib.ListN.{get_elem?}
-use Rattle.learning.specs.declared.event.Event.{Event}
-use Rattle.search_info.specs.declared.knows.Knows.{Knows}
 use Rattle.search_info.specs.declared.knows.Opening.{Opening}
-use Rattle.search_info.specs.Steps.{KeepsNumbers, loading}
 use Rattle.search_info.proofs.ListLemmas.{there}
 use Rattle.search_info.proofs.StepLemmas.{loads, loading_keeps}
 use Rattle.search_info.proofs.learner.Learner.load_at.Goals as goal
