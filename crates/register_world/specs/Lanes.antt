@@ -1,5 +1,5 @@
 -- What a lane did.
-use Rattle.std.specs.Prelude.{◌≡◌, ℕ, ◌+◌, ◌<◌, ◌≤◌, List, [], ◌∷◌, ◌++◌, length, Some, None}
+use Rattle.std.specs.Prelude.{◌≡◌, ℕ, ◌+◌, ◌<◌, ◌≤◌, List, [], ◌∷◌, ◌++◌, length, None}
 use mathlib.Core.Option.{some}
 use lib.ListN.{get_elem?}
 use Rattle.latch_law.specs.declared.knows.Entry.{Entry}
@@ -7,7 +7,6 @@ use Rattle.latch_law.specs.declared.knows.Knows.{Knows}
 use Rattle.latch_law.specs.declared.knows.Said.{Said}
 use Rattle.latch_law.specs.declared.knows.Saying.{Saying}
 use Rattle.latch_law.specs.declared.knows.Saying.TheVariants as what
-use Rattle.latch_law.specs.Views.{holding}
 use Rattle.latch_space.specs.declared.pass.PassOf.{PassOf}
 use Rattle.latch_space.specs.declared.space.SpaceOf.{SpaceOf}
 use Rattle.latch_space.specs.Passes.{view, values, count}

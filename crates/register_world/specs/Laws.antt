@@ -1,12 +1,12 @@
 -- The laws of the register.
-use Rattle.std.specs.Prelude.{◌≡◌, ℕ, suc, zero, ◌+◌, ◌<◌, ◌≤◌, List, [], ◌∷◌, ◌++◌, length, take, Option, Some, None}
-use Rattle.std.proofs.Common.{arith, ap, ◌∙◌, sym, refl, subst, length-append, set}
+use Rattle.std.specs.Prelude.{◌≡◌, ℕ, suc, zero, ◌+◌, ◌<◌, List, [], ◌∷◌, ◌++◌, Option, Some, None}
+use Rattle.std.proofs.Common.{arith, ap, ◌∙◌, sym, refl, length-append, set}
 use Rattle.std.proofs.lemmas.List.{take-append-le}
 use mathlib.Core.Option.{some, some-injective, some-ne-none}
 use lib.ListN.{get_elem?}
 use Rattle.latch_law.specs.declared.knows.Entry.{Entry}
 use Rattle.latch_law.specs.declared.knows.Reference.{Reference}
-use Rattle.latch_law.specs.Whole.{Whole, IsFree, IsHeldBy, latched, after, overlay, reference}
+use Rattle.latch_law.specs.Whole.{IsFree, IsHeldBy, latched, after, overlay, reference}
 use Rattle.latch_law.specs.Moves.{IsChanged, Moves, Next}
 use Rattle.register_world.specs.declared.register.Stored.{Stored}
 use Rattle.register_world.specs.declared.register.Found.{Found}
