@@ -15,6 +15,9 @@ mod schema;
 mod verb;
 mod words;
 
+#[cfg(test)]
+mod tests;
+
 pub use error::ScriptError;
 pub use lane::Line;
 pub use laws::fields_are_read_again;
