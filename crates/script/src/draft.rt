@@ -6,10 +6,11 @@ ghost use Rattle.script.specs.Pieces.{pieces_left};
 ghost use Rattle.script.specs.Steps.{Fails, or_bad};
 ghost use Rattle.script.specs.Views.{draft_text};
 
-use crate::MAX_INDEXES;
+use crate::{MAX_FIELD_COUNT, MAX_INDEXES};
 use crate::entry::{Entry, find_entry};
 use crate::error::{Flaw, Refusal};
 use crate::names::{find_name, name_text};
+use crate::numbers::find_number;
 use crate::pieces::Pieces;
 use crate::words::{has_name_form, is_silent, two_words};
 use std::alloc::{AllocError, Global};
@@ -76,12 +77,13 @@ impl Draft {
     }
 }
 
-/// A number of fields: a digit from 1 to 4.
+/// A number of fields, from 1 to 4.
 fn find_count(word: &[u8]) -> Option<u8>
     ensures { result ≡ count_of word.now }
 {
-    match word {
-        [digit @ b'1'..=b'4'] => Some(*digit - b'0'),
-        _ => None,
+    let number = find_number(word)?;
+    if number < 1 || u32::from(MAX_FIELD_COUNT) < number {
+        return None;
     }
+    Some(number as u8)
 }
