@@ -1,12 +1,12 @@
 -- A key that is written is read again.
-use Rattle.std.proofs.Common.{◌≡◌, ℕ, zero, suc, ◌+◌, ◌-◌, ◌*◌, ◌/◌, ◌%◌, ◌<◌, ◌≤◌, ◌&&◌, inl, inr, not, Bool, true, false, cond, eqb, leb, ltb, List, [], ◌∷◌, ◌++◌, length, map, Option, Some, None, refl, sym, ap, subst, ◌∙◌, arith}
-use Rattle.std.specs.List.{All, AllByRecursion, flat_map, join_with_byte, slice_split}
+use Rattle.std.proofs.Common.{◌≡◌, ℕ, ◌/◌, ◌%◌, ◌<◌, ◌&&◌, inl, inr, not, Bool, true, false, eqb, leb, ltb, List, [], ◌∷◌, ◌++◌, Some, refl, ap, ◌∙◌, arith}
+use Rattle.std.specs.List.{All, AllByRecursion, flat_map, slice_split}
 use Rattle.std.proofs.lemmas.Bool.{lt-ltb, le-ltb, ne_eqb, cases_lt}
 use Rattle.std.proofs.lemmas.List.Elements.{All-nil, All-cons, All-append}
 use Rattle.std.proofs.lemmas.List.Splits.{slice_split_none, slice_split_at}
 use Rattle.key_tuple.specs.Order.{FieldList}
 use Rattle.map_history.specs.Text.{is_plain, hex_digit, byte_text, field_text, key_text}
-use Rattle.script.specs.Grammar.{in_front, field_of, fields_in, tuple_of}
+use Rattle.script.specs.Grammar.{fields_in, tuple_of}
 use Rattle.script.specs.Laws.{AreBytes, AreFields}
 use Rattle.script.proofs.Results.{both_so}
 use Rattle.script.proofs.Escapes.{field_again, not_so}
@@ -28,7 +28,7 @@ byte_no_comma true b p lt =
 byte_no_comma false b p lt =
     let low : List ℕ = hex_digit (b % 16) ∷ [] in
     rw p (All-cons no_comma 37 (hex_digit (b / 16) ∷ low) refl (All-cons no_comma (hex_digit (b / 16)) low (digit_no_comma (b / 16) (omega arith))
-        (All-cons no_comma (hex_digit (b % 16)) [] (digit_no_comma (b % 16) (omega arith)) (All-nil no_comma))))
+    (All-cons no_comma (hex_digit (b % 16)) [] (digit_no_comma (b % 16) (omega arith)) (All-nil no_comma))))
 
 bytes_no_comma : (bytes : List ℕ) → AreBytes bytes → All no_comma (flat_map byte_text bytes)
 bytes_no_comma [] h = All-nil no_comma
@@ -48,7 +48,7 @@ tuple_again x [] h g =
     ap fields_in cut ∙ rw (field_again x h) refl
 tuple_again x (y ∷ ys) h g =
     let cut : slice_split at_comma (field_text x ++ 44 ∷ key_text (y ∷ ys)) ≡ field_text x ∷ slice_split at_comma (key_text (y ∷ ys)) =
-        slice_split_at at_comma (field_text x) 44 (key_text (y ∷ ys)) (field_no_comma x h) refl in
+    slice_split_at at_comma (field_text x) 44 (key_text (y ∷ ys)) (field_no_comma x h) refl in
     ap fields_in cut ∙ rw (field_again x h, tuple_again y ys g.0 g.1) refl
 
 -- a key that is written is read again

@@ -1,10 +1,10 @@
 -- What holds of each schema that is spelled.
-use Rattle.std.proofs.Common.{◌≡◌, ℕ, ◌+◌, ◌-◌, ◌<◌, ◌≤◌, Bool, true, false, cond, eqb, leb, List, [], ◌∷◌, length, Some, Ok, Err, refl, subst, ◌∙◌, arith}
+use Rattle.std.proofs.Common.{Option, Some, None, ◌≡◌, ℕ, ◌+◌, ◌<◌, ◌≤◌, Bool, true, false, cond, eqb, List, [], ◌∷◌, length, Some, Ok, Err, refl, subst, ◌∙◌, arith}
 use Rattle.std.specs.Prelude.{option_and_then}
 use Rattle.std.specs.List.{list_all}
 use Rattle.std.proofs.lemmas.List.{length-append}
 use Rattle.std.proofs.lemmas.List.Folds.{list_all-append}
-use Rattle.std.proofs.lemmas.Bool.{leb-true, le-leb, ltb-true, eqb-false}
+use Rattle.std.proofs.lemmas.Bool.{ltb-true, eqb-false}
 use Rattle.script.specs.declared.TheConstants.{MAX_INDEXES, MAX_FIELD_COUNT}
 use Rattle.script.specs.declared.entry.Entry.{Entry}
 use Rattle.script.specs.declared.entry.Entry.TheVariants.{Index}

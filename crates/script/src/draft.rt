@@ -3,16 +3,16 @@ ghost use Rattle.std.specs.Prelude.{◌≡◌, OnOk, IfErr, Ok, true};
 ghost use Rattle.script.specs.Schema.{schema_line, after_words, index_line, takes_name, with_index, count_of};
 ghost use Rattle.script.specs.Grammar.{is_name};
 ghost use Rattle.script.specs.Pieces.{pieces_left};
-ghost use Rattle.script.specs.Steps.{Fails, or_bad};
+ghost use Rattle.script.specs.Steps.{Leaves};
 ghost use Rattle.script.specs.Views.{draft_text};
 
-use crate::{MAX_FIELD_COUNT, MAX_INDEXES};
 use crate::entry::{Entry, find_entry};
 use crate::error::{Flaw, Refusal};
 use crate::names::{find_name, name_text};
 use crate::numbers::find_number;
 use crate::pieces::Pieces;
 use crate::words::{has_name_form, is_silent, two_words};
+use crate::{MAX_FIELD_COUNT, MAX_INDEXES};
 use std::alloc::{AllocError, Global};
 
 /// The indexes so far.
@@ -26,8 +26,7 @@ impl Draft {
     /// Takes a line of the schema.
     #[tactic(auto, unfolding(crate::specs::Schema::schema_line))]
     pub fn take_line(&mut self, alloc: Global, line: &[u8]) -> Result<(), Refusal>
-        ensures ok { OnOk result (schema_line (draft_text self.old) line.now ≡ Ok (draft_text self.new)) }
-        ensures cause { IfErr result (λ e. Fails e (schema_line (draft_text self.old) line.now)) }
+        ensures { Leaves result (schema_line (draft_text self.old) line.now) (draft_text self.new) }
     {
         if is_silent(line) {
             return Ok(());
@@ -36,8 +35,7 @@ impl Draft {
     }
 
     fn take_words(&mut self, alloc: Global, mut words: Pieces<'_>) -> Result<(), Refusal>
-        ensures ok { OnOk result (after_words (draft_text self.old) (pieces_left words.entry) ≡ Ok (draft_text self.new)) }
-        ensures cause { IfErr result (λ e. Fails e (after_words (draft_text self.old) (pieces_left words.entry))) }
+        ensures { Leaves result (after_words (draft_text self.old) (pieces_left words.entry)) (draft_text self.new) }
     {
         let word = words.next().ok_or(Flaw::BadLine)?;
         match find_entry(word).ok_or(Flaw::BadLine)? {
@@ -46,8 +44,7 @@ impl Draft {
     }
 
     fn take_index(&mut self, alloc: Global, words: Pieces<'_>) -> Result<(), Refusal>
-        ensures ok { OnOk result (index_line (draft_text self.old) (pieces_left words.entry) ≡ Ok (draft_text self.new)) }
-        ensures cause { IfErr result (λ e. Fails e (index_line (draft_text self.old) (pieces_left words.entry))) }
+        ensures { Leaves result (index_line (draft_text self.old) (pieces_left words.entry)) (draft_text self.new) }
     {
         let (name, count) = two_words(words).ok_or(Flaw::BadLine)?;
         let count = find_count(count).ok_or(Flaw::BadLine)?;

@@ -13,11 +13,10 @@ mod numbers;
 mod pieces;
 mod reading;
 mod schema;
-mod verb;
-mod words;
-
 #[cfg(test)]
 mod tests;
+mod verb;
+mod words;
 
 pub use error::ScriptError;
 pub use lane::Line;

@@ -1,9 +1,8 @@
 //! Whole files.
-ghost use Rattle.std.specs.Prelude.{◌≡◌, ◌≤◌, ◌⊎◌, length, IfOk, IfErr, OnOk, Ok, Err};
-ghost use Rattle.std.specs.List.{AllByRecursion};
-ghost use Rattle.script.specs.Lane.{lane_of, lane_line, IsLaneLine, TakesLine};
+ghost use Rattle.std.specs.Prelude.{◌≡◌, ◌≤◌, length, IfOk, IfErr, OnOk, Ok};
+ghost use Rattle.script.specs.Lane.{lane_of, lane_line, AreLaneLines, TakesLine};
 ghost use Rattle.script.specs.Schema.{schema_of};
-ghost use Rattle.script.specs.Steps.{GivesWhole, FailsWhole, numbered};
+ghost use Rattle.script.specs.Steps.{GivesWhole, FailsWhole, numbered, IsRefused, HasCause};
 ghost use Rattle.script.specs.Views.{schema_text, draft_text, line_texts};
 
 use crate::draft::Draft;
@@ -19,8 +18,8 @@ use std::alloc::Global;
 pub fn read_schema(alloc: Global, bytes: &[u8]) -> Result<Schema, ScriptError>
     requires { length bytes.now ≤ MAX_FILE_BYTES }
     ensures ok { IfOk result (λ s. schema_of bytes.now ≡ Ok (schema_text s)) }
-    ensures refused { IfErr (schema_of bytes.now) (λ e. (result ≡ Err e) ⊎ (result ≡ Err ScriptError.NoMemory)) }
-    ensures cause { IfErr result (λ e. (e ≡ ScriptError.NoMemory) ⊎ (schema_of bytes.now ≡ Err e)) }
+    ensures refused { IsRefused result (schema_of bytes.now) }
+    ensures cause { HasCause result (schema_of bytes.now) }
 {
     let draft = read_indexes(alloc, bytes)?;
     Ok(Schema {
@@ -35,9 +34,9 @@ pub fn read_schema(alloc: Global, bytes: &[u8]) -> Result<Schema, ScriptError>
 pub fn read_lane(alloc: Global, bytes: &[u8], schema: &Schema) -> Result<Vec<Line>, ScriptError>
     requires { length bytes.now ≤ MAX_FILE_BYTES }
     ensures ok { IfOk result (λ v. lane_of (schema_text schema.now) bytes.now ≡ Ok (line_texts v.items)) }
-    ensures refused { IfErr (lane_of (schema_text schema.now) bytes.now) (λ e. (result ≡ Err e) ⊎ (result ≡ Err ScriptError.NoMemory)) }
-    ensures cause { IfErr result (λ e. (e ≡ ScriptError.NoMemory) ⊎ (lane_of (schema_text schema.now) bytes.now ≡ Err e)) }
-    ensures lines { IfOk result (λ v. AllByRecursion (IsLaneLine (schema_text schema.now)) (line_texts v.items)) }
+    ensures refused { IsRefused result (lane_of (schema_text schema.now) bytes.now) }
+    ensures cause { HasCause result (lane_of (schema_text schema.now) bytes.now) }
+    ensures lines { IfOk result (λ v. AreLaneLines (schema_text schema.now) (line_texts v.items)) }
 {
     read_lines(alloc, bytes, schema)
 }

@@ -74,7 +74,11 @@ fn lines_of_a_lane_are_judged(rt: HostRuntime) {
     ];
     for (lane, error) in rows {
         assert_eq!(rt; lane.len() < 100, true);
-        assert_eq!(rt; lane_error(rt.alloc(), lane.as_bytes()), error, "in {lane:?}");
+        assert_eq!(rt;
+            lane_error(rt.alloc(), lane.as_bytes()),
+            error,
+            "in {lane:?}"
+        );
     }
 }
 
@@ -100,7 +104,11 @@ fn lines_of_a_schema_are_judged(rt: HostRuntime) {
     ];
     for (schema, error) in rows {
         assert_eq!(rt; schema.len() < 100, true);
-        assert_eq!(rt; schema_error(rt.alloc(), schema.as_bytes()), error, "in {schema:?}");
+        assert_eq!(rt;
+            schema_error(rt.alloc(), schema.as_bytes()),
+            error,
+            "in {schema:?}"
+        );
     }
 }
 
@@ -147,7 +155,11 @@ fn keys_and_values_have_limits(rt: HostRuntime) -> Result<(), Fail> {
     for (key, value, error) in rows {
         let line = put_of(rt.alloc(), key, value)?;
         assert!(rt; line.len() < 1_000_000);
-        assert_eq!(rt; lane_error(rt.alloc(), &line), error, "at {key} and {value}");
+        assert_eq!(rt;
+            lane_error(rt.alloc(), &line),
+            error,
+            "at {key} and {value}"
+        );
     }
     Ok(())
 }
