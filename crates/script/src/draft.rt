@@ -35,7 +35,8 @@ impl Draft {
     }
 
     fn take_words(&mut self, alloc: Global, mut words: Pieces<'_>) -> Result<(), Refusal>
-        ensures { Leaves result (after_words (draft_text self.old) (pieces_left words.entry)) (draft_text self.new) }
+        ensures { Leaves result (after_words (draft_text self.old) (pieces_left words.entry))
+            (draft_text self.new) }
     {
         let word = words.next().ok_or(Flaw::BadLine)?;
         match find_entry(word).ok_or(Flaw::BadLine)? {
@@ -44,7 +45,8 @@ impl Draft {
     }
 
     fn take_index(&mut self, alloc: Global, words: Pieces<'_>) -> Result<(), Refusal>
-        ensures { Leaves result (index_line (draft_text self.old) (pieces_left words.entry)) (draft_text self.new) }
+        ensures { Leaves result (index_line (draft_text self.old) (pieces_left words.entry))
+            (draft_text self.new) }
     {
         let (name, count) = two_words(words).ok_or(Flaw::BadLine)?;
         let count = find_count(count).ok_or(Flaw::BadLine)?;
@@ -66,7 +68,8 @@ impl Draft {
 
     fn add(&mut self, alloc: Global, name: &[u8], count: u8) -> Result<(), AllocError>
         requires { is_name name.now ≡ true }
-        ensures { OnOk result (draft_text self.new ≡ with_index (draft_text self.old) name.now count) }
+        ensures { OnOk result (draft_text self.new
+            ≡ with_index (draft_text self.old) name.now count) }
     {
         self.names.push(name_text(alloc, name)?)?;
         self.fields.push(count)?;

@@ -38,7 +38,8 @@ fn decode(alloc: Global, text: &[u8]) -> Result<Vec<u8>, Refusal>
 /// The byte at the front of a text, and the text after it.
 fn first_byte(text: &[u8]) -> Option<(u8, &[u8])>
     requires { 0 < length text.now }
-    ensures { MatchOption result (bytes_of text.now ≡ None) (λ p. IsFirstByte text.now p.0 p.1.now) }
+    ensures { MatchOption result (bytes_of text.now ≡ None)
+        (λ p. IsFirstByte text.now p.0 p.1.now) }
 {
     match text {
         [b'%', high, low, after @ ..] => Some((escaped(*high, *low)?, after)),
