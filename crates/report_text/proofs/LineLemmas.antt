@@ -1,0 +1,52 @@
+-- Lines that grow by one part at a time.
+use Rattle.std.proofs.Common.{◌≡◌, ℕ, ◌+◌, ◌<◌, ◌≤◌, Result, Ok, Err, List, [], ◌∷◌, ◌++◌, length, map, take, get_or, refl, sym, ap, ◌∙◌, append_assoc, arith, length-append}
+use Rattle.std.proofs.lemmas.List.{take_at, take-take, map_more, length-take-le, length-map}
+use Rattle.std.specs.Result.{OnErr}
+use Rattle.std.specs.List.{join_with_byte}
+use Rattle.report_text.specs.Line.{Extends, separator}
+
+-- what a longer list begins with is what a part of its front begins with
+pub Extends-front : (a x b c : List ℕ) → b ≡ a ++ x → Extends b c → Extends a c
+Extends-front a x b c e h =
+    let shorter : length a ≤ length b = omega (arith, length-append a x, ap length e) in
+    sym (take-take (length a) (length b) c shorter)
+    ∙ ap (take (length a)) (h ∙ e)
+    ∙ take_at a x (length a) refl
+
+-- the same where a `?` leaves
+pub Extends-at_exit : {T E : Type 0} (r : Result T E) (a x b c : List ℕ) → b ≡ a ++ x → Extends b c → OnErr r (Extends a c)
+Extends-at_exit (Ok y) a x b c e h = tt
+Extends-at_exit (Err y) a x b c e h = Extends-front a x b c e h
+
+-- the same after two steps
+pub Extends-at_second_exit : {T E : Type 0} (r : Result T E) (a x b y c d : List ℕ) → b ≡ a ++ x → c ≡ b ++ y → Extends c d → OnErr r (Extends a d)
+Extends-at_second_exit r a x b y c d e f h = Extends-at_exit r a (x ++ y) c d (f ∙ ap (λ front. front ++ y) e ∙ append_assoc a x y) h
+
+regrouped : (x j s y : List ℕ) → x ++ ((j ++ s) ++ y) ≡ ((x ++ j) ++ s) ++ y
+regrouped x j s y = simp append_assoc
+
+-- one more part behind some joined ones
+join_push : (c : ℕ) (xs : List (List ℕ)) (y : List ℕ) → join_with_byte c (xs ++ y ∷ []) ≡ (join_with_byte c xs ++ separator c (length xs)) ++ y
+join_push c [] y = refl
+join_push c (x ∷ []) y = sym (append_assoc x (c ∷ []) y)
+join_push c (x ∷ z ∷ xs) y = ap (λ more. x ++ c ∷ more) (join_push c (z ∷ xs) y) ∙ regrouped x (c ∷ join_with_byte c (z ∷ xs)) (c ∷ []) y
+
+join_more : {X : Type 0} (c : ℕ) (f : X → List ℕ) (xs : List X) (i : ℕ) (d : X) → i < length xs
+    → join_with_byte c (map f (take (i + 1) xs)) ≡ (join_with_byte c (map f (take i xs)) ++ separator c i) ++ f (get_or xs i d)
+join_more c f xs i d h =
+    let within : i ≤ length xs = omega arith in
+    let short : length (map f (take i xs)) ≡ i = simp (length-map, length-take-le i xs within) in
+    ap (join_with_byte c) (map_more f xs i d h)
+    ∙ join_push c (map f (take i xs)) (f (get_or xs i d))
+    ∙ ap (λ n. (join_with_byte c (map f (take i xs)) ++ separator c n) ++ f (get_or xs i d)) short
+
+-- the step of a loop that puts a separator and then the next part
+pub joined_more : {X : Type 0} (c : ℕ) (f : X → List ℕ) (xs : List X) (i : ℕ) (d : X) (start was between after : List ℕ) → i < length xs
+    → was ≡ start ++ join_with_byte c (map f (take i xs))
+    → between ≡ was ++ separator c i
+    → after ≡ between ++ f (get_or xs i d)
+    → after ≡ start ++ join_with_byte c (map f (take (i + 1) xs))
+joined_more c f xs i d start was between after h e1 e2 e3 =
+    e3 ∙ ap (λ l. l ++ f (get_or xs i d)) (e2 ∙ ap (λ l. l ++ separator c i) e1)
+    ∙ sym (regrouped start (join_with_byte c (map f (take i xs))) (separator c i) (f (get_or xs i d)))
+    ∙ ap (λ l. start ++ l) (sym (join_more c f xs i d h))

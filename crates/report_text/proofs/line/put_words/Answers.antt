@@ -1,0 +1,17 @@
+use Rattle.std.proofs.Common.{◌++◌, ◌∙◌, ap}
+use Rattle.report_text.specs.Words.{text_of}
+use Rattle.report_text.proofs.LineLemmas.{Extends-at_exit, Extends-at_second_exit, joined_more}
+use Rattle.report_text.proofs.line.put_words.Goals as goal
+
+pub returns-in_err-put_separator-clause-err : goal.returns-in_err-put_separator-clause-err
+returns-in_err-put_separator-clause-err g c =
+    Extends-at_exit _ _ _ _ _ c.loop-i.invariant c.in_err-put_separator.ensures.err
+
+pub returns-in_err-put_word-clause-err : goal.returns-in_err-put_word-clause-err
+returns-in_err-put_word-clause-err g c =
+    Extends-at_second_exit _ _ _ _ _ _ _ c.loop-i.invariant c.in_ok-put_separator.ensures.ok c.in_err-put_word.ensures.err
+
+pub loop-i-preserved : goal.loop-i-preserved
+loop-i-preserved g c =
+    joined_more 32 (text_of g.K.Fields.fields_of) c.args.words.now c.loop-i.i c.index-words-i.result _ _ _ _ c.loop-i-test.true c.loop-i.invariant
+    c.in_ok-put_separator.ensures.ok (c.in_ok-put_word.ensures.ok ∙ ap (λ word. c.put_separator.new.out.items ++ text_of g.K.Fields.fields_of word) c.index-words-i.is)

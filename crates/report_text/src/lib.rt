@@ -1,0 +1,19 @@
+//! The lines of a report, appended to a buffer byte by byte.
+//! A call appends its whole line, or nothing where there is no memory.
+#![tactic(auto)]
+
+mod answers;
+mod changes;
+mod columns;
+mod field;
+mod heads;
+mod line;
+mod statistics;
+mod word;
+
+pub use answers::answer;
+pub use changes::change;
+pub use heads::{changes_head, lane_head, report_end, report_head};
+pub use line::put_line;
+pub use statistics::stats;
+pub use word::Word;
