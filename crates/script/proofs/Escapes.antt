@@ -5,19 +5,15 @@ use Rattle.std.proofs.lemmas.Bool.{leb-true, le-leb, lt-leb, lt-ltb, le-ltb, ne_
 use Rattle.map_history.specs.Text.{is_plain, hex_digit, byte_text, field_text}
 use Rattle.script.specs.Grammar.{is_from, digit_of, byte_of, in_front, bytes_of, is_tilde, field_of}
 use Rattle.script.specs.Laws.{AreBytes}
-use Rattle.script.proofs.Results.{both_so}
+use Rattle.script.proofs.Results.{both_so, and_false}
 
 is_between : (low high b : ℕ) → low ≤ b → b ≤ high → is_from low high b ≡ true
 is_between low high b l h = let x : leb low b ≡ true = le-leb _ _ l in let y : leb b high ≡ true = le-leb _ _ h in rw (x, y) refl
 
-and_false : (a b : Bool) → b ≡ false → (a && b) ≡ false
-and_false true b h = h
-and_false false b h = refl
-
 is_above : (low high b : ℕ) → high < b → is_from low high b ≡ false
 is_above low high b l = and_false (leb low b) (leb b high) (lt-leb _ _ l)
 
-not_so : (t : Bool) → not t ≡ true → t ≡ false
+pub not_so : (t : Bool) → not t ≡ true → t ≡ false
 not_so true h = absurd cc
 not_so false h = refl
 

@@ -7,3 +7,6 @@ pub mod Results
 pub mod SchemaFacts
 pub mod LaneFacts
 pub mod Escapes
+pub mod Decimals
+pub mod Commas
+pub mod FirstFlaws

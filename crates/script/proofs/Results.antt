@@ -30,3 +30,7 @@ both_so false b h = absurd cc
 pub unnumbered : {A : Type 0} (n : ℕ) (r : Result A Flaw) (x : A) → numbered n r ≡ Ok x → r ≡ Ok x
 unnumbered n (Ok y) x h = cc
 unnumbered n (Err f) x h = absurd cc
+
+pub and_false : (a b : Bool) → b ≡ false → (a && b) ≡ false
+and_false true b h = h
+and_false false b h = refl

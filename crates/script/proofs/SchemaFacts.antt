@@ -1,16 +1,17 @@
 -- What holds of each schema that is spelled.
-use Rattle.std.proofs.Common.{◌≡◌, ℕ, ◌+◌, ◌-◌, ◌<◌, ◌≤◌, Bool, true, false, cond, eqb, leb, List, [], ◌∷◌, length, Some, Ok, Err, refl, subst, ◌∙◌, arith}
+use Rattle.std.proofs.Common.{Option, Some, None, ◌≡◌, ℕ, ◌+◌, ◌<◌, ◌≤◌, Bool, true, false, cond, eqb, List, [], ◌∷◌, length, Some, Ok, Err, refl, subst, ◌∙◌, arith}
+use Rattle.std.specs.Prelude.{option_and_then}
 use Rattle.std.specs.List.{list_all}
 use Rattle.std.proofs.lemmas.List.{length-append}
 use Rattle.std.proofs.lemmas.List.Folds.{list_all-append}
-use Rattle.std.proofs.lemmas.Bool.{leb-true, le-leb, ltb-true, eqb-false}
+use Rattle.std.proofs.lemmas.Bool.{ltb-true, eqb-false}
 use Rattle.script.specs.declared.TheConstants.{MAX_INDEXES, MAX_FIELD_COUNT}
 use Rattle.script.specs.declared.entry.Entry.{Entry}
 use Rattle.script.specs.declared.entry.Entry.TheVariants.{Index}
 use Rattle.script.specs.declared.error.ScriptError.TheVariants as error
 use Rattle.script.specs.declared.error.Flaw.TheVariants.{BadLine}
 use Rattle.script.specs.Steps.{or_bad, numbered}
-use Rattle.script.specs.Grammar.{is_from, is_name, both, says_nothing, words_of, lines_of}
+use Rattle.script.specs.Grammar.{is_from, number_of, is_name, both, says_nothing, words_of, lines_of}
 use Rattle.script.specs.Schema.{SchemaText, IsSchema, count_of, takes_name, with_index, index_line, entry_of, after_entry, after_words, schema_line, schema_from, schema_of}
 use Rattle.script.proofs.Results.{bind_ok, some_of, chosen, given, both_so, unnumbered}
 
@@ -20,18 +21,14 @@ record IsDraft (s : SchemaText) : Type 0 where
   few : length s.names ≤ MAX_INDEXES
   counts : list_all (λ (n : ℕ). is_from 1 MAX_FIELD_COUNT n) s.fields ≡ true
 
+in_range : (o : Option ℕ) (n : ℕ) → option_and_then (λ (k : ℕ). cond (is_from 1 MAX_FIELD_COUNT k) (Some k) None) o ≡ Some n → is_from 1 MAX_FIELD_COUNT n ≡ true
+in_range None n h = absurd cc
+in_range (Some k) n h =
+    let g = given (is_from 1 MAX_FIELD_COUNT k) k n h in
+    subst (λ (m : ℕ). is_from 1 MAX_FIELD_COUNT m ≡ true) g.1 g.0
+
 count_in : (word : List ℕ) (n : ℕ) → count_of word ≡ Some n → is_from 1 MAX_FIELD_COUNT n ≡ true
-count_in [] n h = absurd cc
-count_in (b ∷ []) n h =
-    let g = given (is_from 49 (48 + MAX_FIELD_COUNT) b) (b - 48) n h in
-    let t = both_so (leb 49 b) (leb b (48 + MAX_FIELD_COUNT)) g.0 in
-    let low : 49 ≤ b = leb-true _ _ t.0 in
-    let high : b ≤ 52 = leb-true _ _ t.1 in
-    let is : b - 48 ≡ n = g.1 in
-    let one : leb 1 n ≡ true = le-leb _ _ (omega arith) in
-    let four : leb n 4 ≡ true = le-leb _ _ (omega arith) in
-    rw (one, four) refl
-count_in (b ∷ c ∷ word) n h = absurd cc
+count_in word n h = in_range (number_of word) n h
 
 with_index_keeps : (s : SchemaText) (name : List ℕ) (n : ℕ) → IsDraft s → length s.names < MAX_INDEXES → is_from 1 MAX_FIELD_COUNT n ≡ true → IsDraft (with_index s name n)
 with_index_keeps s name n d room good = record {

@@ -1,5 +1,5 @@
 -- Lines, words, names, fields, keys and values, as lists of bytes.
-use Rattle.std.specs.Prelude.{ℕ, ◌+◌, ◌-◌, ◌*◌, Bool, true, false, ◌&&◌, ◌||◌, ◌==◌, nat_le, nat_lt, if◌then◌else◌, Option, Some, None, option_and_then, option_map, List, [], ◌∷◌, length, Result, Ok, Err}
+use Rattle.std.specs.Prelude.{ℕ, ◌+◌, ◌-◌, ◌*◌, Bool, true, false, ◌&&◌, ◌||◌, ◌==◌, nat_le, nat_lt, if◌then◌else◌, Option, Some, None, option_and_then, option_map, List, [], ◌∷◌, length, Result, Ok, Err, ◌^◌, not}
 use Rattle.std.specs.List.{slice_split, onto_first, list_all}
 use Rattle.key_tuple.specs.declared.TheConstants.{MAX_KEY_BYTES, MAX_VALUE_BYTES}
 use Rattle.key_tuple.specs.Order.{FieldList, byte_count}
@@ -48,6 +48,22 @@ is_name_byte b = is_letter b || is_from 48 57 b || (b == 95)
 abbrev pub is_name : List ℕ → Bool
 is_name [] = false
 is_name (b ∷ bytes) = is_letter b && nat_lt (length bytes) MAX_NAME_BYTES && list_all is_name_byte bytes
+
+-- a number is written in decimal digits, without a leading zero unless it is `0`, and is below 2^32
+abbrev pub is_digit : ℕ → Bool
+is_digit b = is_from 48 57 b
+
+abbrev pub is_numeral : List ℕ → Bool
+is_numeral [] = false
+is_numeral (b ∷ []) = is_digit b
+is_numeral (b ∷ c ∷ word) = is_digit b && not (b == 48) && list_all is_digit (c ∷ word)
+
+abbrev pub decimal_from : ℕ → List ℕ → ℕ
+decimal_from n [] = n
+decimal_from n (b ∷ word) = decimal_from (n * 10 + (b - 48)) word
+
+abbrev pub number_of : List ℕ → Option ℕ
+number_of word = if is_numeral word && nat_lt (decimal_from 0 word) (2 ^ 32) then Some (decimal_from 0 word) else None
 
 -- the value of a hexadecimal digit of either case
 abbrev pub digit_of : ℕ → Option ℕ

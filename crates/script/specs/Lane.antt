@@ -1,5 +1,6 @@
 -- What the lines of a lane file say.
 use Rattle.std.specs.Prelude.{ℕ, ◌+◌, ◌≡◌, ◌<◌, if◌then◌else◌, Option, Some, None, ok_or, List, [], ◌∷◌, ◌++◌, length, codes, slice_index, Result, Ok, Err}
+use Rattle.std.specs.List.{AllByRecursion}
 use Rattle.std.specs.Map.{lookup}
 use Rattle.std.specs.Str.{bytes_eq}
 use Rattle.key_tuple.specs.Order.{FieldList}
@@ -102,3 +103,7 @@ pub record IsLaneLine (s : SchemaText) (line : Line) : Type 0 where
   pub about : HasKey line.op.ask key
   pub known : line.op.index < length s.names
   pub fields : length key ≡ slice_index s.fields line.op.index
+
+-- each line is one
+abbrev pub AreLaneLines : SchemaText → List Line → Type 0
+AreLaneLines s lines = AllByRecursion (IsLaneLine s) lines

@@ -1,9 +1,9 @@
 -- What is left to come of the parts of some bytes.
-use Rattle.std.specs.Prelude.{ℕ, ◌≡◌, ◌==◌, false, Some, None, List, [], ◌∷◌, ◌++◌}
+use Rattle.std.specs.Prelude.{ℕ, ◌≡◌, ◌==◌, false, Some, None, List, [], ◌∷◌, ◌++◌, ◌<◌, length}
 use Rattle.std.specs.List.{slice_split, All}
 use Rattle.script.specs.declared.pieces.Pieces.{Pieces}
 use Rattle.script.specs.declared.pieces.Lines.{Lines}
-use Rattle.script.specs.Grammar.{lines_of}
+use Rattle.script.specs.Grammar.{lines_of, bytes_of, in_front}
 
 -- the pieces between the bytes of one value
 abbrev pub pieces_by : ℕ → List ℕ → List (List ℕ)
@@ -25,3 +25,8 @@ Lacks value bytes = All (λ (b : ℕ). (b == value) ≡ false) bytes
 pub record IsCut (value : ℕ) (bytes before after : List ℕ) : Type 0 where
   pub whole : bytes ≡ before ++ value ∷ after
   pub first : Lacks value before
+
+-- the byte that the front of a text stands for, and the text after it
+pub record IsFirstByte (text : List ℕ) (byte : ℕ) (after : List ℕ) : Type 0 where
+  pub spelled : bytes_of text ≡ in_front (Some byte) (bytes_of after)
+  pub shorter : length after < length text

@@ -1,5 +1,5 @@
 -- What the lines of a schema file say.
-use Rattle.std.specs.Prelude.{ℕ, ◌+◌, ◌-◌, ◌≡◌, ◌<◌, ◌≤◌, Bool, true, ◌&&◌, ◌==◌, nat_lt, if◌then◌else◌, Option, Some, None, is_none, List, [], ◌∷◌, ◌++◌, length, codes, Result, Ok, Err}
+use Rattle.std.specs.Prelude.{ℕ, ◌+◌, ◌≡◌, ◌<◌, ◌≤◌, Bool, true, ◌&&◌, ◌==◌, nat_lt, if◌then◌else◌, Option, Some, None, is_none, List, [], ◌∷◌, ◌++◌, length, codes, Result, Ok, Err, option_and_then}
 use Rattle.std.specs.List.{position, list_all}
 use Rattle.std.specs.Map.{lookup}
 use Rattle.std.specs.Str.{bytes_eq}
@@ -12,7 +12,7 @@ use Rattle.script.specs.declared.error.ScriptError.TheVariants as error
 use Rattle.script.specs.declared.error.Flaw.{Flaw}
 use Rattle.script.specs.declared.error.Flaw.TheVariants.{BadLine}
 use Rattle.script.specs.Steps.{◌>>=◌, or_bad, numbered}
-use Rattle.script.specs.Grammar.{lines_of, words_of, says_nothing, is_name, is_from, both}
+use Rattle.script.specs.Grammar.{lines_of, words_of, says_nothing, is_name, is_from, number_of, both}
 
 -- sizes, and for each index its name and how many fields its keys have
 pub record SchemaText : Type 0 where
@@ -31,11 +31,9 @@ entry_of word = lookup (λ (known : List ℕ). bytes_eq word known) entries
 abbrev pub index_of : List (List ℕ) → List ℕ → Option ℕ
 index_of names name = position (λ (known : List ℕ). bytes_eq known name) names
 
--- how many fields: a digit from 1 to 4
+-- how many fields: a number from 1 to 4
 abbrev pub count_of : List ℕ → Option ℕ
-count_of [] = None
-count_of (b ∷ []) = if is_from 49 (48 + MAX_FIELD_COUNT) b then Some (b - 48) else None
-count_of (b ∷ c ∷ word) = None
+count_of word = option_and_then (λ (n : ℕ). if is_from 1 MAX_FIELD_COUNT n then Some n else None) (number_of word)
 
 -- the schema has room for an index of this name, which is new
 abbrev pub takes_name : SchemaText → List ℕ → Bool
@@ -69,9 +67,13 @@ abbrev pub schema_from : ℕ → SchemaText → List (List ℕ) → Result Schem
 schema_from n s [] = if length s.names == 0 then Err (error.BadLine n) else Ok s
 schema_from n s (line ∷ lines) = numbered n (schema_line s line) >>= λ (t : SchemaText). schema_from (n + 1) t lines
 
+-- the schema before its first line
+abbrev pub no_index : SchemaText
+no_index = record { sizes = DEFAULT_SIZES; names = []; fields = [] }
+
 -- the schema that a file spells
 unfoldable pub schema_of : List ℕ → Result SchemaText ScriptError
-schema_of bytes = schema_from 1 (record { sizes = DEFAULT_SIZES; names = []; fields = [] }) (lines_of bytes)
+schema_of bytes = schema_from 1 no_index (lines_of bytes)
 
 -- as many numbers as names, 1 to 64, and 1 to 4 fields each
 pub record IsSchema (names : List (List ℕ)) (fields : List ℕ) : Type 0 where

@@ -1,5 +1,5 @@
 -- Steps that may fail, and what it means that the program gives what a definition says.
-use Rattle.std.specs.Prelude.{◌≡◌, ℕ, Option, Result, Ok, Err, ok_or}
+use Rattle.std.specs.Prelude.{◌≡◌, ℕ, Option, Result, Ok, Err, ok_or, ◌⊎◌, IfErr}
 use Rattle.script.specs.declared.error.ScriptError.{ScriptError}
 use Rattle.script.specs.declared.error.ScriptError.TheVariants as error
 use Rattle.script.specs.declared.error.Flaw.{Flaw}
@@ -41,6 +41,11 @@ abbrev pub Gives : {X Y : Type 0} → (X → Y) → Result X Refusal → Result 
 Gives view (Ok x) read = read ≡ Ok (view x)
 Gives view (Err e) read = Fails e read
 
+-- the same of a value that a step changes into `new`
+abbrev pub Leaves : {X Y : Type 0} → Result X Refusal → Result Y Flaw → Y → Type 0
+Leaves (Ok x) read new = read ≡ Ok new
+Leaves (Err e) read new = Fails e read
+
 -- the same of the program's answer for a file
 abbrev pub FailsWhole : {Y : Type 0} → ScriptError → Result Y ScriptError → Type 0
 FailsWhole error.NoMemory read = Unit {0}
@@ -49,3 +54,11 @@ FailsWhole e read = read ≡ Err e
 abbrev pub GivesWhole : {X Y : Type 0} → (X → Y) → Result X ScriptError → Result Y ScriptError → Type 0
 GivesWhole view (Ok x) read = read ≡ Ok (view x)
 GivesWhole view (Err e) read = FailsWhole e read
+
+-- where a definition refuses a file, the program does so with the same error, or memory ran out
+abbrev pub IsRefused : {X Y : Type 0} → Result X ScriptError → Result Y ScriptError → Type 0
+IsRefused result read = IfErr read (λ e. (result ≡ Err e) ⊎ (result ≡ Err error.NoMemory))
+
+-- an error of the program is the definition's, but for want of memory
+abbrev pub HasCause : {X Y : Type 0} → Result X ScriptError → Result Y ScriptError → Type 0
+HasCause result read = IfErr result (λ e. (e ≡ error.NoMemory) ⊎ (read ≡ Err e))

@@ -3,15 +3,16 @@ ghost use Rattle.std.specs.Prelude.{◌≡◌, OnOk, IfErr, Ok, true};
 ghost use Rattle.script.specs.Schema.{schema_line, after_words, index_line, takes_name, with_index, count_of};
 ghost use Rattle.script.specs.Grammar.{is_name};
 ghost use Rattle.script.specs.Pieces.{pieces_left};
-ghost use Rattle.script.specs.Steps.{Fails, or_bad};
+ghost use Rattle.script.specs.Steps.{Leaves};
 ghost use Rattle.script.specs.Views.{draft_text};
 
-use crate::MAX_INDEXES;
 use crate::entry::{Entry, find_entry};
 use crate::error::{Flaw, Refusal};
 use crate::names::{find_name, name_text};
+use crate::numbers::find_number;
 use crate::pieces::Pieces;
 use crate::words::{has_name_form, is_silent, two_words};
+use crate::{MAX_FIELD_COUNT, MAX_INDEXES};
 use std::alloc::{AllocError, Global};
 
 /// The indexes so far.
@@ -25,8 +26,7 @@ impl Draft {
     /// Takes a line of the schema.
     #[tactic(auto, unfolding(crate::specs::Schema::schema_line))]
     pub fn take_line(&mut self, alloc: Global, line: &[u8]) -> Result<(), Refusal>
-        ensures ok { OnOk result (schema_line (draft_text self.old) line.now ≡ Ok (draft_text self.new)) }
-        ensures cause { IfErr result (λ e. Fails e (schema_line (draft_text self.old) line.now)) }
+        ensures { Leaves result (schema_line (draft_text self.old) line.now) (draft_text self.new) }
     {
         if is_silent(line) {
             return Ok(());
@@ -35,8 +35,8 @@ impl Draft {
     }
 
     fn take_words(&mut self, alloc: Global, mut words: Pieces<'_>) -> Result<(), Refusal>
-        ensures ok { OnOk result (after_words (draft_text self.old) (pieces_left words.entry) ≡ Ok (draft_text self.new)) }
-        ensures cause { IfErr result (λ e. Fails e (after_words (draft_text self.old) (pieces_left words.entry))) }
+        ensures { Leaves result (after_words (draft_text self.old) (pieces_left words.entry))
+            (draft_text self.new) }
     {
         let word = words.next().ok_or(Flaw::BadLine)?;
         match find_entry(word).ok_or(Flaw::BadLine)? {
@@ -45,8 +45,8 @@ impl Draft {
     }
 
     fn take_index(&mut self, alloc: Global, words: Pieces<'_>) -> Result<(), Refusal>
-        ensures ok { OnOk result (index_line (draft_text self.old) (pieces_left words.entry) ≡ Ok (draft_text self.new)) }
-        ensures cause { IfErr result (λ e. Fails e (index_line (draft_text self.old) (pieces_left words.entry))) }
+        ensures { Leaves result (index_line (draft_text self.old) (pieces_left words.entry))
+            (draft_text self.new) }
     {
         let (name, count) = two_words(words).ok_or(Flaw::BadLine)?;
         let count = find_count(count).ok_or(Flaw::BadLine)?;
@@ -68,7 +68,8 @@ impl Draft {
 
     fn add(&mut self, alloc: Global, name: &[u8], count: u8) -> Result<(), AllocError>
         requires { is_name name.now ≡ true }
-        ensures { OnOk result (draft_text self.new ≡ with_index (draft_text self.old) name.now count) }
+        ensures { OnOk result (draft_text self.new
+            ≡ with_index (draft_text self.old) name.now count) }
     {
         self.names.push(name_text(alloc, name)?)?;
         self.fields.push(count)?;
@@ -76,12 +77,13 @@ impl Draft {
     }
 }
 
-/// A number of fields: a digit from 1 to 4.
+/// A number of fields, from 1 to 4.
 fn find_count(word: &[u8]) -> Option<u8>
     ensures { result ≡ count_of word.now }
 {
-    match word {
-        [digit @ b'1'..=b'4'] => Some(*digit - b'0'),
-        _ => None,
+    let number = find_number(word)?;
+    if number < 1 || u32::from(MAX_FIELD_COUNT) < number {
+        return None;
     }
+    Some(number as u8)
 }

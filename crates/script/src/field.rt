@@ -2,6 +2,7 @@
 ghost use Rattle.std.specs.Prelude.{◌≡◌, ◌<◌, length, IfSome, MatchOption, Some, None};
 ghost use Rattle.map_history.specs.Text.{is_plain};
 ghost use Rattle.script.specs.Grammar.{digit_of, byte_of, bytes_of, field_of, in_front};
+ghost use Rattle.script.specs.Pieces.{IsFirstByte};
 ghost use Rattle.script.specs.Steps.{Gives, or_bad};
 
 use crate::error::{Flaw, Refusal};
@@ -37,7 +38,8 @@ fn decode(alloc: Global, text: &[u8]) -> Result<Vec<u8>, Refusal>
 /// The byte at the front of a text, and the text after it.
 fn first_byte(text: &[u8]) -> Option<(u8, &[u8])>
     requires { 0 < length text.now }
-    ensures { MatchOption result (bytes_of text.now ≡ None) (λ p. (bytes_of text.now ≡ in_front (Some p.0) (bytes_of p.1.now)) × (length p.1.now < length text.now)) }
+    ensures { MatchOption result (bytes_of text.now ≡ None)
+        (λ p. IsFirstByte text.now p.0 p.1.now) }
 {
     match text {
         [b'%', high, low, after @ ..] => Some((escaped(*high, *low)?, after)),

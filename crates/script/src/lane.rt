@@ -27,7 +27,8 @@ pub struct Line {
 /// What a line of a lane says.
 #[tactic(auto, unfolding(crate::specs::Lane::lane_line))]
 pub fn read_line(alloc: Global, line: &[u8], schema: &Schema) -> Result<Option<Op>, Refusal>
-    ensures { Gives (λ o. option_map operation_of o) result (lane_line (schema_text schema.now) line.now) }
+    ensures { Gives (λ o. option_map operation_of o) result
+        (lane_line (schema_text schema.now) line.now) }
 {
     if is_silent(line) {
         return Ok(None);
@@ -37,7 +38,8 @@ pub fn read_line(alloc: Global, line: &[u8], schema: &Schema) -> Result<Option<O
 }
 
 fn read_operation(alloc: Global, line: &[u8], schema: &Schema) -> Result<Op, Refusal>
-    ensures { Gives operation_of result (operation_in (schema_text schema.now) (words_of line.now)) }
+    ensures { Gives operation_of result
+        (operation_in (schema_text schema.now) (words_of line.now)) }
 {
     let mut words = Pieces::new(line, b' ');
     let word = words.next().ok_or(Flaw::BadLine)?;

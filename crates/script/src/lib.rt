@@ -9,15 +9,18 @@ mod field;
 mod lane;
 mod laws;
 mod names;
+mod numbers;
 mod pieces;
 mod reading;
 mod schema;
+#[cfg(test)]
+mod tests;
 mod verb;
 mod words;
 
 pub use error::ScriptError;
 pub use lane::Line;
-pub use laws::fields_are_read_again;
+pub use laws::{fields_are_read_again, keys_are_read_again, refusals_are_first};
 use map_history::Sizes;
 pub use reading::{read_lane, read_schema};
 pub use schema::Schema;

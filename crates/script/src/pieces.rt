@@ -90,7 +90,8 @@ impl<'a> Iterator for Lines<'a> {
 
 /// What stands before the first byte of this value, and what stands after it.
 fn cut(bytes: &[u8], value: u8) -> Option<(&[u8], &[u8])>
-    ensures { MatchOption result (Lacks value bytes.now) (λ p. IsCut value bytes.now p.0.now p.1.now) }
+    ensures { MatchOption result (Lacks value bytes.now)
+        (λ p. IsCut value bytes.now p.0.now p.1.now) }
 {
     let at = first_place(bytes, value)?;
     Some((&bytes[..at], &bytes[at + 1..]))

@@ -97,7 +97,8 @@ pub fn read_row(alloc: Global, count: u8, words: Pieces<'_>) -> Result<(Key, Val
 
 /// The fields of a key's word, if there are exactly so many.
 fn key_fields(alloc: Global, count: u8, word: &[u8]) -> Result<Vec<Vec<u8>>, Refusal>
-    ensures fields { Gives (λ v. map (λ f. f.items) v.items) result (or_bad (key_of count word.now)) }
+    ensures fields { Gives (λ v. map (λ f. f.items) v.items) result
+        (or_bad (key_of count word.now)) }
     ensures counted { IfOk result (λ v. length v.items ≡ count) }
 {
     let mut fields = Vec::new(alloc);
