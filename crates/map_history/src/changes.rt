@@ -25,7 +25,8 @@ pub fn apply(map: &mut BTreeMap<Key, Value>, change: &Change) -> Result<(), NoMe
 }
 
 fn put(map: &mut BTreeMap<Key, Value>, key: &Key, value: &Value) -> Result<(), AllocError>
-    ensures ok { OnOk result (pairs map.new ≡ after_change (pairs map.old) (by.Put key.now.tuple value.now)) }
+    ensures ok { let change = by.Put key.now.tuple value.now in
+        OnOk result (pairs map.new ≡ after_change (pairs map.old) change) }
     ensures err { OnErr result (pairs map.new ≡ pairs map.old) }
 {
     if !map.contains_key(key) {
@@ -35,7 +36,8 @@ fn put(map: &mut BTreeMap<Key, Value>, key: &Key, value: &Value) -> Result<(), A
 }
 
 fn set(map: &mut BTreeMap<Key, Value>, key: &Key, value: &Value) -> Result<(), AllocError>
-    ensures ok { OnOk result (pairs map.new ≡ after_change (pairs map.old) (by.Set key.now.tuple value.now)) }
+    ensures ok { let change = by.Set key.now.tuple value.now in
+        OnOk result (pairs map.new ≡ after_change (pairs map.old) change) }
     ensures err { OnErr result (pairs map.new ≡ pairs map.old) }
 {
     if let Some(slot) = map.get_mut(key) {

@@ -9,7 +9,7 @@ use Rattle.map_history.specs.Map.{MapChange, Put, Set, Del}
 use Rattle.map_history.specs.Operation.{Ask, Get, Make}
 use Rattle.map_history.specs.Reply.{MapReply, Value, Done, Absent, Duplicate}
 use Rattle.map_history.specs.Report.{Columns, Replied, AnswerLine, ChangeLine, Report}
-use Rattle.map_history.specs.LegalReport.{Line, Run}
+use Rattle.map_history.specs.LegalReport.{Line, Run, IsLegalReport}
 
 -- columns that say nothing, and statistics of none that do
 abbrev pub dashes : Columns
@@ -34,6 +34,13 @@ run_of sizes lines = record { sizes = sizes; names = codes "t" ∷ []; lanes = l
 
 abbrev pub report_of : List AnswerLine → List ChangeLine → Report
 report_of answers entries = record { lanes = answers ∷ []; indexes = record { name = codes "t"; entries = entries; counts = no_counts } ∷ [] }
+
+-- the report of this lane is legal, or isn't, whatever the sizes
+abbrev pub IsLegal : List Line → List AnswerLine → List ChangeLine → Type 0
+IsLegal lines answers entries = (sizes : Sizes) → IsLegalReport (run_of sizes lines) (report_of answers entries)
+
+abbrev pub IsIllegal : List Line → List AnswerLine → List ChangeLine → Type 0
+IsIllegal lines answers entries = (sizes : Sizes) → ¬ IsLegalReport (run_of sizes lines) (report_of answers entries)
 
 -- the key `a` of one field, and two values
 abbrev pub a : FieldList

@@ -1,8 +1,6 @@
 //! Pieces that are what a scan of all rows, of at most nine, is answered, and pieces that aren't.
 ghost use Rattle.std.specs.Prelude.{[], None};
-ghost use Rattle.map_history.specs.LegalReport.{IsLegalReport};
-ghost use Rattle.map_history.specs.declared.sizes.Sizes.{Sizes};
-ghost use Rattle.report_examples.specs.Samples.{run_of, report_of};
+ghost use Rattle.report_examples.specs.Samples.{IsLegal, IsIllegal};
 ghost use Rattle.map_history.specs.Scans.{IsScan};
 ghost use Rattle.report_examples.specs.ScanSamples.{three_puts, in_one_piece, in_two_pieces, first_two, puts_and_scan, puts_and_scan_told, puts_made, row_left_out, last_left_out, row_twice, other_way_round};
 
@@ -23,12 +21,12 @@ pub fn first_two_are_a_scan_of_two()
 
 /// The whole report of three puts and the scan, with all rows in one piece, is legal.
 pub fn puts_and_scan_are_legal()
-    ensures { (sizes : Sizes) → IsLegalReport (run_of sizes puts_and_scan) (report_of (puts_and_scan_told in_one_piece) puts_made) }
+    ensures { IsLegal puts_and_scan (puts_and_scan_told in_one_piece) puts_made }
 {}
 
 /// That report with the pieces the other way round isn't.
 pub fn puts_and_other_way_round_are_illegal()
-    ensures { (sizes : Sizes) → ¬ IsLegalReport (run_of sizes puts_and_scan) (report_of (puts_and_scan_told other_way_round) puts_made) }
+    ensures { IsIllegal puts_and_scan (puts_and_scan_told other_way_round) puts_made }
 {}
 
 /// A row in the middle is left out.
