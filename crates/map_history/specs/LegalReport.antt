@@ -132,13 +132,14 @@ Precedes x y = x.point + y.grows ≤ y.point
 abbrev pub IsInOrder : Run → Report → Type 0
 IsInOrder run report = (lane i : ℕ) (lines : List Line) (answers : List AnswerLine) → slice_get run.lanes lane ≡ Some lines → slice_get report.lanes lane ≡ Some answers → AllPairs Precedes (marks_in i (zip lines answers))
 
+-- the pieces are what an ordered map answers a scan; only a scan has pieces
+abbrev pub ScansFor : Ask → List MapChange → List ScanPiece → Type 0
+ScansFor (Scan from to limit) changes pieces = IsScan from to limit changes pieces
+ScansFor ask changes pieces = Unit {0}
+
 -- Scans: the pieces of each are what an ordered map answers.
 abbrev pub HasScans : Run → Report → Type 0
 HasScans run report = (lane place : ℕ) (line : Line) (pieces : List ScanPiece) → IsAnswered run report lane place line (Scanned pieces) → ScansFor line.op.ask (changes_at report line.op.index) pieces
-  where
-    ScansFor : Ask → List MapChange → List ScanPiece → Type 0
-    ScansFor (Scan from to limit) changes pieces = IsScan from to limit changes pieces
-    ScansFor ask changes pieces = Unit {0}
 
 -- a change that the map allows, and that is refused since the list is full
 pub record IsLogFull (most : ℕ) (changes : List MapChange) (ask : Ask) (n : ℕ) : Type 0 where

@@ -26,6 +26,10 @@ rows_of_parts parts ends = map row_of_parts (cuts parts 0 ends)
 abbrev pub row_at : Map → ℕ → Pair
 row_at m i = slice_index_or m i (record { key = []; value = [] })
 
+-- the row of a key and a value
+abbrev pub row_from : FieldList → List ℕ → Pair
+row_from key value = record { key = key; value = value }
+
 -- its fields are few and short enough to be read one by one
 pub record IsReadable (row : Pair) : Type 0 where
   pub few : length row.key < 256

@@ -17,6 +17,9 @@ use key_tuple::{Fields, Key, Mode, Tuple, Value, compare, compare_whole};
 use std::cmp::Ordering;
 use std::collections::BTreeMap;
 
+/// A row of the map, lent.
+type Entry<'a> = (&'a Key, &'a Value);
+
 /// What the map replies to an operation that isn't a scan. A found row is put in `out`, which else stays.
 /// A put, a set and a del are judged, and not made.
 pub fn answer(map: &BTreeMap<Key, Value>, op: &Op, out: &mut RowBuf) -> Reply
@@ -91,11 +94,7 @@ fn found(key: &Key, value: &Value, out: &mut RowBuf) -> Reply
 }
 
 /// The first row past the mode's cut.
-fn first_past<'a>(
-    map: &'a BTreeMap<Key, Value>,
-    mode: Mode,
-    tuple: &Tuple,
-) -> Option<(&'a Key, &'a Value)>
+fn first_past<'a>(map: &'a BTreeMap<Key, Value>, mode: Mode, tuple: &Tuple) -> Option<Entry<'a>>
     ensures { option_map pair_by result ≡ first_after (cut_of mode tuple.now) (pairs map.now) }
 {
     for (key, value) in map {
@@ -107,11 +106,7 @@ fn first_past<'a>(
 }
 
 /// The last row that isn't past the mode's cut.
-fn last_short<'a>(
-    map: &'a BTreeMap<Key, Value>,
-    mode: Mode,
-    tuple: &Tuple,
-) -> Option<(&'a Key, &'a Value)>
+fn last_short<'a>(map: &'a BTreeMap<Key, Value>, mode: Mode, tuple: &Tuple) -> Option<Entry<'a>>
     ensures { option_map pair_by result ≡ last_before (cut_of mode tuple.now) (pairs map.now) }
 {
     let mut rows = map.iter();

@@ -40,7 +40,8 @@ pub fn make(map: &mut BTreeMap<Key, Value>, op: &Op) -> Result<(), NoMemory>
 }
 
 fn put(map: &mut BTreeMap<Key, Value>, key: &Key, value: &Value) -> Result<(), AllocError>
-    ensures ok { OnOk result (pairs map.new ≡ after_change (pairs map.old) (by.Put key.now.tuple value.now)) }
+    ensures ok { let change = by.Put key.now.tuple value.now in
+        OnOk result (pairs map.new ≡ after_change (pairs map.old) change) }
     ensures err { OnErr result (pairs map.new ≡ pairs map.old) }
 {
     if !map.contains_key(key) {
@@ -50,7 +51,8 @@ fn put(map: &mut BTreeMap<Key, Value>, key: &Key, value: &Value) -> Result<(), A
 }
 
 fn set(map: &mut BTreeMap<Key, Value>, key: &Key, value: &Value) -> Result<(), AllocError>
-    ensures ok { OnOk result (pairs map.new ≡ after_change (pairs map.old) (by.Set key.now.tuple value.now)) }
+    ensures ok { let change = by.Set key.now.tuple value.now in
+        OnOk result (pairs map.new ≡ after_change (pairs map.old) change) }
     ensures err { OnErr result (pairs map.new ≡ pairs map.old) }
 {
     if let Some(slot) = map.get_mut(key) {

@@ -14,6 +14,8 @@ mod reply;
 mod row_buf;
 mod rows;
 mod sizes;
+#[cfg(test)]
+mod tests;
 
 pub use answers::answer;
 pub use change::Change;

@@ -1,6 +1,6 @@
 //! A list of rows in one buffer.
 ghost use Rattle.std.specs.Prelude.{◌≡◌, ◌<◌, [], ◌∷◌, ◌++◌, length, take, OnOk, OnErr, slice_index_or};
-ghost use Rattle.map_history.specs.Rows.{row_at, IsReadable};
+ghost use Rattle.map_history.specs.Rows.{row_at, row_from, IsReadable};
 
 use crate::part_list::{PartList, start_of};
 use key_tuple::{Fields, NoMemory};
@@ -38,7 +38,7 @@ impl Rows {
 
     /// Puts a row behind the others. After `NoMemory` the rows are as before.
     pub fn push<A: Fields>(&mut self, key: &A, value: &[u8]) -> Result<(), NoMemory>
-        ensures ok { OnOk result (self.new ≡ self.old ++ record { key = A.fields_of key.now; value = value.now } ∷ []) }
+        ensures ok { OnOk result (self.new ≡ self.old ++ row_from (A.fields_of key.now) value.now ∷ []) }
         ensures err { OnErr result (self.new ≡ self.old) }
     {
         self.ends.reserve(1)?;
@@ -106,7 +106,7 @@ impl Rows {
 /// Puts a row's value and then its fields behind the parts. After an error some of them may be there.
 fn add_row<A: Fields>(parts: &mut PartList, key: &A, value: &[u8]) -> Result<(), AllocError>
     ensures ok { OnOk result (parts.new ≡ parts.old ++ value.now ∷ A.fields_of key.now) }
-    ensures readable { OnOk result (IsReadable (record { key = A.fields_of key.now; value = value.now })) }
+    ensures readable { OnOk result (IsReadable (row_from (A.fields_of key.now) value.now)) }
     ensures err { OnErr result (take (length parts.old) parts.new ≡ parts.old) }
 {
     parts.push(value)?;

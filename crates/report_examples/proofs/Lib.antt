@@ -1,0 +1,2 @@
+pub mod EachPlace
+pub mod OneLane

@@ -1,0 +1,6 @@
+use Rattle.key_tuple.specs.Place.{before, not_below}
+use Rattle.report_examples.proofs.scans.row_left_out_is_no_scan.Goals as goal
+
+pub returns : goal.returns
+unfolding before not_below
+returns c = λ scan. cc (scan.1)

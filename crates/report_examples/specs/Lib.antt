@@ -1,0 +1,4 @@
+pub mod Samples
+pub mod Spoilt
+pub mod ScanSamples
+pub mod Bytes
