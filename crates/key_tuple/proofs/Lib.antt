@@ -2,3 +2,5 @@ pub mod PartsLemmas
 pub mod OrderLemmas
 pub mod PlaceLemmas
 pub mod TupleLemmas
+pub mod FoldLemmas
+pub mod SizeLemmas

@@ -1,8 +1,13 @@
 pub mod Order
 pub mod Total
+pub mod Hashed
 pub mod Place
 pub mod Figures
 pub mod Limits
 pub mod Parts
 pub mod Buffer
 pub mod Laws
+pub mod Fold
+pub mod FoldLaws
+pub mod Sizes
+pub mod SizeLaws

@@ -1,5 +1,5 @@
 //! What a constructor refuses.
-use std::alloc::AllocError;
+use std::alloc::{AllocError, AllocFailed};
 
 /// There was no memory.
 #[derive(Debug, Clone, Copy, PartialEq, Eq)]
@@ -7,6 +7,12 @@ pub struct NoMemory;
 
 impl From<AllocError> for NoMemory {
     fn from(_refused: AllocError) -> NoMemory {
+        NoMemory
+    }
+}
+
+impl<T: Drop> From<AllocFailed<T>> for NoMemory {
+    fn from(_refused: AllocFailed<T>) -> NoMemory {
         NoMemory
     }
 }

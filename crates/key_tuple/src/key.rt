@@ -8,6 +8,7 @@ use crate::order::compare_whole;
 use crate::tuple::Tuple;
 use std::alloc::{AllocError, Global};
 use std::cmp::Ordering;
+use std::hash::{Hash, Hasher};
 
 /// A whole key. Its fields are those of `tuple`; `room` is the number of fields that its buffer was
 /// made to be refilled with, 0 for a key that isn't refilled, and plays no part in comparisons.
@@ -106,6 +107,19 @@ impl Ord for Key {
 
     fn cmp(&self, other: &Key) -> Ordering {
         compare_whole(self, other)
+    }
+}
+
+impl Hash for Key {
+    ghost use Rattle.std.specs.Hash.{on_Alike};
+    ghost use Rattle.key_tuple.specs.Hashed.{writes, writes_alike};
+
+    ghost hash_input = { λ k. writes k.tuple };
+
+    ghost respects_eq = { (on_Alike (λ k. k.tuple) writes_alike).fed };
+
+    fn hash<H: Hasher>(&self, state: &mut H) {
+        self.tuple.hash(state);
     }
 }
 

@@ -1,4 +1,5 @@
 //! Modes of a search, and figures of an agreement.
+ghost use Rattle.std.specs.Prelude.{◌≡◌};
 
 /// Which row a search asks for.
 #[derive(Debug, Clone, Copy, PartialEq, Eq)]
@@ -32,4 +33,15 @@ pub struct Match {
     pub fields: u8,
     /// Equal first bytes of the field after them.
     pub bytes: u16,
+}
+
+impl Params {
+    ghost use Rattle.key_tuple.specs.Fold.{asked_fields};
+
+    /// How many fields a row needs for such a prefix.
+    pub fn asked_fields(&self) -> u16
+        ensures { result ≡ asked_fields self.now }
+    {
+        u16::from(self.fields) + if self.bytes == 0 { 0 } else { 1 }
+    }
 }

@@ -10,6 +10,7 @@ use crate::order::compare_whole;
 use crate::{MAX_FIELDS, MAX_KEY_BYTES};
 use std::alloc::{AllocError, Global};
 use std::cmp::Ordering;
+use std::hash::{Hash, Hasher};
 use std::marker::Model;
 
 /// Up to [`MAX_FIELDS`] fields of up to [`MAX_KEY_BYTES`] bytes together, seen as the list of them.
@@ -118,6 +119,21 @@ impl Ord for Tuple {
 
     fn cmp(&self, other: &Tuple) -> Ordering {
         compare_whole(self, other)
+    }
+}
+
+impl Hash for Tuple {
+    ghost use Rattle.key_tuple.specs.Hashed.{writes, writes_alike};
+
+    ghost hash_input = { writes };
+
+    ghost respects_eq = { writes_alike.fed };
+
+    fn hash<H: Hasher>(&self, state: &mut H) {
+        state.write_usize(usize::from(self.count()));
+        for i in 0..self.count() {
+            self.field(i).hash(state);
+        }
     }
 }
 

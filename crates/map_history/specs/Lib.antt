@@ -1,4 +1,5 @@
 pub mod Map
+pub mod Pairs
 pub mod Operation
 pub mod Reply
 pub mod Told
@@ -6,5 +7,7 @@ pub mod Text
 pub mod Report
 pub mod Spelling
 pub mod Scans
+pub mod Rows
 pub mod Statistics
 pub mod LegalReport
+pub mod Laws

@@ -1,5 +1,5 @@
 -- What an operation asks, in plain lists.
-use Rattle.std.specs.Prelude.{ℕ, Option}
+use Rattle.std.specs.Prelude.{ℕ, Bool, true, false, Option}
 use Rattle.std.specs.Option.{option_copied}
 use Rattle.key_tuple.specs.Order.{FieldList}
 use Rattle.key_tuple.specs.declared.mode.Mode.{Mode}
@@ -45,3 +45,17 @@ abbrev pub change_of : change.Change → MapChange
 change_of (change.TheVariants.Put key value) = map.Put key.tuple value
 change_of (change.TheVariants.Set key value) = map.Set key.tuple value
 change_of (change.TheVariants.Del key) = map.Del key.tuple
+
+-- it asks for the rows of a range
+abbrev pub is_scan : Ask → Bool
+is_scan (Get k) = false
+is_scan (Make c) = false
+is_scan (Seek mode tuple) = false
+is_scan (Scan from to limit) = true
+
+-- the map after the change that is asked for, if one is
+abbrev pub after_ask : map.Map → Ask → map.Map
+after_ask m (Get key) = m
+after_ask m (Make c) = map.after_change m c
+after_ask m (Seek mode tuple) = m
+after_ask m (Scan from to limit) = m

@@ -1,11 +1,11 @@
 -- What an answer of the program stands for.
-use Rattle.std.specs.Prelude.{ℕ, Option, Some, None}
+use Rattle.std.specs.Prelude.{ℕ, ◌≡◌, Option, Some, None}
 use Rattle.map_history.specs.declared.reply.Reply.{Reply}
 use Rattle.map_history.specs.declared.reply.Reply.TheVariants as word
 use Rattle.map_history.specs.declared.reply.Told.{Told}
-use Rattle.map_history.specs.Map.{Pair}
+use Rattle.map_history.specs.Map.{Pair, Map}
 use Rattle.map_history.specs.Operation.{Ask, Get, Seek}
-use Rattle.map_history.specs.Reply.{MapReply, Value, Row, Done, Absent, Duplicate}
+use Rattle.map_history.specs.Reply.{MapReply, Value, Row, Done, Absent, Duplicate, reply_of}
 use Rattle.map_history.specs.Report.{Columns, Answer, Replied, LogFull, SpaceFull}
 
 -- a found row as the operation shows it: a get shows the value alone
@@ -22,6 +22,10 @@ said ask word.Ok row = Some Done
 said ask word.Duplicate row = Some Duplicate
 said ask word.SpaceFull row = None
 said ask (word.LogFull n) row = None
+
+-- a word and the row in the caller's buffer say what the map replies
+abbrev pub Says : Map → Ask → Reply → Pair → Type 0
+Says m ask reply row = said ask reply row ≡ Some (reply_of m ask)
 
 abbrev pub columns_told : Told → Columns
 columns_told told = record { how = told.how; note = told.note }

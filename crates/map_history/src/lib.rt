@@ -2,16 +2,29 @@
 //! Nothing here knows of pages, threads or files.
 #![tactic(auto)]
 
+mod answers;
 mod change;
+mod changes;
 mod columns;
 mod counts;
+mod laws;
 mod op;
+mod part_list;
 mod reply;
+mod row_buf;
+mod rows;
 mod sizes;
 
+pub use answers::answer;
 pub use change::Change;
+pub use changes::{apply, make, pairs_ascend};
 pub use columns::{How, Note};
 pub use counts::Counts;
+pub use laws::{
+    changes_are_local, lists_grow, maps_ascend, replies_stay, searches_find, slices_change,
+};
 pub use op::{Op, OpRef};
 pub use reply::{Piece, Reply, Told};
+pub use row_buf::RowBuf;
+pub use rows::{RowIn, Rows};
 pub use sizes::Sizes;

@@ -79,6 +79,20 @@ pub enum OpRef<'a> {
 }
 
 impl Op {
+    /// The number of the index.
+    pub fn index(&self) -> u32
+        ensures { result ≡ (operation_of self.now).index }
+    {
+        match self {
+            Op::Get { index, .. }
+            | Op::Put { index, .. }
+            | Op::Set { index, .. }
+            | Op::Del { index, .. }
+            | Op::Seek { index, .. }
+            | Op::Scan { index, .. } => *index,
+        }
+    }
+
     /// The same operation, borrowed.
     pub fn borrow(&self) -> OpRef<'_>
         ensures { operation_by result ≡ operation_of self.now }

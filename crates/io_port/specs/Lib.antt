@@ -1,0 +1,7 @@
+pub mod Faults
+pub mod FileShelf
+pub mod MemoryShelf
+pub mod MemorySink
+pub mod Shelf
+pub mod Sink
+pub mod Streams

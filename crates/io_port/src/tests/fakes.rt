@@ -1,0 +1,74 @@
+//! A reader and a writer that move three bytes a call, and stop short.
+use crate::NoMemory;
+use std::alloc::Global;
+use std::io;
+use std::io::{ErrorKind, Read, Write};
+
+/// Gives its text, but fails from this read on.
+#[derive(Drop)]
+pub(crate) struct Drip<'a> {
+    text: &'a [u8],
+    reads: u32,
+    fail_from: u32,
+}
+
+impl<'a> Drip<'a> {
+    pub(crate) fn new(text: &'a [u8], fail_from: u32) -> Self {
+        Drip {
+            text,
+            reads: 0,
+            fail_from,
+        }
+    }
+
+    pub(crate) fn reads(&self) -> u32 {
+        self.reads
+    }
+}
+
+impl Read for Drip<'_> {
+    fn read(&mut self, buf: &mut [u8]) -> io::Result<usize> {
+        if self.reads >= self.fail_from {
+            return Err(ErrorKind::Other.into());
+        }
+        self.reads += 1;
+        let count = buf.len().min(3).min(self.text.len());
+        let (front, rest) = self.text.split_at(count);
+        buf[..count].copy_from_slice(front);
+        self.text = rest;
+        Ok(count)
+    }
+}
+
+/// Takes bytes as long as there is room, and then none.
+#[derive(Drop)]
+pub(crate) struct Narrow {
+    taken: Vec<u8>,
+    room: usize,
+}
+
+impl Narrow {
+    pub(crate) fn with_room(alloc: Global, room: usize) -> Result<Self, NoMemory> {
+        Ok(Narrow {
+            taken: Vec::with_capacity(alloc, room)?,
+            room,
+        })
+    }
+
+    pub(crate) fn taken(&self) -> &[u8] {
+        &self.taken
+    }
+}
+
+impl Write for Narrow {
+    fn write(&mut self, buf: &[u8]) -> io::Result<usize> {
+        let count = buf.len().min(3).min(self.room);
+        self.taken.extend_from_slice(&buf[..count])?;
+        self.room -= count;
+        Ok(count)
+    }
+
+    fn flush(&mut self) -> io::Result<()> {
+        Ok(())
+    }
+}

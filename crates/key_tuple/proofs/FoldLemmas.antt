@@ -1,0 +1,35 @@
+-- The lowest bit of a hash, and what a fold depends on.
+use Rattle.std.proofs.Common.{◌≡◌, ℕ, ◌+◌, ◌-◌, ◌*◌, ◌%◌, ◌^◌, ◌≤◌, ◌<◌, List, [], ◌∷◌, ◌++◌, fold, flat_map, map, bit_xor, refl, sym, ap, ◌∙◌, arith}
+use Rattle.std.proofs.lemmas.Nat.{xor_mod, mod_below, pow_pos}
+use Rattle.std.proofs.Math.Pow.{mod-mod-pow}
+use Rattle.std.specs.Int.{bytes_high_first}
+use Rattle.key_tuple.specs.declared.mode.Params.{Params}
+use Rattle.key_tuple.specs.Order.{FieldList}
+use Rattle.key_tuple.specs.Fold.{hash_byte, hash_of, with_length, whole_fields, next_bytes, prefix_bytes, fold_of}
+use Rattle.key_tuple.specs.FoldLaws.{lowest_bits}
+
+-- the prime is odd, so the product keeps the lowest bit
+odd_product : (n : ℕ) → (n * 0x100000001b3) % 2 ^ 64 % 2 ≡ n % 2
+odd_product n =
+    let short : (n * 0x100000001b3) % 2 ^ 64 % 2 ≡ (n * 0x100000001b3) % 2 = mod-mod-pow (n * 0x100000001b3) 63 1 in
+    omega arith
+
+hash_byte-low : (hash byte : ℕ) → hash_byte hash byte % 2 ≡ bit_xor (hash % 2) (byte % 2)
+hash_byte-low hash byte = odd_product (bit_xor hash byte) ∙ xor_mod hash byte 1
+
+low_of : (bytes : List ℕ) (hash : ℕ) → fold hash_byte hash bytes % 2 ≡ fold bit_xor (hash % 2) (map (λ byte. byte % 2) bytes)
+low_of [] hash = refl
+low_of (byte ∷ bytes) hash = low_of bytes (hash_byte hash byte) ∙ ap (λ (bit : ℕ). fold bit_xor bit (map (λ byte. byte % 2) bytes)) (hash_byte-low hash byte)
+
+pub lowest_bit : (index : ℕ) (s : FieldList) (p : Params) (bits : ℕ) → 1 ≤ bits → fold_of index s p bits % 2 ≡ lowest_bits (prefix_bytes index s p)
+lowest_bit index s p bits some =
+    let hash : ℕ = hash_of (prefix_bytes index s p) in
+    let rest : (bits - 1) + 1 ≡ bits = omega arith in
+    let short : hash % 2 ^ bits % 2 ≡ hash % 2 = ap (λ (n : ℕ). hash % 2 ^ n % 2) (sym rest) ∙ mod-mod-pow hash (bits - 1) 1 in
+    short ∙ low_of (prefix_bytes index s p) 0xcbf29ce484222325
+
+pub fold_below : (index : ℕ) (s : FieldList) (p : Params) (bits : ℕ) → fold_of index s p bits < 2 ^ bits
+fold_below index s p bits = mod_below (hash_of (prefix_bytes index s p)) (2 ^ bits) (pow_pos bits)
+
+pub same_prefix : (index : ℕ) (s t : FieldList) (p q : Params) (bits : ℕ) → whole_fields s p ≡ whole_fields t q → next_bytes s p ≡ next_bytes t q → fold_of index s p bits ≡ fold_of index t q bits
+same_prefix index s t p q bits whole next = λ i. hash_of (bytes_high_first 4 index ++ flat_map with_length (whole i) ++ next i) % 2 ^ bits

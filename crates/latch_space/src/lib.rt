@@ -1,0 +1,27 @@
+//! Objects under latches, and lists of changes with a count for each index, under the law of a world.
+//! A call that takes no `wait` waits for nobody, and only `open`, `split` and `close` take memory.
+#![tactic(auto)]
+
+mod closing;
+mod committing;
+mod dividing;
+mod error;
+mod hand;
+mod lending;
+mod opening;
+mod pass;
+mod plays;
+mod reading;
+mod releasing;
+mod settling;
+mod space;
+mod taking;
+
+pub use committing::LogFull;
+pub use error::NoMemory;
+pub use latch_law::{
+    Entry, Holding, Knows, Law, Means, Reference, Refusal, Said, Saying, Terms, World,
+};
+pub use pass::{Pass, PassOf, Place};
+pub use space::{Space, SpaceOf};
+pub use taking::Take;

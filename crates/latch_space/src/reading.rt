@@ -1,0 +1,60 @@
+//! Reading a count, and answering there.
+ghost use Rattle.std.specs.Prelude.{◌≡◌, ◌<◌, Some, length};
+ghost use Rattle.latch_law.specs.Fitting.{MayAnswer, DidRead, IsFitted};
+ghost use Rattle.latch_space.specs.Has.{SameHands};
+ghost use Rattle.latch_space.specs.Passes.{view, values, count, IsSamePass};
+ghost use Rattle.latch_space.specs.Spaces.{IsPassOf};
+
+use crate::pass::{Pass, SeatOf};
+use crate::plays::{Reads, Says, Sees};
+use crate::space::Space;
+use latch_law::{Means, World};
+use std::marker::Brand;
+
+impl<W: World> Space<W> {
+    /// Tells that some lawful state fits the pass, and changes nothing.
+    pub fn witness(&self, pass: &mut Pass<W>)
+        requires own { IsPassOf self.now pass.old }
+        ensures own { IsSamePass pass.old pass.new × IsPassOf self.now pass.new }
+        ensures fits { IsFitted W.lawful W.answers W.refers (view pass.new) }
+        ensures kept { (view pass.new ≡ view pass.old) × SameHands pass.old pass.new }
+    {
+        self.table.shared.load::<Sees<W>>(&mut pass.seat, 0);
+    }
+
+    fn read_at<X: Says<W::Answer>, N: Means<W::Answer>>(
+        &self,
+        seat: &mut SeatOf<W>,
+        index: usize,
+        answer: &N,
+    ) -> u64
+        requires own { (seat.old.table_id ≡ self.now.table.shared.table_id)
+            × (seat.old.me.0.terms ≡ self.now.terms) }
+        requires picked { X.answer ≡ Some (N.meaning answer.now) }
+        requires live { seat.old.me.0.low < seat.old.me.0.end }
+        requires index { (index < length seat.old.me.0.seen) × (index < self.now.terms.indexes) }
+        requires rule { MayAnswer W.lawful W.answers W.refers seat.old.me.0 index (N.meaning answer.now) }
+        ensures own { (seat.new.table_id ≡ seat.old.table_id) × (seat.new.id ≡ seat.old.id) }
+        ensures told { DidRead W.lawful W.answers W.refers seat.old.me.0 index (N.meaning answer.now) result
+            seat.new.me.0 }
+        ensures slots { seat.new.me.1 ≡ seat.old.me.1 }
+    {
+        self.table
+            .shared
+            .load::<Reads<W, X>>(seat, self.terms.objects + index)
+    }
+
+    /// Gives the answer at the end of the index's list, and returns that point. The pass has then
+    /// seen the list up to there.
+    pub fn read_point<N: Means<W::Answer>>(&self, pass: &mut Pass<W>, index: u32, answer: &N) -> u64
+        requires own { IsPassOf self.now pass.old }
+        requires index { index < self.now.terms.indexes }
+        requires rule { MayAnswer W.lawful W.answers W.refers (view pass.old) index (N.meaning answer.now) }
+        ensures own { IsSamePass pass.old pass.new × IsPassOf self.now pass.new }
+        ensures told { DidRead W.lawful W.answers W.refers (view pass.old) index (N.meaning answer.now) result
+            (view pass.new) }
+        ensures kept { SameHands pass.old pass.new }
+    {
+        self.read_at::<Brand, N>(&mut pass.seat, index as usize, answer)
+    }
+}

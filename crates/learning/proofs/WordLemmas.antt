@@ -1,0 +1,41 @@
+-- A word tells its fields.
+use Rattle.std.proofs.Common.{◌≡◌, ◌≤◌, Bool, true, false, refl, arith}
+use Rattle.learning.specs.declared.info.Info.{Info}
+use Rattle.learning.specs.Word.{bit_of, word_of, FitsWord}
+
+bit_below : (b : Bool) → bit_of b ≤ 1
+bit_below true = omega arith
+bit_below false = omega arith
+
+bit_tells : (a b : Bool) → bit_of a ≡ bit_of b → a ≡ b
+bit_tells true true e = refl
+bit_tells true false e = absurd (omega arith)
+bit_tells false true e = absurd (omega arith)
+bit_tells false false e = refl
+
+-- the fields of two infos with one word
+pub record Told (i j : Info) : Type 0 where
+  pub last : bit_of i.last ≡ bit_of j.last
+  pub left : bit_of i.params.left ≡ bit_of j.params.left
+  pub potential : i.potential ≡ j.potential
+  pub analysis : i.analysis ≡ j.analysis
+  pub fields : i.params.fields ≡ j.params.fields
+  pub bytes : i.params.bytes ≡ j.params.bytes
+  pub events : i.events ≡ j.events
+
+pub fields_told : (i j : Info) → FitsWord i → FitsWord j → word_of i ≡ word_of j → Told i j
+fields_told i j f g e =
+    let a = bit_below i.last in let b = bit_below j.last in let c = bit_below i.params.left in let d = bit_below j.params.left in
+    record {
+      last = omega (arith, e);
+      left = omega (arith, e);
+      potential = omega (arith, e);
+      analysis = omega (arith, e);
+      fields = omega (arith, e);
+      bytes = omega (arith, e);
+      events = omega (arith, e);
+    }
+
+pub word_tells : (i j : Info) → FitsWord i → FitsWord j → word_of i ≡ word_of j → i ≡ j
+word_tells i j f g e = let t = fields_told i j f g e in let last : i.last ≡ j.last = bit_tells i.last j.last t.last in let left : i.params.left ≡ j.params.left = bit_tells i.params.left j.params.left t.left in
+    λ k. record { analysis = t.analysis k; potential = t.potential k; params = record { fields = t.fields k; bytes = t.bytes k; left = left k }; last = last k; events = t.events k }

@@ -1,0 +1,9 @@
+pub mod EachLemmas
+pub mod PairsLemmas
+pub mod ApplyLemmas
+pub mod CutLemmas
+pub mod RowsLemmas
+pub mod AnswerLemmas
+pub mod WriteLemmas
+pub mod HistoryLemmas
+pub mod SearchLemmas

@@ -1,0 +1,13 @@
+pub mod Places
+pub mod SoFar
+pub mod Outcomes
+pub mod Forms
+pub mod OneMore
+pub mod Step
+pub mod Marks
+pub mod Fold
+pub mod Dashes
+pub mod Legal
+pub mod Maps
+pub mod TextLemmas
+pub mod LaneLemmas

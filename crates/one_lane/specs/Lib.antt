@@ -1,0 +1,5 @@
+pub mod OneLane
+pub mod Law
+pub mod Texts
+pub mod History
+pub mod Lane

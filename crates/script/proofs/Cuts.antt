@@ -1,0 +1,71 @@
+-- Pieces and lines at their first cut.
+use Rattle.std.proofs.Common.{◌≡◌, ℕ, suc, ◌+◌, ◌-◌, ◌<◌, ◌≤◌, Bool, true, false, cond, eqb, List, [], ◌∷◌, ◌++◌, length, get_or, take, drop, Some, None, refl, subst, arith, add-one}
+use Rattle.std.specs.List.{position, position_or_len}
+use Rattle.std.proofs.lemmas.Bool.{eqb-true, eq-eqb, ltb-false}
+use Rattle.std.proofs.lemmas.List.Quantifiers.{position-Some}
+use Rattle.std.proofs.lemmas.List.Splits.{slice_split_none, slice_split_at}
+use Rattle.std.proofs.lemmas.List.{get_or-take, length-take, take_rest}
+use Rattle.std.proofs.lemmas.List.Sums.{fails_before_first}
+use Rattle.std.proofs.Math.Seq.{split_at}
+use Rattle.script.specs.Grammar.{lines_of}
+use Rattle.script.specs.Pieces.{Lacks, IsCut, pieces_by}
+
+abbrev is_at : ℕ → ℕ → Bool
+is_at v b = eqb b v
+
+none_cond : (b : Bool) (n : ℕ) → cond b (Some n) None ≡ None → b ≡ false
+none_cond true n h = absurd cc
+none_cond false n h = refl
+
+-- what the first place cuts
+pub cut_there : (v : ℕ) (s : List ℕ) (i : ℕ) → position (is_at v) s ≡ Some i → IsCut v s (take i s) (drop (i + 1) s)
+cut_there v s i h =
+    let p = position-Some (is_at v) s i 0 h in
+    let lt : i < length s = p.0 in
+    let is : get_or s i 0 ≡ v = eqb-true _ _ p.1 in
+    record {
+      whole = subst (λ (b : ℕ). s ≡ take i s ++ b ∷ drop (i + 1) s) is (rw add-one (split_at s i 0 lt));
+      first = λ k d klt.
+          let ki : k < i = omega (arith, length-take i s) in
+          rw (get_or-take i s k d ki) ((position-Some (is_at v) s i d h).2 k ki);
+    }
+
+-- where there is no place, nothing is cut
+pub cut_nowhere : (v : ℕ) (s : List ℕ) → position (is_at v) s ≡ None → Lacks v s
+cut_nowhere v s h k d lt =
+    let long : length s ≤ position_or_len (is_at v) s = ltb-false _ _ (none_cond _ _ h) in
+    fails_before_first (is_at v) s k d (omega arith)
+
+-- the first piece, and the pieces of what is cut off
+pub pieces_cut : (v : ℕ) (s a b : List ℕ) → IsCut v s a b → pieces_by v s ≡ a ∷ pieces_by v b
+pieces_cut v s a b h = rw h.whole (slice_split_at (is_at v) a v b h.first (eq-eqb v v refl))
+
+pub pieces_whole : (v : ℕ) (s : List ℕ) → Lacks v s → pieces_by v s ≡ s ∷ []
+pieces_whole v s h = slice_split_none (is_at v) s h
+
+lines_at : (a b : List ℕ) → Lacks 10 a → lines_of (a ++ 10 ∷ b) ≡ a ∷ lines_of b
+lines_at [] b h = refl
+lines_at (x ∷ xs) b h =
+    let ne : eqb x 10 ≡ false = h 0 0 (omega arith) in
+    let rest : lines_of (xs ++ 10 ∷ b) ≡ xs ∷ lines_of b = lines_at xs b (λ k d lt. h (suc k) d (omega arith)) in
+    rw (ne, rest) refl
+
+-- the first line, and the lines of what is cut off
+pub lines_cut : (s a b : List ℕ) → IsCut 10 s a b → lines_of s ≡ a ∷ lines_of b
+lines_cut s a b h = rw h.whole (lines_at a b h.first)
+
+pub lines_whole : (x : ℕ) (s : List ℕ) → Lacks 10 (x ∷ s) → lines_of (x ∷ s) ≡ (x ∷ s) ∷ []
+lines_whole x [] h = let ne : eqb x 10 ≡ false = h 0 0 (omega arith) in rw ne refl
+lines_whole x (y ∷ s) h =
+    let ne : eqb x 10 ≡ false = h 0 0 (omega arith) in
+    let rest : lines_of (y ∷ s) ≡ (y ∷ s) ∷ [] = lines_whole y s (λ k d lt. h (suc k) d (omega arith)) in
+    rw (ne, rest) refl
+
+-- some bytes are the one line where none ends it
+pub lines_last : (s : List ℕ) → 0 < length s → Lacks 10 s → lines_of s ≡ s ∷ []
+lines_last [] lt h = absurd (omega arith)
+lines_last (x ∷ s) lt h = lines_whole x s h
+
+-- the same, as `&bytes[..i]` and `&bytes[i + 1..]` stand
+pub cut_parts : (v : ℕ) (s : List ℕ) (i : ℕ) → position (is_at v) s ≡ Some i → IsCut v s (take i s) (take (length s - (i + 1)) (drop (i + 1) s))
+cut_parts v s i h = rw (take_rest s (i + 1)) (cut_there v s i h)

@@ -1,0 +1,9 @@
+pub mod Cuts
+pub mod Steps
+pub mod Places
+pub mod KeyFields
+pub mod Whole
+pub mod Results
+pub mod SchemaFacts
+pub mod LaneFacts
+pub mod Escapes

@@ -1,0 +1,104 @@
+-- What the lines of a lane file say.
+use Rattle.std.specs.Prelude.{ℕ, ◌+◌, ◌≡◌, ◌<◌, if◌then◌else◌, Option, Some, None, ok_or, List, [], ◌∷◌, ◌++◌, length, codes, slice_index, Result, Ok, Err}
+use Rattle.std.specs.Map.{lookup}
+use Rattle.std.specs.Str.{bytes_eq}
+use Rattle.key_tuple.specs.Order.{FieldList}
+use Rattle.map_history.specs.Map.{Put, Del}
+use Rattle.map_history.specs.Operation.{Operation, Ask, Get, Make}
+use Rattle.map_history.specs.LegalReport.{Line}
+use Rattle.script.specs.declared.verb.Verb.{Verb}
+use Rattle.script.specs.declared.verb.Verb.TheVariants as verb
+use Rattle.script.specs.declared.error.ScriptError.{ScriptError}
+use Rattle.script.specs.declared.error.Flaw.{Flaw}
+use Rattle.script.specs.declared.error.Flaw.TheVariants.{BadLine, UnknownIndex}
+use Rattle.script.specs.Steps.{◌>>=◌, or_bad, numbered}
+use Rattle.script.specs.Grammar.{lines_of, words_of, says_nothing, is_name, only, both, key_of, field_of, short_key, short_value}
+use Rattle.script.specs.Schema.{SchemaText, index_of}
+
+-- the words of the operations
+abbrev pub verbs : List (List ℕ × Verb)
+verbs = (codes "get", verb.Get) ∷ (codes "put", verb.Put) ∷ (codes "del", verb.Del) ∷ []
+
+abbrev pub verb_of : List ℕ → Option Verb
+verb_of word = lookup (λ (known : List ℕ). bytes_eq word known) verbs
+
+-- the index of a line: a word that isn't a name is bad form, and a name that the schema lacks is unknown
+abbrev pub index_named : SchemaText → List ℕ → Result ℕ Flaw
+index_named s name = if is_name name then ok_or (index_of s.names name) UnknownIndex else Err BadLine
+
+-- `KEY`, for an index whose keys have so many fields
+abbrev pub key_parts : ℕ → List (List ℕ) → Result FieldList Flaw
+key_parts n parts = do
+  word ← or_bad (only parts)
+  fields ← or_bad (key_of n word)
+  short_key fields
+
+-- `KEY VALUE`: the form of both is judged before their lengths
+abbrev pub row_parts : ℕ → List (List ℕ) → Result (FieldList × List ℕ) Flaw
+row_parts n parts = do
+  two ← or_bad (both parts)
+  fields ← or_bad (key_of n two.0)
+  bytes ← or_bad (field_of two.1)
+  key ← short_key fields
+  value ← short_value bytes
+  Ok (key, value)
+
+-- what an operation's word asks with the words after the index's name
+abbrev pub ask_of : Verb → ℕ → List (List ℕ) → Result Ask Flaw
+ask_of verb.Get n parts = key_parts n parts >>= λ (key : FieldList). Ok (Get key)
+ask_of verb.Put n parts = row_parts n parts >>= λ (row : FieldList × List ℕ). Ok (Make (Put row.0 row.1))
+ask_of verb.Del n parts = key_parts n parts >>= λ (key : FieldList). Ok (Make (Del key))
+
+-- the operation on the index with this number, whose keys have n fields
+abbrev pub operation_for : Verb → ℕ → ℕ → List (List ℕ) → Result Operation Flaw
+operation_for kind i n parts = ask_of kind n parts >>= λ (ask : Ask). Ok (record { index = i; ask = ask })
+
+-- the operation that some words spell
+abbrev pub operation_in : SchemaText → List (List ℕ) → Result Operation Flaw
+operation_in s [] = Err BadLine
+operation_in s (word ∷ []) = Err BadLine
+operation_in s (word ∷ name ∷ parts) = do
+  kind ← or_bad (verb_of word)
+  i ← index_named s name
+  operation_for kind i (slice_index s.fields i) parts
+
+-- what a line of a lane says: nothing, an operation, or a flaw
+unfoldable pub lane_line : SchemaText → List ℕ → Result (Option Operation) Flaw
+lane_line s line = if says_nothing line then Ok None else (operation_in s (words_of line) >>= λ (op : Operation). Ok (Some op))
+
+-- a line with its number, if it says something
+abbrev pub line_said : ℕ → Option Operation → List Line
+line_said n None = []
+line_said n (Some op) = record { line = n; op = op } ∷ []
+
+-- what the lines from number n on say
+abbrev pub lane_from : ℕ → SchemaText → List (List ℕ) → Result (List Line) ScriptError
+lane_from n s [] = Ok []
+lane_from n s (line ∷ lines) = do
+  said ← numbered n (lane_line s line)
+  more ← lane_from (n + 1) s lines
+  Ok (line_said n said ++ more)
+
+-- the lane that a file spells
+unfoldable pub lane_of : SchemaText → List ℕ → Result (List Line) ScriptError
+lane_of s bytes = lane_from 1 s (lines_of bytes)
+
+-- `new` is `old` and what the line says, if it says something
+pub record TakesLine (s : SchemaText) (n : ℕ) (line : List ℕ) (old new : List Line) : Type 0 where
+  pub said : Option Operation
+  pub says : lane_line s line ≡ Ok said
+  pub grown : new ≡ old ++ line_said n said
+
+-- a get, a put or a del of a key
+abbrev pub HasKey : Ask → FieldList → Type 0
+HasKey (Get k) key = k ≡ key
+HasKey (Make (Put k v)) key = k ≡ key
+HasKey (Make (Del k)) key = k ≡ key
+HasKey ask key = ⊥
+
+-- a line of a lane: a get, put or del of an index of the schema, whose key has that index's number of fields
+pub record IsLaneLine (s : SchemaText) (line : Line) : Type 0 where
+  pub key : FieldList
+  pub about : HasKey line.op.ask key
+  pub known : line.op.index < length s.names
+  pub fields : length key ≡ slice_index s.fields line.op.index

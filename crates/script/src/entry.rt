@@ -1,0 +1,21 @@
+//! The words that a schema's line begins with.
+ghost use Rattle.std.specs.Prelude.{◌≡◌};
+ghost use Rattle.script.specs.Schema.{entry_of};
+
+/// What a line of a schema sets.
+#[derive(Debug, Clone, Copy, PartialEq, Eq)]
+pub enum Entry {
+    /// An index: its name, and the number of its keys' fields.
+    Index,
+}
+
+/// The entry of a word.
+pub fn find_entry(word: &[u8]) -> Option<Entry>
+    ensures { result ≡ entry_of word.now }
+{
+    if word == b"index".as_slice() {
+        Some(Entry::Index)
+    } else {
+        None
+    }
+}

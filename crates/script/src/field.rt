@@ -1,0 +1,71 @@
+//! Fields and values as text.
+ghost use Rattle.std.specs.Prelude.{◌≡◌, ◌<◌, length, IfSome, MatchOption, Some, None};
+ghost use Rattle.map_history.specs.Text.{is_plain};
+ghost use Rattle.script.specs.Grammar.{digit_of, byte_of, bytes_of, field_of, in_front};
+ghost use Rattle.script.specs.Steps.{Gives, or_bad};
+
+use crate::error::{Flaw, Refusal};
+use std::alloc::Global;
+
+/// The bytes that a field's text stands for; `~` is the empty field.
+pub fn field(alloc: Global, text: &[u8]) -> Result<Vec<u8>, Refusal>
+    ensures { Gives (λ v. v.items) result (or_bad (field_of text.now)) }
+{
+    match text {
+        [] => Err(Refusal::Flawed(Flaw::BadLine)),
+        [b'~'] => Ok(Vec::new(alloc)),
+        _ => decode(alloc, text),
+    }
+}
+
+#[tactic(auto, using(crate::proofs::Steps::behind_in_front))]
+fn decode(alloc: Global, text: &[u8]) -> Result<Vec<u8>, Refusal>
+    ensures { Gives (λ v. v.items) result (or_bad (bytes_of text.now)) }
+{
+    let mut bytes = Vec::new(alloc);
+    let mut rest = text;
+    'text: while !rest.is_empty() {
+        let Some((byte, after)) = first_byte(rest) else {
+            return Err(Refusal::Flawed(Flaw::BadLine));
+        };
+        bytes.push(byte)?;
+        rest = after;
+    }
+    Ok(bytes)
+}
+
+/// The byte at the front of a text, and the text after it.
+fn first_byte(text: &[u8]) -> Option<(u8, &[u8])>
+    requires { 0 < length text.now }
+    ensures { MatchOption result (bytes_of text.now ≡ None) (λ p. (bytes_of text.now ≡ in_front (Some p.0) (bytes_of p.1.now)) × (length p.1.now < length text.now)) }
+{
+    match text {
+        [b'%', high, low, after @ ..] => Some((escaped(*high, *low)?, after)),
+        [byte, after @ ..] if stands_alone(*byte) => Some((*byte, after)),
+        _ => None,
+    }
+}
+
+fn escaped(high: u8, low: u8) -> Option<u8>
+    ensures { result ≡ byte_of high low }
+{
+    Some(digit(high)? * 16 + digit(low)?)
+}
+
+fn digit(byte: u8) -> Option<u8>
+    ensures value { result ≡ digit_of byte }
+    ensures small { IfSome result (λ d. d < 16) }
+{
+    match byte {
+        b'0'..=b'9' => Some(byte - b'0'),
+        b'a'..=b'f' => Some(byte - b'a' + 10),
+        b'A'..=b'F' => Some(byte - b'A' + 10),
+        _ => None,
+    }
+}
+
+fn stands_alone(byte: u8) -> bool
+    ensures { result ≡ is_plain byte }
+{
+    b'!' <= byte && byte <= b'}' && byte != b'%' && byte != b','
+}

@@ -1,0 +1,46 @@
+//! Schema files and lane files as bytes, read into indexes and operations, or refused at the first
+//! line that isn't in their grammar. Nothing here opens a file.
+#![tactic(auto)]
+
+mod draft;
+mod entry;
+mod error;
+mod field;
+mod lane;
+mod laws;
+mod names;
+mod pieces;
+mod reading;
+mod schema;
+mod verb;
+mod words;
+
+pub use error::ScriptError;
+pub use lane::Line;
+pub use laws::fields_are_read_again;
+use map_history::Sizes;
+pub use reading::{read_lane, read_schema};
+pub use schema::Schema;
+
+/// The most bytes of a file that is read: 64 MiB.
+pub const MAX_FILE_BYTES: usize = 67_108_864;
+
+/// The most indexes of a schema.
+pub const MAX_INDEXES: usize = 64;
+
+/// The most bytes of an index's name.
+pub const MAX_NAME_BYTES: usize = 32;
+
+/// The most fields of an index's keys.
+pub const MAX_FIELD_COUNT: u8 = key_tuple::MAX_FIELDS;
+
+/// The sizes of a schema that sets none.
+pub const DEFAULT_SIZES: Sizes = Sizes {
+    blocks: 256,
+    pages: 4096,
+    parts: 8,
+    cells: 4096,
+    nodes: 16384,
+    fold_bits: 64,
+    max_changes: 1_000_000,
+};

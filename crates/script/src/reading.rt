@@ -1,0 +1,100 @@
+//! Whole files.
+ghost use Rattle.std.specs.Prelude.{◌≡◌, ◌≤◌, ◌⊎◌, length, IfOk, IfErr, OnOk, Ok, Err};
+ghost use Rattle.std.specs.List.{AllByRecursion};
+ghost use Rattle.script.specs.Lane.{lane_of, lane_line, IsLaneLine, TakesLine};
+ghost use Rattle.script.specs.Schema.{schema_of};
+ghost use Rattle.script.specs.Steps.{GivesWhole, FailsWhole, numbered};
+ghost use Rattle.script.specs.Views.{schema_text, draft_text, line_texts};
+
+use crate::draft::Draft;
+use crate::error::ScriptError;
+use crate::lane::{Line, read_line};
+use crate::pieces::Lines;
+use crate::schema::Schema;
+use crate::{DEFAULT_SIZES, MAX_FILE_BYTES};
+use std::alloc::Global;
+
+/// The schema that a file spells. A refusal speaks of the first line that isn't in the grammar; a file
+/// without an index is refused one line behind its last.
+pub fn read_schema(alloc: Global, bytes: &[u8]) -> Result<Schema, ScriptError>
+    requires { length bytes.now ≤ MAX_FILE_BYTES }
+    ensures ok { IfOk result (λ s. schema_of bytes.now ≡ Ok (schema_text s)) }
+    ensures refused { IfErr (schema_of bytes.now) (λ e. (result ≡ Err e) ⊎ (result ≡ Err ScriptError.NoMemory)) }
+    ensures cause { IfErr result (λ e. (e ≡ ScriptError.NoMemory) ⊎ (schema_of bytes.now ≡ Err e)) }
+{
+    let draft = read_indexes(alloc, bytes)?;
+    Ok(Schema {
+        sizes: DEFAULT_SIZES,
+        names: draft.names,
+        fields: draft.fields,
+    })
+}
+
+/// The operations of a lane, each with its line. A refusal speaks of the first line that isn't in the
+/// grammar.
+pub fn read_lane(alloc: Global, bytes: &[u8], schema: &Schema) -> Result<Vec<Line>, ScriptError>
+    requires { length bytes.now ≤ MAX_FILE_BYTES }
+    ensures ok { IfOk result (λ v. lane_of (schema_text schema.now) bytes.now ≡ Ok (line_texts v.items)) }
+    ensures refused { IfErr (lane_of (schema_text schema.now) bytes.now) (λ e. (result ≡ Err e) ⊎ (result ≡ Err ScriptError.NoMemory)) }
+    ensures cause { IfErr result (λ e. (e ≡ ScriptError.NoMemory) ⊎ (lane_of (schema_text schema.now) bytes.now ≡ Err e)) }
+    ensures lines { IfOk result (λ v. AllByRecursion (IsLaneLine (schema_text schema.now)) (line_texts v.items)) }
+{
+    read_lines(alloc, bytes, schema)
+}
+
+#[tactic(auto, unfolding(crate::specs::Schema::schema_of), using(crate::proofs::Whole::few_lines))]
+fn read_indexes(alloc: Global, bytes: &[u8]) -> Result<Draft, ScriptError>
+    requires { length bytes.now ≤ MAX_FILE_BYTES }
+    ensures { GivesWhole draft_text result (schema_of bytes.now) }
+{
+    let mut draft = Draft {
+        names: Vec::new(alloc),
+        fields: Vec::new(alloc),
+    };
+    let mut number: u32 = 1;
+    for line in Lines::new(bytes) {
+        if let Err(refusal) = draft.take_line(alloc, line) {
+            return Err(refusal.at(number));
+        }
+        number += 1;
+    }
+    if draft.names.is_empty() {
+        return Err(ScriptError::BadLine { line: number });
+    }
+    Ok(draft)
+}
+
+#[tactic(auto, unfolding(crate::specs::Lane::lane_of), using(crate::proofs::Whole::few_lines, crate::proofs::Whole::after_none))]
+fn read_lines(alloc: Global, bytes: &[u8], schema: &Schema) -> Result<Vec<Line>, ScriptError>
+    requires { length bytes.now ≤ MAX_FILE_BYTES }
+    ensures { GivesWhole (λ v. line_texts v.items) result (lane_of (schema_text schema.now) bytes.now) }
+{
+    let mut lines = Vec::new(alloc);
+    let mut number: u32 = 1;
+    for line in Lines::new(bytes) {
+        take_line(alloc, &mut lines, number, line, schema)?;
+        number += 1;
+    }
+    Ok(lines)
+}
+
+/// Puts what a line says behind the others.
+fn take_line(
+    alloc: Global,
+    lines: &mut Vec<Line>,
+    number: u32,
+    line: &[u8],
+    schema: &Schema,
+) -> Result<(), ScriptError>
+    ensures ok { OnOk result (TakesLine (schema_text schema.now) number line.now (line_texts lines.old.items) (line_texts lines.new.items)) }
+    ensures cause { IfErr result (λ e. FailsWhole e (numbered number (lane_line (schema_text schema.now) line.now))) }
+{
+    match read_line(alloc, line, schema) {
+        Ok(None) => Ok(()),
+        Ok(Some(op)) => {
+            lines.push(Line { line: number, op })?;
+            Ok(())
+        }
+        Err(refusal) => Err(refusal.at(number)),
+    }
+}

@@ -1,0 +1,6 @@
+pub mod ListLemmas
+pub mod HistoryLemmas
+pub mod StepLemmas
+pub mod PartLemmas
+pub mod OpeningLemmas
+pub mod CallLemmas

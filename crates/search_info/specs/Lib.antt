@@ -1,0 +1,7 @@
+pub mod History
+pub mod Rule
+pub mod Parts
+pub mod Steps
+pub mod Passes
+pub mod Exchanges
+pub mod Outcomes

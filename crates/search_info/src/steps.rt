@@ -1,0 +1,95 @@
+//! The steps on the table: a load, and an exchange after it.
+ghost use Rattle.std.specs.Prelude.{◌≡◌, ◌≢◌, ◌<◌, List, length, Some};
+ghost use mathlib.Core.Option.{some};
+ghost use lib.ListN.{get_elem?};
+ghost use Rattle.search_info.specs.declared.knows.Entry.{Entry};
+ghost use Rattle.search_info.specs.Exchanges.{HasRead, ExchangeTells};
+ghost use Rattle.search_info.specs.History.{Start};
+ghost use Rattle.search_info.specs.Passes.{view, opening, IsPassOf, IsSamePass};
+ghost use Rattle.search_info.specs.Steps.{Loaded, Hits, Misses, MayExchange, KeepsNumbers};
+
+use crate::knows::Knows;
+use crate::learner::Learner;
+use crate::outcome::Learn;
+use crate::pass::LearnPass;
+use crate::plays::{Asks, Exchanges, Loads};
+use atomic_table::Seat;
+use learning::{Event, Info, learn, pack, should_build, unpack};
+use std::marker::Brand;
+
+impl Learner {
+    /// A load for an event, or for none.
+    pub(crate) fn load_at<X: Asks>(
+        &self,
+        seat: &mut Seat<u64, Knows>,
+        index: usize,
+        event: &Option<Event>,
+    ) -> u64
+        requires own { (seat.old.table_id ≡ self.now.table.shared.table_id) × (seat.old.me.0.opening ≡ opening self.now) }
+        requires picked { X.event ≡ event.now }
+        requires live { seat.old.me.0.low < seat.old.me.0.end }
+        requires index { index < length (opening self.now).starts }
+        ensures own { (seat.new.table_id ≡ seat.old.table_id) × (seat.new.id ≡ seat.old.id) }
+        ensures told { Loaded event.now seat.old.me.0 index result seat.new.me.0 }
+        ensures same { KeepsNumbers seat.old.me.0 seat.new.me.0 }
+        ensures slots { seat.new.me.1 ≡ seat.old.me.1 }
+    {
+        self.table.shared.load::<Loads<X>>(seat, index)
+    }
+
+    fn exchange_at<X: Asks>(
+        &self,
+        seat: &mut Seat<u64, Knows>,
+        index: usize,
+        event: &Event,
+        old: u64,
+        new: u64,
+    ) -> u64
+        requires own { (seat.old.table_id ≡ self.now.table.shared.table_id) × (seat.old.me.0.opening ≡ opening self.now) }
+        requires picked { X.event ≡ Some event.now }
+        requires live { seat.old.me.0.low < seat.old.me.0.end }
+        requires index { index < length (opening self.now).starts }
+        requires rule { MayExchange seat.old.me.0 index old new event.now }
+        ensures own { (seat.new.table_id ≡ seat.old.table_id) × (seat.new.id ≡ seat.old.id) }
+        ensures hit { (xs : List Entry) → get_elem? seat.old.me.0.seen index ≡ some xs → result ≡ old → Hits seat.old.me.0 index xs event.now seat.new.me.0 }
+        ensures missed { (s : Start) (xs : List Entry) → get_elem? seat.old.me.0.opening.starts index ≡ some s → get_elem? seat.old.me.0.seen index ≡ some xs → result ≢ old → Misses seat.old.me.0 index s xs event.now result seat.new.me.0 }
+        ensures same { KeepsNumbers seat.old.me.0 seat.new.me.0 }
+        ensures slots { seat.new.me.1 ≡ seat.old.me.1 }
+    {
+        self.table
+            .shared
+            .compare_exchange::<Exchanges<X>>(seat, index, old, new)
+    }
+
+    /// Counts the event behind the list whose word was loaded, if no other event came between.
+    pub(crate) fn exchange(
+        &self,
+        pass: &mut LearnPass,
+        index: u32,
+        event: &Event,
+        word: u64,
+        before: &Info,
+    ) -> Learn
+        requires own { IsPassOf self.now pass.old }
+        requires read { HasRead (view pass.old) index event.now word before.now }
+        ensures own { IsSamePass pass.old pass.new × IsPassOf self.now pass.new }
+        ensures told { ExchangeTells (view pass.old) index event.now before.now result (view pass.new) }
+    {
+        let after = learn(before, event);
+        let build = should_build(before, event);
+        let new = pack(&after);
+        let found = self.exchange_at::<Brand>(&mut pass.seat, index as usize, event, word, new);
+        if found == word {
+            Learn::Learnt {
+                before: *before,
+                after,
+                build,
+            }
+        } else {
+            Learn::Raced {
+                read: *before,
+                found: unpack(found),
+            }
+        }
+    }
+}
