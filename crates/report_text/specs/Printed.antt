@@ -16,11 +16,12 @@ use Rattle.map_history.specs.Told.{answer_of}
 abbrev pub printed_answer : Op → Told → FieldList → List ℕ → Option Answer
 printed_answer op told key value = answer_of (operation_of op).ask told (record { key = key; value = value })
 
+-- the change that is asked for, if one is
 abbrev pub change_asked : Ask → Option MapChange
 change_asked (Make c) = Some c
 change_asked ask = None
 
--- the change that an operation asks for, if it asks for one
+-- the change that an operation of the program asks for, if it asks for one
 abbrev pub change_made : Op → Option MapChange
 change_made op = change_asked (operation_of op).ask
 

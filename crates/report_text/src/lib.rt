@@ -9,6 +9,8 @@ mod field;
 mod heads;
 mod line;
 mod statistics;
+#[cfg(test)]
+mod tests;
 mod word;
 
 pub use answers::answer;
