@@ -3,3 +3,4 @@ pub mod FileLemmas
 pub mod LoopLemmas
 pub mod TextsLemmas
 pub mod SpellLemmas
+pub mod EndsLemmas

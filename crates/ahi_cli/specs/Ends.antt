@@ -87,6 +87,11 @@ EndsWith old new faults faults' text whole SinkFault = PutsSome old new text × 
 EndsWith old new faults faults' text whole NoMemory = (new ≡ old) ⊎ PutsSome old new text
 EndsWith old new faults faults' text whole status = (status ≡ whole) × Puts old new text × (faults ≤ faults')
 
+-- a refusal, put: its line with its status, and nothing where there is no memory
+abbrev pub EndsRefused : Option (List ℕ) → Option (List ℕ) → ℕ → ℕ → Stop → Status → Type 0
+EndsRefused old new faults faults' stop.NoMemory status = (status ≡ NoMemory) × (new ≡ old)
+EndsRefused old new faults faults' stop status = EndsWith old new faults faults' (stop_text stop) (status_of stop) status
+
 -- the status with which printing ends
 abbrev pub ended : Result (Unit {0}) Halt → Status → Status
 ended (Ok x) whole = whole

@@ -5,8 +5,8 @@ ghost use Rattle.one_lane.specs.OneLane.{AreAskable, report_of, after_lines, ope
 ghost use Rattle.ahi_cli.specs.Prints.{Prints};
 ghost use Rattle.ahi_cli.specs.Files.{Failures};
 ghost use Rattle.map_history.specs.Spelling.{spell};
-ghost use Rattle.ahi_cli.specs.Ends.{Ends, EndsWith, ended};
-ghost use Rattle.ahi_cli.specs.Stops.{status_of, stop_text};
+ghost use Rattle.ahi_cli.specs.Ends.{Ends, EndsWith, EndsRefused, ended};
+ghost use Rattle.ahi_cli.specs.Stops.{stop_text};
 ghost use Rattle.ahi_cli.specs.declared.status.Status.TheVariants as status;
 
 use crate::files::{Script, read_script};
@@ -57,8 +57,7 @@ fn run_script<K: Sink>(alloc: Global, script: &Script, sink: &mut K) -> Status
 
 /// Puts the line of a refusal.
 fn refuse<K: Sink>(alloc: Global, sink: &mut K, stop: Stop) -> Status
-    ensures { EndsWith (K.written sink.old) (K.written sink.new) (K.faults sink.old) (K.faults sink.new)
-        (stop_text stop) (status_of stop) result }
+    ensures { EndsRefused (K.written sink.old) (K.written sink.new) (K.faults sink.old) (K.faults sink.new) stop result }
 {
     if stop == Stop::NoMemory {
         return Status::NoMemory;
