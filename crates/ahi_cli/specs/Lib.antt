@@ -1,4 +1,5 @@
 pub mod Words
+pub mod Numbers
 pub mod Prints
 pub mod Stops
 pub mod Files

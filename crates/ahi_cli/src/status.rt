@@ -1,6 +1,8 @@
 //! How the program ends.
+ghost use Rattle.std.specs.Prelude.{◌≡◌};
+ghost use Rattle.ahi_cli.specs.Numbers.{number_of};
 
-/// The exit status of the program is this number.
+/// How a run ends.
 #[derive(Debug, Clone, Copy, PartialEq, Eq)]
 pub enum Status {
     /// The lanes were read to their end and the report was put whole.
@@ -17,4 +19,21 @@ pub enum Status {
     TooLarge,
     /// There was no memory.
     NoMemory,
+}
+
+impl Status {
+    /// The exit status that it ends the program with.
+    pub fn number(self) -> u8
+        ensures { result ≡ number_of self }
+    {
+        match self {
+            Status::Done => 0,
+            Status::Script => 1,
+            Status::Usage => 2,
+            Status::ShelfFault => 3,
+            Status::SinkFault => 4,
+            Status::TooLarge => 5,
+            Status::NoMemory => 6,
+        }
+    }
 }
