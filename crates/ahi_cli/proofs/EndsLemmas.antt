@@ -1,10 +1,8 @@
 -- How a call ends, from what its parts did.
-use Rattle.std.proofs.Common.{◌≡◌, ◌≢◌, ℕ, zero, suc, ◌≤◌, Option, Some, None, Result, Ok, Err, List, [], ◌∷◌, length, map, refl, ap, ◌∙◌, sym, subst, ◌⊎◌, inl, inr, string_bytes}
-use Rattle.std.proofs.lemmas.List.{length-map}
+use Rattle.std.proofs.Common.{◌≡◌, ◌≢◌, ℕ, suc, ◌≤◌, Option, Some, Result, Ok, Err, List, [], ◌∷◌, length, refl, sym, subst, inl, inr}
 use Rattle.std.specs.List.{AllByRecursion, slice_get}
 use Rattle.std.specs.Option.{ForSome}
 use Rattle.io_port.specs.Sink.{Puts}
-use Rattle.io_port.specs.Shelf.{Files}
 use Rattle.map_history.specs.LegalReport.{Line}
 use Rattle.map_history.specs.Spelling.{spell}
 use Rattle.script.specs.Schema.{SchemaText}
@@ -42,22 +40,23 @@ lists_are_changes most indexes lines askable =
 -- what the lane of two files is told is reported
 pub reports : (asked : Asked) (names : List ℕ × List ℕ) (schema : SchemaText) (lines : List Line) (count : ℕ) → length schema.names ≡ count → accepted asked.words ≡ Some names → ForSome asked.told (λ files. Spells files names.0 names.1 schema lines) → AreAskable count lines → Reports asked (spell (report_of schema.names (after_lines schema.sizes.max_changes (opening count) lines)))
 reports asked names schema lines count counted accepts spelled askable = record {
-    names = names;
-    accepts = accepts;
-    report = λ files there. record {
-      schema = schema;
-      lines = lines;
-      spelled = spelled files there;
-      legal = record {
-        report = report_of schema.names told;
-        spelled = refl;
-        legal = legal schema.sizes schema.names lines told so_far
-      }
-    }
-  }
+  names = names;
+  accepts = accepts;
+  report = λ files there. record {
+    schema = schema;
+    lines = lines;
+    spelled = spelled files there;
+    legal = record {
+      report = report_of schema.names told;
+      spelled = refl;
+      legal = legal schema.sizes schema.names lines told so_far;
+    };
+  };
+}
   where
     told : Told
     told = after_lines schema.sizes.max_changes (opening count) lines
+
     so_far : SoFar schema.sizes.max_changes (length schema.names) lines told
     so_far = subst (λ n. SoFar schema.sizes.max_changes n lines told) (sym counted) (ends schema.sizes.max_changes count lines askable)
 

@@ -1,13 +1,10 @@
 -- Why files aren't read.
-use Rattle.std.proofs.Common.{◌≡◌, ℕ, ◌+◌, ◌-◌, ◌<◌, ◌≤◌, Option, Some, None, Bool, true, false, ltb, List, [], ◌∷◌, length, map, refl, ap, ◌∙◌, sym, subst, arith, ◌⊎◌, inl, inr, cond}
+use Rattle.std.proofs.Common.{◌≡◌, ℕ, ◌+◌, ◌-◌, ◌<◌, ◌≤◌, Option, Some, None, true, ltb, List, length, refl, ap, ◌∙◌, sym, arith, inr, cond}
 use Rattle.std.proofs.lemmas.Bool.Decides.{nat_tests}
-use Rattle.std.proofs.lemmas.List.{length-map}
 use Rattle.std.specs.Option.{ForSome, IsSomeAnd}
 use Rattle.std.specs.List.{AllByRecursion}
 use Rattle.key_tuple.specs.Order.{FieldList}
-use Rattle.io_port.specs.Faults.{ShowsFault}
-use Rattle.io_port.specs.Shelf.{Files, IsLonger}
-use Rattle.map_history.specs.Map.{Put, Set, Del}
+use Rattle.io_port.specs.Shelf.{Files}
 use Rattle.map_history.specs.Operation.{Ask, Get, Make, Seek, Scan}
 use Rattle.map_history.specs.LegalReport.{Line}
 use Rattle.script.specs.declared.TheConstants.{MAX_FILE_BYTES}
@@ -18,7 +15,7 @@ use Rattle.one_lane.proofs.Places.{All-map}
 use Rattle.ahi_cli.specs.declared.stop.Stop.{Stop}
 use Rattle.ahi_cli.specs.declared.stop.Stop.TheVariants.{Usage, Script, Shelf, TooLarge, NoMemory}
 use Rattle.ahi_cli.specs.Stops.{schema_stop, lane_stop, stop_in}
-use Rattle.ahi_cli.specs.Files.{Failures, FailsOn, StopsLoading, StopsFile, StopsReading, RefusesFile, RefusesLane, SpellsSchema}
+use Rattle.ahi_cli.specs.Files.{Failures, StopsLoading, StopsFile, StopsReading, SpellsSchema}
 use Rattle.ahi_cli.proofs.PrintLemmas.{faults-le}
 
 there : (o : Option (List ℕ)) (limit : ℕ) → IsSomeAnd o (λ bytes. limit < length bytes) → (bytes : List ℕ) × (o ≡ Some bytes) × (limit < length bytes)

@@ -1,11 +1,9 @@
 -- Texts that a loop puts one after another.
-use Rattle.std.proofs.Common.{◌≡◌, ℕ, zero, suc, ◌+◌, ◌<◌, ◌≤◌, Option, Result, Ok, Err, List, [], ◌∷◌, ◌++◌, length, get_or, take, drop, map, refl, ap, ◌∙◌, sym, subst, arith, append_assoc}
+use Rattle.std.proofs.Common.{◌≡◌, ℕ, zero, suc, ◌+◌, ◌<◌, ◌≤◌, Option, Ok, Err, List, [], ◌∷◌, ◌++◌, length, get_or, take, drop, refl, ap, ◌∙◌, sym, subst, arith, append_assoc}
 use Rattle.std.proofs.lemmas.List.{take_more, append-nil, take_all}
-use Rattle.std.specs.List.{AllByRecursion}
 use denote.Ref.{Bor}
 use Rattle.script.specs.declared.lane.Line.{Line}
 use Rattle.script.specs.Views.{line_text}
-use Rattle.map_history.specs.LegalReport as legal
 use Rattle.map_history.specs.Spelling.{change_text}
 use Rattle.one_lane.specs.OneLane.{entry_of}
 use Rattle.one_lane.specs.History.{lines_of}

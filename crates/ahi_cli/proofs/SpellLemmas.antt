@@ -1,16 +1,16 @@
 -- The text of a report of one lane is its spelling.
-use Rattle.std.proofs.Common.{◌≡◌, ℕ, zero, suc, ◌+◌, List, [], ◌∷◌, ◌++◌, length, map, codes, refl, ap, ◌∙◌, sym, arith, append_assoc}
+use Rattle.std.proofs.Common.{◌≡◌, ℕ, ◌+◌, List, [], ◌∷◌, ◌++◌, length, map, codes, refl, ap, ◌∙◌, sym, arith, append_assoc}
 use Rattle.std.proofs.lemmas.List.{append-nil, length-map}
 use Rattle.std.proofs.lemmas.List.Concat.{flat_map-cons}
 use Rattle.std.specs.List.{flat_map, enumerate_from, zip}
 use Rattle.std.specs.Fmt.{decimal}
-use Rattle.map_history.specs.Report.{AnswerLine, ChangeLine, IndexPart, Report}
-use Rattle.map_history.specs.Spelling.{spell, answer_text, change_text, changes_text, stats_text, lane_text}
+use Rattle.map_history.specs.Report.{AnswerLine, ChangeLine, IndexPart}
+use Rattle.map_history.specs.Spelling.{spell, change_text, changes_text, stats_text, lane_text}
 use Rattle.map_history.specs.Text.{line_of}
 use Rattle.map_history.specs.LegalReport.{Line}
 use Rattle.one_lane.specs.OneLane.{Told, entry_of, part_of, report_of}
 use Rattle.one_lane.specs.Lane.{answer_line_text}
-use Rattle.ahi_cli.specs.Entries.{joined, change_texts, changes_line, index_text, name_stats, first_line, lane_line, end_line, report_text_of}
+use Rattle.ahi_cli.specs.Entries.{joined, change_texts, index_text, name_stats, first_line, lane_line, end_line, report_text_of}
 
 flat_map-joined : {A : Type 0} (f : A → List ℕ) (xs : List A) → flat_map f xs ≡ joined (map f xs)
 flat_map-joined f [] = refl

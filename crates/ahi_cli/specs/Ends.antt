@@ -4,13 +4,13 @@ use Rattle.std.specs.Option.{ForSome}
 use Rattle.io_port.specs.Faults.{ShowsFault}
 use Rattle.io_port.specs.Shelf.{Files}
 use Rattle.io_port.specs.Sink.{Puts, PutsSome}
-use Rattle.map_history.specs.LegalReport.{Line, Run, IsLegalBytes}
+use Rattle.map_history.specs.LegalReport.{Line, IsLegalBytes}
 use Rattle.script.specs.Schema.{SchemaText}
 use Rattle.one_lane.specs.OneLane.{run_of}
 use Rattle.ahi_cli.specs.declared.halt.Halt.{Halt}
 use Rattle.ahi_cli.specs.declared.halt.Halt.TheVariants as halt
 use Rattle.ahi_cli.specs.declared.status.Status.{Status}
-use Rattle.ahi_cli.specs.declared.status.Status.TheVariants.{Done, Script, Usage, ShelfFault, SinkFault, TooLarge, NoMemory}
+use Rattle.ahi_cli.specs.declared.status.Status.TheVariants.{Done, SinkFault, NoMemory}
 use Rattle.ahi_cli.specs.declared.stop.Stop.{Stop}
 use Rattle.ahi_cli.specs.declared.stop.Stop.TheVariants as stop
 use Rattle.ahi_cli.specs.Files.{Failures, Spells, StopsReading}

@@ -1,5 +1,5 @@
 -- What is read of the files of a command, and why it isn't.
-use Rattle.std.specs.Prelude.{ℕ, ◌≡◌, ◌+◌, ◌≤◌, ◌⊎◌, List, length, Option, Some, Result, Ok, Err}
+use Rattle.std.specs.Prelude.{ℕ, ◌≡◌, ◌+◌, ◌≤◌, ◌⊎◌, List, length, Option, Some, Ok}
 use Rattle.std.specs.Option.{ForSome}
 use Rattle.io_port.specs.Faults.{ShowsFault}
 use Rattle.io_port.specs.Shelf.{Files, IsLonger}
@@ -8,7 +8,7 @@ use Rattle.script.specs.declared.TheConstants.{MAX_FILE_BYTES}
 use Rattle.script.specs.Schema.{SchemaText, schema_of}
 use Rattle.script.specs.Lane.{lane_of}
 use Rattle.ahi_cli.specs.declared.stop.Stop.{Stop}
-use Rattle.ahi_cli.specs.declared.stop.Stop.TheVariants.{Usage, Script, Shelf, TooLarge, NoMemory}
+use Rattle.ahi_cli.specs.declared.stop.Stop.TheVariants.{Script, Shelf, TooLarge, NoMemory}
 use Rattle.ahi_cli.specs.Stops.{schema_stop, lane_stop}
 
 -- what a shelf tells of its failures around a call: how many there were, how many there are, the last one's name

@@ -1,5 +1,5 @@
 -- What a part of a report does to the sink that it is put to.
-use Rattle.std.specs.Prelude.{◌≡◌, ℕ, ◌≤◌, List, Option, Result, Ok, Err}
+use Rattle.std.specs.Prelude.{ℕ, ◌≤◌, List, Option, Result, Ok, Err}
 use Rattle.io_port.specs.Faults.{ShowsFault}
 use Rattle.io_port.specs.Sink.{Puts, PutsSome}
 use Rattle.ahi_cli.specs.declared.halt.Halt.{Halt}

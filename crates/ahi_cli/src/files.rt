@@ -23,7 +23,11 @@ pub struct Script {
 }
 
 /// Loads and reads the schema, then the lane. The first refusal ends it.
-pub fn read_script<F: Shelf>(alloc: Global, shelf: &mut F, command: &Command<'_>) -> Result<Script, Stop>
+pub fn read_script<F: Shelf>(
+    alloc: Global,
+    shelf: &mut F,
+    command: &Command<'_>,
+) -> Result<Script, Stop>
     ensures ok { IfOk result (λ s. ForSome (F.holds shelf.old)
         (λ files. Spells files command.now.schema.now command.now.lane.now (schema_text s.schema) (line_texts s.lines.items))) }
     ensures asked { IfOk result (λ s. AreAskable (length s.schema.names.items) (line_texts s.lines.items)) }
@@ -52,7 +56,13 @@ fn load_schema<F: Shelf>(alloc: Global, shelf: &mut F, name: &str) -> Result<(Sc
 }
 
 /// The lines of a file, behind a schema's file of so many bytes.
-fn load_lane<F: Shelf>(alloc: Global, shelf: &mut F, name: &str, schema: &Schema, before: u64) -> Result<Vec<Line>, Stop>
+fn load_lane<F: Shelf>(
+    alloc: Global,
+    shelf: &mut F,
+    name: &str,
+    schema: &Schema,
+    before: u64,
+) -> Result<Vec<Line>, Stop>
     requires { before ≤ MAX_FILE_BYTES }
     ensures ok { IfOk result (λ v. ForSome (F.holds shelf.old)
         (λ files. SpellsLane files name.now (schema_text schema.now) before (line_texts v.items))) }
@@ -70,7 +80,13 @@ fn load_lane<F: Shelf>(alloc: Global, shelf: &mut F, name: &str, schema: &Schema
 }
 
 /// The bytes of the file with this number and name, if they are no more than the limit.
-fn load<F: Shelf>(alloc: Global, shelf: &mut F, name: &str, file: u32, limit: u64) -> Result<Vec<u8>, Stop>
+fn load<F: Shelf>(
+    alloc: Global,
+    shelf: &mut F,
+    name: &str,
+    file: u32,
+    limit: u64,
+) -> Result<Vec<u8>, Stop>
     ensures ok { IfOk result (λ bytes. IsFileOf (F.holds shelf.old) name.now bytes.items) }
     ensures within { IfOk result (λ bytes. length bytes.items ≤ limit) }
     ensures err { IfErr result (StopsLoading (F.holds shelf.old)
@@ -90,9 +106,21 @@ fn refuse(file: u32, error: ScriptError) -> Stop
     ensures { result ≡ refused file error }
 {
     match error {
-        ScriptError::BadLine { line } => Stop::Script { file, line, code: 1 },
-        ScriptError::UnknownIndex { line } => Stop::Script { file, line, code: 2 },
-        ScriptError::TooLong { line } => Stop::Script { file, line, code: 3 },
+        ScriptError::BadLine { line } => Stop::Script {
+            file,
+            line,
+            code: 1,
+        },
+        ScriptError::UnknownIndex { line } => Stop::Script {
+            file,
+            line,
+            code: 2,
+        },
+        ScriptError::TooLong { line } => Stop::Script {
+            file,
+            line,
+            code: 3,
+        },
         ScriptError::NoMemory => Stop::NoMemory,
     }
 }

@@ -8,6 +8,8 @@ mod report;
 mod run;
 mod status;
 mod stop;
+#[cfg(test)]
+mod tests;
 mod words;
 
 pub use run::run_words;

@@ -50,7 +50,12 @@ pub fn put_changes<K: Sink>(sink: &mut K, line: &mut Vec<u8>, list: &[&Line]) ->
     Ok(())
 }
 
-fn put_change<K: Sink>(sink: &mut K, line: &mut Vec<u8>, number: u64, made: &Line) -> Result<(), Halt>
+fn put_change<K: Sink>(
+    sink: &mut K,
+    line: &mut Vec<u8>,
+    number: u64,
+    made: &Line,
+) -> Result<(), Halt>
     requires { IsChange (line_text made.now) }
     ensures { Prints (K.written sink.old) (K.written sink.new) (K.faults sink.old) (K.faults sink.new)
         (change_text number (entry_of (line_text made.now))) result }

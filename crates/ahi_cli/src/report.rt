@@ -17,7 +17,12 @@ use script::Line;
 use std::alloc::Global;
 
 /// Puts the report of one lane over indexes of these names.
-pub fn put_report<K: Sink>(alloc: Global, sink: &mut K, names: &[String], run: &LaneRun<'_>) -> Result<(), Halt>
+pub fn put_report<K: Sink>(
+    alloc: Global,
+    sink: &mut K,
+    names: &[String],
+    run: &LaneRun<'_>,
+) -> Result<(), Halt>
     requires counted { length run.now.history ≡ length names.now }
     requires changes { AllByRecursion AreChanges run.now.history }
     ensures { Prints (K.written sink.old) (K.written sink.new) (K.faults sink.old) (K.faults sink.new)
@@ -48,7 +53,12 @@ fn put_lane_line<K: Sink>(sink: &mut K, line: &mut Vec<u8>) -> Result<(), Halt>
     put_line(sink, line)
 }
 
-fn put_indexes<K: Sink>(sink: &mut K, line: &mut Vec<u8>, names: &[String], history: &History<'_>) -> Result<(), Halt>
+fn put_indexes<K: Sink>(
+    sink: &mut K,
+    line: &mut Vec<u8>,
+    names: &[String],
+    history: &History<'_>,
+) -> Result<(), Halt>
     requires counted { length history.now ≡ length names.now }
     requires changes { AllByRecursion AreChanges history.now }
     ensures { Prints (K.written sink.old) (K.written sink.new) (K.faults sink.old) (K.faults sink.new)
@@ -60,7 +70,12 @@ fn put_indexes<K: Sink>(sink: &mut K, line: &mut Vec<u8>, names: &[String], hist
     Ok(())
 }
 
-fn put_index<K: Sink>(sink: &mut K, line: &mut Vec<u8>, name: &str, list: &[&Line]) -> Result<(), Halt>
+fn put_index<K: Sink>(
+    sink: &mut K,
+    line: &mut Vec<u8>,
+    name: &str,
+    list: &[&Line],
+) -> Result<(), Halt>
     requires { AreChanges (lines_of list.now) }
     ensures { Prints (K.written sink.old) (K.written sink.new) (K.faults sink.old) (K.faults sink.new)
         (index_text (name.now, lines_of list.now)) result }
@@ -69,7 +84,12 @@ fn put_index<K: Sink>(sink: &mut K, line: &mut Vec<u8>, name: &str, list: &[&Lin
     put_changes(sink, line, list)
 }
 
-fn put_changes_line<K: Sink>(sink: &mut K, line: &mut Vec<u8>, name: &str, list: &[&Line]) -> Result<(), Halt>
+fn put_changes_line<K: Sink>(
+    sink: &mut K,
+    line: &mut Vec<u8>,
+    name: &str,
+    list: &[&Line],
+) -> Result<(), Halt>
     ensures { Prints (K.written sink.old) (K.written sink.new) (K.faults sink.old) (K.faults sink.new)
         (changes_line name.now (lines_of list.now)) result }
 {

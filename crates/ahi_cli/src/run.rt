@@ -24,10 +24,18 @@ use std::alloc::Global;
 /// then the lane, and puts the report to the sink line by line, or the line of the first refusal.
 ///
 /// `Done` means that the bytes put are a legal report of what the files spell.
-pub fn run_words<R: AllocGlobal, F: Shelf, K: Sink>(rt: &R, words: &[String], shelf: &mut F, sink: &mut K) -> Status
+pub fn run_words<R: AllocGlobal, F: Shelf, K: Sink>(
+    rt: &R,
+    words: &[String],
+    shelf: &mut F,
+    sink: &mut K,
+) -> Status
     ensures ends { Ends
-        (record { words = map string_bytes words.now; told = F.holds shelf.old;
-            failures = record { before = F.faults shelf.old; now = F.faults shelf.new; name = F.failed shelf.new } })
+        (record {
+          words = map string_bytes words.now;
+          told = F.holds shelf.old;
+          failures = record { before = F.faults shelf.old; now = F.faults shelf.new; name = F.failed shelf.new };
+        })
         (K.written sink.old) (K.written sink.new) (K.faults sink.old) (K.faults sink.new) result }
 {
     let alloc = rt.alloc();
@@ -46,10 +54,15 @@ fn run_script<K: Sink>(alloc: Global, script: &Script, sink: &mut K) -> Status
     ensures { let names = map string_bytes script.now.schema.names.items in
         let told = after_lines script.now.schema.sizes.max_changes (opening (length script.now.schema.names.items)) (line_texts script.now.lines.items) in
         EndsWith (K.written sink.old) (K.written sink.new) (K.faults sink.old) (K.faults sink.new)
-            (spell (report_of names told)) Status.Done result }
+        (spell (report_of names told)) Status.Done result }
 {
     let schema = &script.schema;
-    match run_lane(alloc, &script.lines, schema.names.len(), schema.sizes.max_changes) {
+    match run_lane(
+        alloc,
+        &script.lines,
+        schema.names.len(),
+        schema.sizes.max_changes,
+    ) {
         Ok(run) => end(put_report(alloc, sink, &schema.names, &run), Status::Done),
         Err(_) => Status::NoMemory,
     }

@@ -51,8 +51,14 @@ impl Stop {
                     Word::Number(u64::from(*code)),
                 ],
             ),
-            Stop::Shelf { file } => put_line::<Blank>(out, &[Word::Text("shelf"), Word::Number(u64::from(*file))]),
-            Stop::TooLarge { file } => put_line::<Blank>(out, &[Word::Text("too-large"), Word::Number(u64::from(*file))]),
+            Stop::Shelf { file } => put_line::<Blank>(
+                out,
+                &[Word::Text("shelf"), Word::Number(u64::from(*file))],
+            ),
+            Stop::TooLarge { file } => put_line::<Blank>(
+                out,
+                &[Word::Text("too-large"), Word::Number(u64::from(*file))],
+            ),
             Stop::NoMemory => Ok(()),
         }
     }

@@ -1,8 +1,8 @@
 -- The statistics of one lane are those of no columns.
-use Rattle.std.proofs.Common.{◌≡◌, ℕ, ◌+◌, Bool, true, false, cond, eqb, List, [], ◌∷◌, ◌++◌, length, refl, ap, ◌∙◌, sym, arith}
+use Rattle.std.proofs.Common.{◌≡◌, ℕ, Bool, true, false, cond, eqb, List, [], ◌∷◌, refl, ap, ◌∙◌, arith}
 use Rattle.std.proofs.lemmas.List.Sums.{sum_by-cons}
 use Rattle.std.proofs.lemmas.List.Concat.{flat_map-cons}
-use Rattle.std.specs.List.{AllByRecursion, zip, count_by, sum_by}
+use Rattle.std.specs.List.{AllByRecursion, zip, count_by}
 use Rattle.map_history.specs.Report.{Columns, Answer, Replied, LogFull, SpaceFull, Scanned, AnswerLine}
 use Rattle.map_history.specs.LegalReport.{Line, columns_of, columns_in}
 use Rattle.map_history.specs.declared.columns.How.TheVariants as how
@@ -57,5 +57,5 @@ counts_of-dashes columns all =
       same = none (λ c. eqb (note_number c.note) (note_number note.Same)) refl i;
       arena = none (λ c. eqb (note_number c.note) (note_number note.Arena)) refl i;
       raced = none (λ c. eqb (note_number c.note) (note_number note.Raced)) refl i;
-      worn = none (λ c. eqb (note_number c.note) (note_number note.Worn)) refl i
+      worn = none (λ c. eqb (note_number c.note) (note_number note.Worn)) refl i;
     }

@@ -1,15 +1,14 @@
 -- What holds after all lines of a lane.
-use Rattle.std.proofs.Common.{◌≡◌, ◌≢◌, ℕ, zero, suc, None, ◌+◌, ◌<◌, ◌≤◌, Some, List, [], ◌∷◌, ◌++◌, length, replicate, refl, ap, ◌∙◌, sym, subst, arith, length-append, append_assoc}
+use Rattle.std.proofs.Common.{◌≡◌, ◌≢◌, ℕ, zero, suc, None, ◌+◌, ◌≤◌, Some, List, [], ◌∷◌, ◌++◌, length, replicate, refl, ap, ◌∙◌, sym, subst, arith, length-append, append_assoc}
 use Rattle.std.proofs.Math.ListN.{length-set}
 use Rattle.std.proofs.lemmas.List.{append-nil, length-replicate}
-use Rattle.std.specs.List.{slice_get, AllZip, AllByRecursion}
-use Rattle.map_history.specs.Report.{Answer, AnswerLine}
+use Rattle.std.specs.List.{slice_get}
+use Rattle.map_history.specs.Report.{AnswerLine}
 use Rattle.map_history.specs.LegalReport.{Line, Answers}
-use Rattle.one_lane.specs.OneLane.{Told, list_at, after_line, after_lines, opening, answer_to, IsAskable, AreAskable, changes_by}
-use Rattle.one_lane.proofs.SoFar.{SoFar, IsPlain, IsMade}
+use Rattle.one_lane.specs.OneLane.{Told, list_at, after_line, after_lines, opening, IsAskable, AreAskable, changes_by}
+use Rattle.one_lane.proofs.SoFar.{SoFar, IsPlain}
 use Rattle.one_lane.proofs.Forms.{answer_is_plain, answer_has_form}
 use Rattle.one_lane.proofs.Places.{AllZip-push, All-append}
-use Rattle.one_lane.proofs.OneMore.{next_answer}
 use Rattle.one_lane.proofs.Step.{OneMore, short_after, lawful_after, made_after, listed_after, replies_after, full_after}
 use Rattle.one_lane.proofs.Marks.{low_after, order_after}
 use Rattle.map_history.specs.Reply.{reply_of}
@@ -31,7 +30,7 @@ step {most} {indexes} {lines} {told} line s askable =
       replies = replies_after o;
       full = full_after o;
       low = low_after o;
-      order = order_after o
+      order = order_after o;
     }
 
 -- and so line after line
@@ -64,7 +63,7 @@ opens most indexes = record {
   replies = λ place line reply point columns t apart. absurd (cc (t.line_at));
   full = λ place line n columns t. absurd (cc (t.line_at));
   low = λ i. tt;
-  order = λ i j k d below inside. absurd (omega (arith, inside))
+  order = λ i j k d below inside. absurd (omega (arith, inside));
 }
 
 -- so it holds after all lines of a lane

@@ -1,9 +1,9 @@
 -- The answers of one lane have the form of their operations, and dashes for their columns.
-use Rattle.std.proofs.Common.{◌≡◌, ℕ, ◌+◌, Bool, true, false, cond, eqb, List, Option, Some, None, length, refl, ap, ◌∙◌}
-use Rattle.map_history.specs.Map.{MapChange, Put, Set, Del, Pair, Map, map_after, is_allowed, value_at}
+use Rattle.std.proofs.Common.{◌≡◌, ℕ, ◌+◌, Bool, true, false, cond, eqb, List, Option, Some, None, length, refl}
+use Rattle.map_history.specs.Map.{MapChange, Put, Set, Del, Pair, map_after, is_allowed, value_at}
 use Rattle.map_history.specs.Operation.{Ask, Get, Make, Seek, Scan}
-use Rattle.map_history.specs.Reply.{MapReply, Value, Row, Done, Absent, Duplicate, reply_of, value_reply, row_reply, refusal, sought}
-use Rattle.map_history.specs.Report.{Answer, Replied, LogFull}
+use Rattle.map_history.specs.Reply.{MapReply, Value, Row, Done, Absent, Duplicate, value_reply, row_reply, refusal, sought}
+use Rattle.map_history.specs.Report.{Replied, LogFull}
 use Rattle.map_history.specs.LegalReport.{Line, has_form, may_reply}
 use Rattle.one_lane.specs.OneLane.{dashes, answer_by, answer_to, changes_by, HasReply}
 use Rattle.one_lane.proofs.SoFar.{IsPlain}

@@ -1,16 +1,14 @@
 -- One line of a lane more, as the program takes it.
-use Rattle.std.proofs.Common.{◌≡◌, ℕ, zero, suc, ◌+◌, ◌<◌, Option, Some, IfSome, List, [], ◌∷◌, ◌++◌, length, get_or, set, take, map, replicate, refl, ap, ◌∙◌, sym, subst, arith}
+use Rattle.std.proofs.Common.{◌≡◌, ℕ, zero, suc, ◌+◌, ◌<◌, IfSome, List, [], ◌∷◌, ◌++◌, length, get_or, take, map, refl, ap, ◌∙◌, sym, subst, arith}
 use Rattle.std.proofs.lemmas.List.{take_more, map-append, length-set, length-replicate}
-use Rattle.std.specs.List.{AllByRecursion}
 use Rattle.map_history.specs.declared.reply.Told as told
 use Rattle.map_history.specs.Map.{Pair}
-use Rattle.map_history.specs.Report.{Answer, AnswerLine}
 use Rattle.map_history.specs.Spelling.{answer_text}
 use Rattle.map_history.specs.Told.{answer_of}
 use Rattle.map_history.specs.LegalReport as legal
 use Rattle.script.specs.declared.lane.Line.{Line}
 use Rattle.script.specs.Views.{line_text, line_texts}
-use Rattle.one_lane.specs.OneLane.{Told, list_at, answer_to, list_after, after_line, after_lines, opening, IsAskable, AreAskable}
+use Rattle.one_lane.specs.OneLane.{Told, list_at, answer_to, after_line, after_lines, opening, IsAskable, AreAskable}
 use Rattle.one_lane.specs.History.{TellsLine}
 use Rattle.one_lane.specs.Lane.{answer_line_text}
 

@@ -1,16 +1,16 @@
 -- The report of one lane is legal.
-use Rattle.std.proofs.Common.{◌≡◌, ◌≢◌, ℕ, zero, suc, ◌+◌, Option, Some, None, List, [], ◌∷◌, ◌++◌, length, map, get_or, refl, ap, ◌∙◌, sym, subst, arith}
+use Rattle.std.proofs.Common.{◌≡◌, ℕ, zero, suc, ◌+◌, Some, List, [], ◌∷◌, length, map, refl, ap, ◌∙◌, sym, subst, arith}
 use Rattle.std.proofs.lemmas.List.{append-nil}
 use Rattle.std.specs.List.{slice_get, zip, AllByRecursion, AllPairs}
 use Rattle.map_history.specs.declared.sizes.Sizes.{Sizes}
-use Rattle.map_history.specs.Map.{MapChange, AreLawful}
-use Rattle.map_history.specs.Report.{Columns, Answer, Replied, LogFull, SpaceFull, Scanned, AnswerLine, ChangeLine, IndexPart, Report, entries_in, entries_at, changes_at}
+use Rattle.map_history.specs.Map.{AreLawful}
+use Rattle.map_history.specs.Report.{Columns, Answer, Replied, LogFull, SpaceFull, Scanned, AnswerLine, ChangeLine, IndexPart, entries_in, entries_at, changes_at}
 use Rattle.map_history.specs.Reply.{Done}
 use Rattle.map_history.specs.Operation.{Make}
 use Rattle.map_history.specs.Statistics.{counts_of}
-use Rattle.map_history.specs.LegalReport.{Line, Run, IsAnswered, HasForm, NamesLine, IsNamed, HasChanges, HasReplies, IsInOrder, HasScans, HasLogFull, HasSpaceFull, IsLegalReport, columns_in, columns_at, marks_in, RepliesAt, IsLogFull, Precedes}
+use Rattle.map_history.specs.LegalReport.{Line, IsAnswered, HasForm, NamesLine, IsNamed, IsLegalReport, columns_in, columns_at, marks_in, RepliesAt, IsLogFull, Precedes}
 use Rattle.one_lane.specs.OneLane.{Told, list_at, change_in, changes_by, entry_of, run_of, part_of, report_of, dashes}
-use Rattle.one_lane.proofs.SoFar.{IsTold, IsMade, IsListed, IsPlain, SoFar}
+use Rattle.one_lane.proofs.SoFar.{IsTold, IsPlain, SoFar}
 use Rattle.one_lane.proofs.Places.{slice_get-one}
 use Rattle.one_lane.proofs.Dashes.{dashes_in, counts_of-dashes}
 
@@ -53,7 +53,6 @@ plain_at [] place a all e = absurd cc
 plain_at (x ∷ answers) zero a all e = let same : x ≡ a = cc in subst (λ (y : AnswerLine). IsPlain y.answer) same all.0
 plain_at (x ∷ answers) (suc place) a all e = plain_at answers place a all.1 e
 
-
 -- the run of one lane has that lane alone, and its report that lane's answers
 told_of : (sizes : Sizes) (names : List (List ℕ)) (lines : List Line) (told : Told) (lane place : ℕ) (line : Line) (answer : Answer) → IsAnswered (run_of sizes names lines) (report_of names told) lane place line answer → (lane ≡ 0) × IsTold lines told place line answer
 told_of sizes names lines told lane place line answer a =
@@ -75,8 +74,8 @@ form_of sizes names lines told s = record {
   lanes = (s.form, tt);
   names = names_of_parts names told.lists s.counted;
   counts = λ i part e.
-    let columns : columns_at (run_of sizes names lines) (report_of names told) i ≡ columns_in i (zip lines told.answers) = append-nil (columns_in i (zip lines told.answers)) in
-    counts_of_part names told.lists i part e ∙ sym (ap counts_of columns ∙ counts_of-dashes (columns_in i (zip lines told.answers)) (dashes_in i lines told.answers s.plain))
+      let columns : columns_at (run_of sizes names lines) (report_of names told) i ≡ columns_in i (zip lines told.answers) = append-nil (columns_in i (zip lines told.answers)) in
+      counts_of_part names told.lists i part e ∙ sym (ap counts_of columns ∙ counts_of-dashes (columns_in i (zip lines told.answers)) (dashes_in i lines told.answers s.plain));
 }
 
 named_of : (sizes : Sizes) (names : List (List ℕ)) (lines : List Line) (told : Told) → SoFar sizes.max_changes (length names) lines told → (i n : ℕ) (entry : ChangeLine) → slice_get (entries_at (report_of names told) i) n ≡ Some entry → NamesLine (run_of sizes names lines) (report_of names told) i n entry
@@ -95,7 +94,7 @@ named_of sizes names lines told s i n entry e =
           answered = answered_of sizes names lines told m.place l (Replied Done (n + 1) dashes) m.told_so;
           same_lane = ap (λ (x : ChangeLine). x.lane) same;
           same_line = ap (λ (x : ChangeLine). x.line) same;
-          same_op = λ j. record { index = m.of_index j; ask = (m.asked ∙ ap (λ (x : ChangeLine). Make x.change) (sym same)) j }
+          same_op = λ j. record { index = m.of_index j; ask = (m.asked ∙ ap (λ (x : ChangeLine). Make x.change) (sym same)) j };
         }
 
 done_of : (sizes : Sizes) (names : List (List ℕ)) (lines : List Line) (told : Told) → SoFar sizes.max_changes (length names) lines told → (lane place : ℕ) (line : Line) (point : ℕ) (columns : Columns) → IsAnswered (run_of sizes names lines) (report_of names told) lane place line (Replied Done point columns) → IsNamed (report_of names told) lane line point
@@ -109,7 +108,7 @@ done_of sizes names lines told s lane place line point columns a =
       there = ap (λ es. slice_get es l.n) (entries_of names told s.counted line.op.index) ∙ mapped (list_at told.lists line.op.index) l.n line l.there;
       same_lane = ap (λ n. n + 1) (sym t.0);
       same_line = refl;
-      same_change = l.asked
+      same_change = l.asked;
     }
 
 -- what one lane is told by ordered maps is a legal report
@@ -119,13 +118,13 @@ legal sizes names lines told s = record {
   changes = record {
     lawful = λ i. subst AreLawful (sym (changes_of names told s.counted i)) (s.lawful i);
     named = named_of sizes names lines told s;
-    done = done_of sizes names lines told s
+    done = done_of sizes names lines told s;
   };
   answers = λ lane place line reply point columns a apart. subst (λ cs. RepliesAt cs line.op.ask point reply) (sym (changes_of names told s.counted line.op.index)) (s.replies place line reply point columns (told_of sizes names lines told lane place line (Replied reply point columns) a).1 apart);
   order_in_lane = λ lane i ls answers here there. order lane i ls answers here there;
   scans = λ lane place line pieces a. absurd (plain_at told.answers place _ s.plain (told_of sizes names lines told lane place line (Scanned pieces) a).1.answer_at);
   log_full = λ lane place line n columns a. subst (λ cs. IsLogFull sizes.max_changes cs line.op.ask n) (sym (changes_of names told s.counted line.op.index)) (s.full place line n columns (told_of sizes names lines told lane place line (LogFull n columns) a).1);
-  space_full = λ lane place line columns a. absurd (plain_at told.answers place _ s.plain (told_of sizes names lines told lane place line (SpaceFull columns) a).1.answer_at)
+  space_full = λ lane place line columns a. absurd (plain_at told.answers place _ s.plain (told_of sizes names lines told lane place line (SpaceFull columns) a).1.answer_at);
 }
   where
     order : (lane i : ℕ) (ls : List Line) (answers : List AnswerLine) → slice_get (lines ∷ []) lane ≡ Some ls → slice_get (told.answers ∷ []) lane ≡ Some answers → AllPairs Precedes (marks_in i (zip ls answers))

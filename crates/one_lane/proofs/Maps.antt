@@ -10,7 +10,7 @@ use Rattle.key_tuple.specs.declared.error.NoMemory.{NoMemory}
 use Rattle.map_history.specs.declared.reply.Told.{Told}
 use Rattle.map_history.specs.declared.reply.Reply.TheVariants as word
 use Rattle.map_history.specs.Map.{Map, MapChange, Pair, map_after, after_changes, after_change}
-use Rattle.map_history.specs.Operation.{Ask, Make, after_ask}
+use Rattle.map_history.specs.Operation.{after_ask}
 use Rattle.map_history.specs.Reply.{Done, reply_of}
 use Rattle.map_history.specs.Told.{Says}
 use Rattle.map_history.specs.Pairs.{pair_of}
@@ -81,7 +81,7 @@ tells_line most lists old i before after line told row e is_index below here a =
     let list : list_at old line.op.index ≡ lines_of before.items = ap (λ xs. list_at xs line.op.index) (sym e) ∙ ap (list_at (lists_of lists)) is_index ∙ list_at-lists_of lists i before below ∙ ap (λ (v : Vec (Bor Line) Global). lines_of v.items) (sym here) in
     record {
       answer = a.answer ∙ ap (λ xs. Some (answer_to most xs line.op.ask)) (sym list);
-      lists = lists_of-set lists i after ∙ ap (λ xs. set xs i (lines_of after.items)) e ∙ ap (λ n. set old n (lines_of after.items)) (sym is_index) ∙ ap (set old line.op.index) (a.list ∙ ap (λ xs. list_after (answer_to most xs line.op.ask) xs line) (sym list))
+      lists = lists_of-set lists i after ∙ ap (λ xs. set xs i (lines_of after.items)) e ∙ ap (λ n. set old n (lines_of after.items)) (sym is_index) ∙ ap (set old line.op.index) (a.list ∙ ap (λ xs. list_after (answer_to most xs line.op.ask) xs line) (sym list));
     }
 
 pub tells : (most : ℕ) (lists : List (Vec (Bor Line) Global)) (old : List (List legal.Line)) (i : ℕ) (before after : Vec (Bor Line) Global) (line : legal.Line) (row : Pair) (r : Result Told NoMemory) → lists_of lists ≡ old → line.op.index ≡ i → i < length lists → before ≡ get_or lists i before → IfOk r (λ told. AnswersLine most (lines_of before.items) (lines_of after.items) line told row) → IfOk r (λ told. TellsLine most old (lists_of (set lists i after)) line told row)

@@ -1,18 +1,17 @@
 -- The points of a lane's answers stay in order when one line more is answered.
-use Rattle.std.proofs.Common.{◌≡◌, ℕ, ◌+◌, ◌<◌, ◌≤◌, Bool, true, false, cond, eqb, List, [], ◌∷◌, ◌++◌, length, get_or, refl, ap, ◌∙◌, sym, subst, arith, ◌⊎◌, inl, inr, length-append}
+use Rattle.std.proofs.Common.{◌≡◌, ℕ, ◌+◌, ◌≤◌, Bool, true, false, cond, eqb, List, [], ◌∷◌, ◌++◌, length, get_or, refl, ap, ◌∙◌, sym, subst, arith, ◌⊎◌, inl, inr, length-append}
 use Rattle.std.proofs.lemmas.Bool.Decides.{nat_tests}
 use Rattle.std.proofs.lemmas.Grind.{flat_map-append}
 use Rattle.std.proofs.lemmas.List.{append-nil}
 use Rattle.std.proofs.lemmas.List.Quantifiers.{all_pairs_push}
-use Rattle.std.specs.List.{AllByRecursion, AllPairs, zip, flat_map}
+use Rattle.std.specs.List.{AllByRecursion, AllPairs, zip}
 use Rattle.map_history.specs.Reply.{MapReply, Value, Row, Done, Absent, Duplicate}
-use Rattle.map_history.specs.Report.{Answer, Replied, LogFull, AnswerLine}
+use Rattle.map_history.specs.Report.{AnswerLine}
 use Rattle.map_history.specs.LegalReport.{Line, Mark, marks_in, marks_of, is_done, Precedes}
-use Rattle.one_lane.specs.OneLane.{Told, dashes, list_at, after_line}
-use Rattle.one_lane.proofs.SoFar.{SoFar}
+use Rattle.one_lane.specs.OneLane.{Told, list_at, after_line}
 use Rattle.one_lane.proofs.Outcomes.{Made, Full, Answered}
 use Rattle.one_lane.proofs.Places.{zip-push, All-append, All-map, All-get_or}
-use Rattle.one_lane.proofs.OneMore.{next_answer, Extends, extends}
+use Rattle.one_lane.proofs.OneMore.{next_answer, extends}
 use Rattle.one_lane.proofs.Step.{OneMore, outcome_of, list_made, list_full, list_answered}
 
 -- the marks of an index after one line more
@@ -37,24 +36,25 @@ mark_of {most} {indexes} {lines} {told} {line} o = go (outcome_of o)
     nothing_grows Done apart = absurd (apart refl)
     nothing_grows Absent apart = refl
     nothing_grows Duplicate apart = refl
+
     go : Made most (list_at told.lists line.op.index) line ⊎ (Full most (list_at told.lists line.op.index) line ⊎ Answered most (list_at told.lists line.op.index) line) → IsMark most told line
     go (inl m) = record {
       mark = record { point = length (list_at told.lists line.op.index) + 1; grows = 1 };
       marks = ap marks_of m.answer;
       from = omega arith;
-      to = omega (arith, ap length (list_made o m), length-append (list_at told.lists line.op.index) (line ∷ []))
+      to = omega (arith, ap length (list_made o m), length-append (list_at told.lists line.op.index) (line ∷ []));
     }
     go (inr (inl f)) = record {
       mark = record { point = length (list_at told.lists line.op.index); grows = 0 };
       marks = ap marks_of f.answer;
       from = omega arith;
-      to = omega (arith, ap length (list_full o f))
+      to = omega (arith, ap length (list_full o f));
     }
     go (inr (inr a)) = record {
       mark = record { point = length (list_at told.lists line.op.index); grows = is_done a.reply };
       marks = ap marks_of a.answer;
       from = omega (arith, nothing_grows a.reply a.other);
-      to = omega (arith, ap length (list_answered o a))
+      to = omega (arith, ap length (list_answered o a));
     }
 
 pub low_after : {most indexes : ℕ} {lines : List Line} {told : Told} {line : Line} → OneMore most indexes lines told line → (i : ℕ) → AllByRecursion (λ (m : Mark). m.point ≤ length (list_at (after_line most told line).lists i)) (marks_in i (zip (lines ++ line ∷ []) (after_line most told line).answers))
@@ -65,6 +65,7 @@ low_after {most} {indexes} {lines} {told} {line} o i = subst (AllByRecursion (λ
         let ext = extends line o.so_far o.inside i in
         let size : length (list_at (after_line most told line).lists i) ≡ length (list_at told.lists i) + length ext.more = ap length ext.is ∙ length-append (list_at told.lists i) ext.more in
         All-map (λ (m : Mark). m.point ≤ length (list_at told.lists i)) _ (marks_in i (zip lines told.answers)) (λ m le. omega arith) (o.so_far.low i)
+
     new : (b : Bool) → eqb line.op.index i ≡ b → AllByRecursion (λ (m : Mark). m.point ≤ length (list_at (after_line most told line).lists i)) (cond b (marks_of (next_answer most told line)) [])
     new false e = tt
     new true e =

@@ -1,17 +1,13 @@
 -- One line more: the answers, the lists, and which lines are told what.
-use Rattle.std.proofs.Common.{◌≡◌, ◌≢◌, ℕ, ◌+◌, ◌<◌, ◌≤◌, Option, Some, List, [], ◌∷◌, ◌++◌, length, get_or, set, map, take, refl, ap, ◌∙◌, sym, subst, arith, ◌⊎◌, inl, inr, length-append}
-use Rattle.std.proofs.lemmas.List.{map-append, get_or-set_same, get_or-set_other, take-append-le}
-use Rattle.std.proofs.Math.Seq.{take-append_seam}
+use Rattle.std.proofs.Common.{◌≡◌, ℕ, ◌<◌, Some, List, [], ◌∷◌, ◌++◌, length, refl, ap, ◌∙◌, sym, subst, arith, ◌⊎◌, inl, inr}
+use Rattle.std.proofs.lemmas.List.{get_or-set_same, get_or-set_other}
 use Rattle.std.proofs.lemmas.Option.{slice_get_within}
-use Rattle.std.specs.List.{slice_get, AllByRecursion}
-use Rattle.map_history.specs.Map.{MapChange, AreLawful, map_after, is_allowed}
-use Rattle.map_history.specs.Operation.{Ask, Make}
-use Rattle.map_history.specs.Reply.{MapReply, Done, reply_of}
-use Rattle.map_history.specs.Report.{Columns, Answer, Replied, LogFull, AnswerLine}
-use Rattle.map_history.specs.LegalReport.{Line, RepliesAt, IsLogFull}
-use Rattle.one_lane.specs.OneLane.{Told, dashes, change_in, changes_by, list_at, answer_to, list_after, after_line, IsAskable}
-use Rattle.one_lane.proofs.SoFar.{IsTold, IsMade, IsListed, SoFar}
-use Rattle.one_lane.proofs.Outcomes.{IsAllowed, Made, Full, Answered, outcome}
+use Rattle.std.specs.List.{slice_get}
+use Rattle.map_history.specs.Report.{Answer, AnswerLine}
+use Rattle.map_history.specs.LegalReport.{Line}
+use Rattle.one_lane.specs.OneLane.{Told, list_at, answer_to, list_after, after_line}
+use Rattle.one_lane.proofs.SoFar.{IsTold, SoFar}
+use Rattle.one_lane.proofs.Outcomes.{Made, outcome}
 use Rattle.one_lane.proofs.Places.{slice_get-append, slice_get-last, slice_get-append-cases, same_or_apart}
 
 -- the answer to one line more

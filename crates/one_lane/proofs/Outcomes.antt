@@ -1,10 +1,10 @@
 -- The three ways in which a line can be answered.
-use Rattle.std.proofs.Common.{◌≡◌, ◌≢◌, ℕ, ◌+◌, ◌<◌, ◌≤◌, Bool, true, false, cond, eqb, List, [], ◌∷◌, ◌++◌, length, refl, ap, ◌∙◌, sym, subst, arith, ◌⊎◌, inl, inr, Option, Some, None}
+use Rattle.std.proofs.Common.{◌≡◌, ◌≢◌, ℕ, ◌+◌, ◌<◌, ◌≤◌, Bool, true, false, cond, eqb, List, [], ◌∷◌, ◌++◌, length, refl, ap, ◌∙◌, arith, ◌⊎◌, inl, inr, Option, Some, None}
 use Rattle.std.proofs.lemmas.Bool.Decides.{nat_tests}
-use Rattle.map_history.specs.Map.{MapChange, Put, Set, Del, Pair, map_after, is_allowed, Map, value_at}
+use Rattle.map_history.specs.Map.{MapChange, Put, Set, Del, Pair, map_after, is_allowed, value_at}
 use Rattle.map_history.specs.Operation.{Ask, Get, Make, Seek, Scan}
 use Rattle.map_history.specs.Reply.{MapReply, Value, Row, Done, Absent, Duplicate, reply_of, value_reply, row_reply, refusal, sought}
-use Rattle.map_history.specs.Report.{Columns, Answer, Replied, LogFull}
+use Rattle.map_history.specs.Report.{Replied, LogFull}
 use Rattle.map_history.specs.LegalReport.{Line}
 use Rattle.one_lane.specs.OneLane.{dashes, change_in, changes_by, answer_by, answer_to, list_after}
 
@@ -76,11 +76,13 @@ outcome most list line short = go (reply_of (map_after (changes_by list)) line.o
     done false apart e =
         let answer : answer_to most list line.op.ask ≡ Replied Done (length list + 1) dashes = ap (answer_by most (length list)) e ∙ ap (λ b. cond b (LogFull (length list) dashes) (Replied Done (length list + 1) dashes)) apart in
         inl record { answer = answer; change = done_is_allowed list line.op.ask e; room = grind (arith, nat_tests); then = ap (λ a. list_after a list line) answer }
+
     other : (reply : MapReply) → reply ≢ Done → reply_of (map_after (changes_by list)) line.op.ask ≡ reply → Made most list line ⊎ (Full most list line ⊎ Answered most list line)
     other reply apart e =
         let facts = list_after-other most (length list) reply list line apart in
         let answer = ap (answer_by most (length list)) e ∙ facts.0 in
         inr (inr record { reply = reply; answer = answer; other = apart; reply_is = e; then = ap (λ r. list_after (answer_by most (length list) r) list line) e ∙ facts.1 })
+
     go : (reply : MapReply) → reply_of (map_after (changes_by list)) line.op.ask ≡ reply → Made most list line ⊎ (Full most list line ⊎ Answered most list line)
     go Done e = done (eqb (length list) most) refl e
     go (Value v) e = other (Value v) (λ f. cc) e

@@ -1,9 +1,9 @@
 -- What holds of the answers and the lists after some lines of a lane.
-use Rattle.std.proofs.Common.{◌≡◌, ◌≢◌, ℕ, ◌+◌, ◌<◌, ◌≤◌, Option, Some, List, [], ◌∷◌, ◌++◌, length}
+use Rattle.std.proofs.Common.{◌≡◌, ◌≢◌, ℕ, ◌+◌, ◌≤◌, Some, List, length}
 use Rattle.std.specs.List.{slice_get, zip, AllZip, AllPairs, AllByRecursion}
-use Rattle.map_history.specs.Map.{MapChange, AreLawful, map_after, is_allowed}
-use Rattle.map_history.specs.Operation.{Ask, Make}
-use Rattle.map_history.specs.Reply.{MapReply, Done, reply_of}
+use Rattle.map_history.specs.Map.{AreLawful}
+use Rattle.map_history.specs.Operation.{Make}
+use Rattle.map_history.specs.Reply.{MapReply, Done}
 use Rattle.map_history.specs.Report.{Columns, Answer, Replied, LogFull, SpaceFull, Scanned, AnswerLine}
 use Rattle.map_history.specs.LegalReport.{Line, Answers, RepliesAt, IsLogFull, Mark, marks_in, Precedes}
 use Rattle.one_lane.specs.OneLane.{Told, dashes, change_in, changes_by, list_at}

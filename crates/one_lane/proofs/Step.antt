@@ -1,19 +1,19 @@
 -- One line more keeps what holds so far.
-use Rattle.std.proofs.Common.{◌≡◌, ◌≢◌, ℕ, ◌+◌, ◌-◌, ◌<◌, ◌≤◌, Option, Some, None, Bool, true, false, cond, eqb, List, [], ◌∷◌, ◌++◌, length, get_or, map, take, refl, ap, ◌∙◌, sym, subst, arith, ◌⊎◌, inl, inr, length-append}
+use Rattle.std.proofs.Common.{◌≡◌, ◌≢◌, ℕ, ◌+◌, ◌<◌, ◌≤◌, Some, true, List, [], ◌∷◌, ◌++◌, length, take, ap, ◌∙◌, sym, subst, arith, ◌⊎◌, inl, inr, length-append}
 use Rattle.std.proofs.lemmas.List.{map-append, take-append-le, length-map}
 use Rattle.std.proofs.Math.Seq.{take-append_seam, take-length}
 use Rattle.std.proofs.lemmas.Option.{slice_get_within}
-use Rattle.std.specs.List.{slice_get, AllByRecursion, zip, flat_map, AllPairs}
+use Rattle.std.specs.List.{slice_get}
 use Rattle.map_history.specs.Map.{MapChange, AreLawful, map_after, is_allowed}
-use Rattle.map_history.specs.Operation.{Ask, Make}
+use Rattle.map_history.specs.Operation.{Ask}
 use Rattle.map_history.specs.Reply.{MapReply, Done, reply_of}
-use Rattle.map_history.specs.Report.{Columns, Answer, Replied, LogFull, AnswerLine}
-use Rattle.map_history.specs.LegalReport.{Line, RepliesAt, IsLogFull, Mark, marks_in, marks_of, Precedes}
-use Rattle.one_lane.specs.OneLane.{Told, dashes, change_in, changes_by, list_at, answer_to, list_after, after_line, IsAskable}
+use Rattle.map_history.specs.Report.{Columns, Replied, LogFull}
+use Rattle.map_history.specs.LegalReport.{Line, RepliesAt, IsLogFull}
+use Rattle.one_lane.specs.OneLane.{Told, dashes, change_in, changes_by, list_at, after_line}
 use Rattle.one_lane.proofs.SoFar.{IsTold, IsMade, IsListed, SoFar}
-use Rattle.one_lane.proofs.Outcomes.{IsAllowed, Made, Full, Answered, outcome}
+use Rattle.one_lane.proofs.Outcomes.{Made, Full, Answered, outcome}
 use Rattle.one_lane.proofs.Places.{slice_get-append, slice_get-last, slice_get-append-cases}
-use Rattle.one_lane.proofs.OneMore.{next_answer, list_here, Grew, list_cases, Extends, extends, told_kept, told_new, IsNew, told_cases}
+use Rattle.one_lane.proofs.OneMore.{next_answer, list_here, Grew, list_cases, extends, told_kept, told_new, IsNew, told_cases}
 
 -- a list of lawful changes and one more that is allowed behind them
 pub lawful-push : (cs : List MapChange) (c : MapChange) → AreLawful cs → is_allowed (map_after cs) c ≡ true → AreLawful (cs ++ c ∷ [])
@@ -29,7 +29,7 @@ lawful-push cs c lawful allowed n d e = go (slice_get-append-cases cs c n d e)
 pub replies-append : (cs more : List MapChange) (ask : Ask) (point : ℕ) (reply : MapReply) → RepliesAt cs ask point reply → RepliesAt (cs ++ more) ask point reply
 replies-append cs more ask point reply r = record {
   within = omega (arith, length-append cs more, r.within);
-  reply_is = let below : point ≤ length cs = r.within in ap (λ xs. reply_of (map_after xs) ask) (take-append-le point cs more below) ∙ r.reply_is
+  reply_is = let below : point ≤ length cs = r.within in ap (λ xs. reply_of (map_after xs) ask) (take-append-le point cs more below) ∙ r.reply_is;
 }
 
 -- the changes of a list that grew
@@ -74,6 +74,7 @@ made_after {most} {indexes} {lines} {told} {line} o j n other e = elim (list_cas
         let answer : next_answer most told line ≡ Replied Done (n + 1) dashes = g.made.answer ∙ ap (λ m. Replied Done (m + 1) dashes) size in
         let told_so : IsTold (lines ++ line ∷ []) (after_line most told line) (length lines) line (Replied Done (n + 1) dashes) = subst (IsTold (lines ++ line ∷ []) (after_line most told line) (length lines) line) answer (told_new line o.so_far) in
         subst (IsMade (lines ++ line ∷ []) (after_line most told line) j n) (sym same) record { place = length lines; told_so = told_so; of_index = sym g.here; asked = g.made.change.asked }
+
     grew : Grew most told line j → IsMade (lines ++ line ∷ []) (after_line most told line) j n other
     grew g = elim (slice_get-append-cases (list_at told.lists j) line n other (ap (λ xs. slice_get xs n) (sym g.grown) ∙ e)) [ inl old ↦ made_kept most line j n other (o.so_far.made j n other old) | inr h ↦ new g h.0 h.1 ]
 
@@ -103,6 +104,7 @@ listed_after {most} {indexes} {lines} {told} {line} o place other point columns 
     by_outcome e (inl m) = record { n = length (list_at told.lists line.op.index); is_point = cc (m.answer, e); there = ap (λ xs. slice_get xs (length (list_at told.lists line.op.index))) (list_made o m) ∙ slice_get-last (list_at told.lists line.op.index) line; asked = m.change.asked }
     by_outcome e (inr (inl f)) = absurd (cc (f.answer, e))
     by_outcome e (inr (inr a)) = absurd (a.other (cc (a.answer, e)))
+
     new : IsNew most lines told line place other (Replied Done point columns) → IsListed (after_line most told line) other point
     new n = subst (λ l. IsListed (after_line most told line) l point) (sym n.same) (by_outcome (sym n.answered) (outcome_of o))
 
@@ -114,6 +116,7 @@ replies_after {most} {indexes} {lines} {told} {line} o place other reply point c
         let ext = extends line o.so_far o.inside other.op.index in
         let changes : changes_by (list_at (after_line most told line).lists other.op.index) ≡ changes_by (list_at told.lists other.op.index) ++ changes_by ext.more = ap changes_by ext.is ∙ changes-append (list_at told.lists other.op.index) ext.more in
         subst (λ cs. RepliesAt cs other.op.ask point reply) (sym changes) (replies-append (changes_by (list_at told.lists other.op.index)) (changes_by ext.more) other.op.ask point reply (o.so_far.replies place other reply point columns old apart))
+
     by_outcome : next_answer most told line ≡ Replied reply point columns → Made most (list_at told.lists line.op.index) line ⊎ (Full most (list_at told.lists line.op.index) line ⊎ Answered most (list_at told.lists line.op.index) line) → RepliesAt (changes_by (list_at (after_line most told line).lists line.op.index)) line.op.ask point reply
     by_outcome e (inl m) = absurd (apart (cc (m.answer, e)))
     by_outcome e (inr (inl f)) = absurd (cc (f.answer, e))
@@ -123,8 +126,9 @@ replies_after {most} {indexes} {lines} {told} {line} o place other reply point c
         let all : take point (changes_by (list_at told.lists line.op.index)) ≡ changes_by (list_at told.lists line.op.index) = ap (λ n. take n (changes_by (list_at told.lists line.op.index))) (is_point ∙ sym (count_of_changes (list_at told.lists line.op.index))) ∙ take-length (changes_by (list_at told.lists line.op.index)) in
         subst (λ xs. RepliesAt (changes_by xs) line.op.ask point reply) (sym (list_answered o a)) record {
           within = omega (arith, is_point, count_of_changes (list_at told.lists line.op.index));
-          reply_is = ap (λ cs. reply_of (map_after cs) line.op.ask) all ∙ a.reply_is ∙ is_reply
+          reply_is = ap (λ cs. reply_of (map_after cs) line.op.ask) all ∙ a.reply_is ∙ is_reply;
         }
+
     new : IsNew most lines told line place other (Replied reply point columns) → RepliesAt (changes_by (list_at (after_line most told line).lists other.op.index)) other.op.ask point reply
     new n = subst (λ l. RepliesAt (changes_by (list_at (after_line most told line).lists l.op.index)) l.op.ask point reply) (sym n.same) (by_outcome (sym n.answered) (outcome_of o))
 
@@ -138,6 +142,7 @@ full_after {most} {indexes} {lines} {told} {line} o place other n columns t = el
         grew g =
             let here : length (list_at told.lists other.op.index) ≡ length (list_at told.lists line.op.index) = ap (λ i. length (list_at told.lists i)) g.here in
             absurd (omega (arith, g.made.room, f.is_most, f.is_length, count_of_changes (list_at told.lists other.op.index)))
+
     by_outcome : next_answer most told line ≡ LogFull n columns → Made most (list_at told.lists line.op.index) line ⊎ (Full most (list_at told.lists line.op.index) line ⊎ Answered most (list_at told.lists line.op.index) line) → IsLogFull most (changes_by (list_at (after_line most told line).lists line.op.index)) line.op.ask n
     by_outcome e (inl m) = absurd (cc (m.answer, e))
     by_outcome e (inr (inl f)) =
@@ -147,8 +152,9 @@ full_after {most} {indexes} {lines} {told} {line} o place other n columns t = el
           is_length = is_length ∙ sym (count_of_changes (list_at told.lists line.op.index));
           change = change_in line.op.ask;
           asked = f.change.asked;
-          allowed = f.change.allowed
+          allowed = f.change.allowed;
         }
     by_outcome e (inr (inr a)) = absurd (cc (a.answer, e))
+
     new : IsNew most lines told line place other (LogFull n columns) → IsLogFull most (changes_by (list_at (after_line most told line).lists other.op.index)) other.op.ask n
     new h = subst (λ l. IsLogFull most (changes_by (list_at (after_line most told line).lists l.op.index)) l.op.ask n) (sym h.same) (by_outcome (sym h.answered) (outcome_of o))

@@ -1,5 +1,5 @@
 -- One text more in a buffer.
-use Rattle.std.proofs.Common.{◌≡◌, ℕ, ◌+◌, ◌≤◌, Option, Some, None, IsSome, IfSome, List, [], ◌∷◌, ◌++◌, length, refl, ap, ◌∙◌, sym, subst, arith, length-append}
+use Rattle.std.proofs.Common.{◌≡◌, ℕ, ◌+◌, Option, Some, None, IsSome, IfSome, List, [], ◌∷◌, ◌++◌, length, ap, ◌∙◌, sym, subst, arith, length-append}
 use Rattle.key_tuple.specs.Parts.{parts, RiseTo}
 use Rattle.key_tuple.proofs.PartsLemmas.{parts-push, RiseTo-push}
 use Rattle.map_history.specs.Report.{Answer}

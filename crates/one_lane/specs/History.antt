@@ -1,5 +1,5 @@
 -- Maps of the program, and the lines that made them what they are.
-use Rattle.std.specs.Prelude.{ℕ, ◌≡◌, ◌<◌, List, length, map, slice_set, Some, Vec}
+use Rattle.std.specs.Prelude.{ℕ, ◌≡◌, List, map, slice_set, Some, Vec}
 use Rattle.std.specs.List.{AllZip}
 use Rattle.std.specs.BTreeMap.{BTreeMap}
 use Rattle.std.specs.declared.alloc.Global.{Global}

@@ -1,11 +1,11 @@
 -- What one lane is told by ordered maps, one line after another.
-use Rattle.std.specs.Prelude.{ℕ, ◌≡◌, ◌+◌, ◌<◌, ◌==◌, Bool, if◌then◌else◌, List, [], ◌∷◌, ◌++◌, length, map, replicate, slice_index_or, slice_set}
+use Rattle.std.specs.Prelude.{ℕ, ◌+◌, ◌<◌, ◌==◌, if◌then◌else◌, List, [], ◌∷◌, ◌++◌, length, map, replicate, slice_index_or, slice_set}
 use Rattle.std.specs.List.{zip, AllByRecursion}
 use Rattle.map_history.specs.declared.columns.How.TheVariants as how
 use Rattle.map_history.specs.declared.columns.Note.TheVariants as note
 use Rattle.map_history.specs.declared.sizes.Sizes.{Sizes}
-use Rattle.map_history.specs.Map.{Map, MapChange, Del, map_after}
-use Rattle.map_history.specs.Operation.{Operation, Ask, Get, Make, Seek, Scan}
+use Rattle.map_history.specs.Map.{MapChange, Del, map_after}
+use Rattle.map_history.specs.Operation.{Ask, Get, Make, Seek, Scan}
 use Rattle.map_history.specs.Reply.{MapReply, Done, reply_of}
 use Rattle.map_history.specs.Report.{Columns, Answer, Replied, LogFull, AnswerLine, ChangeLine, IndexPart, Report}
 use Rattle.map_history.specs.Statistics.{counts_of}
@@ -57,7 +57,7 @@ after_line most told line =
     let answer = answer_to most (list_at told.lists line.op.index) line.op.ask in
     record {
       answers = told.answers ++ record { line = line.line; answer = answer } ∷ [];
-      lists = slice_set told.lists line.op.index (list_after answer (list_at told.lists line.op.index) line)
+      lists = slice_set told.lists line.op.index (list_after answer (list_at told.lists line.op.index) line);
     }
 
 abbrev pub after_lines : ℕ → Told → List Line → Told

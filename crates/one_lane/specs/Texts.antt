@@ -1,6 +1,6 @@
 -- Texts that lie in one buffer, told apart by the offsets of their ends.
-use Rattle.std.specs.Prelude.{◌≡◌, ℕ, List, length}
-use Rattle.key_tuple.specs.Parts.{parts, RiseTo}
+use Rattle.std.specs.Prelude.{length}
+use Rattle.key_tuple.specs.Parts.{RiseTo}
 use Rattle.one_lane.specs.declared.texts.Texts.TheInside.{Inside}
 
 -- the ends rise to the end of the bytes

@@ -56,7 +56,13 @@ impl<'a> History<'a> {
         ensures err { OnErr result (self.new ≡ self.old) }
     {
         let index = line.op.index() as usize;
-        tell_line(&mut self.maps[index], &mut self.lists[index], line, most, row)
+        tell_line(
+            &mut self.maps[index],
+            &mut self.lists[index],
+            line,
+            most,
+            row,
+        )
     }
 
     /// The lines that changed an index.
@@ -94,7 +100,11 @@ fn tell_line<'a>(
 }
 
 /// Makes the change of a line and puts the line behind the others.
-fn make_line<'a>(map: &mut BTreeMap<Key, Value>, list: &mut Vec<&'a Line>, line: &'a Line) -> Result<(), NoMemory>
+fn make_line<'a>(
+    map: &mut BTreeMap<Key, Value>,
+    list: &mut Vec<&'a Line>,
+    line: &'a Line,
+) -> Result<(), NoMemory>
     ensures ok { OnOk result ((pairs map.new ≡ after_ask (pairs map.old) (line_text line.now).op.ask) × (list.new.items ≡ list.old.items ++ line.entry ∷ [])) }
     ensures err { OnErr result ((pairs map.new ≡ pairs map.old) × (list.new.items ≡ list.old.items)) }
 {

@@ -20,7 +20,12 @@ pub struct LaneRun<'a> {
 
 /// Asks ordered maps, empty at first, the lines of a lane in their order. At most `most` lines change
 /// an index.
-pub fn run_lane<'a>(alloc: Global, lines: &'a [Line], indexes: usize, most: u32) -> Result<LaneRun<'a>, NoMemory>
+pub fn run_lane<'a>(
+    alloc: Global,
+    lines: &'a [Line],
+    indexes: usize,
+    most: u32,
+) -> Result<LaneRun<'a>, NoMemory>
     requires { AreAskable indexes (line_texts lines.now) }
     ensures answers { IfOk result (λ run. run.answers
         ≡ map answer_line_text (after_lines most (opening indexes) (line_texts lines.entry.now)).answers) }

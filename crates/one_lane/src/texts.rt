@@ -57,7 +57,13 @@ impl Texts {
     }
 
     /// Adds the line of an answer.
-    pub fn add_answer(&mut self, line: u32, told: &Told, row: &RowBuf, op: &Op) -> Result<(), NoMemory>
+    pub fn add_answer(
+        &mut self,
+        line: u32,
+        told: &Told,
+        row: &RowBuf,
+        op: &Op,
+    ) -> Result<(), NoMemory>
         requires { IsSome (answer_of (operation_of op.now).ask told.now row.now) }
         ensures ok { OnOk result (IfSome (answer_of (operation_of op.now).ask told.now row.now)
             (λ a. self.new ≡ self.old ++ answer_text line a ∷ [])) }

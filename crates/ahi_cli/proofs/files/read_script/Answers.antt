@@ -1,5 +1,4 @@
 use Rattle.std.proofs.lemmas.Result.{err_from_is_err_and}
-use Rattle.script.specs.Views.{schema_text}
 use Rattle.ahi_cli.proofs.FileLemmas.{unread_lane}
 use Rattle.ahi_cli.proofs.files.read_script.Goals as goal
 

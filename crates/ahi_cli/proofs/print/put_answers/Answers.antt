@@ -1,4 +1,4 @@
-use Rattle.std.proofs.Common.{◌≡◌, Ok, Err, subst, sym, arith, rules}
+use Rattle.std.proofs.Common.{Ok, Err, subst, arith}
 use Rattle.std.proofs.lemmas.Result.{err_from_is_err_and}
 use Rattle.ahi_cli.specs.Prints.{Prints}
 use Rattle.ahi_cli.proofs.LoopLemmas.{one_more, no_more}

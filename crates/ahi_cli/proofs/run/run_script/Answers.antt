@@ -1,4 +1,4 @@
-use Rattle.std.proofs.Common.{◌≡◌, ◌∙◌, sym, ap, subst, map, length, List, ℕ}
+use Rattle.std.proofs.Common.{◌≡◌, ◌∙◌, sym, ap, subst, map, length}
 use Rattle.std.proofs.lemmas.List.{length-map}
 use Rattle.std.specs.String.{string_bytes}
 use Rattle.map_history.specs.Spelling.{spell}
@@ -50,6 +50,6 @@ returns-in-Ok g c =
     let same_lists : c.in-Ok.run'.history ≡ told.lists = cc in
     let counted = one_list_each c.args.script.now.schema.sizes.max_changes (length items) (line_texts c.args.script.now.lines.items) ∙ sym (length-map items string_bytes) in
     let text : report_text_of (map string_bytes c.deref-in-Ok.result.now) c.in-Ok.run'.answers c.in-Ok.run'.history ≡ spell (report_of names told) =
-        (λ j. report_text_of (map string_bytes (named j)) (same_answers j) (same_lists j)) ∙ sym (report_spelled names told counted) in
+    (λ j. report_text_of (map string_bytes (named j)) (same_answers j) (same_lists j)) ∙ sym (report_spelled names told counted) in
     let printed = subst (λ t. Prints (g.K.Sink.written c.args.sink.now) (g.K.Sink.written c.put_report.new.sink) (g.K.Sink.faults c.args.sink.now) (g.K.Sink.faults c.put_report.new.sink) t c.put_report.result) text c.put_report.ensures in
     subst (λ s. EndsWith (g.K.Sink.written c.args.sink.now) (g.K.Sink.written c.put_report.new.sink) (g.K.Sink.faults c.args.sink.now) (g.K.Sink.faults c.put_report.new.sink) (spell (report_of names told)) Done s) (sym c.end.ensures) (print_ends (g.K.Sink.written c.args.sink.now) (g.K.Sink.written c.put_report.new.sink) (g.K.Sink.faults c.args.sink.now) (g.K.Sink.faults c.put_report.new.sink) (spell (report_of names told)) Done (λ e. cc) (λ e. cc) c.put_report.result printed)

@@ -1,4 +1,4 @@
-use Rattle.std.proofs.Common.{◌≡◌, length, get_or, take, map, ap, ◌∙◌, sym, subst, arith}
+use Rattle.std.proofs.Common.{length, take, map, ap, ◌∙◌, sym, subst, arith}
 use Rattle.script.specs.Views.{line_text, line_texts}
 use Rattle.one_lane.specs.OneLane.{Told, after_lines, after_line, opening, IsAskable}
 use Rattle.one_lane.specs.History.{TellsLine}
@@ -24,5 +24,5 @@ loop-line-preserved c =
     let tells = subst (λ old. TellsLine c.args.most old c.tell.new.self (line_text c.line-item.result) c.in_ok-told.told c.tell.new.row) c.loop-line.invariant.lists c.in_ok-told.ensures.ok in
     record {
       answers = answers_more c.args.most so_far c.tell.new.self (line_text c.line-item.result) c.in_ok-told.told c.tell.new.row c.loop-line.answers c.add_answer.new.self c.loop-line.invariant.answers tells c.in_ok-add_answer.ensures.ok ∙ ap (λ (t : Told). map answer_line_text t.answers) (sym more);
-      lists = tells.lists ∙ ap (λ (t : Told). t.lists) (sym more)
+      lists = tells.lists ∙ ap (λ (t : Told). t.lists) (sym more);
     }

@@ -8,5 +8,5 @@ use Rattle.one_lane.proofs.lane.run_lane.Given as goal
 abbrev pub invariant-loop-line : goal.invariant-loop-line
 invariant-loop-line l = let told = after_lines l.most (opening l.indexes) (line_texts (take l.line-index l.lines)) in record {
   answers : l.answers ≡ map answer_line_text told.answers;
-  lists : l.history ≡ told.lists
+  lists : l.history ≡ told.lists;
 }

@@ -1,4 +1,4 @@
-use Rattle.std.proofs.Common.{length, ap, ◌∙◌, sym, arith}
+use Rattle.std.proofs.Common.{length, ap, ◌∙◌, sym}
 use Rattle.key_tuple.proofs.PartsLemmas.{length-parts}
 use Rattle.one_lane.proofs.texts.Texts.count.Goals as goal
 

@@ -1,4 +1,4 @@
-use Rattle.std.proofs.Common.{length, ap, ◌∙◌, sym, arith}
+use Rattle.std.proofs.Common.{length, ap, arith}
 use Rattle.key_tuple.proofs.PartsLemmas.{length-parts}
 use Rattle.one_lane.proofs.texts.Texts.text.Goals as goal
 
