@@ -1,0 +1,10 @@
+pub mod TreeShape
+pub mod Contents
+pub mod TreeMoves
+pub mod Pages
+pub mod PageMoves
+pub mod HeldChanges
+pub mod GuessCheck
+pub mod LeafWalk
+pub mod PageBudget
+pub mod Laws
