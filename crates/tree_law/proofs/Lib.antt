@@ -13,8 +13,10 @@ pub mod StackedLemmas
 pub mod RowLemmas
 pub mod GuessLemmas
 pub mod WalkLemmas
-pub mod PageLemmas
+pub mod RecordLemmas
+pub mod StateMoves
+pub mod StateLemmas
+pub mod MoveLemmas
 pub mod HeldLemmas
 pub mod OpeningLemmas
 pub mod BudgetLemmas
-pub mod Example

@@ -3,7 +3,7 @@ pub mod Contents
 pub mod TreeMoves
 pub mod Pages
 pub mod PageMoves
-pub mod HeldChanges
+pub mod PageChanges
 pub mod GuessCheck
 pub mod LeafWalk
 pub mod PageBudget

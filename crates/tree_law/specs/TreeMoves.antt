@@ -1,10 +1,7 @@
 -- The moves of pages.
 use Rattle.std.specs.Prelude.{ℕ, suc, ◌<◌, ◌≡◌, ◌≢◌, ◌⊎◌, true, Option, Some, None, List, [], ◌∷◌, ◌++◌}
 use Rattle.key_tuple.specs.Place.{Place, Start, End, before}
-use Rattle.tree_law.specs.TreeShape.{Pointer, Outline, Forest, first_from}
-
-abbrev pub pointer_to : Place → ℕ → Pointer
-pointer_to from child = record { from = from; child = child }
+use Rattle.tree_law.specs.TreeShape.{Pointer, Outline, Forest, first_from, pointer_to}
 
 abbrev pub without_prev : Option Outline → Option Outline
 without_prev None = None

@@ -7,6 +7,10 @@ pub record Pointer : Type 0 where
   pub from : Place
   pub child : ℕ
 
+-- a pointer with its two parts
+abbrev pub pointer_to : Place → ℕ → Pointer
+pointer_to from child = record { from = from; child = child }
+
 -- a page of a tree without its rows
 pub record Outline : Type 0 where
   pub index : ℕ
