@@ -4,6 +4,7 @@ pub mod ChangeLemmas
 pub mod ValueLemmas
 pub mod RangeLemmas
 pub mod OnePageLemmas
+pub mod DescentLemmas
 pub mod NeighbourLemmas
 pub mod WriteLemmas
 pub mod ApartLemmas
@@ -13,6 +14,8 @@ pub mod StackedLemmas
 pub mod RowLemmas
 pub mod GuessLemmas
 pub mod WalkLemmas
+pub mod LeafLemmas
+pub mod SearchLemmas
 pub mod RecordLemmas
 pub mod StateMoves
 pub mod StateLemmas

@@ -9,6 +9,10 @@ use Rattle.tree_law.specs.PageBudget.{sum_to}
 use Rattle.tree_law.specs.LeafWalk.{Walk, Last, Step, rows_along}
 use Rattle.key_tuple.proofs.PlaceLemmas.{before-itself, before-trans, before-tied, before_not_after, before_some, cut_after, before-Start, End-before, Start-End}
 use Rattle.tree_law.proofs.OnePageLemmas.{page_at, only_page, one_page}
+use Rattle.std.specs.List.{AllByRecursion}
+use Rattle.tree_law.specs.Pages.{forest, entries_at}
+use Rattle.tree_law.specs.ShapeLaws.{LeavesInOrder}
+use Rattle.tree_law.proofs.NeighbourLemmas.{back_link, fore_link}
 use Rattle.tree_law.proofs.SliceLemmas.{slice_join, slice_all}
 
 sum_upto : (f g : ℕ → ℕ) (n : ℕ) → ((m : ℕ) → f m ≤ g m) → sum_to f n ≤ sum_to g n
@@ -97,20 +101,33 @@ module _ (indexes : ℕ) (heights : ℕ → ℕ) (trees : Forest) (shape : IsTre
           let w = more m q.0 q.1 (q.2 ∙ e) (q.3 ∙ f) (omega (arith, less)) in
           (n ∷ w.0, Step n m page w.0 is next w.1)
 
+-- each number of a walk is a page of its level
+pub walk_each : (indexes : ℕ) (heights : ℕ → ℕ) (trees : Forest) (shape : IsTreeShaped indexes heights trees) (i : ℕ) (n : ℕ) (ns : List ℕ) → Walk trees n ns
+    → (page : Outline) → trees n ≡ Some page → page.index ≡ i → page.level ≡ 0 → AllByRecursion (λ (n : ℕ). (leaf : Outline) × (trees n ≡ Some leaf) × (leaf.index ≡ i) × (leaf.level ≡ 0)) ns
+walk_each indexes heights trees shape i _ _ (Last n p was next) page is e l = ((page, is, e, l), tt)
+walk_each indexes heights trees shape i _ _ (Step n m p ms was next walk) page is e l =
+    let same : p ≡ page = cc (was, is) in
+    let q = next_page indexes heights trees shape n m page is (ap (λ (o : Outline). o.next) (sym same) ∙ next) in
+    ((page, is, e, l), walk_each indexes heights trees shape i m ms walk q.0 q.1 (q.2 ∙ e) (q.3 ∙ l))
+
 -- from the first leaf of an index `next` passes all its leaves, and their rows in order are its map
-pub leaves_in_order : (indexes : ℕ) (heights : ℕ → ℕ) (trees : Forest) → IsTreeShaped indexes heights trees → (pages : ℕ) → ((n : ℕ) (page : Outline) → trees n ≡ Some page → n < pages)
-    → (rows : ℕ → List Pair) (maps : ℕ → List Pair) → ((i : ℕ) → Ascends (maps i)) → HoldsMaps trees rows maps → (i : ℕ) → i < indexes
-    → (first : ℕ) × (ns : List ℕ) × Walk trees first ns × (rows_along rows ns ≡ maps i) × ((k : ℕ) (leaf : Outline) → trees k ≡ Some leaf → leaf.index ≡ i → leaf.level ≡ 0 → In k ns)
-leaves_in_order indexes heights trees shape pages bound rows maps asc holds i in' =
+pub leaves_in_order : LeavesInOrder
+leaves_in_order indexes fields_of heights maps asc pages law limit bound i in' =
+    let trees = forest pages in
+    let shape = law.shape in
     let cut = cut_after Start Start-End in
     let f = (one_page indexes heights trees shape (before Start) cut i 0 in' (omega arith)).0 in
     let page = f.1.page in
     let low : page.low ≡ Start = before-tied page.low Start (before-Start page.low) f.1.low in
-    let w = walks indexes heights trees shape i 0 pages bound (suc (sum_to (λ m. ahead indexes heights trees shape i 0 pages bound page.low (trees m)) pages)) f.0 page f.1.is f.1.index f.1.at_level (omega arith) in
-    let r = rows_are indexes heights trees shape rows maps asc holds f.0 w.0 w.1 page f.1.is f.1.at_level in (
-      f.0,
-      w.0,
-      w.1,
-      r ∙ (ap₂ (λ x j. slice x End (maps j)) low f.1.index ∙ slice_all (maps i)),
-      λ k leaf is e l. passes indexes heights trees shape f.0 w.0 w.1 page f.1.is k leaf is (e ∙ sym f.1.index) (l ∙ sym f.1.at_level) (subst (λ (x : Place). before leaf.low x ≡ false) (sym low) (before-Start leaf.low)),
-    )
+    let w = walks indexes heights trees shape i 0 limit bound (suc (sum_to (λ m. ahead indexes heights trees shape i 0 limit bound page.low (trees m)) limit)) f.0 page f.1.is f.1.index f.1.at_level (omega arith) in
+    let r = rows_are indexes heights trees shape (entries_at pages) maps asc law.contents f.0 w.0 w.1 page f.1.is f.1.at_level in
+    record {
+      first = f.0;
+      numbers = w.0;
+      walk = w.1;
+      begins = λ leaf is. let same : page ≡ leaf = cc (f.1.is, is) in ap (λ (o : Outline). o.low) (sym same) ∙ low;
+      rows = r ∙ (ap₂ (λ x j. slice x End (maps j)) low f.1.index ∙ slice_all (maps i));
+      each = walk_each indexes heights trees shape i f.0 w.0 w.1 page f.1.is f.1.index f.1.at_level;
+      all = λ k leaf is e l. passes indexes heights trees shape f.0 w.0 w.1 page f.1.is k leaf is (e ∙ sym f.1.index) (l ∙ sym f.1.at_level) (subst (λ (x : Place). before leaf.low x ≡ false) (sym low) (before-Start leaf.low));
+      back = λ m n a b am bn. (λ e. fore_link indexes heights trees shape n m a b am bn e, λ e. back_link indexes heights trees shape m n a b bn am e);
+    }

@@ -7,4 +7,6 @@ pub mod PageChanges
 pub mod GuessCheck
 pub mod LeafWalk
 pub mod PageBudget
+pub mod ShapeLaws
+pub mod SearchLaws
 pub mod Laws

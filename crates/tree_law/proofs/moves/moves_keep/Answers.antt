@@ -1,4 +1,4 @@
-use Rattle.tree_law.proofs.moves_keep.Goals as goal
+use Rattle.tree_law.proofs.moves.moves_keep.Goals as goal
 use Rattle.tree_law.proofs.MoveLemmas.{move_lawful}
 use Rattle.tree_law.proofs.HeldLemmas.{stay_orderly}
 
