@@ -16,6 +16,7 @@ pub mod GuessLemmas
 pub mod WalkLemmas
 pub mod LeafLemmas
 pub mod SearchLemmas
+pub mod ContentLemmas
 pub mod RecordLemmas
 pub mod StateMoves
 pub mod StateLemmas

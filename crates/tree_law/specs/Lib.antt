@@ -9,4 +9,5 @@ pub mod LeafWalk
 pub mod PageBudget
 pub mod ShapeLaws
 pub mod SearchLaws
-pub mod Laws
+pub mod ContentLaws
+pub mod MoveLaws
