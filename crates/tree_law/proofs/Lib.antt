@@ -1,4 +1,5 @@
 pub mod ListLemmas
+pub mod SumLemmas
 pub mod SliceLemmas
 pub mod ChangeLemmas
 pub mod ValueLemmas
@@ -24,3 +25,10 @@ pub mod MoveLemmas
 pub mod HeldLemmas
 pub mod OpeningLemmas
 pub mod BudgetLemmas
+pub mod WeightLemmas
+pub mod PlacingLemmas
+pub mod PayLemmas
+pub mod MovePayLemmas
+pub mod RootPayLemmas
+pub mod AllPayLemmas
+pub mod CountLemmas

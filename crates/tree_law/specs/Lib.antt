@@ -11,3 +11,4 @@ pub mod ShapeLaws
 pub mod SearchLaws
 pub mod ContentLaws
 pub mod MoveLaws
+pub mod BudgetLaws
