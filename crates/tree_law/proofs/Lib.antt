@@ -24,6 +24,8 @@ pub mod StateLemmas
 pub mod MoveLemmas
 pub mod HeldLemmas
 pub mod OpeningLemmas
+pub mod ReachLemmas
+pub mod ExampleLemmas
 pub mod BudgetLemmas
 pub mod WeightLemmas
 pub mod PlacingLemmas
