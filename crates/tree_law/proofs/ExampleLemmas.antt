@@ -131,7 +131,6 @@ raised =
 
 -- its leaf is split at `c`, and the first half at `b`
 split_at_c : SplitsPage 1 2 0
-unfolding before
 split_at_c = record {
   halves = record {
     page = leaf None None None None [];
@@ -153,20 +152,17 @@ split_at_c = record {
     right_empty = refl;
     up_tree = refl;
     beyond_tree = λ n e. absurd cc;
-    level = refl;
     same = (refl, refl, tt);
-    this_is = (refl, refl);
-    new_is = (refl, refl);
-    begins = λ l. absurd (omega (arith, l));
+    this_is = refl;
+    new_is = refl;
   };
-  above = refl;
-  below = refl;
-  first = λ l. refl;
+  stays = λ e. absurd cc;
+  cuts = refl;
+  key = refl;
   names = refl;
 }
 
 split_at_b : SplitsPage 1 3 0
-unfolding before
 split_at_b = record {
   halves = record {
     page = leaf None (Some 2) None (Some c) [];
@@ -188,15 +184,13 @@ split_at_b = record {
     right_empty = refl;
     up_tree = refl;
     beyond_tree = λ n e. let f : 2 ≡ n = cc in (subst (λ (m : ℕ). is_own m (Some 1) ≡ false) f refl, subst (λ (m : ℕ). is_own m (Some 3) ≡ false) f refl);
-    level = refl;
     same = (refl, refl, tt);
-    this_is = (refl, refl);
-    new_is = (refl, refl);
-    begins = λ l. absurd (omega (arith, l));
+    this_is = refl;
+    new_is = refl;
   };
-  above = refl;
-  below = refl;
-  first = λ l. refl;
+  stays = λ e. absurd cc;
+  cuts = refl;
+  key = refl;
   names = refl;
 }
 

@@ -21,6 +21,8 @@ pub mod ContentLemmas
 pub mod RecordLemmas
 pub mod StateMoves
 pub mod StateLemmas
+pub mod PlacingLemmas
+pub mod FitLemmas
 pub mod MoveLemmas
 pub mod HeldLemmas
 pub mod OpeningLemmas
@@ -28,7 +30,6 @@ pub mod ReachLemmas
 pub mod ExampleLemmas
 pub mod BudgetLemmas
 pub mod WeightLemmas
-pub mod PlacingLemmas
 pub mod PayLemmas
 pub mod MovePayLemmas
 pub mod RootPayLemmas

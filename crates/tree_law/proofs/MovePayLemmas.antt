@@ -1,16 +1,18 @@
 -- A split, a merge, a raise and a lift pay for themselves.
-use Rattle.std.proofs.Common.{◌≡◌, ◌≢◌, ◌⊎◌, ℕ, ◌+◌, ◌-◌, ◌<◌, ◌≤◌, Bool, true, false, ltb, Option, Some, None, List, [], ◌∷◌, ◌++◌, refl, sym, ap, ◌∙◌, subst, inl, inr, arith, length, length-append, eq-eqb, append_assoc}
+use Rattle.std.proofs.Common.{◌≡◌, ◌≢◌, ◌⊎◌, ℕ, ◌+◌, ◌-◌, ◌<◌, ◌≤◌, Bool, true, false, ltb, Option, Some, None, List, [], ◌∷◌, ◌++◌, refl, sym, ap, ◌∙◌, subst, inl, inr, arith, length, length-append, eq-eqb, append_assoc, suc}
 use Rattle.std.specs.List.{AllByRecursion}
 use Rattle.std.proofs.lemmas.Bool.{cases_eq, both_ways, ne_eqb}
 use Rattle.key_tuple.specs.Place.{At, before}
 use Rattle.key_tuple.proofs.PlaceLemmas.{before-trans}
 use Rattle.tree_law.specs.TreeShape.{IsTreeShaped}
-use Rattle.tree_law.specs.Pages.{Record, Page, Pages, low_place, high_place, outline, is_own, forest}
+use Rattle.tree_law.specs.Pages.{Record, Page, Pages, low_place, high_place, outline, is_own, forest, AreLawfulPages}
 use Rattle.tree_law.specs.PageChanges.{PageChange, LeadTo, taken_back}
 use Rattle.tree_law.specs.PageMoves.{TwoHalves, whole_page, left_page, right_page, halves_changes, beyond_changes, SplitsPage, MergesPages}
 use Rattle.tree_law.specs.PageBudget.{Budget, Balances, Charge, load, inner_weight, tree_weight, total_weight, HasLimit}
 use Rattle.tree_law.specs.BudgetLaws.{SplitIsDue, largest_charge}
 use Rattle.tree_law.proofs.BudgetLemmas.{leaf_split_total, inner_split_total, leaf_merge_total, inner_merge_total}
+use Rattle.map_history.specs.Map.{Map, Ascends}
+use Rattle.tree_law.proofs.FitLemmas.{fit_one, fit_two}
 use Rattle.tree_law.proofs.MoveLemmas.{LeadTo-taken_back}
 use Rattle.tree_law.proofs.PayLemmas.{halves_weigh}
 use Rattle.tree_law.proofs.PlacingLemmas.{pointed_not_root, own_not_root, next_differs, low_not_high}
@@ -40,7 +42,7 @@ module _ (b : Budget) (bal : Balances b) (charge : Charge) (indexes limit : ℕ)
   alone [] x (y ∷ ys) e = absurd (omega (arith, e))
   alone (z ∷ zs) x aft e = absurd (omega (arith, e, length-append zs (x ∷ aft)))
 
-  module _ (left right parent : ℕ) (h : TwoHalves left right parent) where
+  module _ (left right parent : ℕ) (h : TwoHalves left right parent) (above : h.up.level ≡ suc h.page.level) where
     abbrev whole_load : ℕ
     whole_load = load charge (h.lower ++ h.upper)
 
@@ -57,7 +59,7 @@ module _ (b : Budget) (bal : Balances b) (charge : Charge) (indexes limit : ℕ)
     two_children e = absurd (omega (arith, e, length-append h.fore (h.this ∷ h.new ∷ h.aft)))
 
     up_inner : h.up.level ≢ 0
-    up_inner e = absurd (omega (arith, e, h.level))
+    up_inner e = absurd (omega (arith, e, above))
 
     parts : whole_load ≡ load charge h.lower + load charge h.moved
     parts = let e = load-append b charge h.lower h.upper in let f = load-same b charge h.upper h.moved h.same in omega (arith, e, f)
@@ -72,26 +74,28 @@ module _ (b : Budget) (bal : Balances b) (charge : Charge) (indexes limit : ℕ)
       let g = load-cons b charge h.new h.aft in
       omega (arith, z.0, z.1, f, g, this, new)
 
-  module _ (heights : ℕ → ℕ) where
+  module _ (fields_of heights : ℕ → ℕ) (maps : ℕ → Map) (asc : (i : ℕ) → Ascends (maps i)) where
     -- a split
-    pub split_pays : (pages pages' : Pages) → IsTreeShaped indexes heights (forest pages) → HasLimit limit pages → (left right parent : ℕ) (s : SplitsPage left right parent) → LeadTo pages pages' (halves_changes left right parent s.halves) → SplitIsDue b charge left right parent s
+    pub split_pays : (pages pages' : Pages) → AreLawfulPages indexes fields_of heights maps pages → HasLimit limit pages → (left right parent : ℕ) (s : SplitsPage left right parent) → LeadTo pages pages' (halves_changes left right parent s.halves) → SplitIsDue b charge left right parent s
         → total_weight b charge indexes limit pages' ≤ total_weight b charge indexes limit pages
-    split_pays pages pages' shape bound left right parent s p due =
+    split_pays pages pages' law bound left right parent s p due =
         let h = s.halves in
+        let shape = law.shape in
+        let above = (fit_one indexes fields_of heights maps pages law left right parent s pages' p asc).fit.level in
         let whole : forest pages left ≡ Some (outline (whole_page left right parent h)) = tree_is pages left (whole_page left right parent h) p.each.0.0 h.left_tree in
         let up : forest pages parent ≡ Some (outline (record h.up { records = h.fore ++ h.this ∷ h.aft })) = tree_is pages parent (record h.up { records = h.fore ++ h.this ∷ h.aft }) p.each.1.1.0.0 h.up_tree in
         let beyond : (n : ℕ) → h.page.next ≡ Some n → (n < limit) × (n ≢ left) × (n ≢ parent) = λ n e. (
           bound n (record h.beyond { prev = h.whole_prev }) (turned_at pages pages' left right parent h p n e).0,
           next_differs indexes heights pages shape left n left _ _ whole e whole (inr (low_not_high (low_place h.page.low) (high_place h.page.high) (shape.pages left _ whole).bounds)),
-          next_differs indexes heights pages shape left n parent _ _ whole e up (inl (λ f. absurd (omega (arith, f, h.level)))),
+          next_differs indexes heights pages shape left n parent _ _ whole e up (inl (λ f. absurd (omega (arith, f, above)))),
         ) in
-        let e = halves_weigh b charge indexes limit pages pages' left right parent h p (bound left _ p.each.0.0, bound right _ p.each.1.0.0, bound parent _ p.each.1.1.0.0) beyond in
-        let rl = pointed_not_root indexes heights pages shape parent left h.up h.fore h.this h.aft h.page.level p.each.1.1.0.0 h.up_tree h.level h.this_is.0 in
+        let e = halves_weigh b charge indexes limit pages pages' left right parent h above p (bound left _ p.each.0.0, bound right _ p.each.1.0.0, bound parent _ p.each.1.1.0.0) beyond in
+        let rl = pointed_not_root indexes heights pages shape parent left h.up h.fore h.this h.aft h.page.level p.each.1.1.0.0 h.up_tree above h.this_is in
         let rr = own_not_root indexes heights pages shape right h.fresh p.each.1.0.0 h.right_own in
-        let more = tree_weight-more b charge (ltb parent indexes) h.up.level (h.fore ++ h.this ∷ h.new ∷ h.aft) (up_inner left right parent h) (two_children left right parent h) in
-        let big = grows left right parent h in
+        let more = tree_weight-more b charge (ltb parent indexes) h.up.level (h.fore ++ h.this ∷ h.new ∷ h.aft) (up_inner left right parent h above) (two_children left right parent h above) in
+        let big = grows left right parent h above in
         let moved = load-same b charge h.upper h.moved h.same in
-        let c : ((tree_weight b charge (ltb parent indexes) h.up.level (h.fore ++ h.this ∷ h.aft) ≡ 0) × (load charge (h.fore ++ h.this ∷ h.new ∷ h.aft) ≤ b.pointer + b.pointer)) ⊎ (tree_weight b charge (ltb parent indexes) h.up.level (h.fore ++ h.this ∷ h.aft) ≡ inner_weight b (load charge (h.fore ++ h.this ∷ h.aft))) = elim (tree_weight-cases b charge (ltb parent indexes) h.up.level (h.fore ++ h.this ∷ h.aft) (up_inner left right parent h)) [
+        let c : ((tree_weight b charge (ltb parent indexes) h.up.level (h.fore ++ h.this ∷ h.aft) ≡ 0) × (load charge (h.fore ++ h.this ∷ h.new ∷ h.aft) ≤ b.pointer + b.pointer)) ⊎ (tree_weight b charge (ltb parent indexes) h.up.level (h.fore ++ h.this ∷ h.aft) ≡ inner_weight b (load charge (h.fore ++ h.this ∷ h.aft))) = elim (tree_weight-cases b charge (ltb parent indexes) h.up.level (h.fore ++ h.this ∷ h.aft) (up_inner left right parent h above)) [
           | inl z ↦ inl (z.0, single left right parent h z.1 due.this due.new)
           | inr z ↦ inr z
         ] in
@@ -111,29 +115,31 @@ module _ (b : Budget) (bal : Balances b) (charge : Charge) (indexes limit : ℕ)
         ]
 
     -- a merge
-    pub merge_pays : (pages pages' : Pages) → IsTreeShaped indexes heights (forest pages) → HasLimit limit pages → (left right parent : ℕ) (m : MergesPages left right parent) → LeadTo pages pages' (taken_back (halves_changes left right parent m.halves))
+    pub merge_pays : (pages pages' : Pages) → AreLawfulPages indexes fields_of heights maps pages → HasLimit limit pages → (left right parent : ℕ) (m : MergesPages left right parent) → LeadTo pages pages' (taken_back (halves_changes left right parent m.halves))
         → load charge m.halves.lower + load charge m.halves.moved ≤ b.merged
         → total_weight b charge indexes limit pages' ≤ total_weight b charge indexes limit pages
-    merge_pays pages pages' shape bound left right parent m q small =
+    merge_pays pages pages' law bound left right parent m q small =
         let h = m.halves in
+        let shape = law.shape in
         let p = LeadTo-taken_back pages pages' (halves_changes left right parent h) q in
         let tree_left : forest pages left ≡ Some (outline (left_page left right parent h)) = tree_is pages left (left_page left right parent h) p.each.0.1 h.left_tree in
         let own_right : is_own right (Some left) ≡ false = ne_eqb left right (λ f. absurd (right_differs pages' left right parent h p.each.0.0 p.each.1.0.0 (sym f))) in
+        let above = (fit_two indexes fields_of heights maps pages law left right parent h pages' p own_right).level in
         let tree_right : forest pages right ≡ Some (outline (right_page left right parent h)) = tree_is pages right (right_page left right parent h) p.each.1.0.1 own_right in
         let up : forest pages parent ≡ Some (outline (record h.up { records = h.fore ++ h.this ∷ h.new ∷ h.aft })) = tree_is pages parent (record h.up { records = h.fore ++ h.this ∷ h.new ∷ h.aft }) p.each.1.1.0.1 h.up_tree in
         let bounds : before (low_place h.page.low) (high_place h.page.high) ≡ true = before-trans (low_place h.page.low) (At h.at) (high_place h.page.high) (shape.pages left _ tree_left).bounds (shape.pages right _ tree_right).bounds in
         let beyond : (n : ℕ) → h.page.next ≡ Some n → (n < limit) × (n ≢ left) × (n ≢ parent) = λ n e. (
           bound n (record h.beyond { prev = h.cut_prev }) (turned_at pages' pages left right parent h p n e).1,
           next_differs indexes heights pages shape right n left _ _ tree_right e tree_left (inr (low_not_high (low_place h.page.low) (high_place h.page.high) bounds)),
-          next_differs indexes heights pages shape right n parent _ _ tree_right e up (inl (λ f. absurd (omega (arith, f, h.level)))),
+          next_differs indexes heights pages shape right n parent _ _ tree_right e up (inl (λ f. absurd (omega (arith, f, above)))),
         ) in
-        let e = halves_weigh b charge indexes limit pages' pages left right parent h p (bound left _ p.each.0.1, bound right _ p.each.1.0.1, bound parent _ p.each.1.1.0.1) beyond in
-        let rl = pointed_not_root indexes heights pages shape parent left h.up h.fore h.this (h.new ∷ h.aft) h.page.level p.each.1.1.0.1 h.up_tree h.level h.this_is.0 in
-        let rr = pointed_not_root indexes heights pages shape parent right h.up (h.fore ++ h.this ∷ []) h.new h.aft h.page.level (p.each.1.1.0.1 ∙ ap (λ xs. Some (record h.up { records = xs })) (sym (append_assoc h.fore (h.this ∷ []) (h.new ∷ h.aft)))) h.up_tree h.level h.new_is.0 in
-        let more = tree_weight-more b charge (ltb parent indexes) h.up.level (h.fore ++ h.this ∷ h.new ∷ h.aft) (up_inner left right parent h) (two_children left right parent h) in
-        let most = tree_weight-most b charge (ltb parent indexes) h.up.level (h.fore ++ h.this ∷ h.aft) (up_inner left right parent h) in
-        let big = grows left right parent h in
-        let whole = parts left right parent h in
+        let e = halves_weigh b charge indexes limit pages' pages left right parent h above p (bound left _ p.each.0.1, bound right _ p.each.1.0.1, bound parent _ p.each.1.1.0.1) beyond in
+        let rl = pointed_not_root indexes heights pages shape parent left h.up h.fore h.this (h.new ∷ h.aft) h.page.level p.each.1.1.0.1 h.up_tree above h.this_is in
+        let rr = pointed_not_root indexes heights pages shape parent right h.up (h.fore ++ h.this ∷ []) h.new h.aft h.page.level (p.each.1.1.0.1 ∙ ap (λ xs. Some (record h.up { records = xs })) (sym (append_assoc h.fore (h.this ∷ []) (h.new ∷ h.aft)))) h.up_tree above h.new_is in
+        let more = tree_weight-more b charge (ltb parent indexes) h.up.level (h.fore ++ h.this ∷ h.new ∷ h.aft) (up_inner left right parent h above) (two_children left right parent h above) in
+        let most = tree_weight-most b charge (ltb parent indexes) h.up.level (h.fore ++ h.this ∷ h.aft) (up_inner left right parent h above) in
+        let big = grows left right parent h above in
+        let whole = parts left right parent h above in
         elim (cases_eq h.page.level 0) [
           | inl l ↦ leaf_merge_total b bal _ _ _ _ _ _ _ (load charge (h.lower ++ h.upper)) (load charge h.lower) (load charge h.moved) _ _ _ e whole small more most big
               (tree_weight-leaf b charge (ltb left indexes) h.page.level _ l) (tree_weight-leaf b charge (ltb left indexes) h.page.level _ l) (tree_weight-leaf b charge (ltb right indexes) h.page.level _ l)

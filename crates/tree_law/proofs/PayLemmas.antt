@@ -1,5 +1,5 @@
 -- What each move adds to the weight of the pages.
-use Rattle.std.proofs.Common.{◌≡◌, ◌≢◌, ℕ, ◌+◌, ◌<◌, ◌≤◌, Bool, true, cond, ltb, Option, Some, None, List, [], ◌∷◌, ◌++◌, refl, sym, ap, ◌∙◌, subst, arith, length}
+use Rattle.std.proofs.Common.{◌≡◌, ◌≢◌, ℕ, ◌+◌, ◌<◌, ◌≤◌, Bool, true, cond, ltb, Option, Some, None, List, [], ◌∷◌, ◌++◌, refl, sym, ap, ◌∙◌, subst, arith, length, suc}
 use Rattle.std.proofs.lemmas.Bool.{both_ways, ne_eqb}
 use Rattle.map_history.specs.Map.{Map}
 use Rattle.tree_law.specs.Pages.{Record, Page, Pages, is_own}
@@ -54,7 +54,7 @@ module _ (b : Budget) (charge : Charge) (indexes limit : ℕ) where
       omega (arith, e, same)
 
   -- one page against two
-  module _ (one two : Pages) (left right parent : ℕ) (h : TwoHalves left right parent) (p : LeadTo one two (halves_changes left right parent h))
+  module _ (one two : Pages) (left right parent : ℕ) (h : TwoHalves left right parent) (above : h.up.level ≡ suc h.page.level) (p : LeadTo one two (halves_changes left right parent h))
       (bounds : (left < limit) × (right < limit) × (parent < limit)) (beyond : (n : ℕ) → h.page.next ≡ Some n → (n < limit) × (n ≢ left) × (n ≢ parent)) where
     whole_is : one left ≡ Some (whole_page left right parent h)
     whole_is = p.each.0.0
@@ -69,7 +69,7 @@ module _ (b : Budget) (charge : Charge) (indexes limit : ℕ) where
     right_left e = let same : h.fresh ≡ whole_page left right parent h = cc (fresh_is, whole_is, ap one e) in both_ways _ h.left_tree (subst (λ (n : ℕ). is_own n h.page.prev ≡ true) e (subst (λ (q : Page). is_own right q.prev ≡ true) same h.right_own))
 
     parent_left : parent ≢ left
-    parent_left e = let same : record h.up { records = h.fore ++ h.this ∷ h.aft } ≡ whole_page left right parent h = cc (up_is, whole_is, ap one e) in absurd (omega (arith, ap (λ (q : Page). q.level) same, h.level))
+    parent_left e = let same : record h.up { records = h.fore ++ h.this ∷ h.aft } ≡ whole_page left right parent h = cc (up_is, whole_is, ap one e) in absurd (omega (arith, ap (λ (q : Page). q.level) same, above))
 
     parent_right : parent ≢ right
     parent_right e = let same : h.fresh ≡ record h.up { records = h.fore ++ h.this ∷ h.aft } = cc (fresh_is, up_is, ap one e) in both_ways _ h.up_tree (subst (λ (n : ℕ). is_own n h.up.prev ≡ true) (sym e) (subst (λ (q : Page). is_own right q.prev ≡ true) same h.right_own))

@@ -1,7 +1,7 @@
 -- What the moves pay.
 use Rattle.std.specs.Prelude.{ℕ, ◌+◌, ◌-◌, ◌*◌, ◌<◌, ◌≤◌, ◌≡◌, ◌≢◌, ◌==◌, if◌then◌else◌, None, List, ◌++◌, length}
 use Rattle.std.specs.List.{AllByRecursion}
-use Rattle.map_history.specs.Map.{Map}
+use Rattle.map_history.specs.Map.{Map, Ascends}
 use Rattle.tree_law.specs.Pages.{Record, Pages, AreLawfulPages, first_pages}
 use Rattle.tree_law.specs.PageChanges.{LeadTo, taken_back}
 use Rattle.tree_law.specs.PageMoves.{SplitsPage, MergesPages, halves_changes, TwoStoreys, storeys_changes, WritesPage, write_changes, ChangesOutside, outside_changes, Rearranges, rearrange_changes}
@@ -29,6 +29,7 @@ pub record SplitIsDue (b : Budget) (charge : Charge) (left right parent : ℕ) (
 -- two states of lawful pages, the one before a move
 pub record AreWeighed (b : Budget) (indexes limit : ℕ) (fields_of heights : ℕ → ℕ) (maps : ℕ → Map) (pages : Pages) : Type 0 where
   pub balances : Balances b
+  pub rises : (i : ℕ) → Ascends (maps i)
   pub law : AreLawfulPages indexes fields_of heights maps pages
   pub numbers : HasLimit limit pages
 

@@ -38,11 +38,9 @@ pub record TwoHalves (left right parent : ℕ) : Type 0 where
   pub right_empty : fresh.records ≡ []
   pub up_tree : is_own parent up.prev ≡ false
   pub beyond_tree : (n : ℕ) → page.next ≡ Some n → (is_own n whole_prev ≡ false) × (is_own n cut_prev ≡ false)
-  pub level : up.level ≡ suc page.level
   pub same : SameRows upper moved
-  pub this_is : (this.body ≡ Child left) × (from_place this.key ≡ low_place page.low)
-  pub new_is : (new.body ≡ Child right) × (from_place new.key ≡ At at)
-  pub begins : 0 < page.level → first_from (pointers_of upper) (high_place page.high) ≡ At at
+  pub this_is : this.body ≡ Child left
+  pub new_is : new.body ≡ Child right
 
 -- the left page as it is whole, and as it is cut
 abbrev pub whole_page : (left right parent : ℕ) → TwoHalves left right parent → Page
@@ -68,13 +66,18 @@ halves_changes left right parent h =
     ∷ page_change parent (record h.up { records = h.fore ++ h.this ∷ h.aft }) (record h.up { records = h.fore ++ h.this ∷ h.new ∷ h.aft })
     ∷ beyond_changes h.page.next h.beyond h.whole_prev h.cut_prev
 
--- a split: the cut lies within the page's bounds, at the first key of the right page, and the page after
--- names the right page
+-- the first of some records has this key
+abbrev pub BeginsAt : FieldList → List Record → Type 0
+BeginsAt k [] = ⊥
+BeginsAt k (x ∷ xs) = x.key ≡ k
+
+-- a split: the left page keeps a record, the right page's first key is its low key and its pointer's key, and
+-- the page after names the right page
 pub record SplitsPage (left right parent : ℕ) : Type 0 where
   pub halves : TwoHalves left right parent
-  pub above : before (low_place halves.page.low) (At halves.at) ≡ true
-  pub below : before (At halves.at) (high_place halves.page.high) ≡ true
-  pub first : halves.page.level ≡ 0 → first_key (entries_of halves.moved) (high_place halves.page.high) ≡ At halves.at
+  pub stays : halves.lower ≢ []
+  pub cuts : BeginsAt halves.at halves.moved
+  pub key : halves.new.key ≡ halves.at
   pub names : halves.cut_prev ≡ Some right
 
 -- a merge: a split taken back, and the page after names the left page
