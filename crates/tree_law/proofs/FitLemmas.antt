@@ -1,20 +1,18 @@
 -- What the law says of the pages of a split or a merge.
-use Rattle.std.proofs.Common.{◌≡◌, ◌≢◌, ◌⊎◌, ℕ, zero, suc, ◌<◌, Bool, true, false, cond, Option, Some, None, List, [], ◌∷◌, ◌++◌, refl, sym, ap, ap₂, ◌∙◌, subst, inl, inr, arith, length, append_assoc, is_lt, Ordering, Less, Equal, Greater}
+use Rattle.std.proofs.Common.{◌≡◌, ◌≢◌, ℕ, zero, suc, ◌<◌, Bool, true, false, cond, Some, List, [], ◌∷◌, ◌++◌, refl, sym, ap, ap₂, ◌∙◌, subst, inl, inr, arith, length, append_assoc, is_lt, Ordering, Less, Equal, Greater}
 use Rattle.std.specs.List.{AllByRecursion}
-use Rattle.std.specs.Ordering.{nat_cmp, ordering_then}
-use Rattle.std.specs.Cmp.Lexicographic.{slice_cmp}
-use Rattle.std.proofs.lemmas.Bool.{cases_eq, cases_Bool, both_ways, ne_eqb}
+use Rattle.std.proofs.lemmas.Bool.{cases_eq}
 use Rattle.key_tuple.specs.Order.{FieldList, key_cmp}
 use Rattle.key_tuple.specs.Place.{Place, Start, At, before}
 use Rattle.key_tuple.proofs.PlaceLemmas.{before-Start}
 use Rattle.map_history.specs.Map.{Pair, Map, Ascends, slice}
-use Rattle.tree_law.specs.TreeShape.{Pointer, Outline, Tag, tag_of, tag_at, map_tag, first_from, Rise, pointer_to}
+use Rattle.tree_law.specs.TreeShape.{Tag, tag_of, map_tag, first_from, Rise, pointer_to}
 use Rattle.tree_law.specs.Contents.{first_key}
-use Rattle.tree_law.specs.Pages.{Body, Bytes, Child, Record, Page, Pages, low_place, high_place, is_empty, from_place, pointers_of, entries_of, entries_at, page_entries, outline, is_own, forest, FitsLevel, AreLawfulPages}
+use Rattle.tree_law.specs.Pages.{Body, Bytes, Child, Record, Page, Pages, low_place, high_place, is_empty, from_place, pointers_of, entries_of, page_entries, outline, is_own, forest, FitsLevel, AreLawfulPages}
 use Rattle.tree_law.specs.PageChanges.{LeadTo}
 use Rattle.tree_law.specs.PageMoves.{SameRows, BeginsAt, TwoHalves, whole_page, left_page, right_page, halves_changes, SplitsPage}
 use Rattle.tree_law.proofs.DescentLemmas.{inner_bounds, leaf_bounds}
-use Rattle.tree_law.proofs.LeafLemmas.{IsRow, rows_each, entries-row, entries-parts, each_in, in_middle, each_front, each_rest}
+use Rattle.tree_law.proofs.LeafLemmas.{IsRow, rows_each, entries-row, each_in, in_middle, each_rest}
 use Rattle.tree_law.proofs.PlacingLemmas.{pointed_to}
 use Rattle.tree_law.proofs.RecordLemmas.{tree_is, pointers-append, pointers-same, entries-append, entries-same, pointer_is}
 use Rattle.tree_law.proofs.RowLemmas.{below_it}
@@ -73,6 +71,10 @@ above_leaf level b n f e = go level (subst (FitsLevel level) e f)
     go (suc l) ne = (l, refl)
 
 module _ (indexes : ℕ) (fields_of heights : ℕ → ℕ) (maps : ℕ → Map) (pages : Pages) (law : AreLawfulPages indexes fields_of heights maps pages) where
+  -- a page with a pointer is above the leaves
+  pub pointer_level : (parent n : ℕ) (up : Page) (fore : List Record) (x : Record) (rest : List Record) → pages parent ≡ Some (record up { records = fore ++ x ∷ rest }) → x.body ≡ Child n → (l : ℕ) × (up.level ≡ suc l)
+  pointer_level parent n up fore x rest is body = above_leaf up.level x.body n (each_in (λ (y : Record). FitsLevel up.level y.body) (fore ++ x ∷ rest) (law.orderly parent (record up { records = fore ++ x ∷ rest }) is).bodies x (in_middle fore x rest)) body
+
   -- a pointer says its child's level and where it begins
   pointer_says : (parent n : ℕ) (up : Page) (fore : List Record) (x : Record) (rest : List Record) (child : Page) → pages parent ≡ Some (record up { records = fore ++ x ∷ rest }) → is_own parent up.prev ≡ false
       → x.body ≡ Child n → pages n ≡ Some child → is_own n child.prev ≡ false → (up.level ≡ suc child.level) × (from_place x.key ≡ low_place child.low)
@@ -140,7 +142,7 @@ module _ (indexes : ℕ) (fields_of heights : ℕ → ℕ) (maps : ℕ → Map) 
           let sound = law.shape.pages left (outline whole) tree in
           let up : 0 < h.page.level = omega (arith, l) in
           let b = inner_bounds (pointer_to (from_place x.key) cx.0) (pointer_to (from_place y.key) cy.0) (pointers_of xs) (pointers_of ys) (low_place h.page.low) (high_place h.page.high)
-              (sym (ap (λ ps. first_from ps (high_place h.page.high)) all) ∙ sound.begins up) (subst (λ ps. Rise ps (high_place h.page.high)) all (sound.rise up)) in
+          (sym (ap (λ ps. first_from ps (high_place h.page.high)) all) ∙ sound.begins up) (subst (λ ps. Rise ps (high_place h.page.high)) all (sound.rise up)) in
           (b.0, b.1, ap (λ ps. first_from ps (high_place h.page.high)) py)
 
       -- on a leaf

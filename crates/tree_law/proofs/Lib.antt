@@ -23,6 +23,7 @@ pub mod StateMoves
 pub mod StateLemmas
 pub mod PlacingLemmas
 pub mod FitLemmas
+pub mod WholeLemmas
 pub mod MoveLemmas
 pub mod HeldLemmas
 pub mod OpeningLemmas

@@ -1,10 +1,8 @@
 -- The moves of pages: what stands on the pages that take part, whatever other pages there are.
-use Rattle.std.specs.Prelude.{ℕ, suc, ◌<◌, ◌≡◌, ◌≢◌, true, false, Option, Some, None, List, [], ◌∷◌, ◌++◌}
+use Rattle.std.specs.Prelude.{ℕ, suc, ◌≡◌, ◌≢◌, true, false, Option, Some, None, List, [], ◌∷◌, ◌++◌}
 use Rattle.key_tuple.specs.Order.{FieldList}
-use Rattle.key_tuple.specs.Place.{Start, At, before, within}
+use Rattle.key_tuple.specs.Place.{Start, At, within}
 use Rattle.map_history.specs.Map.{Map, write}
-use Rattle.tree_law.specs.TreeShape.{first_from}
-use Rattle.tree_law.specs.Contents.{first_key}
 use Rattle.tree_law.specs.Pages.{Child, Record, Page, low_place, high_place, from_place, pointers_of, entries_of, is_own}
 use Rattle.tree_law.specs.PageChanges.{PageChange, page_change, taken_back}
 
@@ -46,6 +44,7 @@ pub record TwoHalves (left right parent : ℕ) : Type 0 where
 abbrev pub whole_page : (left right parent : ℕ) → TwoHalves left right parent → Page
 whole_page left right parent h = record h.page { records = h.lower ++ h.upper }
 
+-- the left page as it is cut
 abbrev pub left_page : (left right parent : ℕ) → TwoHalves left right parent → Page
 left_page left right parent h = record h.page { high = Some h.at; next = Some right; records = h.lower }
 
@@ -128,6 +127,7 @@ pub record WritesPage (maps maps' : ℕ → Map) (n : ℕ) : Type 0 where
   pub map_is : maps' page.index ≡ write key value (maps page.index)
   pub maps_kept : (i : ℕ) → i ≢ page.index → maps' i ≡ maps i
 
+-- the one page that a write changes
 abbrev pub write_changes : (maps maps' : ℕ → Map) (n : ℕ) → WritesPage maps maps' n → List PageChange
 write_changes maps maps' n w = page_change n w.page (record w.page { records = w.records }) ∷ []
 
@@ -143,6 +143,7 @@ pub record ChangesOutside (n : ℕ) : Type 0 where
   pub was : IsOutside n old
   pub is : IsOutside n new
 
+-- the one page outside that changes
 abbrev pub outside_changes : (n : ℕ) → ChangesOutside n → List PageChange
 outside_changes n o = record { number = n; old = o.old; new = o.new } ∷ []
 
@@ -152,6 +153,7 @@ pub record Rearranges (n : ℕ) : Type 0 where
   pub records : List Record
   pub same : SameRows page.records records
 
+-- the one page that is rearranged
 abbrev pub rearrange_changes : (n : ℕ) → Rearranges n → List PageChange
 rearrange_changes n r = page_change n r.page (record r.page { records = r.records }) ∷ []
 

@@ -31,6 +31,7 @@ pub record CutReaches (pages : Pages) (i : ℕ) (map : Map) (mode : Mode) (tuple
   pub back : (xs : List Record) (row : Record) (ys : List Record) → page.records ≡ xs ++ row ∷ ys → looks_ahead mode ≡ false
       → cut_of mode tuple (At row.key) ≡ false → AllIn (cut_of mode tuple) ys → Reaches pages i map mode tuple n row.place
 
+-- so it is on the leaf that a descent comes to
 abbrev pub DescentReaches : Type 0
 DescentReaches =
     (indexes : ℕ) (fields_of heights : ℕ → ℕ) (maps : ℕ → Map) → ((i : ℕ) → Ascends (maps i)) → (pages : Pages) → AreLawfulPages indexes fields_of heights maps pages

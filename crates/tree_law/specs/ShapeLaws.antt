@@ -1,11 +1,11 @@
 -- What the shape of the trees gives.
-use Rattle.std.specs.Prelude.{ℕ, suc, ◌<◌, ◌≤◌, ◌≡◌, ◌↔◌, Bool, true, false, Some, List, []}
+use Rattle.std.specs.Prelude.{ℕ, suc, ◌<◌, ◌≤◌, ◌≡◌, ◌↔◌, Bool, true, false, Some, None, List, [], ◌∷◌}
 use Rattle.std.specs.List.{AllByRecursion}
 use Rattle.key_tuple.specs.Place.{Place, Start, IsCut}
 use Rattle.map_history.specs.Map.{Map, Ascends}
 use Rattle.tree_law.specs.TreeShape.{Forest, Outline, Range, Tag, In, HasRange, HasParent, IsTreeShaped, HasCut}
 use Rattle.tree_law.specs.LeafWalk.{Walk, rows_along}
-use Rattle.tree_law.specs.Pages.{Pages, forest, entries_at, first_pages, AreLawfulPages}
+use Rattle.tree_law.specs.Pages.{Child, Record, Page, Pages, from_place, forest, entries_at, first_pages, AreLawfulPages}
 
 -- each cut has exactly one page of each level up to the height
 abbrev pub OnePage : Type 0
@@ -32,6 +32,7 @@ pub record ParentsAreUnique (indexes : ℕ) (trees : Forest) : Type 0 where
   pub only : (n : ℕ) (t : Tag) (u v : HasParent trees n t) → u.number ≡ v.number
   pub roots : (n : ℕ) (t : Tag) → HasParent trees n t → n < indexes → ⊥
 
+-- so it is in all trees that are in shape
 abbrev pub OneParent : Type 0
 OneParent = (indexes : ℕ) (heights : ℕ → ℕ) (trees : Forest) → IsTreeShaped indexes heights trees → ParentsAreUnique indexes trees
 
@@ -56,3 +57,24 @@ LeavesInOrder =
 -- the pages of an opening space are lawful
 abbrev pub OpeningIsLawful : Type 0
 OpeningIsLawful = (fields_of : ℕ → ℕ) (indexes : ℕ) → AreLawfulPages indexes fields_of (λ i. 0) (λ i. []) (first_pages fields_of indexes)
+
+-- a page with no neighbours and no bounds, on this level of an index
+pub record IsWhole (i l : ℕ) (page : Page) : Type 0 where
+  pub index : page.index ≡ i
+  pub level : page.level ≡ l
+  pub prev : page.prev ≡ None
+  pub next : page.next ≡ None
+  pub low : page.low ≡ None
+  pub high : page.high ≡ None
+
+-- a root is whole, and so is a page whose pointer is the only one of a root
+pub record RootsAreWhole (indexes : ℕ) (heights : ℕ → ℕ) (pages : Pages) : Type 0 where
+  pub root : (i : ℕ) (page : Page) → i < indexes → pages i ≡ Some page → IsWhole i (heights i) page
+  pub child : (i : ℕ) (up : Page) (x : Record) (n : ℕ) (page : Page) → i < indexes → pages i ≡ Some (record up { records = x ∷ [] }) → x.body ≡ Child n
+      → pages n ≡ Some page → (up.level ≡ suc page.level) × (from_place x.key ≡ Start) × IsWhole i page.level page
+
+-- so it is in all lawful states
+abbrev pub RootIsWhole : Type 0
+RootIsWhole =
+    (indexes : ℕ) (fields_of heights : ℕ → ℕ) (maps : ℕ → Map) (pages : Pages) → AreLawfulPages indexes fields_of heights maps pages
+    → RootsAreWhole indexes heights pages

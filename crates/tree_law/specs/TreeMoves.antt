@@ -3,6 +3,7 @@ use Rattle.std.specs.Prelude.{ℕ, suc, ◌<◌, ◌≡◌, ◌≢◌, ◌⊎◌
 use Rattle.key_tuple.specs.Place.{Place, Start, End, before}
 use Rattle.tree_law.specs.TreeShape.{Pointer, Outline, Forest, first_from, pointer_to}
 
+-- a page but for its left neighbour
 abbrev pub without_prev : Option Outline → Option Outline
 without_prev None = None
 without_prev (Some page) = Some (record page { prev = None })
@@ -30,12 +31,14 @@ pub record FallsApart (one two : Forest) (left right parent : ℕ) : Type 0 wher
 abbrev pub Turns : Option ℕ → ℕ → ℕ → Outline → Outline → Type 0
 Turns next other n old new = (next ≢ Some n × new.prev ≡ old.prev) ⊎ (next ≡ Some n × new.prev ≡ Some other)
 
+-- the page falls into two between its bounds, and the page after names the right one
 pub record Split (trees trees' : Forest) (left right parent : ℕ) : Type 0 where
   pub apart : FallsApart trees trees' left right parent
   pub above : before apart.page.low apart.at ≡ true
   pub below : before apart.at apart.page.high ≡ true
   pub turns : (n : ℕ) (old new : Outline) → n ≢ left → n ≢ right → n ≢ parent → trees n ≡ Some old → trees' n ≡ Some new → Turns apart.page.next right n old new
 
+-- the two pages become one again, and the page after names it
 pub record Merge (trees trees' : Forest) (left right parent : ℕ) : Type 0 where
   pub apart : FallsApart trees' trees left right parent
   pub turns : (n : ℕ) (old new : Outline) → n ≢ left → n ≢ right → n ≢ parent → trees n ≡ Some old → trees' n ≡ Some new → Turns apart.page.next left n old new

@@ -1,5 +1,6 @@
 //! Laws of the trees' shape.
-ghost use Rattle.tree_law.specs.ShapeLaws.{OnePage, ChildHasCut, OneParent, LeavesInOrder, OpeningIsLawful};
+ghost use Rattle.tree_law.specs.ShapeLaws.{OnePage, ChildHasCut, OneParent, RootIsWhole};
+ghost use Rattle.tree_law.specs.ShapeLaws.{LeavesInOrder, OpeningIsLawful};
 
 /// Each cut of the keys has exactly one page of each level.
 pub fn one_page()
@@ -14,6 +15,11 @@ pub fn child_has_cut()
 /// A page is pointed to from one page, and a root from none.
 pub fn one_parent()
     ensures { OneParent }
+{}
+
+/// A root has no neighbours and no bounds, and neither has a root's only child.
+pub fn root_is_whole()
+    ensures { RootIsWhole }
 {}
 
 /// The links pass all leaves of an index in order, and their rows are its map.
