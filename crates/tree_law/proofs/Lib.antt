@@ -36,3 +36,4 @@ pub mod MovePayLemmas
 pub mod RootPayLemmas
 pub mod AllPayLemmas
 pub mod CountLemmas
+pub mod CutLemmas

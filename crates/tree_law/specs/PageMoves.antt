@@ -159,10 +159,17 @@ rearrange_changes n r = page_change n r.page (record r.page { records = r.record
 
 -- what a step may do to the pages: changes of pages, of the roots' levels and of the maps that are one move
 pub data IsMove (heights heights' : ℕ → ℕ) (maps maps' : ℕ → Map) : List PageChange → Type 0 where
-  Writes : (n : ℕ) (w : WritesPage maps maps' n) → heights' ≡ heights → IsMove heights heights' maps maps' (write_changes maps maps' n w)
-  Splits : (left right parent : ℕ) (s : SplitsPage left right parent) → heights' ≡ heights → maps' ≡ maps → IsMove heights heights' maps maps' (halves_changes left right parent s.halves)
-  Merges : (left right parent : ℕ) (m : MergesPages left right parent) → heights' ≡ heights → maps' ≡ maps → IsMove heights heights' maps maps' (taken_back (halves_changes left right parent m.halves))
-  Raises : (root under : ℕ) (s : TwoStoreys root under) → RisesAt root heights heights' → maps' ≡ maps → IsMove heights heights' maps maps' (storeys_changes root under s)
-  Lifts : (root under : ℕ) (s : TwoStoreys root under) → RisesAt root heights' heights → maps' ≡ maps → IsMove heights heights' maps maps' (taken_back (storeys_changes root under s))
-  Outside : (n : ℕ) (o : ChangesOutside n) → heights' ≡ heights → maps' ≡ maps → IsMove heights heights' maps maps' (outside_changes n o)
-  Rearrange : (n : ℕ) (r : Rearranges n) → heights' ≡ heights → maps' ≡ maps → IsMove heights heights' maps maps' (rearrange_changes n r)
+  Writes : (n : ℕ) (w : WritesPage maps maps' n) → heights' ≡ heights
+      → IsMove heights heights' maps maps' (write_changes maps maps' n w)
+  Splits : (left right parent : ℕ) (s : SplitsPage left right parent) → heights' ≡ heights → maps' ≡ maps
+      → IsMove heights heights' maps maps' (halves_changes left right parent s.halves)
+  Merges : (left right parent : ℕ) (m : MergesPages left right parent) → heights' ≡ heights → maps' ≡ maps
+      → IsMove heights heights' maps maps' (taken_back (halves_changes left right parent m.halves))
+  Raises : (root under : ℕ) (s : TwoStoreys root under) → RisesAt root heights heights' → maps' ≡ maps
+      → IsMove heights heights' maps maps' (storeys_changes root under s)
+  Lifts : (root under : ℕ) (s : TwoStoreys root under) → RisesAt root heights' heights → maps' ≡ maps
+      → IsMove heights heights' maps maps' (taken_back (storeys_changes root under s))
+  Outside : (n : ℕ) (o : ChangesOutside n) → heights' ≡ heights → maps' ≡ maps
+      → IsMove heights heights' maps maps' (outside_changes n o)
+  Rearrange : (n : ℕ) (r : Rearranges n) → heights' ≡ heights → maps' ≡ maps
+      → IsMove heights heights' maps maps' (rearrange_changes n r)
