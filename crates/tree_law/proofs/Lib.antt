@@ -24,6 +24,7 @@ pub mod StateLemmas
 pub mod PlacingLemmas
 pub mod FitLemmas
 pub mod WholeLemmas
+pub mod SiblingLemmas
 pub mod MoveLemmas
 pub mod HeldLemmas
 pub mod OpeningLemmas
