@@ -29,19 +29,19 @@ fn run(
     alloc: Global,
     rt: &HostRuntime,
     words: &[&str],
-    lane: &str,
+    files: [&str; 2],
     fails: Fails,
 ) -> Result<(Status, MemorySink), Fail> {
-    let mut files = Vec::new(alloc);
-    files.push((
+    let mut held = Vec::new(alloc);
+    held.push((
         String::from_str(alloc, "s")?,
-        SCHEMA.as_bytes().to_vec(alloc)?,
+        files[0].as_bytes().to_vec(alloc)?,
     ))?;
-    files.push((
+    held.push((
         String::from_str(alloc, "l")?,
-        lane.as_bytes().to_vec(alloc)?,
+        files[1].as_bytes().to_vec(alloc)?,
     ))?;
-    let mut shelf = MemoryShelf::new(files, [fails.load].to_vec(alloc)?);
+    let mut shelf = MemoryShelf::new(held, [fails.load].to_vec(alloc)?);
     let mut sink = MemorySink::with_room(alloc, 4096, [fails.put].to_vec(alloc)?)?;
     let mut given = Vec::new(alloc);
     for word in words {
@@ -67,10 +67,56 @@ fn a_lane_is_reported_byte_for_byte(rt: HostRuntime) -> Result<(), Fail> {
         ("del t a\n", "1 absent @0 - -\nchanges t 0\n"),
     ];
     for (lane, text) in rows {
-        let (status, sink) = run(alloc, &rt, &WORDS, lane, NONE)?;
+        let (status, sink) = run(alloc, &rt, &WORDS, [SCHEMA, lane], NONE)?;
         let report = format!(in alloc; "ahi run\nlane 1\n{text}{END}")?;
         assert_eq!(rt; status, Status::Done);
         assert_eq!(rt; sink.written(), report.as_bytes());
+    }
+    Ok(())
+}
+
+#[test]
+fn keys_of_two_fields_are_put_and_found(rt: HostRuntime) -> Result<(), Fail> {
+    let alloc = rt.alloc();
+    let lane = "put t ab,~ 1\nput t a,%00 2\nput t a,~ 3\nget t ab,~\nget t a,%00\nget t a,~\n";
+    let answers =
+        "1 ok @1 - -\n2 ok @2 - -\n3 ok @3 - -\n4 found 1 @3 - -\n5 found 2 @3 - -\n6 found 3 @3 - -\n";
+    let changes = "changes t 3\n1 1 1 put ab,~ 1\n2 1 2 put a,%00 2\n3 1 3 put a,~ 3\n";
+    let (status, sink) = run(alloc, &rt, &WORDS, ["index t 2\n", lane], NONE)?;
+    let report = format!(in alloc; "ahi run\nlane 1\n{answers}{changes}{END}")?;
+    assert_eq!(rt; status, Status::Done);
+    assert_eq!(rt; sink.written(), report.as_bytes());
+    Ok(())
+}
+
+/// How many bytes the first lines of a text have.
+fn length_of_lines(text: &[u8], lines: u64) -> usize {
+    let mut left = lines;
+    for (i, byte) in text.iter().enumerate() {
+        if left == 0 {
+            return i;
+        }
+        if *byte == b'\n' {
+            left -= 1;
+        }
+    }
+    text.len()
+}
+
+#[test]
+fn a_sink_that_fails_has_the_lines_before(rt: HostRuntime) -> Result<(), Fail> {
+    let alloc = rt.alloc();
+    let (status, whole) = run(alloc, &rt, &WORDS, [SCHEMA, LANE], NONE)?;
+    assert_eq!(rt; status, Status::Done);
+    for put in 0..11 {
+        let fails = Fails { load: 9, put };
+        let (status, sink) = run(alloc, &rt, &WORDS, [SCHEMA, LANE], fails)?;
+        assert_eq!(rt; status, Status::SinkFault);
+        let before = length_of_lines(whole.written(), put);
+        assert_eq!(rt;
+            sink.written(),
+            whole.written().get(..before).unwrap_or(&[])
+        );
     }
     Ok(())
 }
@@ -104,7 +150,7 @@ fn each_refusal_is_told(rt: HostRuntime) -> Result<(), Fail> {
         ("\n# a\nget t\n", NONE, Status::Script, "script 1 3 1\n"),
     ];
     for (lane, fails, wanted, text) in rows {
-        let (status, sink) = run(alloc, &rt, &WORDS, lane, fails)?;
+        let (status, sink) = run(alloc, &rt, &WORDS, [SCHEMA, lane], fails)?;
         assert_eq!(rt; status, wanted);
         assert_eq!(rt; sink.written(), text.as_bytes());
     }
@@ -124,7 +170,7 @@ fn words_are_judged_first(rt: HostRuntime) -> Result<(), Fail> {
         (&["Run", "s", "l"], Status::Usage, usage),
     ];
     for (words, wanted, text) in rows {
-        let (status, sink) = run(alloc, &rt, words, LANE, NONE)?;
+        let (status, sink) = run(alloc, &rt, words, [SCHEMA, LANE], NONE)?;
         assert_eq!(rt; status, wanted);
         assert_eq!(rt; sink.written(), text.as_bytes());
     }
