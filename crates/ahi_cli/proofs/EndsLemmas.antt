@@ -1,13 +1,15 @@
 -- How a call ends, from what its parts did.
-use Rattle.std.proofs.Common.{◌≡◌, ◌≢◌, ℕ, suc, ◌≤◌, Option, Some, Result, Ok, Err, List, [], ◌∷◌, length, refl, sym, subst, inl, inr}
-use Rattle.std.specs.List.{AllByRecursion, slice_get}
+use Rattle.std.proofs.Common.{◌≡◌, ◌≢◌, ℕ, suc, ◌≤◌, Option, Some, Result, Ok, Err, List, [], ◌∷◌, length, map, refl, sym, subst, inl, inr}
+use Rattle.std.specs.List.{AllByRecursion, slice_get, zip}
 use Rattle.std.specs.Option.{ForSome}
 use Rattle.io_port.specs.Sink.{Puts}
 use Rattle.map_history.specs.LegalReport.{Line}
+use Rattle.map_history.specs.Report.{Answer, Replied, LogFull, SpaceFull, Scanned, AnswerLine, IndexPart}
 use Rattle.map_history.specs.Spelling.{spell}
+use Rattle.map_history.specs.Statistics.{counts_of}
 use Rattle.script.specs.Schema.{SchemaText}
-use Rattle.one_lane.specs.OneLane.{Told, list_at, after_lines, opening, report_of, AreAskable}
-use Rattle.one_lane.proofs.SoFar.{SoFar}
+use Rattle.one_lane.specs.OneLane.{Told, list_at, after_lines, opening, part_of, report_of, AreAskable}
+use Rattle.one_lane.proofs.SoFar.{SoFar, IsPlain}
 use Rattle.one_lane.proofs.Fold.{ends}
 use Rattle.one_lane.proofs.Legal.{legal}
 use Rattle.ahi_cli.specs.declared.halt.Halt.{Halt}
@@ -17,7 +19,7 @@ use Rattle.ahi_cli.specs.declared.status.Status.TheVariants.{Done, Script, Usage
 use Rattle.ahi_cli.specs.declared.stop.Stop.{Stop}
 use Rattle.ahi_cli.specs.declared.stop.Stop.TheVariants as stop
 use Rattle.ahi_cli.specs.Entries.{AsksChange, IsChange, AreChanges}
-use Rattle.ahi_cli.specs.Ends.{Asked, Reports, Stops, IsDue, Ends, EndsWith, EndsRefused, ended}
+use Rattle.ahi_cli.specs.Ends.{Asked, HasDashes, Reports, Stops, IsDue, Ends, EndsWith, EndsRefused, ended}
 use Rattle.ahi_cli.specs.Files.{Spells, StopsReading}
 use Rattle.ahi_cli.specs.Prints.{Prints}
 use Rattle.ahi_cli.specs.Stops.{status_of, stop_text}
@@ -37,6 +39,22 @@ lists_are_changes most indexes lines askable =
     let s = ends most indexes lines askable in
     all_are_changes (after_lines most (opening indexes) lines).lists (λ i n line e. subst AsksChange (sym (s.made i n line e).asked) tt)
 
+-- the answers of a lane have dashes
+have_dashes : (answers : List AnswerLine) → AllByRecursion (λ (a : AnswerLine). IsPlain a.answer) answers → AllByRecursion (λ (a : AnswerLine). HasDashes a.answer) answers
+have_dashes [] all = tt
+have_dashes (a ∷ answers) all = (has_dashes a.answer all.0, have_dashes answers all.1)
+  where
+    has_dashes : (a : Answer) → IsPlain a → HasDashes a
+    has_dashes (Replied reply point columns) plain = plain
+    has_dashes (LogFull n columns) plain = plain
+    has_dashes (SpaceFull columns) plain = plain
+    has_dashes (Scanned pieces) plain = plain
+
+have_zeros : (names : List (List ℕ)) (lists : List (List Line)) → AllByRecursion (λ (part : IndexPart). part.counts ≡ counts_of []) (map part_of (zip names lists))
+have_zeros [] lists = tt
+have_zeros (n ∷ names) [] = tt
+have_zeros (n ∷ names) (lines ∷ lists) = (refl, have_zeros names lists)
+
 -- what the lane of two files is told is reported
 pub reports : (asked : Asked) (names : List ℕ × List ℕ) (schema : SchemaText) (lines : List Line) (count : ℕ) → length schema.names ≡ count → accepted asked.words ≡ Some names → ForSome asked.told (λ files. Spells files names.0 names.1 schema lines) → AreAskable count lines → Reports asked (spell (report_of schema.names (after_lines schema.sizes.max_changes (opening count) lines)))
 reports asked names schema lines count counted accepts spelled askable = record {
@@ -50,6 +68,10 @@ reports asked names schema lines count counted accepts spelled askable = record 
       report = report_of schema.names told;
       spelled = refl;
       legal = legal schema.sizes schema.names lines told so_far;
+    };
+    without_hash = record {
+      columns = (have_dashes told.answers so_far.plain, tt);
+      zeros = have_zeros schema.names told.lists;
     };
   };
 }

@@ -1,12 +1,15 @@
 -- How a call ends: the text that was due, and what of it was put.
-use Rattle.std.specs.Prelude.{ℕ, ◌≡◌, ◌≤◌, ◌⊎◌, List, Option, Some, None, Result, Ok, Err}
+use Rattle.std.specs.Prelude.{ℕ, ◌≡◌, ◌≤◌, ◌⊎◌, List, [], Option, Some, None, Result, Ok, Err}
 use Rattle.std.specs.Option.{ForSome}
+use Rattle.std.specs.List.{AllByRecursion}
 use Rattle.io_port.specs.Faults.{ShowsFault}
 use Rattle.io_port.specs.Shelf.{Files}
 use Rattle.io_port.specs.Sink.{Puts, PutsSome}
 use Rattle.map_history.specs.LegalReport.{Line, IsLegalBytes}
 use Rattle.script.specs.Schema.{SchemaText}
-use Rattle.one_lane.specs.OneLane.{run_of}
+use Rattle.map_history.specs.Report.{Answer, Replied, LogFull, SpaceFull, Scanned, AnswerLine, IndexPart, Report}
+use Rattle.map_history.specs.Statistics.{counts_of}
+use Rattle.one_lane.specs.OneLane.{run_of, dashes}
 use Rattle.ahi_cli.specs.declared.halt.Halt.{Halt}
 use Rattle.ahi_cli.specs.declared.halt.Halt.TheVariants as halt
 use Rattle.ahi_cli.specs.declared.status.Status.{Status}
@@ -23,12 +26,25 @@ pub record Asked : Type 0 where
   pub told : Option Files
   pub failures : Failures
 
+-- an answer that tells of no hash: both columns are dashes
+abbrev pub HasDashes : Answer → Type 0
+HasDashes (Replied reply point columns) = columns ≡ dashes
+HasDashes (LogFull n columns) = columns ≡ dashes
+HasDashes (SpaceFull columns) = ⊥
+HasDashes (Scanned pieces) = ⊥
+
+-- no column tells of a hash, and all statistics are 0
+pub record IsWithoutHash (report : Report) : Type 0 where
+  pub columns : AllByRecursion (AllByRecursion (λ (a : AnswerLine). HasDashes a.answer)) report.lanes
+  pub zeros : AllByRecursion (λ (part : IndexPart). part.counts ≡ counts_of []) report.indexes
+
 -- the bytes are a legal report of what the two files spell
 pub record IsReportOf (files : Files) (names : List ℕ × List ℕ) (bytes : List ℕ) : Type 0 where
   pub schema : SchemaText
   pub lines : List Line
   pub spelled : Spells files names.0 names.1 schema lines
   pub legal : IsLegalBytes (run_of schema.sizes schema.names lines) bytes
+  pub without_hash : IsWithoutHash legal.report
 
 -- the words are accepted with these names, and the files that are told are reported by the bytes
 pub record Reports (asked : Asked) (bytes : List ℕ) : Type 0 where
