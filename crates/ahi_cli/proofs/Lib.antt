@@ -4,3 +4,4 @@ pub mod LoopLemmas
 pub mod TextsLemmas
 pub mod SpellLemmas
 pub mod EndsLemmas
+pub mod LawLemmas

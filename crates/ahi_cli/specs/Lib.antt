@@ -5,3 +5,4 @@ pub mod Stops
 pub mod Files
 pub mod Entries
 pub mod Ends
+pub mod Law

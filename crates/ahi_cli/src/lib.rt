@@ -3,6 +3,7 @@
 
 mod files;
 mod halt;
+mod law;
 mod print;
 mod report;
 mod run;
@@ -12,5 +13,6 @@ mod stop;
 mod tests;
 mod words;
 
+pub use law::good_runs_are_done;
 pub use run::run_words;
 pub use status::Status;
