@@ -4,9 +4,11 @@ use io_port::{MemoryShelf, MemorySink};
 use std::alloc::Global;
 use std::test::Fail;
 
+mod generated;
+
 const SCHEMA: &str = "index t 1\n";
 
-const WORDS: [&str; 3] = ["run", "s", "l"];
+pub(crate) const WORDS: [&str; 3] = ["run", "s", "l"];
 
 /// The lane whose run has every kind of line.
 const LANE: &str = "put t a x\nget t a\ndel t a\nget t a\n";
@@ -17,20 +19,35 @@ const END: &str =
 
 /// The load and the put that are to fail, counted from 0.
 #[derive(Clone, Copy, Debug)]
-struct Fails {
+pub(crate) struct Fails {
     load: u64,
     put: u64,
 }
 
-const NONE: Fails = Fails { load: 9, put: 99 };
+pub(crate) const NONE: Fails = Fails {
+    load: 9,
+    put: 99_999,
+};
 
-/// Runs the words on a schema `s` and a lane `l`.
+/// Runs the words on a schema `s` and a lane `l`, with ample room for a short report.
 fn run(
     alloc: Global,
     rt: &HostRuntime,
     words: &[&str],
     files: [&str; 2],
     fails: Fails,
+) -> Result<(Status, MemorySink), Fail> {
+    run_within(alloc, rt, words, files, fails, 4096)
+}
+
+/// Runs the words on a schema `s` and a lane `l`, with this room for the report.
+pub(crate) fn run_within(
+    alloc: Global,
+    rt: &HostRuntime,
+    words: &[&str],
+    files: [&str; 2],
+    fails: Fails,
+    room: usize,
 ) -> Result<(Status, MemorySink), Fail> {
     let mut held = Vec::new(alloc);
     held.push((
@@ -42,7 +59,7 @@ fn run(
         files[1].as_bytes().to_vec(alloc)?,
     ))?;
     let mut shelf = MemoryShelf::new(held, [fails.load].to_vec(alloc)?);
-    let mut sink = MemorySink::with_room(alloc, 4096, [fails.put].to_vec(alloc)?)?;
+    let mut sink = MemorySink::with_room(alloc, room, [fails.put].to_vec(alloc)?)?;
     let mut given = Vec::new(alloc);
     for word in words {
         given.push(String::from_str(alloc, word)?)?;
