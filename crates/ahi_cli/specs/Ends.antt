@@ -56,6 +56,7 @@ pub record Reports (asked : Asked) (bytes : List ℕ) : Type 0 where
 abbrev pub StopsFiles : Asked → Stop → Type 0
 StopsFiles asked s = (names : List ℕ × List ℕ) × (accepted asked.words ≡ Some names) × StopsReading asked.told asked.failures names s
 
+-- the cause of a refusal
 abbrev pub Stops : Asked → Stop → Type 0
 Stops asked stop.Usage = accepted asked.words ≡ None
 Stops asked (stop.Script file line code) = StopsFiles asked (stop.Script file line code)

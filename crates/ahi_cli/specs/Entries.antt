@@ -15,9 +15,11 @@ AsksChange (Make c) = Unit {0}
 AsksChange (Seek mode tuple) = ⊥
 AsksChange (Scan from to limit) = ⊥
 
+-- a line that asks for a change
 abbrev pub IsChange : Line → Type 0
 IsChange line = AsksChange line.op.ask
 
+-- lines that all do
 abbrev pub AreChanges : List Line → Type 0
 AreChanges lines = AllByRecursion IsChange lines
 
@@ -35,9 +37,11 @@ joined (text ∷ texts) = text ++ joined texts
 abbrev pub first_line : List ℕ
 first_line = line_of (codes "ahi" ∷ codes "run" ∷ [])
 
+-- the line before the answers of the one lane
 abbrev pub lane_line : List ℕ
 lane_line = line_of (codes "lane" ∷ decimal 1 ∷ [])
 
+-- the last line of a report
 abbrev pub end_line : List ℕ
 end_line = line_of (codes "end" ∷ [])
 
@@ -45,6 +49,7 @@ end_line = line_of (codes "end" ∷ [])
 abbrev pub changes_line : List ℕ → List Line → List ℕ
 changes_line name lines = line_of (codes "changes" ∷ name ∷ decimal (length lines) ∷ [])
 
+-- the changes of an index, behind the line that counts them
 abbrev pub index_text : List ℕ × List Line → List ℕ
 index_text part = changes_line part.0 part.1 ++ joined (change_texts 0 part.1)
 

@@ -69,6 +69,7 @@ pub record RefusesLane (files : Files) (schema_name lane_name : List ℕ) (stop 
   pub schema_file : SpellsSchema files schema_name schema size
   pub lane_file : RefusesFile files lane_name (lane_stop size schema) stop
 
+-- one of the two files is refused so
 abbrev pub Refuses : Files → List ℕ → List ℕ → Stop → Type 0
 Refuses files schema_name lane_name stop = RefusesFile files schema_name schema_stop stop ⊎ RefusesLane files schema_name lane_name stop
 

@@ -11,6 +11,7 @@ use Rattle.ahi_cli.specs.declared.status.Status.TheVariants as status
 use Rattle.ahi_cli.specs.declared.stop.Stop.{Stop}
 use Rattle.ahi_cli.specs.declared.stop.Stop.TheVariants.{Usage, Script, Shelf, TooLarge, NoMemory}
 
+-- the status that a refusal ends the program with
 abbrev pub status_of : Stop → Status
 status_of Usage = status.Usage
 status_of (Script file line code) = status.Script
@@ -33,6 +34,7 @@ refused file (error.UnknownIndex line) = Script file line 2
 refused file (error.TooLong line) = Script file line 3
 refused file error.NoMemory = NoMemory
 
+-- the refusal in the outcome of a reading, if any
 abbrev pub stop_in : {A : Type 0} → ℕ → Result A ScriptError → Option Stop
 stop_in file (Ok x) = None
 stop_in file (Err e) = Some (refused file e)

@@ -18,6 +18,7 @@ use Rattle.one_lane.specs.OneLane.{changes_by, list_at, answer_to, list_after}
 abbrev pub lines_of : List (Bor Line) → List legal.Line
 lines_of lines = map (λ (l : Bor Line). line_text l.now) lines
 
+-- borrowed lines as the lines that they are, list by list
 abbrev pub lists_of : List (Vec (Bor Line) Global) → List (List legal.Line)
 lists_of lists = map (λ (v : Vec (Bor Line) Global). lines_of v.items) lists
 
@@ -25,6 +26,7 @@ lists_of lists = map (λ (v : Vec (Bor Line) Global). lines_of v.items) lists
 abbrev pub IsMapOf : BTreeMap Key (List ℕ) → Vec (Bor Line) Global → Type 0
 IsMapOf m list = pairs m ≡ map_after (changes_by (lines_of list.items))
 
+-- each map is that of the changes in its list
 abbrev pub AreMapsOf : List (BTreeMap Key (List ℕ)) → List (Vec (Bor Line) Global) → Type 0
 AreMapsOf maps lists = AllZip IsMapOf maps lists
 

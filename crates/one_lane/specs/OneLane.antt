@@ -22,10 +22,11 @@ change_in (Make c) = c
 change_in (Seek mode tuple) = Del tuple
 change_in (Scan from to limit) = Del from
 
--- the lines that changed an index, as its changes and as the entries of its list
+-- the lines that changed an index, as its changes
 abbrev pub changes_by : List Line → List MapChange
 changes_by lines = map (λ (l : Line). change_in l.op.ask) lines
 
+-- a line as the entry of its change
 abbrev pub entry_of : Line → ChangeLine
 entry_of l = record { lane = 1; line = l.line; change = change_in l.op.ask }
 
@@ -43,6 +44,7 @@ abbrev pub answer_by : ℕ → ℕ → MapReply → Answer
 answer_by most n Done = if n == most then LogFull n dashes else Replied Done (n + 1) dashes
 answer_by most n reply = Replied reply n dashes
 
+-- what a line is told, behind the lines that changed its index
 abbrev pub answer_to : ℕ → List Line → Ask → Answer
 answer_to most list ask = answer_by most (length list) (reply_of (map_after (changes_by list)) ask)
 
@@ -60,6 +62,7 @@ after_line most told line =
       lists = slice_set told.lists line.op.index (list_after answer (list_at told.lists line.op.index) line);
     }
 
+-- and so line after line
 abbrev pub after_lines : ℕ → Told → List Line → Told
 after_lines most told [] = told
 after_lines most told (l ∷ ls) = after_lines most (after_line most told l) ls
@@ -68,23 +71,27 @@ after_lines most told (l ∷ ls) = after_lines most (after_line most told l) ls
 abbrev pub opening : ℕ → Told
 opening indexes = record { answers = []; lists = replicate indexes [] }
 
--- an operation on one of so many indexes that has a reply
+-- what is asked has a reply of a map: it is no scan
 abbrev pub HasReply : Ask → Type 0
 HasReply (Scan from to limit) = ⊥
 HasReply ask = Unit {0}
 
+-- a line of one of so many indexes, whose operation has a reply
 abbrev pub IsAskable : ℕ → Line → Type 0
 IsAskable indexes line = (line.op.index < indexes) × HasReply line.op.ask
 
+-- lines that all are
 abbrev pub AreAskable : ℕ → List Line → Type 0
 AreAskable indexes lines = AllByRecursion (IsAskable indexes) lines
 
--- the run of one lane, and its report
+-- the run of one lane
 abbrev pub run_of : Sizes → List (List ℕ) → List Line → Run
 run_of sizes names lines = record { sizes = sizes; names = names; lanes = lines ∷ [] }
 
+-- an index's part of the report: its name, its entries, and statistics that count nothing
 abbrev pub part_of : List ℕ × List Line → IndexPart
 part_of part = record { name = part.0; entries = map entry_of part.1; counts = counts_of [] }
 
+-- the report of the one lane over indexes of these names
 abbrev pub report_of : List (List ℕ) → Told → Report
 report_of names told = record { lanes = told.answers ∷ []; indexes = map part_of (zip names told.lists) }

@@ -8,13 +8,15 @@ use Rattle.map_history.specs.Report.{ScanPiece, Scanned, AnswerLine, ChangeLine}
 use Rattle.map_history.specs.LegalReport.{Line}
 use Rattle.report_examples.specs.Samples.{dashes, line, told, made}
 
--- the keys `ab,~`, `a,%00` and `a,~`
+-- the key of the field ab and an empty field
 abbrev pub ab : FieldList
 ab = codes "ab" ∷ [] ∷ []
 
+-- the key of the field a and a field of one zero byte
 abbrev pub a_zero : FieldList
 a_zero = codes "a" ∷ (0 ∷ []) ∷ []
 
+-- the key of the field a and an empty field
 abbrev pub a_empty : FieldList
 a_empty = codes "a" ∷ [] ∷ []
 
@@ -22,13 +24,15 @@ a_empty = codes "a" ∷ [] ∷ []
 abbrev pub three_puts : List MapChange
 three_puts = Put ab (codes "1") ∷ Put a_zero (codes "2") ∷ Put a_empty (codes "3") ∷ []
 
--- their rows
+-- the first row in the order of keys
 abbrev pub first_row : Pair
 first_row = record { key = a_empty; value = codes "3" }
 
+-- the second row in the order of keys
 abbrev pub middle_row : Pair
 middle_row = record { key = a_zero; value = codes "2" }
 
+-- the last row in the order of keys
 abbrev pub last_row : Pair
 last_row = record { key = ab; value = codes "1" }
 
@@ -36,6 +40,7 @@ last_row = record { key = ab; value = codes "1" }
 abbrev pub puts_and_scan : List Line
 puts_and_scan = line 1 (Make (Put ab (codes "1"))) ∷ line 2 (Make (Put a_zero (codes "2"))) ∷ line 3 (Make (Put a_empty (codes "3"))) ∷ line 4 (Scan [] None 9) ∷ []
 
+-- the changes of the three puts
 abbrev pub puts_made : List ChangeLine
 puts_made = made 1 (Put ab (codes "1")) ∷ made 2 (Put a_zero (codes "2")) ∷ made 3 (Put a_empty (codes "3")) ∷ []
 
@@ -47,22 +52,27 @@ puts_and_scan_told pieces = told 1 Done 1 ∷ told 2 Done 2 ∷ told 3 Done 3 �
 abbrev pub piece : Map → ScanPiece
 piece rows = record { point = 3; rows = rows; columns = dashes }
 
+-- all three rows in one piece
 abbrev pub in_one_piece : List ScanPiece
 in_one_piece = piece (first_row ∷ middle_row ∷ last_row ∷ []) ∷ []
 
+-- the first two rows, and then the last
 abbrev pub in_two_pieces : List ScanPiece
 in_two_pieces = piece (first_row ∷ []) ∷ piece (middle_row ∷ last_row ∷ []) ∷ []
 
--- a row is left out, or stands twice, or the pieces stand the other way round
+-- the middle row is left out
 abbrev pub row_left_out : List ScanPiece
 row_left_out = piece (first_row ∷ last_row ∷ []) ∷ []
 
+-- the last row is left out
 abbrev pub last_left_out : List ScanPiece
 last_left_out = piece (first_row ∷ middle_row ∷ []) ∷ []
 
+-- the second row stands in both pieces
 abbrev pub row_twice : List ScanPiece
 row_twice = piece (first_row ∷ middle_row ∷ []) ∷ piece (middle_row ∷ last_row ∷ []) ∷ []
 
+-- the piece of the last row comes first
 abbrev pub other_way_round : List ScanPiece
 other_way_round = piece (middle_row ∷ last_row ∷ []) ∷ piece (first_row ∷ []) ∷ []
 
