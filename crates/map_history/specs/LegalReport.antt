@@ -33,6 +33,7 @@ may_reply (Seek mode tuple) (Row k v) = true
 may_reply (Seek mode tuple) Absent = true
 may_reply ask reply = false
 
+-- an operation may have such an answer
 abbrev pub has_form : Ask → Answer → Bool
 has_form ask (Replied reply point columns) = may_reply ask reply
 has_form (Make c) (LogFull n columns) = true
@@ -53,9 +54,11 @@ columns_of (LogFull n columns) = columns ∷ []
 columns_of (SpaceFull columns) = columns ∷ []
 columns_of (Scanned pieces) = map (λ (p : ScanPiece). p.columns) pieces
 
+-- the columns of an index in a lane
 abbrev pub columns_in : ℕ → List (Line × AnswerLine) → List Columns
 columns_in i pairs = flat_map (λ (x : Line × AnswerLine). if x.0.op.index == i then columns_of x.1.answer else []) pairs
 
+-- and in all lanes
 abbrev pub columns_at : Run → Report → ℕ → List Columns
 columns_at run report i = flat_map (λ (x : List Line × List AnswerLine). columns_in i (zip x.0 x.1)) (zip run.lanes report.lanes)
 
@@ -103,24 +106,28 @@ pub record RepliesAt (changes : List MapChange) (ask : Ask) (point : ℕ) (reply
   pub within : point ≤ length changes
   pub reply_is : reply_of (map_after (take point changes)) ask ≡ reply
 
+-- of all lines that are answered so
 abbrev pub HasReplies : Run → Report → Type 0
 HasReplies run report = (lane place : ℕ) (line : Line) (reply : MapReply) (point : ℕ) (columns : Columns) → IsAnswered run report lane place line (Replied reply point columns) → reply ≢ Done → RepliesAt (changes_at report line.op.index) line.op.ask point reply
 
--- the points of an answer, and whether one is that of a change
+-- a point that a lane was told, and by how much the list rose there
 pub record Mark : Type 0 where
   pub point : ℕ
   pub grows : ℕ
 
+-- by how much a reply raises the list: a change that was made, by one
 abbrev pub is_done : MapReply → ℕ
 is_done Done = 1
 is_done reply = 0
 
+-- the marks of an answer, one for each point that it tells
 abbrev pub marks_of : Answer → List Mark
 marks_of (Replied reply point columns) = record { point = point; grows = is_done reply } ∷ []
 marks_of (LogFull n columns) = record { point = n; grows = 0 } ∷ []
 marks_of (SpaceFull columns) = []
 marks_of (Scanned pieces) = map (λ (p : ScanPiece). record { point = p.point; grows = 0 }) pieces
 
+-- the marks of an index in a lane, in their order
 abbrev pub marks_in : ℕ → List (Line × AnswerLine) → List Mark
 marks_in i pairs = flat_map (λ (x : Line × AnswerLine). if x.0.op.index == i then marks_of x.1.answer else []) pairs
 

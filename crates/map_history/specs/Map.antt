@@ -49,6 +49,7 @@ key_of (Put k v) = k
 key_of (Set k v) = k
 key_of (Del k) = k
 
+-- the value that a change leaves at its key, if any
 abbrev pub value_of : MapChange → Option (List ℕ)
 value_of (Put k v) = Some v
 value_of (Set k v) = Some v
@@ -64,11 +65,12 @@ is_allowed m (Del k) = is_some (value_at k m)
 abbrev pub after_change : Map → MapChange → Map
 after_change m c = if is_allowed m c then write (key_of c) (value_of c) m else m
 
--- a map after some changes, one after another, and what they make of the empty map
+-- a map after some changes, one after another
 abbrev pub after_changes : Map → List MapChange → Map
 after_changes m [] = m
 after_changes m (c ∷ cs) = after_changes (after_change m c) cs
 
+-- what changes make of the empty map
 abbrev pub map_after : List MapChange → Map
 map_after cs = after_changes [] cs
 

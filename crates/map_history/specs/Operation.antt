@@ -32,6 +32,7 @@ operation_of (op.Del index key) = record { index = index; ask = Make (map.Del ke
 operation_of (op.Seek index mode tuple) = record { index = index; ask = Seek mode tuple }
 operation_of (op.Scan index from to limit) = record { index = index; ask = Scan from to limit }
 
+-- and what a lent one asks
 abbrev pub operation_by : OpRef → Operation
 operation_by (by.Get index key) = record { index = index; ask = Get key.now.tuple }
 operation_by (by.Put index key value) = record { index = index; ask = Make (map.Put key.now.tuple value.now) }

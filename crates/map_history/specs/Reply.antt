@@ -14,15 +14,17 @@ pub data MapReply : Type 0 where
   Absent : MapReply
   Duplicate : MapReply
 
--- the first row that the cut lets pass, and the last that it doesn't
+-- the first row that the cut lets pass
 abbrev pub first_after : (Place → Bool) → Map → Option Pair
 first_after p [] = None
 first_after p (x ∷ xs) = if p (At x.key) then Some x else first_after p xs
 
+-- the first of two that is there
 abbrev pub or_else : Option Pair → Option Pair → Option Pair
 or_else None o = o
 or_else (Some x) o = Some x
 
+-- the last row that the cut doesn't let pass
 abbrev pub last_before : (Place → Bool) → Map → Option Pair
 last_before p [] = None
 last_before p (x ∷ xs) = or_else (last_before p xs) (if p (At x.key) then None else Some x)
@@ -31,10 +33,12 @@ last_before p (x ∷ xs) = or_else (last_before p xs) (if p (At x.key) then None
 abbrev pub sought : Mode → FieldList → Map → Option Pair
 sought mode tuple m = if looks_ahead mode then first_after (cut_of mode tuple) m else last_before (cut_of mode tuple) m
 
+-- the reply to a get, by what the map has at the key
 abbrev pub value_reply : Option (List ℕ) → MapReply
 value_reply None = Absent
 value_reply (Some v) = Value v
 
+-- the reply to a seek, by the row that is sought
 abbrev pub row_reply : Option Pair → MapReply
 row_reply None = Absent
 row_reply (Some row) = Row row.key row.value

@@ -42,17 +42,20 @@ pub record IndexPart : Type 0 where
   pub entries : List ChangeLine
   pub counts : Counts
 
+-- a report: the answers lane by lane, and the part of each index
 pub record Report : Type 0 where
   pub lanes : List (List AnswerLine)
   pub indexes : List IndexPart
 
+-- the entries of a part, if there is one
 abbrev pub entries_in : Option IndexPart → List ChangeLine
 entries_in None = []
 entries_in (Some part) = part.entries
 
--- the entries and the changes of an index
+-- the entries of an index
 abbrev pub entries_at : Report → ℕ → List ChangeLine
 entries_at report i = entries_in (slice_get report.indexes i)
 
+-- the changes of an index
 abbrev pub changes_at : Report → ℕ → List MapChange
 changes_at report i = map (λ (e : ChangeLine). e.change) (entries_at report i)

@@ -16,13 +16,15 @@ abbrev pub first_place : Map → Place
 first_place [] = End
 first_place (row ∷ rows) = At row.key
 
+-- the lower of two places
 abbrev pub lesser : Place → Place → Place
 lesser x y = if before y x then y else x
 
--- the rows from FROM on, those of them that stand after all rows of a piece
+-- the rows from FROM on
 abbrev pub rows_from : FieldList → Map → Map
 rows_from from m = filter (λ (row : Pair). not_below from (At row.key)) m
 
+-- those rows of a map that stand after all of some rows
 abbrev pub rows_past : Map → Map → Map
 rows_past rows m = filter (λ (next : Pair). list_all (λ (row : Pair). before (At row.key) (At next.key)) rows) m
 

@@ -16,13 +16,15 @@ reply_words Done = codes "ok" ∷ []
 reply_words Absent = codes "absent" ∷ []
 reply_words Duplicate = codes "duplicate" ∷ []
 
+-- the words of the two columns
 abbrev pub column_words : Columns → List (List ℕ)
 column_words c = how_text c.how ∷ note_text c.note ∷ []
 
--- a row that a scan prints, and a piece with its rows
+-- the line of a row that a scan prints
 abbrev pub row_line : Pair → List ℕ
 row_line row = line_of (codes "row" ∷ key_text row.key ∷ field_text row.value ∷ [])
 
+-- the lines of a piece: its own and those of its rows
 abbrev pub piece_lines : ScanPiece → List ℕ
 piece_lines piece =
     line_of (codes "piece" ∷ point_text piece.point ∷ decimal (length piece.rows) ∷ column_words piece.columns)

@@ -24,6 +24,7 @@ how_number how.ByBusy = 11
 how_number how.ByMoved = 12
 how_number how.ByLast = 13
 
+-- a number for each word of the second column
 abbrev pub note_number : Note → ℕ
 note_number note.Dash = 0
 note_number note.No = 1
@@ -33,9 +34,11 @@ note_number note.Arena = 4
 note_number note.Raced = 5
 note_number note.Worn = 6
 
+-- how often a word stands in the first column
 abbrev pub times_how : How → List Columns → ℕ
 times_how word columns = count_by (λ (c : Columns). how_number c.how == how_number word) columns
 
+-- how often a word stands in the second column
 abbrev pub times_note : Note → List Columns → ℕ
 times_note word columns = count_by (λ (c : Columns). note_number c.note == note_number word) columns
 

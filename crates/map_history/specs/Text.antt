@@ -54,6 +54,7 @@ how_text how.ByBusy = codes "by-busy"
 how_text how.ByMoved = codes "by-moved"
 how_text how.ByLast = codes "by-last"
 
+-- the word of the second column
 abbrev pub note_text : Note → List ℕ
 note_text note.Dash = codes "-"
 note_text note.No = codes "no"

@@ -27,9 +27,11 @@ said ask (word.LogFull n) row = None
 abbrev pub Says : Map → Ask → Reply → Pair → Type 0
 Says m ask reply row = said ask reply row ≡ Some (reply_of m ask)
 
+-- the two columns of what was told
 abbrev pub columns_told : Told → Columns
 columns_told told = record { how = told.how; note = told.note }
 
+-- the answer of a reply at a point, if there are both
 abbrev pub replied_at : Option MapReply → Option ℕ → Columns → Option Answer
 replied_at (Some reply) (Some point) columns = Some (Replied reply point columns)
 replied_at reply point columns = None

@@ -45,6 +45,26 @@ fn ask(map: &mut BTreeMap<Key, Value>, op: Op, out: &mut RowBuf) -> Result<Reply
     Ok(reply)
 }
 
+/// An operation on the key `a` of the index 0.
+fn op_of(rt: &impl Abort, alloc: Global, word: &str, bytes: &[u8]) -> Result<Op, Fail> {
+    let key = key_of(rt, alloc, &[b"a"])?;
+    let value = value_of(alloc, bytes)?;
+    Ok(match word {
+        "put" => Op::Put {
+            index: 0,
+            key,
+            value,
+        },
+        "set" => Op::Set {
+            index: 0,
+            key,
+            value,
+        },
+        "del" => Op::Del { index: 0, key },
+        _ => Op::Get { index: 0, key },
+    })
+}
+
 #[test]
 fn a_row_is_put_read_and_taken_out(rt: HostRuntime) -> Result<(), Fail> {
     let alloc = rt.alloc();
@@ -62,45 +82,61 @@ fn a_row_is_put_read_and_taken_out(rt: HostRuntime) -> Result<(), Fail> {
         ("set", b"z", Reply::Absent, b"y"),
     ];
     for (word, bytes, want, left) in table {
-        let key = key_of(&rt, alloc, &[b"a"])?;
-        let value = value_of(alloc, bytes)?;
-        let op = match word {
-            "put" => Op::Put {
-                index: 0,
-                key,
-                value,
-            },
-            "set" => Op::Set {
-                index: 0,
-                key,
-                value,
-            },
-            "del" => Op::Del { index: 0, key },
-            _ => Op::Get { index: 0, key },
-        };
-        assert_eq!(rt; ask(&mut map, op, &mut out)?, want, "{word}");
-        assert_eq!(rt; out.value(), left, "{word}");
+        let op = op_of(&rt, alloc, word, bytes)?;
+        assert_eq!(rt; ask(&mut map, op, &mut out)?, want);
+        assert_eq!(rt; out.value(), left);
     }
     assert!(rt; map.is_empty());
     Ok(())
 }
 
+/// Puts a row with the key (a, second, third).
+fn put_row(
+    rt: &impl Abort,
+    alloc: Global,
+    map: &mut BTreeMap<Key, Value>,
+    fields: [&[u8]; 2],
+    value: &[u8],
+) -> Result<(), Fail> {
+    let key = key_of(rt, alloc, &[b"a", fields[0], fields[1]])?;
+    let value = value_of(alloc, value)?;
+    apply(map, &Change::Put { key, value })?;
+    Ok(())
+}
+
+fn four_rows(rt: &impl Abort, alloc: Global) -> Result<BTreeMap<Key, Value>, Fail> {
+    let mut map = BTreeMap::new(alloc);
+    put_row(rt, alloc, &mut map, [b"y", b"2"], b"s")?;
+    put_row(rt, alloc, &mut map, [b"x", b"1"], b"p")?;
+    put_row(rt, alloc, &mut map, [b"y", b"1"], b"r")?;
+    put_row(rt, alloc, &mut map, [b"x", b"2"], b"q")?;
+    Ok(map)
+}
+
+/// The value of the row that a seek finds, or none.
+fn sought(
+    alloc: Global,
+    map: &mut BTreeMap<Key, Value>,
+    mode: Mode,
+    parts: &[&[u8]],
+) -> Result<Vec<u8>, Fail> {
+    let mut out = RowBuf::new(alloc)?;
+    let tuple = Tuple::try_new(alloc, owned(alloc, parts)?)?;
+    let op = Op::Seek {
+        index: 0,
+        mode,
+        tuple,
+    };
+    match ask(map, op, &mut out)? {
+        Reply::Found => Ok(out.value().to_vec(alloc)?),
+        _ => Ok(Vec::new(alloc)),
+    }
+}
+
 #[test]
 fn seeks_find_the_rows_at_their_cuts(rt: HostRuntime) -> Result<(), Fail> {
     let alloc = rt.alloc();
-    let mut map = BTreeMap::new(alloc);
-    let mut out = RowBuf::new(alloc)?;
-    let rows: [(&[u8], &[u8], &[u8]); 4] = [
-        (b"y", b"2", b"s"),
-        (b"x", b"1", b"p"),
-        (b"y", b"1", b"r"),
-        (b"x", b"2", b"q"),
-    ];
-    for (second, third, value) in rows {
-        let key = key_of(&rt, alloc, &[b"a", second, third])?;
-        let value = value_of(alloc, value)?;
-        apply(&mut map, &Change::Put { key, value })?;
-    }
+    let mut map = four_rows(&rt, alloc)?;
     let table: [(Mode, &[&[u8]], &[u8]); 9] = [
         (Mode::Ge, &[b"a", b"y"], b"r"),
         (Mode::Ge, &[b"a"], b"p"),
@@ -113,19 +149,8 @@ fn seeks_find_the_rows_at_their_cuts(rt: HostRuntime) -> Result<(), Fail> {
         (Mode::L, &[b"a"], b""),
     ];
     for (mode, parts, value) in table {
-        let tuple = Tuple::try_new(alloc, owned(alloc, parts)?)?;
-        let op = Op::Seek {
-            index: 0,
-            mode,
-            tuple,
-        };
-        let reply = ask(&mut map, op, &mut out)?;
-        if value.is_empty() {
-            assert_eq!(rt; reply, Reply::Absent, "{mode:?} {parts:?}");
-        } else {
-            assert_eq!(rt; reply, Reply::Found, "{mode:?} {parts:?}");
-            assert_eq!(rt; out.value(), value, "{mode:?} {parts:?}");
-        }
+        let found = sought(alloc, &mut map, mode, parts)?;
+        assert_eq!(rt; found.as_slice(), value);
     }
     Ok(())
 }

@@ -22,12 +22,13 @@ says_nothing (b ∷ bytes) = b == 35
 abbrev pub words_of : List ℕ → List (List ℕ)
 words_of line = slice_split (λ (b : ℕ). b == 32) line
 
--- the one word, or the two words, that there are
+-- the word, if there is just one
 abbrev pub only : List (List ℕ) → Option (List ℕ)
 only [] = None
 only (a ∷ []) = Some a
 only (a ∷ b ∷ words) = None
 
+-- the two words, if there are just two
 abbrev pub both : List (List ℕ) → Option (List ℕ × List ℕ)
 both [] = None
 both (a ∷ []) = None
@@ -38,30 +39,35 @@ both (a ∷ b ∷ c ∷ words) = None
 abbrev pub is_from : ℕ → ℕ → ℕ → Bool
 is_from low high b = nat_le low b && nat_le b high
 
--- a name has 1 to 32 bytes of `a` to `z`, `0` to `9` and `_`, and begins with a letter
+-- a letter, `a` to `z`
 abbrev pub is_letter : ℕ → Bool
 is_letter b = is_from 97 122 b
 
+-- a byte of a name: a letter, `0` to `9` or `_`
 abbrev pub is_name_byte : ℕ → Bool
 is_name_byte b = is_letter b || is_from 48 57 b || (b == 95)
 
+-- a name has 1 to 32 such bytes and begins with a letter
 abbrev pub is_name : List ℕ → Bool
 is_name [] = false
 is_name (b ∷ bytes) = is_letter b && nat_lt (length bytes) MAX_NAME_BYTES && list_all is_name_byte bytes
 
--- a number is written in decimal digits, without a leading zero unless it is `0`, and is below 2^32
+-- a decimal digit
 abbrev pub is_digit : ℕ → Bool
 is_digit b = is_from 48 57 b
 
+-- decimal digits, without a leading zero unless the number is 0
 abbrev pub is_numeral : List ℕ → Bool
 is_numeral [] = false
 is_numeral (b ∷ []) = is_digit b
 is_numeral (b ∷ c ∷ word) = is_digit b && not (b == 48) && list_all is_digit (c ∷ word)
 
+-- what digits make of the number before them
 abbrev pub decimal_from : ℕ → List ℕ → ℕ
 decimal_from n [] = n
 decimal_from n (b ∷ word) = decimal_from (n * 10 + (b - 48)) word
 
+-- the number that a word writes, below 2^32
 abbrev pub number_of : List ℕ → Option ℕ
 number_of word = if is_numeral word && nat_lt (decimal_from 0 word) (2 ^ 32) then Some (decimal_from 0 word) else None
 
@@ -99,6 +105,7 @@ is_tilde [] = false
 is_tilde (a ∷ []) = a == 126
 is_tilde (a ∷ b ∷ text) = false
 
+-- the bytes of a field or a value: none for `~`
 abbrev pub field_of : List ℕ → Option (List ℕ)
 field_of [] = None
 field_of (a ∷ text) = if is_tilde (a ∷ text) then Some [] else bytes_of (a ∷ text)
@@ -117,12 +124,14 @@ abbrev pub exactly : ℕ → Option FieldList → Option FieldList
 exactly n None = None
 exactly n (Some fields) = if length fields == n then Some fields else None
 
+-- the key that a word writes, of an index with so many fields
 abbrev pub key_of : ℕ → List ℕ → Option FieldList
 key_of n word = exactly n (tuple_of word)
 
--- a key, and a value, within their limits
+-- a key within its limit
 abbrev pub short_key : FieldList → Result FieldList Flaw
 short_key fields = if nat_lt MAX_KEY_BYTES (byte_count fields) then Err TooLong else Ok fields
 
+-- a value within its limit
 abbrev pub short_value : List ℕ → Result (List ℕ) Flaw
 short_value bytes = if nat_lt MAX_VALUE_BYTES (length bytes) then Err TooLong else Ok bytes

@@ -20,6 +20,7 @@ use Rattle.script.specs.Schema.{SchemaText, index_of}
 abbrev pub verbs : List (List ℕ × Verb)
 verbs = (codes "get", verb.Get) ∷ (codes "put", verb.Put) ∷ (codes "del", verb.Del) ∷ []
 
+-- the operation that a word names
 abbrev pub verb_of : List ℕ → Option Verb
 verb_of word = lookup (λ (known : List ℕ). bytes_eq word known) verbs
 

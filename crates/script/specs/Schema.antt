@@ -24,6 +24,7 @@ pub record SchemaText : Type 0 where
 abbrev pub entries : List (List ℕ × Entry)
 entries = (codes "index", Index) ∷ []
 
+-- the entry that a word begins
 abbrev pub entry_of : List ℕ → Option Entry
 entry_of word = lookup (λ (known : List ℕ). bytes_eq word known) entries
 
@@ -54,6 +55,7 @@ index_line s parts = do
 abbrev pub after_entry : Entry → SchemaText → List (List ℕ) → Result SchemaText Flaw
 after_entry Index s parts = index_line s parts
 
+-- what the words of a line make of a schema
 abbrev pub after_words : SchemaText → List (List ℕ) → Result SchemaText Flaw
 after_words s [] = Err BadLine
 after_words s (word ∷ parts) = or_bad (entry_of word) >>= λ (entry : Entry). after_entry entry s parts

@@ -23,6 +23,7 @@ at_line n flaw.BadLine = error.BadLine n
 at_line n flaw.UnknownIndex = error.UnknownIndex n
 at_line n flaw.TooLong = error.TooLong n
 
+-- the error of a file, by that of its line
 abbrev pub error_at : ℕ → Refusal → ScriptError
 error_at n refusal.NoMemory = error.NoMemory
 error_at n (refusal.Flawed f) = at_line n f
@@ -32,11 +33,12 @@ abbrev pub numbered : {A : Type 0} → ℕ → Result A Flaw → Result A Script
 numbered n (Ok x) = Ok x
 numbered n (Err f) = Err (at_line n f)
 
--- the program's answer for a line, seen by `view`, is what is read, unless memory ran out
+-- what is read is that refusal, unless memory ran out
 abbrev pub Fails : {Y : Type 0} → Refusal → Result Y Flaw → Type 0
 Fails refusal.NoMemory read = Unit {0}
 Fails (refusal.Flawed f) read = read ≡ Err f
 
+-- the program's answer for a line, seen by `view`, is what is read, unless memory ran out
 abbrev pub Gives : {X Y : Type 0} → (X → Y) → Result X Refusal → Result Y Flaw → Type 0
 Gives view (Ok x) read = read ≡ Ok (view x)
 Gives view (Err e) read = Fails e read
@@ -46,11 +48,12 @@ abbrev pub Leaves : {X Y : Type 0} → Result X Refusal → Result Y Flaw → Y 
 Leaves (Ok x) read new = read ≡ Ok new
 Leaves (Err e) read new = Fails e read
 
--- the same of the program's answer for a file
+-- the same of the error of a file
 abbrev pub FailsWhole : {Y : Type 0} → ScriptError → Result Y ScriptError → Type 0
 FailsWhole error.NoMemory read = Unit {0}
 FailsWhole e read = read ≡ Err e
 
+-- the program's answer for a file, seen by `view`, is what is read, unless memory ran out
 abbrev pub GivesWhole : {X Y : Type 0} → (X → Y) → Result X ScriptError → Result Y ScriptError → Type 0
 GivesWhole view (Ok x) read = read ≡ Ok (view x)
 GivesWhole view (Err e) read = FailsWhole e read

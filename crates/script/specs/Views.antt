@@ -20,5 +20,6 @@ schema_text s = record { sizes = s.sizes; names = map string_bytes s.names.items
 abbrev pub line_text : Line → history.Line
 line_text l = record { line = l.line; op = operation_of l.op }
 
+-- lines with their operations
 abbrev pub line_texts : List Line → List history.Line
 line_texts lines = map line_text lines

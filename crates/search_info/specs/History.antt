@@ -23,6 +23,7 @@ pub record IsStart (s : Start) : Type 0 where
   pub few : s.1 ≤ MAX_FIELDS
   pub info : IsInfoOf s.1 s.0
 
+-- each index has such a start
 abbrev pub AreStarts : List Start → Type 0
 AreStarts starts = (i : ℕ) (s : Start) → get_elem? starts i ≡ some s → IsStart s
 

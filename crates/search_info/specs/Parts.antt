@@ -4,10 +4,11 @@ use Rattle.search_info.specs.declared.knows.Entry.{Entry}
 use Rattle.search_info.specs.declared.knows.Knows.{Knows}
 use Rattle.search_info.specs.declared.knows.Try.{Try}
 
--- the tries with numbers below n, and the others
+-- the tries with numbers below n
 abbrev pub tries_below : ℕ → List Try → List Try
 tries_below n tries = filter (λ q. nat_lt q.by n) tries
 
+-- the tries with numbers from n on
 abbrev pub tries_from : ℕ → List Try → List Try
 tries_from n tries = filter (λ q. not (nat_lt q.by n)) tries
 
@@ -17,6 +18,7 @@ longer [] ys = ys
 longer (x ∷ xs) [] = x ∷ xs
 longer (x ∷ xs) (y ∷ ys) = (if nat_lt (length x) (length y) then y else x) ∷ longer xs ys
 
+-- the number at which a pass is split
 abbrev pub middle : Knows → ℕ
 middle v = v.low + (v.end - v.low) / 2
 

@@ -14,6 +14,7 @@ use Rattle.search_info.specs.declared.knows.Try.{Try}
 use Rattle.search_info.specs.declared.law.Settings.{Settings}
 use Rattle.search_info.specs.History.{Start, History, IsEntry, IsBeginning, WasKnown, IsHistory, known_after}
 
+-- what the settings of the table open with
 abbrev pub opening_of : Settings → Opening
 opening_of t = record { starts = t.starts.items; passes = t.passes }
 
@@ -21,6 +22,7 @@ opening_of t = record { starts = t.starts.items; passes = t.passes }
 abbrev pub first_knows : Opening → Knows
 first_knows o = record { opening = o; low = 0; end = o.passes; seen = replicate (length o.starts) []; tries = [] }
 
+-- and so by the settings of the table
 abbrev pub first_view : Settings → Knows
 first_view t = first_knows (opening_of t)
 
@@ -28,6 +30,7 @@ first_view t = first_knows (opening_of t)
 abbrev pub first_words : List Start → List ℕ
 first_words starts = map (λ s. word_of s.0) starts ++ 0 ∷ []
 
+-- the try was counted
 abbrev pub is_counted : Fate → Bool
 is_counted (Counted place) = true
 is_counted (Raced read found) = false
@@ -52,9 +55,11 @@ IsSoBy starts lists q (Counted place) = IsEntry lists q.index place record { eve
 IsSoBy starts lists q (Raced read found) = WasKnown starts lists q.index read × WasKnown starts lists q.index found × (read ≢ found)
 IsSoBy starts lists q Worn = (info : Info) × WasKnown starts lists q.index info × (info.events ≡ 4294967295)
 
+-- a try is so, with its own fate
 abbrev pub IsSo : List Start → History → Try → Type 0
 IsSo starts lists q = IsSoBy starts lists q q.fate
 
+-- the try that an entry at a place is
 abbrev pub counted_try : ℕ → ℕ → Entry → Try
 counted_try i n e = record { index = i; event = e.event; by = e.by; fate = Counted n }
 

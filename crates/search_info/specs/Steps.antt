@@ -31,6 +31,7 @@ pub record KeepsNumbers (v v' : Knows) : Type 0 where
 abbrev pub Extends : Knows → ℕ → List Entry → Type 0
 Extends v i xs = (ys : List Entry) → get_elem? v.seen i ≡ some ys → (zs : List Entry) × (ys ++ zs ≡ xs)
 
+-- a list more seen
 abbrev pub with_seen : Knows → ℕ → List Entry → Knows
 with_seen v i xs = record v { seen = slice_set v.seen i xs }
 
@@ -38,6 +39,7 @@ with_seen v i xs = record v { seen = slice_set v.seen i xs }
 abbrev pub with_try : Knows → ℕ → Event → Fate → Knows
 with_try v i event fate = record v { tries = v.tries ++ record { index = i; event = event; by = v.low; fate = fate } ∷ [] }
 
+-- the entry of an event, in the name of a pass
 abbrev pub entry_of : Knows → Event → Entry
 entry_of v event = record { event = event; by = v.low }
 
@@ -61,20 +63,23 @@ pub record Loaded (asked : Option Event) (v : Knows) (i word : ℕ) (v' : Knows)
   pub stands : StandsIn v' i list
   pub told : v' ≡ loading asked v i start list
 
+-- the same of a step of the table
 abbrev pub loaded : Option Event → Step ℕ → Me ℕ Knows → ℕ → Me ℕ Knows → Type 0
 loaded asked st m found m' = Loaded asked m.0 st.word found m'.0 × (m'.1 ≡ m.1)
 
--- an exchange after a load of the list xs: the event was counted, or a longer list stood there
+-- an exchange after a load of the list xs: the event was counted
 pub record Hits (v : Knows) (i : ℕ) (xs : List Entry) (event : Event) (v' : Knows) : Type 0 where
   pub stands : StandsIn v' i (xs ++ entry_of v event ∷ [])
   pub told : v' ≡ counting v i xs event
 
+-- a longer list stood there, and the try raced
 pub record Misses (v : Knows) (i : ℕ) (s : Start) (xs : List Entry) (event : Event) (word : ℕ) (v' : Knows) : Type 0 where
   pub more : List Entry
   pub word_is : word ≡ word_of (known_after s (xs ++ more))
   pub stands : StandsIn v' i (xs ++ more)
   pub told : v' ≡ with_try v i event (Raced (known_after s xs) (known_after s (xs ++ more)))
 
+-- the same of a step of the table: by the word that it found
 abbrev pub exchanged : Option Event → Step ℕ → Me ℕ Knows → ℕ → Me ℕ Knows → Type 0
 exchanged asked st m found m' = (event : Event) (s : Start) (xs : List Entry) → asked ≡ Some event → get_elem? m.0.opening.starts st.word ≡ some s → get_elem? m.0.seen st.word ≡ some xs → st.first ≡ word_of (known_after s xs)
     → (found ≡ st.first → Hits m.0 st.word xs event m'.0) × (found ≢ st.first → Misses m.0 st.word s xs event found m'.0) × (m'.1 ≡ m.1)
