@@ -7,6 +7,7 @@ use Rattle.latch_law.specs.Whole.{Whole}
 use Rattle.pair_world.specs.declared.pair.One.{One}
 use Rattle.pair_world.specs.declared.pair.Total.{Total}
 
+-- a whole state of this world
 abbrev pub State : Type 0
 State = Whole (Unit {0}) ℕ One
 
@@ -33,5 +34,6 @@ AddsUp t before news change = sum_held news ≡ sum_held before + raised_by chan
 abbrev pub IsTotal : State → ℕ → ℕ → Total → Type 0
 IsTotal w i p a = a.0 ≡ p
 
+-- any reference is lawful
 abbrev pub AnyReference : State → Reference ℕ → Type 0
 AnyReference w q = Unit {0}

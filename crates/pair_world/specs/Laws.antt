@@ -15,6 +15,7 @@ use Rattle.pair_world.specs.Balance.{State, IsBalanced, sum_held, AddsUp, IsTota
 pub taken : (w : State) (k name : ℕ) → IsBalanced w → IsFree w k → name < w.passes → IsBalanced (latched w k (name + 1))
 taken w k name law free below = let sum : law.0 + law.1 ≡ length law.2 = law.5 in (law.0, law.1, law.2, law.3, law.4, sum)
 
+-- what all numbers of a list add up to
 abbrev sum_all : List ℕ → ℕ
 sum_all [] = 0
 sum_all (y ∷ ys) = y + sum_all ys

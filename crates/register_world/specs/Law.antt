@@ -7,6 +7,7 @@ use Rattle.latch_law.specs.Whole.{Whole}
 use Rattle.register_world.specs.declared.register.Stored.{Stored}
 use Rattle.register_world.specs.declared.register.Found.{Found}
 
+-- a whole state of this world
 abbrev pub State : Type 0
 State = Whole (Unit {0}) ℕ Stored
 
@@ -32,5 +33,6 @@ Stores t before news (Some d) = news ≡ Some d.1.0 ∷ []
 abbrev pub IsFound : State → ℕ → ℕ → Found → Type 0
 IsFound w i p a = (xs : List (Entry Stored)) × (w.lists ≡ xs ∷ []) × (p ≤ length xs) × (a.0 ≡ value_after (take p xs))
 
+-- any reference is lawful
 abbrev pub AnyReference : State → Reference ℕ → Type 0
 AnyReference w q = Unit {0}
