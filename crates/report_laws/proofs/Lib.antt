@@ -1,0 +1,4 @@
+pub mod WeighLemmas
+pub mod EntryLemmas
+pub mod LogFullLemmas
+pub mod SpaceFullLemmas

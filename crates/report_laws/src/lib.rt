@@ -1,0 +1,9 @@
+//! Laws of legal reports: what follows from the definition for every report that meets it.
+//! Each is the contract of a function that does nothing; the program doesn't use this crate.
+#![tactic(auto)]
+
+mod full;
+
+pub use full::{
+    log_full_has_cause, no_log_full, no_log_full_of_index, no_space_full, space_full_has_cause,
+};
