@@ -2,3 +2,5 @@ pub mod WeighLemmas
 pub mod EntryLemmas
 pub mod LogFullLemmas
 pub mod SpaceFullLemmas
+pub mod RowLemmas
+pub mod RangeLemmas

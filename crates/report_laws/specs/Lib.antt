@@ -1,2 +1,3 @@
 pub mod LineCounts
 pub mod FullLaws
+pub mod ScanLaws

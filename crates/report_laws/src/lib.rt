@@ -3,7 +3,9 @@
 #![tactic(auto)]
 
 mod full;
+mod ranges;
 
 pub use full::{
     log_full_has_cause, no_log_full, no_log_full_of_index, no_space_full, space_full_has_cause,
 };
+pub use ranges::{ends_are_ends, ranges_are_scan};
