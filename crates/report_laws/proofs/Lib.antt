@@ -4,3 +4,5 @@ pub mod LogFullLemmas
 pub mod SpaceFullLemmas
 pub mod RowLemmas
 pub mod RangeLemmas
+pub mod EdgeLemmas
+pub mod SampleLemmas
