@@ -6,3 +6,9 @@ pub mod RowLemmas
 pub mod RangeLemmas
 pub mod EdgeLemmas
 pub mod SampleLemmas
+pub mod SameLemmas
+pub mod WordLemmas
+pub mod TextLemmas
+pub mod PieceLemmas
+pub mod AnswerLemmas
+pub mod SpellLemmas
