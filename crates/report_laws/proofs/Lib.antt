@@ -12,3 +12,4 @@ pub mod TextLemmas
 pub mod PieceLemmas
 pub mod AnswerLemmas
 pub mod SpellLemmas
+pub mod PlainLemmas

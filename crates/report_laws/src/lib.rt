@@ -12,4 +12,4 @@ pub use full::{
 };
 pub use ranges::{edges_of_scans, ranges_are_scan};
 pub use samples::{late_row_is_passed_over, one_put_may_find_none, two_puts_may_be_full};
-pub use spelling::{answers_tell_all, bytes_spell_one_report};
+pub use spelling::{answers_tell_all, bytes_spell_one_plain_report, bytes_spell_one_report};
