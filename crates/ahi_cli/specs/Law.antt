@@ -41,7 +41,8 @@ pub record IsWellAsked (asked : Asked) : Type 0 where
 -- a run that is asked well ends with its report or for want of memory, if the sink shows no fault
 abbrev pub GoodRunsAreDone : Type 0
 GoodRunsAreDone = (asked : Asked) (out : Output) (status : Status)
-    → IsWellAsked asked → IsSinkSound out → RunEnds asked out status → (status ≡ Done) ⊎ (status ≡ NoMemory)
+    → IsWellAsked asked → IsSinkSound out → RunEnds asked out status
+    → (status ≡ Done) ⊎ (status ≡ NoMemory)
 
 -- the end that a first refusal makes due: its status and its line, or else Done and a report
 abbrev pub IsEndOf : Asked → Output → Status → Option Stop → Type 0
