@@ -12,7 +12,7 @@ use Rattle.ahi_cli.specs.declared.stop.Stop.{Stop}
 use Rattle.ahi_cli.specs.declared.stop.Stop.TheVariants.{Script, Shelf, TooLarge, NoMemory}
 use Rattle.ahi_cli.specs.FirstRefusal.{file_stop, files_stop}
 
--- what a shelf tells of its failures around a call: how many there were and are, the last one's name
+-- what a shelf tells of its failures around a call: how many there were and are, and the last name
 pub record Failures : Type 0 where
   pub before : ℕ
   pub now : ℕ
@@ -28,7 +28,8 @@ failures_of shelf old new = record {
 
 -- a shelf holds what it held, and its count of faults didn't fall
 abbrev pub KeepsFiles : {F : Type 0} → Ghosts F → F → F → Type 0
-KeepsFiles shelf old new = (shelf.holds new ≡ shelf.holds old) × (shelf.faults old ≤ shelf.faults new)
+KeepsFiles shelf old new =
+    (shelf.holds new ≡ shelf.holds old) × (shelf.faults old ≤ shelf.faults new)
 
 -- a fault came in the call, and it is that of the file with this name
 abbrev pub FailsOn : Failures → List ℕ → Type 0

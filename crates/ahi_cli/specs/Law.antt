@@ -56,8 +56,8 @@ pub record IsMissedFile (asked : Asked) (out : Output) : Type 0 where
   pub unloaded : IsUnloaded asked file
   pub told : IsPut out (stop_text (stop.Shelf file))
 
--- Where the files are told and neither shelf nor sink shows a fault, a run ends as its first refusal
--- makes due, or for want of memory. Words that aren't accepted need no files and no shelf for that.
+-- Where the files are told and neither shelf nor sink shows a fault, a run ends as its first
+-- refusal makes due, or for want of memory. Words that aren't accepted need no files and no shelf for that.
 -- Where the first refusal is that a file isn't there, it is a fault of the shelf.
 pub record RunsEndByFirstRefusal : Type 0 where
   pub files : (asked : Asked) (out : Output) (status : Status) (files : Files)
