@@ -1,11 +1,11 @@
 -- How a call ends, from what its parts did.
-use Rattle.std.proofs.Common.{◌≡◌, ◌≢◌, ℕ, suc, ◌≤◌, Option, Some, Result, Ok, Err, List, [], ◌∷◌, length, map, refl, sym, subst, inl, inr}
+use Rattle.std.proofs.Common.{◌≡◌, ◌≢◌, ℕ, suc, ◌≤◌, Option, Some, Result, Ok, Err, List, [], ◌∷◌, length, map, refl, ap, ◌∙◌, sym, subst, ◌⊎◌, inl, inr}
 use Rattle.std.specs.List.{AllByRecursion, slice_get, zip}
 use Rattle.std.specs.Option.{ForSome}
+use Rattle.io_port.specs.Faults.{ShowsFault}
 use Rattle.io_port.specs.Sink.{Puts}
 use Rattle.map_history.specs.LegalReport.{Line}
 use Rattle.map_history.specs.Report.{Answer, Replied, LogFull, SpaceFull, Scanned, AnswerLine, IndexPart}
-use Rattle.map_history.specs.Spelling.{spell}
 use Rattle.map_history.specs.Statistics.{counts_of}
 use Rattle.script.specs.Schema.{SchemaText}
 use Rattle.one_lane.specs.OneLane.{Told, list_at, after_lines, opening, part_of, report_of, AreAskable}
@@ -19,11 +19,14 @@ use Rattle.ahi_cli.specs.declared.status.Status.TheVariants.{Done, Script, Usage
 use Rattle.ahi_cli.specs.declared.stop.Stop.{Stop}
 use Rattle.ahi_cli.specs.declared.stop.Stop.TheVariants as stop
 use Rattle.ahi_cli.specs.Entries.{AsksChange, IsChange, AreChanges}
-use Rattle.ahi_cli.specs.Ends.{Asked, HasDashes, Reports, Stops, IsDue, Ends, EndsWith, EndsRefused, ended}
+use Rattle.ahi_cli.specs.Ends.{Output, IsWritten, IsRefused, IsCutOff, Ends}
 use Rattle.ahi_cli.specs.Files.{Spells, StopsReading}
-use Rattle.ahi_cli.specs.Prints.{Prints}
+use Rattle.ahi_cli.specs.FirstRefusal.{named_stop}
+use Rattle.ahi_cli.specs.Prints.{Prints, EndsWith, EndsRefused, ended}
+use Rattle.ahi_cli.specs.Run.{Asked, HasDashes, Reports, Stops, report_bytes}
 use Rattle.ahi_cli.specs.Stops.{status_of, stop_text}
-use Rattle.ahi_cli.specs.Words.{accepted}
+use Rattle.ahi_cli.specs.Words.{accepted, file_names}
+use Rattle.ahi_cli.proofs.FirstLemmas.{unrefused}
 
 are_changes : (lines : List Line) → ((n : ℕ) (line : Line) → slice_get lines n ≡ Some line → IsChange line) → AreChanges lines
 are_changes [] at = tt
@@ -56,10 +59,11 @@ have_zeros (n ∷ names) [] = tt
 have_zeros (n ∷ names) (lines ∷ lists) = (refl, have_zeros names lists)
 
 -- what the lane of two files is told is reported
-pub reports : (asked : Asked) (names : List ℕ × List ℕ) (schema : SchemaText) (lines : List Line) (count : ℕ) → length schema.names ≡ count → accepted asked.words ≡ Some names → ForSome asked.told (λ files. Spells files names.0 names.1 schema lines) → AreAskable count lines → Reports asked (spell (report_of schema.names (after_lines schema.sizes.max_changes (opening count) lines)))
-reports asked names schema lines count counted accepts spelled askable = record {
+pub reports : (asked : Asked) (names : List ℕ × List ℕ) (schema : SchemaText) (lines : List Line) → accepted asked.words ≡ Some names → ForSome asked.told (λ files. Spells files names schema lines) → AreAskable (length schema.names) lines → Reports asked (report_bytes schema lines)
+reports asked names schema lines accepts spelled askable = record {
   names = names;
   accepts = accepts;
+  unrefused = λ files there. ap (named_stop files) accepts ∙ unrefused files names schema lines (spelled files there);
   report = λ files there. record {
     schema = schema;
     lines = lines;
@@ -77,10 +81,10 @@ reports asked names schema lines count counted accepts spelled askable = record 
 }
   where
     told : Told
-    told = after_lines schema.sizes.max_changes (opening count) lines
+    told = after_lines schema.sizes.max_changes (opening (length schema.names)) lines
 
     so_far : SoFar schema.sizes.max_changes (length schema.names) lines told
-    so_far = subst (λ n. SoFar schema.sizes.max_changes n lines told) (sym counted) (ends schema.sizes.max_changes count lines askable)
+    so_far = ends schema.sizes.max_changes (length schema.names) lines askable
 
 whole_ends : (old new : Option (List ℕ)) (f f' : ℕ) (text : List ℕ) (whole : Status) → whole ≢ SinkFault → whole ≢ NoMemory → Puts old new text → f ≤ f' → EndsWith old new f f' text whole whole
 whole_ends old new f f' text Done s n p le = (refl, p, le)
@@ -105,27 +109,68 @@ refusal_ends old new f f' (stop.Shelf file) there r p = print_ends old new f f' 
 refusal_ends old new f f' (stop.TooLarge file) there r p = print_ends old new f f' (stop_text (stop.TooLarge file)) TooLarge (λ e. cc) (λ e. cc) r p
 refusal_ends old new f f' stop.NoMemory there r p = absurd (there refl)
 
--- and so the call ends, where the text was due
-pub ends_from : (asked : Asked) (old new : Option (List ℕ)) (f f' : ℕ) (text : List ℕ) (whole status : Status) → IsDue asked whole text → EndsWith old new f f' text whole status → Ends asked old new f f' status
-ends_from asked old new f f' text whole Done due e = (record { text = text; due = subst (λ s. IsDue asked s text) (sym e.0) due; whole = e.1 }, e.2)
-ends_from asked old new f f' text whole Script due e = (record { text = text; due = subst (λ s. IsDue asked s text) (sym e.0) due; whole = e.1 }, e.2)
-ends_from asked old new f f' text whole Usage due e = (record { text = text; due = subst (λ s. IsDue asked s text) (sym e.0) due; whole = e.1 }, e.2)
-ends_from asked old new f f' text whole ShelfFault due e = (record { text = text; due = subst (λ s. IsDue asked s text) (sym e.0) due; whole = e.1 }, e.2)
-ends_from asked old new f f' text whole TooLarge due e = (record { text = text; due = subst (λ s. IsDue asked s text) (sym e.0) due; whole = e.1 }, e.2)
-ends_from asked old new f f' text whole SinkFault due e = (record { status = whole; text = text; due = due; part = e.0 }, e.1)
-ends_from asked old new f f' text whole NoMemory due e = elim e [ inl same ↦ inl same | inr part ↦ inr record { status = whole; text = text; due = due; part = part } ]
+-- how a call ends with this status
+abbrev ByStatus : (Writes : List ℕ → Type 0) (Refuses : Stop → Type 0) → Output → Status → Type 0
+ByStatus Writes Refuses out Done = IsWritten Writes out
+ByStatus Writes Refuses out SinkFault = IsCutOff Writes Refuses out × ShowsFault out.faults out.faults'
+ByStatus Writes Refuses out NoMemory = (out.new ≡ out.old) ⊎ IsCutOff Writes Refuses out
+ByStatus Writes Refuses out status = IsRefused Refuses status out
 
-pub refused_ends : (asked : Asked) (old new : Option (List ℕ)) (f f' : ℕ) (refusal : Stop) (status : Status) → Stops asked refusal → EndsRefused old new f f' refusal status → Ends asked old new f f' status
-refused_ends asked old new f f' stop.Usage status cause e = ends_from asked old new f f' (stop_text stop.Usage) Usage status record { refusal = stop.Usage; has_status = refl; is_text = refl; cause = cause } e
-refused_ends asked old new f f' (stop.Script file line code) status cause e = ends_from asked old new f f' (stop_text (stop.Script file line code)) Script status record { refusal = stop.Script file line code; has_status = refl; is_text = refl; cause = cause } e
-refused_ends asked old new f f' (stop.Shelf file) status cause e = ends_from asked old new f f' (stop_text (stop.Shelf file)) ShelfFault status record { refusal = stop.Shelf file; has_status = refl; is_text = refl; cause = cause } e
-refused_ends asked old new f f' (stop.TooLarge file) status cause e = ends_from asked old new f f' (stop_text (stop.TooLarge file)) TooLarge status record { refusal = stop.TooLarge file; has_status = refl; is_text = refl; cause = cause } e
-refused_ends asked old new f f' stop.NoMemory status cause e = subst (λ s. Ends asked old new f f' s) (sym e.0) (inl e.1)
+-- and so it ends
+by_status : (Writes : List ℕ → Type 0) (Refuses : Stop → Type 0) (out : Output) (status : Status) → ByStatus Writes Refuses out status → Ends Writes Refuses out status
+by_status Writes Refuses out status h = record {
+  done = λ e. subst (ByStatus Writes Refuses out) e h;
+  script = λ e. subst (ByStatus Writes Refuses out) e h;
+  usage = λ e. subst (ByStatus Writes Refuses out) e h;
+  shelf_fault = λ e. subst (ByStatus Writes Refuses out) e h;
+  too_large = λ e. subst (ByStatus Writes Refuses out) e h;
+  sink_fault = λ e. subst (ByStatus Writes Refuses out) e h;
+  no_memory = λ e. subst (ByStatus Writes Refuses out) e h;
+}
+
+-- a text of the command's own, put to the end, ends it with Done
+done_by : (Writes : List ℕ → Type 0) (Refuses : Stop → Type 0) (out : Output) (text : List ℕ) (status : Status) → Writes text → EndsWith out.old out.new out.faults out.faults' text Done status → ByStatus Writes Refuses out status
+done_by Writes Refuses out text Done writes e = record { text = text; writes = writes; put = record { whole = e.1; faults = e.2 } }
+done_by Writes Refuses out text SinkFault writes e = (record { text = text; due = inl writes; part = e.0 }, e.1)
+done_by Writes Refuses out text NoMemory writes e = elim e [ inl same ↦ inl same | inr part ↦ inr record { text = text; due = inl writes; part = part } ]
+done_by Writes Refuses out text Script writes e = absurd (let other = e.0 in cc)
+done_by Writes Refuses out text Usage writes e = absurd (let other = e.0 in cc)
+done_by Writes Refuses out text ShelfFault writes e = absurd (let other = e.0 in cc)
+done_by Writes Refuses out text TooLarge writes e = absurd (let other = e.0 in cc)
+
+pub done_ends : (Writes : List ℕ → Type 0) (Refuses : Stop → Type 0) (out : Output) (text : List ℕ) (status : Status) → Writes text → EndsWith out.old out.new out.faults out.faults' text Done status → Ends Writes Refuses out status
+done_ends Writes Refuses out text status writes e = by_status Writes Refuses out status (done_by Writes Refuses out text status writes e)
+
+-- no refusal with a line has the status Done
+line_of_other_status : (refusal : Stop) → status_of refusal ≢ Done
+line_of_other_status stop.Usage = λ e. cc
+line_of_other_status (stop.Script file line code) = λ e. cc
+line_of_other_status (stop.Shelf file) = λ e. cc
+line_of_other_status (stop.TooLarge file) = λ e. cc
+line_of_other_status stop.NoMemory = λ e. cc
+
+-- the line of a refusal with its cause ends it with that refusal's status
+line_by : (Writes : List ℕ → Type 0) (Refuses : Stop → Type 0) (out : Output) (refusal : Stop) (status : Status) → Refuses refusal → EndsWith out.old out.new out.faults out.faults' (stop_text refusal) (status_of refusal) status → ByStatus Writes Refuses out status
+line_by Writes Refuses out refusal Done cause e = absurd (line_of_other_status refusal (sym e.0))
+line_by Writes Refuses out refusal SinkFault cause e = (record { text = stop_text refusal; due = inr record { refusal = refusal; cause = cause; is_text = refl }; part = e.0 }, e.1)
+line_by Writes Refuses out refusal NoMemory cause e = elim e [ inl same ↦ inl same | inr part ↦ inr record { text = stop_text refusal; due = inr record { refusal = refusal; cause = cause; is_text = refl }; part = part } ]
+line_by Writes Refuses out refusal Script cause e = record { refusal = refusal; has_status = sym e.0; cause = cause; put = record { whole = e.1; faults = e.2 } }
+line_by Writes Refuses out refusal Usage cause e = record { refusal = refusal; has_status = sym e.0; cause = cause; put = record { whole = e.1; faults = e.2 } }
+line_by Writes Refuses out refusal ShelfFault cause e = record { refusal = refusal; has_status = sym e.0; cause = cause; put = record { whole = e.1; faults = e.2 } }
+line_by Writes Refuses out refusal TooLarge cause e = record { refusal = refusal; has_status = sym e.0; cause = cause; put = record { whole = e.1; faults = e.2 } }
+
+-- a refusal, put, ends the call; want of memory needs no cause
+pub refused_ends : (Writes : List ℕ → Type 0) (Refuses : Stop → Type 0) (out : Output) (refusal : Stop) (status : Status) → (refusal ≢ stop.NoMemory → Refuses refusal) → EndsRefused out.old out.new out.faults out.faults' refusal status → Ends Writes Refuses out status
+refused_ends Writes Refuses out stop.Usage status cause e = by_status Writes Refuses out status (line_by Writes Refuses out stop.Usage status (cause (λ e. cc)) e)
+refused_ends Writes Refuses out (stop.Script file line code) status cause e = by_status Writes Refuses out status (line_by Writes Refuses out (stop.Script file line code) status (cause (λ e. cc)) e)
+refused_ends Writes Refuses out (stop.Shelf file) status cause e = by_status Writes Refuses out status (line_by Writes Refuses out (stop.Shelf file) status (cause (λ e. cc)) e)
+refused_ends Writes Refuses out (stop.TooLarge file) status cause e = by_status Writes Refuses out status (line_by Writes Refuses out (stop.TooLarge file) status (cause (λ e. cc)) e)
+refused_ends Writes Refuses out stop.NoMemory status cause e = subst (Ends Writes Refuses out) (sym e.0) (by_status Writes Refuses out NoMemory (inl e.1))
 
 -- the cause of a refusal in reading is one of the call's
-pub reading_stops : (asked : Asked) (names : List ℕ × List ℕ) (refusal : Stop) → accepted asked.words ≡ Some names → StopsReading asked.told asked.failures names refusal → Stops asked refusal
-reading_stops asked names stop.Usage accepts s = absurd s
-reading_stops asked names (stop.Script file line code) accepts s = (names, accepts, s)
-reading_stops asked names (stop.Shelf file) accepts s = (names, accepts, s)
-reading_stops asked names (stop.TooLarge file) accepts s = (names, accepts, s)
-reading_stops asked names stop.NoMemory accepts s = (names, accepts, s)
+pub reading_stops : (asked : Asked) (names : List ℕ × List ℕ) (refusal : Stop) → accepted asked.words ≡ Some names → StopsReading asked.told asked.failures (file_names names) refusal → refusal ≢ stop.NoMemory → Stops asked refusal
+reading_stops asked names stop.Usage accepts s other = absurd s
+reading_stops asked names (stop.Script file line code) accepts s other = record { names = names; accepts = accepts; first = λ files e. ap (named_stop files) accepts ∙ s files e }
+reading_stops asked names (stop.Shelf file) accepts s other = record { names = names; accepts = accepts; fails = s }
+reading_stops asked names (stop.TooLarge file) accepts s other = record { names = names; accepts = accepts; first = λ files e. ap (named_stop files) accepts ∙ s files e }
+reading_stops asked names stop.NoMemory accepts s other = absurd (other refl)

@@ -1,79 +1,86 @@
--- A run that is asked well isn't refused.
-use Rattle.std.proofs.Common.{◌≡◌, ◌≢◌, ℕ, ◌+◌, ◌≤◌, Option, Some, None, Ok, List, length, refl, ap, ◌∙◌, sym, subst, arith, ◌⊎◌, inl, inr, cond}
-use Rattle.std.proofs.lemmas.Bool.{le-ltb}
-use Rattle.io_port.specs.Faults.{ShowsFault}
+-- A run ends as its first refusal makes due.
+use Rattle.std.proofs.Common.{◌≡◌, ℕ, Some, None, refl, ap, ◌∙◌, sym, subst, ◌⊎◌, inl, inr}
 use Rattle.io_port.specs.Shelf.{Files}
-use Rattle.map_history.specs.LegalReport.{Line}
-use Rattle.script.specs.declared.TheConstants.{MAX_FILE_BYTES}
-use Rattle.script.specs.Schema.{SchemaText, schema_of}
-use Rattle.script.specs.Lane.{lane_of}
 use Rattle.ahi_cli.specs.declared.status.Status.{Status}
 use Rattle.ahi_cli.specs.declared.status.Status.TheVariants as status
 use Rattle.ahi_cli.specs.declared.stop.Stop.{Stop}
 use Rattle.ahi_cli.specs.declared.stop.Stop.TheVariants.{Usage, Script, Shelf, TooLarge, NoMemory}
-use Rattle.ahi_cli.specs.Ends.{Asked, Ends, Stops, IsRefusal}
-use Rattle.ahi_cli.specs.Files.{Spells, SpellsSchema, RefusesFile, Refuses}
-use Rattle.ahi_cli.specs.Law.{IsWellAsked}
-use Rattle.ahi_cli.specs.Stops.{schema_stop, lane_stop, stop_in, status_of}
+use Rattle.ahi_cli.specs.Ends.{Output, IsPut, IsRefused}
+use Rattle.ahi_cli.specs.FirstRefusal.{first_refusal, named_stop}
+use Rattle.ahi_cli.specs.Law.{RunEnds, IsShelfSound, IsSinkSound, IsWellAsked, IsEndOf, IsMissedFile}
+use Rattle.ahi_cli.specs.Run.{Asked, Stops}
+use Rattle.ahi_cli.specs.Stops.{status_of, stop_text}
 use Rattle.ahi_cli.specs.Words.{accepted}
+use Rattle.ahi_cli.proofs.FirstLemmas.{unrefused}
 
--- a file that spells its part isn't refused
-good_schema : (bytes : List ℕ) (schema : SchemaText) → length bytes ≤ MAX_FILE_BYTES → schema_of bytes ≡ Ok schema → schema_stop bytes ≡ None
-good_schema bytes schema fits spelled = ap (λ b. cond b (Some (TooLarge 0)) (stop_in 0 (schema_of bytes))) (le-ltb MAX_FILE_BYTES (length bytes) fits) ∙ ap (stop_in 0) spelled
+-- a refusal with its cause is the first one, where no load failed
+is_first : (asked : Asked) (files : Files) (refusal : Stop) → asked.told ≡ Some files → IsShelfSound asked → Stops asked refusal → first_refusal asked.words files ≡ Some refusal
+is_first asked files Usage told sound cause = ap (named_stop files) cause
+is_first asked files (Script file line code) told sound cause = cause.first files told
+is_first asked files (Shelf file) told sound cause = absurd (sound cause.fails.failed.0)
+is_first asked files (TooLarge file) told sound cause = cause.first files told
+is_first asked files NoMemory told sound cause = absurd cause
 
-good_lane : (before : ℕ) (schema : SchemaText) (bytes : List ℕ) (lines : List Line) → before + length bytes ≤ MAX_FILE_BYTES → lane_of schema bytes ≡ Ok lines → lane_stop before schema bytes ≡ None
-good_lane before schema bytes lines fits spelled = ap (λ b. cond b (Some (TooLarge 1)) (stop_in 1 (lane_of schema bytes))) (le-ltb MAX_FILE_BYTES (before + length bytes) fits) ∙ ap (stop_in 1) spelled
+refused_end : (asked : Asked) (out : Output) (end : Status) (files : Files) → asked.told ≡ Some files → IsShelfSound asked → IsRefused (Stops asked) end out → IsEndOf asked out end (first_refusal asked.words files)
+refused_end asked out end files told sound r = subst (IsEndOf asked out end) (sym (is_first asked files r.refusal told sound r.cause)) (sym r.has_status, r.put)
 
-unrefused : (files : Files) (name bytes : List ℕ) (refusal : List ℕ → Option Stop) (stop : Stop) → files name ≡ Some bytes → refusal bytes ≡ None → RefusesFile files name refusal stop → ⊥
-unrefused files name bytes refusal stop there none r =
-    let same : Some bytes ≡ Some r.bytes = sym there ∙ r.there in
-    let one : bytes ≡ r.bytes = cc in
-    let both : None ≡ Some stop = sym none ∙ ap refusal one ∙ r.refused in
-    cc
+-- so a run ends as its first refusal makes due
+pub ends_by_first : (asked : Asked) (out : Output) (end : Status) (files : Files) → asked.told ≡ Some files → IsShelfSound asked → IsSinkSound out → RunEnds asked out end → IsEndOf asked out end (first_refusal asked.words files) ⊎ (end ≡ status.NoMemory)
+ends_by_first asked out status.Done files told sound sound' e =
+    let w = e.done refl in
+    inl (subst (IsEndOf asked out status.Done) (sym (w.writes.unrefused files told)) (refl, w))
+ends_by_first asked out status.Script files told sound sound' e = inl (refused_end asked out status.Script files told sound (e.script refl))
+ends_by_first asked out status.Usage files told sound sound' e = inl (refused_end asked out status.Usage files told sound (e.usage refl))
+ends_by_first asked out status.ShelfFault files told sound sound' e = inl (refused_end asked out status.ShelfFault files told sound (e.shelf_fault refl))
+ends_by_first asked out status.TooLarge files told sound sound' e = inl (refused_end asked out status.TooLarge files told sound (e.too_large refl))
+ends_by_first asked out status.SinkFault files told sound sound' e = absurd (sound' (e.sink_fault refl).1)
+ends_by_first asked out status.NoMemory files told sound sound' e = inr refl
 
-same_schema : (files : Files) (name : List ℕ) (schema schema' : SchemaText) (size size' : ℕ) → SpellsSchema files name schema size → SpellsSchema files name schema' size' → (schema ≡ schema') × (size ≡ size')
-same_schema files name schema schema' size size' s s' =
-    let same : Some s.bytes ≡ Some s'.bytes = sym s.there ∙ s'.there in
-    let one : s.bytes ≡ s'.bytes = cc in
-    let both : Ok schema ≡ Ok schema' = sym s.spelled ∙ ap schema_of one ∙ s'.spelled in
-    (cc, s.sized ∙ ap length one ∙ sym s'.sized)
-
--- files that spell a run aren't refused
-no_refusal : (files : Files) (schema_name lane_name : List ℕ) (schema : SchemaText) (lines : List Line) (stop : Stop) → Spells files schema_name lane_name schema lines → Refuses files schema_name lane_name stop → ⊥
-no_refusal files schema_name lane_name schema lines stop s r = elim r [ inl first ↦ unrefused files schema_name s.schema_file.bytes schema_stop stop s.schema_file.there (good_schema s.schema_file.bytes schema fits s.schema_file.spelled) first | inr second ↦ lane second.schema second.size second.schema_file second.lane_file ]
+-- where the first refusal is that a file isn't there, it is the one that is told
+missed : (asked : Asked) (out : Output) (end : Status) (files : Files) (file : ℕ) → asked.told ≡ Some files → first_refusal asked.words files ≡ Some (Shelf file) → IsRefused (Stops asked) end out → (end ≡ status.ShelfFault) × IsMissedFile asked out
+missed asked out end files file told first r = told_as r.refusal r.has_status r.cause r.put
   where
-    fits : length s.schema_file.bytes ≤ MAX_FILE_BYTES
-    fits = omega (arith, s.schema_file.sized, s.lane_file.fits)
+    told_as : (refusal : Stop) → status_of refusal ≡ end → Stops asked refusal → IsPut out (stop_text refusal) → (end ≡ status.ShelfFault) × IsMissedFile asked out
+    told_as Usage has cause put = absurd (let both : Some Usage ≡ Some (Shelf file) = sym (ap (named_stop files) cause) ∙ first in cc)
+    told_as (Script n line code) has cause put = absurd (let both : Some (Script n line code) ≡ Some (Shelf file) = sym (cause.first files told) ∙ first in cc)
+    told_as (Shelf n) has cause put = (sym has, record { file = n; unloaded = cause; told = put })
+    told_as (TooLarge n) has cause put = absurd (let both : Some (TooLarge n) ≡ Some (Shelf file) = sym (cause.first files told) ∙ first in cc)
+    told_as NoMemory has cause put = absurd cause
 
-    lane : (schema' : SchemaText) (size' : ℕ) → SpellsSchema files schema_name schema' size' → RefusesFile files lane_name (lane_stop size' schema') stop → ⊥
-    lane schema' size' other refused =
-        let same = same_schema files schema_name schema schema' s.size size' s.schema_file other in
-        let none = good_lane s.size schema s.lane_file.bytes lines s.lane_file.fits s.lane_file.spelled in
-        unrefused files lane_name s.lane_file.bytes (lane_stop size' schema') stop s.lane_file.there (ap (λ n. lane_stop n schema' s.lane_file.bytes) (sym same.1) ∙ ap (λ t. lane_stop s.size t s.lane_file.bytes) (sym same.0) ∙ none) refused
+pub ends_by_missing : (asked : Asked) (out : Output) (end : Status) (files : Files) (file : ℕ) → asked.told ≡ Some files → first_refusal asked.words files ≡ Some (Shelf file) → IsSinkSound out → RunEnds asked out end → ((end ≡ status.ShelfFault) × IsMissedFile asked out) ⊎ (end ≡ status.NoMemory)
+ends_by_missing asked out status.Done files file told first sound e = absurd (let w = e.done refl in let both : None ≡ Some (Shelf file) = sym (w.writes.unrefused files told) ∙ first in cc)
+ends_by_missing asked out status.Script files file told first sound e = inl (missed asked out status.Script files file told first (e.script refl))
+ends_by_missing asked out status.Usage files file told first sound e = inl (missed asked out status.Usage files file told first (e.usage refl))
+ends_by_missing asked out status.ShelfFault files file told first sound e = inl (missed asked out status.ShelfFault files file told first (e.shelf_fault refl))
+ends_by_missing asked out status.TooLarge files file told first sound e = inl (missed asked out status.TooLarge files file told first (e.too_large refl))
+ends_by_missing asked out status.SinkFault files file told first sound e = absurd (sound (e.sink_fault refl).1)
+ends_by_missing asked out status.NoMemory files file told first sound e = inr refl
 
-same_names : (asked : Asked) (names names' : List ℕ × List ℕ) → accepted asked.words ≡ Some names → accepted asked.words ≡ Some names' → names ≡ names'
-same_names asked names names' a a' = let same : Some names ≡ Some names' = sym a ∙ a' in cc
+-- words that aren't accepted have no other refusal
+only_usage : (asked : Asked) (refusal : Stop) → accepted asked.words ≡ None → Stops asked refusal → refusal ≡ Usage
+only_usage asked Usage none cause = refl
+only_usage asked (Script file line code) none cause = absurd (let both : None ≡ Some cause.names = sym none ∙ cause.accepts in cc)
+only_usage asked (Shelf file) none cause = absurd (let both : None ≡ Some cause.names = sym none ∙ cause.accepts in cc)
+only_usage asked (TooLarge file) none cause = absurd (let both : None ≡ Some cause.names = sym none ∙ cause.accepts in cc)
+only_usage asked NoMemory none cause = absurd cause
 
-spells_both : (asked : Asked) (names : List ℕ × List ℕ) → (w : IsWellAsked asked) → accepted asked.words ≡ Some names → Spells w.files names.0 names.1 w.schema w.lines
-spells_both asked names w accepts = subst (λ (n : List ℕ × List ℕ). Spells w.files n.0 n.1 w.schema w.lines) (same_names asked w.names names w.accepts accepts) w.spelled
+usage_end : (asked : Asked) (out : Output) (end : Status) → accepted asked.words ≡ None → IsRefused (Stops asked) end out → IsEndOf asked out end (Some Usage)
+usage_end asked out end none r = subst (λ s. IsEndOf asked out end (Some s)) (only_usage asked r.refusal none r.cause) (sym r.has_status, r.put)
 
--- nothing but want of memory stops a run that is asked well
-unstopped : (asked : Asked) (stop : Stop) → IsWellAsked asked → stop ≢ NoMemory → Stops asked stop → ⊥
-unstopped asked Usage w other none = let both : None ≡ Some w.names = sym none ∙ w.accepts in cc
-unstopped asked (Script file line code) w other s = no_refusal w.files s.0.0 s.0.1 w.schema w.lines (Script file line code) (spells_both asked s.0 w s.1) (s.2 w.files w.told)
-unstopped asked (Shelf file) w other s = elim s.2 [ inl first ↦ w.no_fault first.1.0 | inr second ↦ w.no_fault second.1.0 ]
-unstopped asked (TooLarge file) w other s = no_refusal w.files s.0.0 s.0.1 w.schema w.lines (TooLarge file) (spells_both asked s.0 w s.1) (s.2 w.files w.told)
-unstopped asked NoMemory w other s = other refl
+-- and they end it with that
+pub ends_by_words : (asked : Asked) (out : Output) (end : Status) → accepted asked.words ≡ None → IsSinkSound out → RunEnds asked out end → IsEndOf asked out end (Some Usage) ⊎ (end ≡ status.NoMemory)
+ends_by_words asked out status.Done none sound e = absurd (let w = e.done refl in let both : None ≡ Some w.writes.names = sym none ∙ w.writes.accepts in cc)
+ends_by_words asked out status.Script none sound e = inl (usage_end asked out status.Script none (e.script refl))
+ends_by_words asked out status.Usage none sound e = inl (usage_end asked out status.Usage none (e.usage refl))
+ends_by_words asked out status.ShelfFault none sound e = inl (usage_end asked out status.ShelfFault none (e.shelf_fault refl))
+ends_by_words asked out status.TooLarge none sound e = inl (usage_end asked out status.TooLarge none (e.too_large refl))
+ends_by_words asked out status.SinkFault none sound e = absurd (sound (e.sink_fault refl).1)
+ends_by_words asked out status.NoMemory none sound e = inr refl
 
-no_refusal_of : (asked : Asked) (end : Status) (text : List ℕ) → IsWellAsked asked → end ≢ status.NoMemory → IsRefusal asked end text → ⊥
-no_refusal_of asked end text w other r = unstopped asked r.refusal w (λ e. other (sym r.has_status ∙ ap status_of e)) r.cause
+-- a run that is asked well has no refusal
+no_refusal : (asked : Asked) → (w : IsWellAsked asked) → first_refusal asked.words w.files ≡ None
+no_refusal asked w = ap (named_stop w.files) w.accepts ∙ unrefused w.files w.names w.schema w.lines w.spelled
 
 -- so it ends well
-pub ends_well : (asked : Asked) (old new : Option (List ℕ)) (faults faults' : ℕ) (end : Status) → IsWellAsked asked → (ShowsFault faults faults' → ⊥) → Ends asked old new faults faults' end → (end ≡ status.Done) ⊎ (end ≡ status.NoMemory)
-ends_well asked old new faults faults' status.Done w sound e = inl refl
-ends_well asked old new faults faults' status.NoMemory w sound e = inr refl
-ends_well asked old new faults faults' status.SinkFault w sound e = absurd (sound e.1)
-ends_well asked old new faults faults' status.Script w sound e = absurd (no_refusal_of asked status.Script e.0.text w (λ s. cc) e.0.due)
-ends_well asked old new faults faults' status.Usage w sound e = absurd (no_refusal_of asked status.Usage e.0.text w (λ s. cc) e.0.due)
-ends_well asked old new faults faults' status.ShelfFault w sound e = absurd (no_refusal_of asked status.ShelfFault e.0.text w (λ s. cc) e.0.due)
-ends_well asked old new faults faults' status.TooLarge w sound e = absurd (no_refusal_of asked status.TooLarge e.0.text w (λ s. cc) e.0.due)
+pub ends_well : (asked : Asked) (out : Output) (end : Status) → IsWellAsked asked → IsSinkSound out → RunEnds asked out end → (end ≡ status.Done) ⊎ (end ≡ status.NoMemory)
+ends_well asked out end w sound e = elim (ends_by_first asked out end w.files w.told w.no_fault sound e) [ inl due ↦ inl (subst (IsEndOf asked out end) (no_refusal asked w) due).0 | inr none ↦ inr none ]

@@ -1,4 +1,5 @@
 pub mod PrintLemmas
+pub mod FirstLemmas
 pub mod FileLemmas
 pub mod LoopLemmas
 pub mod TextsLemmas

@@ -60,4 +60,5 @@ name_stats name = stats_text name (counts_of [])
 -- the report of one lane, from its answers' texts and its lists
 abbrev pub report_text_of : List (List ℕ) → List (List ℕ) → List (List Line) → List ℕ
 report_text_of names answers lists =
-    first_line ++ lane_line ++ joined answers ++ joined (map index_text (zip names lists)) ++ joined (map name_stats names) ++ end_line
+    first_line ++ lane_line ++ joined answers ++ joined (map index_text (zip names lists))
+    ++ joined (map name_stats names) ++ end_line

@@ -1,8 +1,10 @@
 pub mod Words
 pub mod Numbers
-pub mod Prints
 pub mod Stops
+pub mod FirstRefusal
+pub mod Prints
 pub mod Files
 pub mod Entries
 pub mod Ends
+pub mod Run
 pub mod Law

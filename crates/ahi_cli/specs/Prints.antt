@@ -1,13 +1,58 @@
--- What a part of a report does to the sink that it is put to.
-use Rattle.std.specs.Prelude.{ℕ, ◌≤◌, List, Option, Result, Ok, Err}
+-- What a part of a report, or the line of a refusal, does to the sink that it is put to.
+use Rattle.std.specs.Prelude.{ℕ, ◌≡◌, ◌≤◌, ◌⊎◌, List, Option, Result, Ok, Err}
 use Rattle.io_port.specs.Faults.{ShowsFault}
 use Rattle.io_port.specs.Sink.{Puts, PutsSome}
+use Rattle.io_port.specs.declared.sink.Sink.{Ghosts}
 use Rattle.ahi_cli.specs.declared.halt.Halt.{Halt}
-use Rattle.ahi_cli.specs.declared.halt.Halt.TheVariants.{SinkFault, NoMemory}
+use Rattle.ahi_cli.specs.declared.halt.Halt.TheVariants as halt
+use Rattle.ahi_cli.specs.declared.status.Status.{Status}
+use Rattle.ahi_cli.specs.declared.status.Status.TheVariants.{SinkFault, NoMemory}
+use Rattle.ahi_cli.specs.declared.stop.Stop.{Stop}
+use Rattle.ahi_cli.specs.declared.stop.Stop.TheVariants as stop
+use Rattle.ahi_cli.specs.Stops.{status_of, stop_text}
 
--- of a text, put between two moments with these bytes written and these faults counted: it was put whole, or
--- a first part of it was, and then a put failed or there was no memory
-abbrev pub Prints : Option (List ℕ) → Option (List ℕ) → ℕ → ℕ → List ℕ → Result (Unit {0}) Halt → Type 0
+-- of a text, put between two moments with these bytes written and these faults counted: it was put
+-- whole, or a first part of it was, and then a put failed or there was no memory
+abbrev pub Prints : Option (List ℕ) → Option (List ℕ) → ℕ → ℕ → List ℕ
+    → Result (Unit {0}) Halt → Type 0
 Prints old new faults faults' text (Ok done) = Puts old new text × (faults ≤ faults')
-Prints old new faults faults' text (Err SinkFault) = PutsSome old new text × ShowsFault faults faults'
-Prints old new faults faults' text (Err NoMemory) = PutsSome old new text × (faults ≤ faults')
+Prints old new faults faults' text (Err halt.SinkFault) =
+    PutsSome old new text × ShowsFault faults faults'
+Prints old new faults faults' text (Err halt.NoMemory) = PutsSome old new text × (faults ≤ faults')
+
+-- the same of this sink
+abbrev pub PrintsTo : {K : Type 0} → Ghosts K → K → K → List ℕ → Result (Unit {0}) Halt → Type 0
+PrintsTo sink old new text result =
+    Prints (sink.written old) (sink.written new) (sink.faults old) (sink.faults new) text result
+
+-- a text, put to end with a status: whole with that status, or a part with that of its halt
+abbrev pub EndsWith : Option (List ℕ) → Option (List ℕ) → ℕ → ℕ → List ℕ → Status → Status → Type 0
+EndsWith old new faults faults' text whole SinkFault =
+    PutsSome old new text × ShowsFault faults faults'
+EndsWith old new faults faults' text whole NoMemory = (new ≡ old) ⊎ PutsSome old new text
+EndsWith old new faults faults' text whole status =
+    (status ≡ whole) × Puts old new text × (faults ≤ faults')
+
+-- the same of this sink
+abbrev pub EndsWithAt : {K : Type 0} → Ghosts K → K → K → List ℕ → Status → Status → Type 0
+EndsWithAt sink old new text whole status =
+    EndsWith (sink.written old) (sink.written new) (sink.faults old) (sink.faults new)
+    text whole status
+
+-- a refusal, put: its line with its status, and nothing where there is no memory
+abbrev pub EndsRefused : Option (List ℕ) → Option (List ℕ) → ℕ → ℕ → Stop → Status → Type 0
+EndsRefused old new faults faults' stop.NoMemory status = (status ≡ NoMemory) × (new ≡ old)
+EndsRefused old new faults faults' stop status =
+    EndsWith old new faults faults' (stop_text stop) (status_of stop) status
+
+-- the same of this sink
+abbrev pub EndsRefusedAt : {K : Type 0} → Ghosts K → K → K → Stop → Status → Type 0
+EndsRefusedAt sink old new stop status =
+    EndsRefused (sink.written old) (sink.written new) (sink.faults old) (sink.faults new)
+    stop status
+
+-- the status with which printing ends
+abbrev pub ended : Result (Unit {0}) Halt → Status → Status
+ended (Ok x) whole = whole
+ended (Err halt.SinkFault) whole = SinkFault
+ended (Err halt.NoMemory) whole = NoMemory

@@ -21,8 +21,10 @@ status_of NoMemory = status.NoMemory
 
 -- the line that tells a refusal
 abbrev pub stop_text : Stop → List ℕ
-stop_text Usage = line_of (codes "usage: ahi run SCHEMA LANE.. | ahi page FILE | ahi gen NUMBER LANES LINES" ∷ [])
-stop_text (Script file line code) = line_of (codes "script" ∷ decimal file ∷ decimal line ∷ decimal code ∷ [])
+stop_text Usage =
+    line_of (codes "usage: ahi run SCHEMA LANE.. | ahi page FILE | ahi gen NUMBER LANES LINES" ∷ [])
+stop_text (Script file line code) =
+    line_of (codes "script" ∷ decimal file ∷ decimal line ∷ decimal code ∷ [])
 stop_text (Shelf file) = line_of (codes "shelf" ∷ decimal file ∷ [])
 stop_text (TooLarge file) = line_of (codes "too-large" ∷ decimal file ∷ [])
 stop_text NoMemory = []
@@ -41,8 +43,10 @@ stop_in file (Err e) = Some (refused file e)
 
 -- the refusal of a schema file, if any: its length is judged first
 abbrev pub schema_stop : List ℕ → Option Stop
-schema_stop bytes = if nat_lt MAX_FILE_BYTES (length bytes) then Some (TooLarge 0) else stop_in 0 (schema_of bytes)
+schema_stop bytes = if nat_lt MAX_FILE_BYTES (length bytes)
+    then Some (TooLarge 0) else stop_in 0 (schema_of bytes)
 
--- the refusal of a lane file behind a schema file of so many bytes, if any
-abbrev pub lane_stop : ℕ → SchemaText → List ℕ → Option Stop
-lane_stop before schema bytes = if nat_lt MAX_FILE_BYTES (before + length bytes) then Some (TooLarge 1) else stop_in 1 (lane_of schema bytes)
+-- the refusal of the lane file with this number, with so many bytes in the files before it, if any
+abbrev pub lane_stop : ℕ → ℕ → SchemaText → List ℕ → Option Stop
+lane_stop file before schema bytes = if nat_lt MAX_FILE_BYTES (before + length bytes)
+    then Some (TooLarge file) else stop_in file (lane_of schema bytes)

@@ -5,9 +5,9 @@ ghost use Rattle.io_port.specs.Shelf.{IsFileOf};
 ghost use Rattle.script.specs.declared.TheConstants.{MAX_FILE_BYTES};
 ghost use Rattle.script.specs.Views.{schema_text, line_texts};
 ghost use Rattle.one_lane.specs.OneLane.{AreAskable};
-ghost use Rattle.ahi_cli.specs.Files.{Failures, StopsLoading, StopsFile, StopsReading, SpellsSchema, SpellsLane, Spells};
+ghost use Rattle.ahi_cli.specs.Files.{failures_of, KeepsFiles, StopsLoading, StopsFile, StopsReading, SpellsSchema, SpellsLane, Spells};
 ghost use Rattle.ahi_cli.specs.Stops.{schema_stop, lane_stop, refused};
-ghost use Rattle.ahi_cli.specs.Words.{names_of};
+ghost use Rattle.ahi_cli.specs.Words.{names_of, file_names};
 
 use crate::stop::Stop;
 use crate::words::Command;
@@ -29,10 +29,12 @@ pub fn read_script<F: Shelf>(
     command: &Command<'_>,
 ) -> Result<Script, Stop>
     ensures ok { IfOk result (λ s. ForSome (F.holds shelf.old)
-        (λ files. Spells files command.now.schema.now command.now.lane.now (schema_text s.schema) (line_texts s.lines.items))) }
-    ensures asked { IfOk result (λ s. AreAskable (length s.schema.names.items) (line_texts s.lines.items)) }
+        (λ files. Spells files (names_of command.now)
+        (schema_text s.schema) (line_texts s.lines.items))) }
+    ensures asked { IfOk result
+        (λ s. AreAskable (length s.schema.names.items) (line_texts s.lines.items)) }
     ensures err { IfErr result (StopsReading (F.holds shelf.old)
-        (record { before = F.faults shelf.old; now = F.faults shelf.new; name = F.failed shelf.new }) (names_of command.now)) }
+        (failures_of F.Shelf shelf.old shelf.new) (file_names (names_of command.now))) }
 {
     let (schema, size) = load_schema(alloc, shelf, command.schema)?;
     let lines = load_lane(alloc, shelf, command.lane, &schema, size)?;
@@ -41,11 +43,12 @@ pub fn read_script<F: Shelf>(
 
 /// The schema of a file, and how many bytes the file has.
 fn load_schema<F: Shelf>(alloc: Global, shelf: &mut F, name: &str) -> Result<(Schema, u64), Stop>
-    ensures ok { IfOk result (λ r. ForSome (F.holds shelf.old) (λ files. SpellsSchema files name.now (schema_text r.0) r.1)) }
+    ensures ok { IfOk result (λ r. ForSome (F.holds shelf.old)
+        (λ files. SpellsSchema files name.now (schema_text r.0) r.1)) }
     ensures fits { IfOk result (λ r. r.1 ≤ MAX_FILE_BYTES) }
     ensures err { IfErr result (StopsFile (F.holds shelf.old)
-        (record { before = F.faults shelf.old; now = F.faults shelf.new; name = F.failed shelf.new }) 0 name.now schema_stop) }
-    ensures kept { (F.holds shelf.new ≡ F.holds shelf.old) × (F.faults shelf.old ≤ F.faults shelf.new) }
+        (failures_of F.Shelf shelf.old shelf.new) 0 name.now schema_stop) }
+    ensures kept { KeepsFiles F.Shelf shelf.old shelf.new }
 {
     let bytes = load(alloc, shelf, name, 0, MAX_FILE_BYTES as u64)?;
     let schema = match read_schema(alloc, &bytes) {
@@ -66,11 +69,12 @@ fn load_lane<F: Shelf>(
     requires { before ≤ MAX_FILE_BYTES }
     ensures ok { IfOk result (λ v. ForSome (F.holds shelf.old)
         (λ files. SpellsLane files name.now (schema_text schema.now) before (line_texts v.items))) }
-    ensures asked { IfOk result (λ v. AreAskable (length schema.now.names.items) (line_texts v.items)) }
+    ensures asked { IfOk result
+        (λ v. AreAskable (length schema.now.names.items) (line_texts v.items)) }
     ensures err { IfErr result (StopsFile (F.holds shelf.old)
-        (record { before = F.faults shelf.old; now = F.faults shelf.new; name = F.failed shelf.new }) 1 name.now
-        (lane_stop before (schema_text schema.now))) }
-    ensures kept { (F.holds shelf.new ≡ F.holds shelf.old) × (F.faults shelf.old ≤ F.faults shelf.new) }
+        (failures_of F.Shelf shelf.old shelf.new) 1 name.now
+        (lane_stop 1 before (schema_text schema.now))) }
+    ensures kept { KeepsFiles F.Shelf shelf.old shelf.new }
 {
     let bytes = load(alloc, shelf, name, 1, MAX_FILE_BYTES as u64 - before)?;
     match read_lane(alloc, &bytes, schema) {
@@ -90,8 +94,8 @@ fn load<F: Shelf>(
     ensures ok { IfOk result (λ bytes. IsFileOf (F.holds shelf.old) name.now bytes.items) }
     ensures within { IfOk result (λ bytes. length bytes.items ≤ limit) }
     ensures err { IfErr result (StopsLoading (F.holds shelf.old)
-        (record { before = F.faults shelf.old; now = F.faults shelf.new; name = F.failed shelf.new }) file name.now limit) }
-    ensures kept { (F.holds shelf.new ≡ F.holds shelf.old) × (F.faults shelf.old ≤ F.faults shelf.new) }
+        (failures_of F.Shelf shelf.old shelf.new) file name.now limit) }
+    ensures kept { KeepsFiles F.Shelf shelf.old shelf.new }
 {
     match shelf.load(alloc, name, limit) {
         Ok(bytes) => Ok(bytes),

@@ -13,6 +13,6 @@ mod stop;
 mod tests;
 mod words;
 
-pub use law::good_runs_are_done;
+pub use law::{good_runs_are_done, runs_end_by_first_refusal};
 pub use run::run_words;
 pub use status::Status;

@@ -7,7 +7,7 @@ ghost use Rattle.map_history.specs.Text.{line_of};
 ghost use Rattle.script.specs.Views.{line_text};
 ghost use Rattle.one_lane.specs.OneLane.{entry_of, part_of};
 ghost use Rattle.one_lane.specs.History.{lines_of};
-ghost use Rattle.ahi_cli.specs.Prints.{Prints};
+ghost use Rattle.ahi_cli.specs.Prints.{PrintsTo};
 ghost use Rattle.ahi_cli.specs.Entries.{AreChanges, IsChange, change_texts, joined};
 
 use crate::halt::Halt;
@@ -19,7 +19,7 @@ use script::Line;
 
 /// Puts a line.
 pub fn put_line<K: Sink>(sink: &mut K, line: &[u8]) -> Result<(), Halt>
-    ensures { Prints (K.written sink.old) (K.written sink.new) (K.faults sink.old) (K.faults sink.new) line.now result }
+    ensures { PrintsTo K.Sink sink.old sink.new line.now result }
 {
     match sink.put(line) {
         Ok(()) => Ok(()),
@@ -29,8 +29,7 @@ pub fn put_line<K: Sink>(sink: &mut K, line: &[u8]) -> Result<(), Halt>
 
 /// Puts the lines of a lane's answers.
 pub fn put_answers<K: Sink>(sink: &mut K, answers: &Texts) -> Result<(), Halt>
-    ensures { Prints (K.written sink.old) (K.written sink.new) (K.faults sink.old) (K.faults sink.new)
-        (joined answers.now) result }
+    ensures { PrintsTo K.Sink sink.old sink.new (joined answers.now) result }
 {
     for i in 0..answers.count() {
         put_line(sink, answers.text(i))?;
@@ -41,7 +40,7 @@ pub fn put_answers<K: Sink>(sink: &mut K, answers: &Texts) -> Result<(), Halt>
 /// Puts the changes of an index, which the lines of a list made in their order.
 pub fn put_changes<K: Sink>(sink: &mut K, line: &mut Vec<u8>, list: &[&Line]) -> Result<(), Halt>
     requires { AreChanges (lines_of list.now) }
-    ensures { Prints (K.written sink.old) (K.written sink.new) (K.faults sink.old) (K.faults sink.new)
+    ensures { PrintsTo K.Sink sink.old sink.new
         (joined (change_texts 0 (lines_of list.now))) result }
 {
     for (i, made) in list.iter().enumerate() {
@@ -57,7 +56,7 @@ fn put_change<K: Sink>(
     made: &Line,
 ) -> Result<(), Halt>
     requires { IsChange (line_text made.now) }
-    ensures { Prints (K.written sink.old) (K.written sink.new) (K.faults sink.old) (K.faults sink.new)
+    ensures { PrintsTo K.Sink sink.old sink.new
         (change_text number (entry_of (line_text made.now))) result }
 {
     let entry = Entry {

@@ -5,7 +5,7 @@ ghost use Rattle.map_history.specs.Spelling.{changes_text, stats_text};
 ghost use Rattle.map_history.specs.Statistics.{counts_of};
 ghost use Rattle.one_lane.specs.OneLane.{part_of};
 ghost use Rattle.one_lane.specs.History.{lines_of};
-ghost use Rattle.ahi_cli.specs.Prints.{Prints};
+ghost use Rattle.ahi_cli.specs.Prints.{PrintsTo};
 ghost use Rattle.ahi_cli.specs.Entries.{AreChanges, joined, first_line, lane_line, changes_line, index_text, name_stats, end_line, report_text_of};
 
 use crate::halt::Halt;
@@ -25,7 +25,7 @@ pub fn put_report<K: Sink>(
 ) -> Result<(), Halt>
     requires counted { length run.now.history ≡ length names.now }
     requires changes { AllByRecursion AreChanges run.now.history }
-    ensures { Prints (K.written sink.old) (K.written sink.new) (K.faults sink.old) (K.faults sink.new)
+    ensures { PrintsTo K.Sink sink.old sink.new
         (report_text_of (map string_bytes names.now) run.now.answers run.now.history) result }
 {
     let mut line = Vec::new(alloc);
@@ -38,7 +38,7 @@ pub fn put_report<K: Sink>(
 }
 
 fn put_first_line<K: Sink>(sink: &mut K, line: &mut Vec<u8>) -> Result<(), Halt>
-    ensures { Prints (K.written sink.old) (K.written sink.new) (K.faults sink.old) (K.faults sink.new) first_line result }
+    ensures { PrintsTo K.Sink sink.old sink.new first_line result }
 {
     line.clear();
     report_text::report_head(line)?;
@@ -46,7 +46,7 @@ fn put_first_line<K: Sink>(sink: &mut K, line: &mut Vec<u8>) -> Result<(), Halt>
 }
 
 fn put_lane_line<K: Sink>(sink: &mut K, line: &mut Vec<u8>) -> Result<(), Halt>
-    ensures { Prints (K.written sink.old) (K.written sink.new) (K.faults sink.old) (K.faults sink.new) lane_line result }
+    ensures { PrintsTo K.Sink sink.old sink.new lane_line result }
 {
     line.clear();
     report_text::lane_head(line, 1)?;
@@ -61,7 +61,7 @@ fn put_indexes<K: Sink>(
 ) -> Result<(), Halt>
     requires counted { length history.now ≡ length names.now }
     requires changes { AllByRecursion AreChanges history.now }
-    ensures { Prints (K.written sink.old) (K.written sink.new) (K.faults sink.old) (K.faults sink.new)
+    ensures { PrintsTo K.Sink sink.old sink.new
         (joined (map index_text (zip (map string_bytes names.now) history.now))) result }
 {
     for i in 0..names.len() {
@@ -77,8 +77,7 @@ fn put_index<K: Sink>(
     list: &[&Line],
 ) -> Result<(), Halt>
     requires { AreChanges (lines_of list.now) }
-    ensures { Prints (K.written sink.old) (K.written sink.new) (K.faults sink.old) (K.faults sink.new)
-        (index_text (name.now, lines_of list.now)) result }
+    ensures { PrintsTo K.Sink sink.old sink.new (index_text (name.now, lines_of list.now)) result }
 {
     put_changes_line(sink, line, name, list)?;
     put_changes(sink, line, list)
@@ -90,8 +89,7 @@ fn put_changes_line<K: Sink>(
     name: &str,
     list: &[&Line],
 ) -> Result<(), Halt>
-    ensures { Prints (K.written sink.old) (K.written sink.new) (K.faults sink.old) (K.faults sink.new)
-        (changes_line name.now (lines_of list.now)) result }
+    ensures { PrintsTo K.Sink sink.old sink.new (changes_line name.now (lines_of list.now)) result }
 {
     line.clear();
     report_text::changes_head(line, name, list.len() as u64)?;
@@ -99,7 +97,7 @@ fn put_changes_line<K: Sink>(
 }
 
 fn put_statistics<K: Sink>(sink: &mut K, line: &mut Vec<u8>, names: &[String]) -> Result<(), Halt>
-    ensures { Prints (K.written sink.old) (K.written sink.new) (K.faults sink.old) (K.faults sink.new)
+    ensures { PrintsTo K.Sink sink.old sink.new
         (joined (map name_stats (map string_bytes names.now))) result }
 {
     for i in 0..names.len() {
@@ -109,7 +107,7 @@ fn put_statistics<K: Sink>(sink: &mut K, line: &mut Vec<u8>, names: &[String]) -
 }
 
 fn put_stats<K: Sink>(sink: &mut K, line: &mut Vec<u8>, name: &str) -> Result<(), Halt>
-    ensures { Prints (K.written sink.old) (K.written sink.new) (K.faults sink.old) (K.faults sink.new) (name_stats name.now) result }
+    ensures { PrintsTo K.Sink sink.old sink.new (name_stats name.now) result }
 {
     line.clear();
     report_text::stats(line, name, &NOTHING)?;
@@ -117,7 +115,7 @@ fn put_stats<K: Sink>(sink: &mut K, line: &mut Vec<u8>, name: &str) -> Result<()
 }
 
 fn put_end<K: Sink>(sink: &mut K, line: &mut Vec<u8>) -> Result<(), Halt>
-    ensures { Prints (K.written sink.old) (K.written sink.new) (K.faults sink.old) (K.faults sink.new) end_line result }
+    ensures { PrintsTo K.Sink sink.old sink.new end_line result }
 {
     line.clear();
     report_text::report_end(line)?;

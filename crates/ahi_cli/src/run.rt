@@ -1,13 +1,11 @@
 //! The top call.
-ghost use Rattle.std.specs.Prelude.{◌≡◌, ◌≤◌, List, ℕ, map, length, string_bytes};
+ghost use Rattle.std.specs.Prelude.{◌≡◌, List, ℕ, map, length, string_bytes};
 ghost use Rattle.script.specs.Views.{schema_text, line_texts};
-ghost use Rattle.one_lane.specs.OneLane.{AreAskable, report_of, after_lines, opening};
-ghost use Rattle.ahi_cli.specs.Prints.{Prints};
-ghost use Rattle.ahi_cli.specs.Files.{Failures};
-ghost use Rattle.map_history.specs.Spelling.{spell};
-ghost use Rattle.ahi_cli.specs.Ends.{Ends, EndsWith, EndsRefused, ended};
+ghost use Rattle.one_lane.specs.OneLane.{AreAskable};
+ghost use Rattle.ahi_cli.specs.Prints.{PrintsTo, EndsWithAt, EndsRefusedAt, ended};
+ghost use Rattle.ahi_cli.specs.Ends.{Ends, output_of};
+ghost use Rattle.ahi_cli.specs.Run.{asked_of, Reports, Stops, report_bytes};
 ghost use Rattle.ahi_cli.specs.Stops.{stop_text};
-ghost use Rattle.ahi_cli.specs.declared.status.Status.TheVariants as status;
 
 use crate::files::{Script, read_script};
 use crate::halt::Halt;
@@ -30,13 +28,8 @@ pub fn run_words<R: AllocGlobal, F: Shelf, K: Sink>(
     shelf: &mut F,
     sink: &mut K,
 ) -> Status
-    ensures ends { Ends
-        (record {
-          words = map string_bytes words.now;
-          told = F.holds shelf.old;
-          failures = record { before = F.faults shelf.old; now = F.faults shelf.new; name = F.failed shelf.new };
-        })
-        (K.written sink.old) (K.written sink.new) (K.faults sink.old) (K.faults sink.new) result }
+    ensures ends { let asked = asked_of (map string_bytes words.now) F.Shelf shelf.old shelf.new in
+        Ends (Reports asked) (Stops asked) (output_of K.Sink sink.old sink.new) result }
 {
     let alloc = rt.alloc();
     let Some(command) = accept(words) else {
@@ -50,11 +43,11 @@ pub fn run_words<R: AllocGlobal, F: Shelf, K: Sink>(
 
 /// Runs a lane and puts its report.
 fn run_script<K: Sink>(alloc: Global, script: &Script, sink: &mut K) -> Status
-    requires { AreAskable (length script.now.schema.names.items) (line_texts script.now.lines.items) }
-    ensures { let names = map string_bytes script.now.schema.names.items in
-        let told = after_lines script.now.schema.sizes.max_changes (opening (length script.now.schema.names.items)) (line_texts script.now.lines.items) in
-        EndsWith (K.written sink.old) (K.written sink.new) (K.faults sink.old) (K.faults sink.new)
-        (spell (report_of names told)) Status.Done result }
+    requires { AreAskable
+        (length script.now.schema.names.items) (line_texts script.now.lines.items) }
+    ensures { EndsWithAt K.Sink sink.old sink.new
+        (report_bytes (schema_text script.now.schema) (line_texts script.now.lines.items))
+        Status.Done result }
 {
     let schema = &script.schema;
     match run_lane(
@@ -70,7 +63,7 @@ fn run_script<K: Sink>(alloc: Global, script: &Script, sink: &mut K) -> Status
 
 /// Puts the line of a refusal.
 fn refuse<K: Sink>(alloc: Global, sink: &mut K, stop: Stop) -> Status
-    ensures { EndsRefused (K.written sink.old) (K.written sink.new) (K.faults sink.old) (K.faults sink.new) stop result }
+    ensures { EndsRefusedAt K.Sink sink.old sink.new stop result }
 {
     if stop == Stop::NoMemory {
         return Status::NoMemory;
@@ -79,7 +72,7 @@ fn refuse<K: Sink>(alloc: Global, sink: &mut K, stop: Stop) -> Status
 }
 
 fn put_stop<K: Sink>(alloc: Global, sink: &mut K, stop: &Stop) -> Result<(), Halt>
-    ensures { Prints (K.written sink.old) (K.written sink.new) (K.faults sink.old) (K.faults sink.new) (stop_text stop.now) result }
+    ensures { PrintsTo K.Sink sink.old sink.new (stop_text stop.now) result }
 {
     let mut line = Vec::new(alloc);
     stop.put_text(&mut line)?;

@@ -1,0 +1,89 @@
+-- What `run` writes, and why it is refused.
+use Rattle.std.specs.Prelude.{ℕ, ◌≡◌, List, [], length, Option, Some, None}
+use Rattle.std.specs.Option.{ForSome}
+use Rattle.std.specs.List.{AllByRecursion}
+use Rattle.io_port.specs.Shelf.{Files}
+use Rattle.io_port.specs.declared.shelf.Shelf.{Ghosts}
+use Rattle.map_history.specs.LegalReport.{Line, IsLegalBytes}
+use Rattle.map_history.specs.Report.{Answer, Replied, LogFull, SpaceFull, Scanned, AnswerLine, IndexPart, Report}
+use Rattle.map_history.specs.Statistics.{counts_of}
+use Rattle.map_history.specs.Spelling.{spell}
+use Rattle.one_lane.specs.OneLane.{run_of, dashes, report_of, after_lines, opening}
+use Rattle.script.specs.Schema.{SchemaText}
+use Rattle.ahi_cli.specs.declared.stop.Stop.{Stop}
+use Rattle.ahi_cli.specs.declared.stop.Stop.TheVariants.{Usage, Script, Shelf, TooLarge, NoMemory}
+use Rattle.ahi_cli.specs.Files.{Failures, failures_of, Spells, FailsAt}
+use Rattle.ahi_cli.specs.FirstRefusal.{first_refusal}
+use Rattle.ahi_cli.specs.Words.{accepted, file_names}
+
+-- what a call is asked by its words, and what its shelf tells around it
+pub record Asked : Type 0 where
+  pub words : List (List ℕ)
+  pub told : Option Files
+  pub failures : Failures
+
+-- what a call with these words is asked of this shelf
+abbrev pub asked_of : {F : Type 0} → List (List ℕ) → Ghosts F → F → F → Asked
+asked_of words shelf old new = record {
+  words = words;
+  told = shelf.holds old;
+  failures = failures_of shelf old new;
+}
+
+-- an answer that tells of no hash: both columns are dashes
+abbrev pub HasDashes : Answer → Type 0
+HasDashes (Replied reply point columns) = columns ≡ dashes
+HasDashes (LogFull n columns) = columns ≡ dashes
+HasDashes (SpaceFull columns) = ⊥
+HasDashes (Scanned pieces) = ⊥
+
+-- no column tells of a hash, and all statistics are 0
+pub record IsWithoutHash (report : Report) : Type 0 where
+  pub columns :
+      AllByRecursion (AllByRecursion (λ (a : AnswerLine). HasDashes a.answer)) report.lanes
+  pub zeros : AllByRecursion (λ (part : IndexPart). part.counts ≡ counts_of []) report.indexes
+
+-- the bytes are a legal report of what the two files spell
+pub record IsReportOf (files : Files) (names : List ℕ × List ℕ) (bytes : List ℕ) : Type 0 where
+  pub schema : SchemaText
+  pub lines : List Line
+  pub spelled : Spells files names schema lines
+  pub legal : IsLegalBytes (run_of schema.sizes schema.names lines) bytes
+  pub without_hash : IsWithoutHash legal.report
+
+-- the report of one lane's lines over a schema, in bytes
+abbrev pub report_bytes : SchemaText → List Line → List ℕ
+report_bytes schema lines =
+    let told = after_lines schema.sizes.max_changes (opening (length schema.names)) lines in
+    spell (report_of schema.names told)
+
+-- where the files are told, the first refusal of the call is this, or there is none
+abbrev pub HasFirst : Asked → Option Stop → Type 0
+HasFirst asked refusal = ForSome asked.told (λ files. first_refusal asked.words files ≡ refusal)
+
+-- the words are accepted, nothing is refused, and the bytes report the files, where they are told
+pub record Reports (asked : Asked) (bytes : List ℕ) : Type 0 where
+  pub names : List ℕ × List ℕ
+  pub accepts : accepted asked.words ≡ Some names
+  pub unrefused : HasFirst asked None
+  pub report : ForSome asked.told (λ files. IsReportOf files names bytes)
+
+-- the words are accepted, and this is the first refusal of their files
+pub record IsFirst (asked : Asked) (refusal : Stop) : Type 0 where
+  pub names : List ℕ × List ℕ
+  pub accepts : accepted asked.words ≡ Some names
+  pub first : HasFirst asked (Some refusal)
+
+-- the words are accepted, the load of this file failed last, and none before it is refused
+pub record IsUnloaded (asked : Asked) (file : ℕ) : Type 0 where
+  pub names : List ℕ × List ℕ
+  pub accepts : accepted asked.words ≡ Some names
+  pub fails : FailsAt asked.told asked.failures (file_names names) file
+
+-- the cause of a refusal; want of memory has no line
+abbrev pub Stops : Asked → Stop → Type 0
+Stops asked Usage = accepted asked.words ≡ None
+Stops asked (Script file line code) = IsFirst asked (Script file line code)
+Stops asked (Shelf file) = IsUnloaded asked file
+Stops asked (TooLarge file) = IsFirst asked (TooLarge file)
+Stops asked NoMemory = ⊥
