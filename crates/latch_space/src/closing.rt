@@ -40,7 +40,8 @@ impl<W: World> Space<W> {
         requires own { IsPassOf self pass }
         requires nothing { count pass ≡ 0 }
         requires all { ((view pass).low ≡ 0) × ((view pass).end ≡ (view pass).terms.passes) }
-        ensures { IfOk result (λ objects. EndsWith W.lawful W.answers W.refers (view pass) objects.items) }
+        ensures { IfOk result (λ objects. EndsWith W.lawful W.answers W.refers (view pass)
+            objects.items) }
     {
         let table = self.into_table();
         let objects = Vec::with_capacity(alloc, table.slot_count())?;

@@ -20,8 +20,8 @@ impl<W: World> Space<W> {
         ensures own { IsSamePass pass.old pass.new × IsPassOf self.now pass.new }
         ensures kept { IfOk result (λ _. (view pass.new ≡ left_part (view pass.old))
             × (values pass.new ≡ values pass.old) × (count pass.new ≡ count pass.old)) }
-        ensures given { IfOk result (λ p. IsPassOf self.now p × (view p ≡ right_part (view pass.old))
-            × (count p ≡ 0)) }
+        ensures given { IfOk result (λ p. IsPassOf self.now p
+            × (view p ≡ right_part (view pass.old)) × (count p ≡ 0)) }
         ensures err { IfErr result (λ _. (view pass.new ≡ view pass.old)
             × (values pass.new ≡ values pass.old) × (count pass.new ≡ count pass.old)) }
     {

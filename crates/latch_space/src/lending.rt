@@ -11,7 +11,8 @@ impl<Sh, O, C, A> PassOf<Sh, O, C, A> {
     /// The object, to write. There is one.
     pub fn value(&mut self, object: u32) -> Option<&mut O>
         requires { (x : O) × Shows self.old object x }
-        ensures* writes_back { sem 𝓛 (LendsObject Sh.row O.row C.row A.row self.entry object result) }
+        ensures* writes_back { sem 𝓛 (LendsObject Sh.row O.row C.row A.row self.entry object
+            result) }
         ensures there { IsSome result }
         ensures value { IfSome result (λ r. Shows self.old object r.now) }
     {

@@ -1,9 +1,10 @@
-//! Objects under latches, and lists of changes with a count for each index, under the law of a world.
+//! Objects under latches, and for each index a list of changes with a count, under a world's law.
 //! A call that takes no `wait` waits for nobody, and only `open`, `split` and `close` take memory.
 #![tactic(auto)]
 
 mod closing;
 mod committing;
+mod crossing;
 mod dividing;
 mod error;
 mod hand;
@@ -18,6 +19,7 @@ mod space;
 mod taking;
 
 pub use committing::LogFull;
+pub use crossing::{a_pass_crosses, a_space_crosses};
 pub use error::NoMemory;
 pub use latch_law::{
     Entry, Holding, Knows, Law, Means, Reference, Refusal, Said, Saying, Terms, World,

@@ -33,10 +33,11 @@ impl<W: World> Space<W> {
         requires picked { X.answer ≡ Some (N.meaning answer.now) }
         requires live { seat.old.me.0.low < seat.old.me.0.end }
         requires index { (index < length seat.old.me.0.seen) × (index < self.now.terms.indexes) }
-        requires rule { MayAnswer W.lawful W.answers W.refers seat.old.me.0 index (N.meaning answer.now) }
+        requires rule { MayAnswer W.lawful W.answers W.refers seat.old.me.0 index
+            (N.meaning answer.now) }
         ensures own { (seat.new.table_id ≡ seat.old.table_id) × (seat.new.id ≡ seat.old.id) }
-        ensures told { DidRead W.lawful W.answers W.refers seat.old.me.0 index (N.meaning answer.now) result
-            seat.new.me.0 }
+        ensures told { DidRead W.lawful W.answers W.refers seat.old.me.0 index
+            (N.meaning answer.now) result seat.new.me.0 }
         ensures slots { seat.new.me.1 ≡ seat.old.me.1 }
     {
         self.table
@@ -49,10 +50,11 @@ impl<W: World> Space<W> {
     pub fn read_point<N: Means<W::Answer>>(&self, pass: &mut Pass<W>, index: u32, answer: &N) -> u64
         requires own { IsPassOf self.now pass.old }
         requires index { index < self.now.terms.indexes }
-        requires rule { MayAnswer W.lawful W.answers W.refers (view pass.old) index (N.meaning answer.now) }
+        requires rule { MayAnswer W.lawful W.answers W.refers (view pass.old) index
+            (N.meaning answer.now) }
         ensures own { IsSamePass pass.old pass.new × IsPassOf self.now pass.new }
-        ensures told { DidRead W.lawful W.answers W.refers (view pass.old) index (N.meaning answer.now) result
-            (view pass.new) }
+        ensures told { DidRead W.lawful W.answers W.refers (view pass.old) index
+            (N.meaning answer.now) result (view pass.new) }
         ensures kept { SameHands pass.old pass.new }
     {
         self.read_at::<Brand, N>(&mut pass.seat, index as usize, answer)

@@ -18,7 +18,8 @@ impl<W: World> Space<W> {
     /// Gives the object back, which has its known value, and keeps a reference to it.
     pub fn release(&self, pass: &mut Pass<W>, object: u32)
         requires own { IsPassOf self.now pass.old }
-        requires known { (h : Holding W.Object) × Holds (view pass.old) object h × Shows pass.old object h.known }
+        requires known { (h : Holding W.Object) × Holds (view pass.old) object h
+            × Shows pass.old object h.known }
         requires rule { MayRelease W.lawful W.answers W.refers (view pass.old) object }
         ensures own { IsSamePass pass.old pass.new × IsPassOf self.now pass.new }
         ensures told { DidRelease pass.old object pass.new }

@@ -28,8 +28,10 @@ impl<W: World> Space<W> {
         requires rule { W.follows seat.old.me.0.terms (knowns seat.old.me.0.held)
             (spread (length seat.old.me.0.held) hand.now) None }
         ensures own { (seat.new.table_id ≡ seat.old.table_id) × (seat.new.id ≡ seat.old.id) }
-        ensures told { seat.new.me
-            ≡ (settling seat.old.me.0 (spread (length seat.old.me.0.held) hand.now), seat.old.me.1) }
+        ensures told { seat.new.me ≡ (
+          settling seat.old.me.0 (spread (length seat.old.me.0.held) hand.now),
+          seat.old.me.1,
+        ) }
     {
         self.table.shared.fetch_or::<Settles<X>>(seat, word, 0);
     }
@@ -38,7 +40,8 @@ impl<W: World> Space<W> {
     pub fn settle(&self, pass: &mut Pass<W>)
         requires own { IsPassOf self.now pass.old }
         requires whole { IsWhole pass.old }
-        requires rule { W.follows (view pass.old).terms (known_values pass.old) (values pass.old) None }
+        requires rule { W.follows (view pass.old).terms (known_values pass.old) (values pass.old)
+            None }
         ensures own { IsSamePass pass.old pass.new × IsPassOf self.now pass.new }
         ensures told { DidSettle pass.old pass.new }
     {
