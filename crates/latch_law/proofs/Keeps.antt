@@ -61,7 +61,7 @@ module _ (Sh O C A : Type 0) (lawful : Whole Sh O C → Type 0) (follows : Terms
               (λ (p : (j ≢ k) × (get_elem? w.latches j ≡ some 0)). set_else s.homes k j maybe.none p.0 ∙ r.home j y p.1 at_j) (at_set w.latches k j n 0 free_j))
               (length-set s.homes k maybe.none ∙ r.homes)
               (taken_fits laws w v k n x.0 f r.is_lawful law next live up free_at x.1)),
-          (λ _. (x.0, record { whole = w; is_lawful = r.is_lawful; fits = f; free = free_at; value = x.1 }, refl), λ (l : 0 < found). absurd (omega (arith, free))),
+          (λ _. (x.0, record { whole = w; is_lawful = r.is_lawful; fits = f; free = free_at; value = x.1 }, refl), λ (l : 0 < found). absurd (omega (arith, free)), record { whole = w'; is_lawful = law; fits = taken_fits laws w v k n x.0 f r.is_lawful law next live up free_at x.1 }),
         ))
         (λ busy. let a = there w.latches k below in let same : found ≡ a.0 = word ∙ reads w.latches k a.0 0 a.1 in let next : a.0 ≡ (found - 1) + 1 = omega (arith, busy) in
         let o = r.owner k (found - 1) (a.1 ∙ ap some next) in let u : Vi = o.1 in let named : u.low ≡ found - 1 = o.3 in let live_u : u.low < u.end = o.4 in
@@ -75,11 +75,11 @@ module _ (Sh O C A : Type 0) (lawful : Whole Sh O C → Type 0) (follows : Terms
           keeps,
           tt,
           subst (λ b. Rule (stepped s k (either b n found) id me.1 v' keeps)) (sym (ne_eqb found 0 busy)) (unmoved laws t s r id v v' (set s.words k found) at live refl refl refl (set-get_or s.words k 0) (refused_fits w v k (found - 1) f)),
-          (λ (z : found ≡ 0). absurd (busy z), λ _. (record { whole = w; is_lawful = r.is_lawful; fits = f; held = a.1 ∙ ap some next; another = is_another }, refl)),
+          (λ (z : found ≡ 0). absurd (busy z), λ _. (record { whole = w; is_lawful = r.is_lawful; fits = f; held = a.1 ∙ ap some next; another = is_another }, refl), record { whole = w; is_lawful = r.is_lawful; fits = refused_fits w v k (found - 1) f }),
         ))
 
     pub releases : (slots id : ℕ) (me : M) (k : ℕ) (h : Holding O) (c : List (ℕ × Option O)) → me.0.low < me.0.end → me.1 ≡ (k, Some h.known) ∷ c → Holds me.0 k h → MayRelease lawful answers refers me.0 k
-        → Allows Rule slots id me k (λ _. 0) (λ _. released (step slots k 0 0 maybe.none) me 0)
+        → Allows Rule slots id me k (λ _. 0) (λ _. released lawful answers refers (step slots k 0 0 maybe.none) me 0)
     releases slots id me k h c live out holds may s r _ at _ = let v : Vi = me.0 in let w : Whole Sh O C = r.whole in let f = r.each id v at live in let lens = f.counted in
         let mine : IsHeldBy w k v.low = f.latched k h holds in let below : k < length w.latches = inside w.latches k (v.low + 1) mine in let w' : Whole Sh O C = latched w k 0 in let v' : Vi = releasing v k h in
         let law : lawful w' = may w r.is_lawful f in let next : Next follows v.low w w' = (away_latched v.low k 0 (v.low + 1) w mine (inr refl) (inl refl), inr (inl (k, mine, refl))) in
@@ -102,7 +102,7 @@ module _ (Sh O C A : Type 0) (lawful : Whole Sh O C → Type 0) (follows : Terms
               (λ (p : (j ≢ k) × (get_elem? w.latches j ≡ some 0)). set_else s.homes k j (some (Some h.known)) p.0 ∙ r.home j y p.1 at_j) (at_set w.latches k j 0 0 free_j))
               (length-set s.homes k (some (Some h.known)) ∙ r.homes)
               fits),
-          λ g at_g. ap (λ (z : Holding O). (releasing v k z, rest me.1)) (same_some h g (some-injective (Some h) (Some g) (sym holds ∙ at_g))),
+          (λ g at_g. ap (λ (z : Holding O). (releasing v k z, rest me.1)) (same_some h g (some-injective (Some h) (Some g) (sym holds ∙ at_g))), record { whole = w'; is_lawful = law; fits = fits }),
         )
 
 
@@ -128,7 +128,7 @@ module _ (Sh O C A : Type 0) (lawful : Whole Sh O C → Type 0) (follows : Terms
     below_passes w v live f = let passes : w.passes ≡ v.terms.passes = f.passes in let most : v.end ≤ v.terms.passes = f.numbers in omega arith
 
     pub settles : (slots id : ℕ) (me : M) (k : ℕ) (vs : List (Option O)) → me.0.low < me.0.end → AreValuesOf me.0 vs → follows me.0.terms (knowns me.0.held) vs None
-        → Allows Rule slots id me k (λ n. bit_or n 0) (settled vs (step slots k 0 0 maybe.none) me)
+        → Allows Rule slots id me k (λ n. bit_or n 0) (settled lawful answers refers vs (step slots k 0 0 maybe.none) me)
     settles slots id me k vs live values may s r _ at _ = let v : Vi = me.0 in let w : Whole Sh O C = r.whole in let f = r.each id v at live in let w' : Whole Sh O C = revalued w vs in let v' : Vi = settling v vs in
         let moves : Moves follows v.low w w' = record { terms = v.terms; on = is_on w v f; before = knowns v.held; held = are_held w v live f; news = vs; are_news = are_news v vs values; change = None; follow = may; is_changed = refl } in
         let law : lawful w' = laws.follows_keeps v.low w w' r.is_lawful (below_passes w v live f) moves in
@@ -150,7 +150,7 @@ module _ (Sh O C A : Type 0) (lawful : Whole Sh O C → Type 0) (follows : Terms
               (ap (set s.words k) (or_zero_r (get_or s.words k 0)) ∙ (set-get_or s.words k 0 ∙ r.words)) r.bounded
               (λ j y free_j at_j. r.home j y free_j (sym (overlay_none vs w.objects j (λ x e. let h = values.only j x e in let no : 0 ≡ v.low + 1 = some-injective 0 (v.low + 1) (sym free_j ∙ f.latched j h.0 h.1) in omega arith)) ∙ at_j))
               r.homes fits,
-          refl,
+          (refl, record { whole = w'; is_lawful = law; fits = fits }),
         )
 
     pub sees : (slots id : ℕ) (me : M) (k : ℕ) → me.0.low < me.0.end → Allows Rule slots id me k (λ x. x) (saw lawful answers refers (step slots k 0 0 maybe.none) me)

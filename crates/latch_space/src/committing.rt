@@ -3,7 +3,7 @@ ghost use Rattle.std.specs.Prelude.{◌≡◌, ◌≢◌, ◌+◌, ◌<◌, List
 ghost use mathlib.Core.Option.{some};
 ghost use lib.ListN.{get_elem?};
 ghost use Rattle.latch_law.specs.declared.knows.Entry.{Entry};
-ghost use Rattle.latch_law.specs.Fitting.{AreValuesOf, Extends, StandsIn};
+ghost use Rattle.latch_law.specs.Fitting.{AreValuesOf, Extends, IsFitted, StandsIn};
 ghost use Rattle.latch_law.specs.Views.{knowns, with_seen, entry_of, committing};
 ghost use Rattle.latch_space.specs.Commits.{Ends, Changes};
 ghost use Rattle.latch_space.specs.Hands.{spread};
@@ -134,6 +134,7 @@ impl<W: World> Space<W> {
             (N.meaning change.now) result (view pass.new) }
         ensures hands { Changes pass.old result pass.new }
         ensures kept { (values pass.new ≡ values pass.old) × (count pass.new ≡ count pass.old) }
+        ensures fits { IsFitted W.lawful W.answers W.refers (view pass.new) }
     {
         self.commit_in(
             &mut pass.seat,

@@ -1,5 +1,6 @@
 //! Cutting a pass in two, and joining two.
 ghost use Rattle.std.specs.Prelude.{◌≡◌, ◌+◌, ◌≤◌, IfOk, IfErr};
+ghost use Rattle.latch_law.specs.Fitting.{IsFitted};
 ghost use Rattle.latch_law.specs.Views.{left_part, right_part, both_parts};
 ghost use Rattle.latch_space.specs.Passes.{view, values, count, IsSamePass};
 ghost use Rattle.latch_space.specs.Spaces.{IsPassOf};
@@ -24,11 +25,15 @@ impl<W: World> Space<W> {
             × (view p ≡ right_part (view pass.old)) × (count p ≡ 0)) }
         ensures err { IfErr result (λ _. (view pass.new ≡ view pass.old)
             × (values pass.new ≡ values pass.old) × (count pass.new ≡ count pass.old)) }
+        ensures fits { IfOk result (λ p. IsFitted W.lawful W.answers W.refers (view pass.new)
+            × IsFitted W.lawful W.answers W.refers (view p)) }
     {
         let hand = Vec::with_capacity(alloc, 16)?;
         let middle = pass.low + (pass.end - pass.low) / 2;
         let end = pass.end;
-        let seat = self.table.shared.split_seat::<Halves>(&mut pass.seat);
+        let mut seat = self.table.shared.split_seat::<Halves>(&mut pass.seat);
+        self.see(&mut pass.seat);
+        self.see(&mut seat);
         pass.end = middle;
         Ok(PassOf {
             seat,
@@ -47,10 +52,12 @@ impl<W: World> Space<W> {
         ensures own { IsSamePass pass.old pass.new × IsPassOf self.now pass.new }
         ensures told { view pass.new ≡ both_parts (view pass.old) (view other) }
         ensures nothing { count pass.new ≡ 0 }
+        ensures fits { IsFitted W.lawful W.answers W.refers (view pass.new) }
     {
         let end = other.end;
         let seat = other.into_seat();
         self.table.shared.join_seat::<Both<W>>(&mut pass.seat, seat);
+        self.see(&mut pass.seat);
         pass.end = end;
     }
 }

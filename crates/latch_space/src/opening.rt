@@ -1,5 +1,6 @@
 //! How a space begins.
 ghost use Rattle.std.specs.Prelude.{◌≡◌, ℕ, ◌+◌, ◌^◌, ◌<◌, ◌≤◌, [], map, length, replicate, Some, IfOk};
+ghost use Rattle.latch_law.specs.Fitting.{IsFitted};
 ghost use Rattle.latch_law.specs.Opening.{opened};
 ghost use Rattle.latch_law.specs.Rule.{first_view};
 ghost use Rattle.latch_space.specs.Passes.{view, values, count};
@@ -50,6 +51,7 @@ impl<W: World> Space<W> {
         }) }
         ensures own { IfOk result (λ r. IsPassOf r.0 r.1) }
         ensures pass { IfOk result (λ r. (view r.1 ≡ first_view r.0.terms) × (count r.1 ≡ 0)) }
+        ensures fits { IfOk result (λ r. IsFitted W.lawful W.answers W.refers (view r.1)) }
     {
         let count = objects.len();
         let terms = Terms {

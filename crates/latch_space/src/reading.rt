@@ -12,6 +12,17 @@ use latch_law::{Means, World};
 use std::marker::Brand;
 
 impl<W: World> Space<W> {
+    // A step that changes nothing.
+    pub(crate) fn see(&self, seat: &mut SeatOf<W>)
+        requires own { seat.old.table_id ≡ self.now.table.shared.table_id }
+        requires live { seat.old.me.0.low < seat.old.me.0.end }
+        ensures own { (seat.new.table_id ≡ seat.old.table_id) × (seat.new.id ≡ seat.old.id) }
+        ensures fits { IsFitted W.lawful W.answers W.refers seat.new.me.0 }
+        ensures kept { seat.new.me ≡ seat.old.me }
+    {
+        self.table.shared.load::<Sees<W>>(seat, 0);
+    }
+
     /// Tells that some lawful state fits the pass, and changes nothing.
     pub fn witness(&self, pass: &mut Pass<W>)
         requires own { IsPassOf self.now pass.old }
@@ -19,7 +30,7 @@ impl<W: World> Space<W> {
         ensures fits { IsFitted W.lawful W.answers W.refers (view pass.new) }
         ensures kept { (view pass.new ≡ view pass.old) × SameHands pass.old pass.new }
     {
-        self.table.shared.load::<Sees<W>>(&mut pass.seat, 0);
+        self.see(&mut pass.seat);
     }
 
     fn read_at<X: Says<W::Answer>, N: Means<W::Answer>>(
@@ -56,6 +67,7 @@ impl<W: World> Space<W> {
         ensures told { DidRead W.lawful W.answers W.refers (view pass.old) index
             (N.meaning answer.now) result (view pass.new) }
         ensures kept { SameHands pass.old pass.new }
+        ensures fits { IsFitted W.lawful W.answers W.refers (view pass.new) }
     {
         self.read_at::<Brand, N>(&mut pass.seat, index as usize, answer)
     }

@@ -1,7 +1,7 @@
 //! Giving an object back.
 ghost use Rattle.std.specs.Prelude.{◌≡◌, ◌+◌, None, slice_set};
 ghost use Rattle.latch_law.specs.declared.knows.Holding.{Holding};
-ghost use Rattle.latch_law.specs.Fitting.{MayRelease};
+ghost use Rattle.latch_law.specs.Fitting.{IsFitted, MayRelease};
 ghost use Rattle.latch_law.specs.Rule.{Holds};
 ghost use Rattle.latch_law.specs.Views.{releasing};
 ghost use Rattle.latch_space.specs.Passes.{view, values, count, IsSamePass, Shows};
@@ -23,6 +23,7 @@ impl<W: World> Space<W> {
         requires rule { MayRelease W.lawful W.answers W.refers (view pass.old) object }
         ensures own { IsSamePass pass.old pass.new × IsPassOf self.now pass.new }
         ensures told { DidRelease pass.old object pass.new }
+        ensures fits { IsFitted W.lawful W.answers W.refers (view pass.new) }
     {
         let i = place_of(pass.hand.as_slice(), object as usize);
         turn_by(&mut pass.seat, i);
@@ -34,7 +35,7 @@ impl<W: World> Space<W> {
         // The object is at home before its latch says so.
         let empty = self.table.shared.exchange(&mut pass.seat, slot, value);
         let None = empty else { unreachable!() };
-        self.table.shared.store::<Releases>(&mut pass.seat, slot, 0);
+        self.table.shared.store::<Releases<W>>(&mut pass.seat, slot, 0);
         turn_by(&mut pass.seat, rest);
     }
 }

@@ -1,6 +1,6 @@
 //! Making known what the held objects have become.
 ghost use Rattle.std.specs.Prelude.{◌≡◌, ◌<◌, None, length};
-ghost use Rattle.latch_law.specs.Fitting.{AreValuesOf};
+ghost use Rattle.latch_law.specs.Fitting.{AreValuesOf, IsFitted};
 ghost use Rattle.latch_law.specs.Views.{knowns, settling};
 ghost use Rattle.latch_space.specs.Hands.{spread};
 ghost use Rattle.latch_space.specs.Passes.{view, values, count, known_values, IsSamePass, IsWhole};
@@ -32,8 +32,9 @@ impl<W: World> Space<W> {
           settling seat.old.me.0 (spread (length seat.old.me.0.held) hand.now),
           seat.old.me.1,
         ) }
+        ensures fits { IsFitted W.lawful W.answers W.refers seat.new.me.0 }
     {
-        self.table.shared.fetch_or::<Settles<X>>(seat, word, 0);
+        self.table.shared.fetch_or::<Settles<W, X>>(seat, word, 0);
     }
 
     /// What the pass holds, as it now is, becomes what it is known to hold. No list changes.
@@ -44,8 +45,10 @@ impl<W: World> Space<W> {
             None }
         ensures own { IsSamePass pass.old pass.new × IsPassOf self.now pass.new }
         ensures told { DidSettle pass.old pass.new }
+        ensures fits { IsFitted W.lawful W.answers W.refers (view pass.new) }
     {
         if pass.hand.is_empty() {
+            self.see(&mut pass.seat);
             return;
         }
         let word = pass.hand[0].object;

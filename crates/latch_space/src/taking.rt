@@ -1,5 +1,6 @@
 //! Taking an object.
 ghost use Rattle.std.specs.Prelude.{◌≡◌, ◌<◌};
+ghost use Rattle.latch_law.specs.Fitting.{IsFitted};
 ghost use Rattle.latch_space.specs.Passes.{view, count, IsSamePass, Lacks};
 ghost use Rattle.latch_space.specs.Spaces.{IsPassOf};
 ghost use Rattle.latch_space.specs.Takes.{Tells, DidTakeAfter};
@@ -28,6 +29,7 @@ impl<W: World> Space<W> {
         requires room { count pass.old < 16 }
         ensures own { IsSamePass pass.old pass.new × IsPassOf self.now pass.new }
         ensures told { Tells W.lawful W.answers W.refers pass.old object result pass.new }
+        ensures fits { IsFitted W.lawful W.answers W.refers (view pass.new) }
     {
         let slot = object as usize;
         let word = self
@@ -54,6 +56,7 @@ impl<W: World> Space<W> {
         requires room { count pass.old < 16 }
         ensures own { IsSamePass pass.old pass.new × IsPassOf self.now pass.new }
         ensures told { DidTakeAfter W.lawful W.answers W.refers pass.old object pass.new }
+        ensures fits { IsFitted W.lawful W.answers W.refers (view pass.new) }
     {
         let backoff = Backoff::new();
         for _ in wait.forever() {

@@ -22,9 +22,9 @@ join_seat-requires g c = let words = c.args.self.now.counts in let small = c.arg
     )
 
 pub invariant_of-pass : goal.invariant_of-pass
-invariant_of-pass g c = let p = c.args.pass.now in let q = c.args.other in let n = p.numbers in let m = q.numbers in let me = c.join_seat.ensures.2 in let v = p.seat.me.0 in let u = q.seat.me.0 in let meet = c.requires.next in
+invariant_of-pass g c = let p = c.args.pass.now in let q = c.args.other in let n = p.numbers in let m = q.numbers in let me = c.see.ensures.kept ∙ c.join_seat.ensures.2 in let v = p.seat.me.0 in let u = q.seat.me.0 in let meet = c.requires.next in
     let e : c.into_seat-seat.result.me.0 ≡ u = ap (λ z. z.0) c.into_seat-seat.ensures.2 in
-    let w : c.join_seat.new.seat.me.0 ≡ both_parts v u = ap (λ z. z.0) me ∙ ap (both_parts v) e in
+    let w : c.see.new.seat.me.0 ≡ both_parts v u = ap (λ z. z.0) me ∙ ap (both_parts v) e in
     let terms = c.requires.own.1 ∙ sym c.requires.others.1 in record {
       numbers = (n.0 ∙ sym (ap (λ z. z.low) w), m.1 ∙ sym (ap (λ z. z.end) w), omega (arith, n.0, n.1, n.2, m.0, m.1, m.2, meet));
       out = ap (λ z. z.1) me ∙ p.out;

@@ -10,7 +10,7 @@ pub split_seat-seat-requires : goal.split_seat-seat-requires
 split_seat-seat-requires g c = let words = c.args.self.now.counts in let small = c.args.self.now.small in (c.requires.own.0, omega (arith, words.0, small.1), splits _ _ _ _ _ _ _ _ _ _ c.requires.two)
 
 pub invariant_of-result : goal.invariant_of-result
-invariant_of-result g c = let p = c.args.pass.now in let n = p.numbers in let v = p.seat.me.0 in let me = c.split_seat-seat.ensures.4 in let w = ap (λ z. z.0) me in let none = c.in_ok-hand.ensures.items in let m = middle_is v.low v.end c.requires.two in record {
+invariant_of-result g c = let p = c.args.pass.now in let n = p.numbers in let v = p.seat.me.0 in let me = c.see-2.ensures.kept ∙ c.split_seat-seat.ensures.4 in let w = ap (λ z. z.0) me in let none = c.in_ok-hand.ensures.items in let m = middle_is v.low v.end c.requires.two in record {
   numbers = ((λ k. n.0 k + (n.1 k - n.0 k) / 2) ∙ sym (ap (λ z. z.low) w), n.1 ∙ sym (ap (λ z. z.end) w), subst (λ (z : ℕ × ℕ). z.0 + (z.1 - z.0) / 2 < z.1) (λ k. (sym n.0 k, sym n.1 k)) m.1);
   out = ap (λ z. z.1) me ∙ ap (map slot_of) (sym none);
   holding = λ k. ap (has k) none ∙ (none_held (Holding g.row.W-Object.Denot) (length v.held) k ∙ ap (λ z. is_held z.held k) (sym w));

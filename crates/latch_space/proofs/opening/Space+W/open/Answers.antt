@@ -4,8 +4,9 @@ use Rattle.atomic_table.specs.Table.{opening}
 use Rattle.latch_law.specs.declared.knows.Holding.{Holding}
 use Rattle.latch_law.specs.declared.knows.Terms.{Terms}
 use Rattle.latch_space.specs.Hands.{has, is_held, is_once, slot_of}
+use Rattle.latch_law.specs.Fitting.{IsFitted}
 use Rattle.latch_law.specs.Rule.{Kept, first_view}
-use Rattle.latch_law.proofs.Begins.{begins}
+use Rattle.latch_law.proofs.Begins.{begins, begins_fitted}
 use Rattle.latch_space.proofs.InHand.{none_held}
 use Rattle.latch_space.proofs.opening.Space+W.open.Goals as goal
 
@@ -26,3 +27,8 @@ invariant_of-pass g c = let r = c.in-Ok.ensures.ok in let me = r.4 in let v = ap
   all = (ap (λ z. length z.held) v ∙ (length-replicate n None ∙ ap (λ z. z.terms.objects) (sym v)), ap (λ z. length z.seen) v ∙ (length-replicate c.args.indexes [] ∙ ap (λ z. z.terms.indexes) (sym v)));
   room = let x = c.in_ok-hand.ensures.capacity in omega (arith, x);
 }
+
+pub returns-clause-fits : goal.returns-clause-fits
+returns-clause-fits g c = let t : Terms g.row.W-Shape.Denot = record { shape = c.args.shape; objects = c.len-count.result; indexes = c.args.indexes; max_changes = c.args.max_changes; passes = c.args.passes } in let len = c.len-count.ensures in let ok = c.args.objects.ok.0 in
+    subst (IsFitted g.W.World.lawful g.W.World.answers g.W.World.refers) (sym (ap (λ z. z.0) c.in-Ok.ensures.ok.4))
+    (begins_fitted g.row.W-Shape.Denot g.row.W-Object.Denot g.row.W-Change.Denot g.row.W-Answer.Denot g.W.World.lawful g.W.World.answers g.W.World.refers t c.args.objects.items (omega (arith, len, ok)) c.requires.lawful)

@@ -43,12 +43,12 @@ store-requires g c = let p = c.args.pass.now in let hs = p.seat.me.0.held in let
 pub turn_by-requires-2 : goal.turn_by-requires-2
 turn_by-requires-2 g c = let p = c.args.pass.now in let hs = p.seat.me.0.held in let ps = p.hand.items in let i = c.place_of-i.result in let q = c.place_of-i.ensures in let found = ap (λ z. get_elem? z i) (sym c.as_slice.ensures.value) ∙ q.1 in let gone = c.remove-slot.result in let s = place_shows hs ps p.holding p.once i c.args.object (q.0, found, q.2) gone c.remove-slot.ensures.value in
     let front_is : c.turn_by.new.seat.me.1 ≡ (gone.object, None) ∷ others ps i = c.turn_by.ensures.turned ∙ (ap (λ z. drop i z ++ take i z) p.out ∙ front_slots ps i gone s.0) in let e = c.exchange-empty.ensures in let same : c.exchange-empty.new.seat.me.0 ≡ p.seat.me.0 = ap (λ z. z.0) e.3 ∙ c.turn_by.ensures.own.2 in let h = c.requires.known in
-    let holds : Holds c.exchange-empty.new.seat.me.0 gone.object h.0 = ap (λ z. get_elem? z.held gone.object) same ∙ (ap (get_elem? hs) s.1 ∙ h.1) in let t = c.store.ensures.2 h.0 holds in let left : c.store.new.seat.me.1 ≡ others ps i = ap (λ z. z.1) t ∙ (ap (λ z. rest z.1) e.3 ∙ ap rest front_is) in let len = c.len.ensures in let few = c.remove-slot.ensures.len in let ok = p.hand.ok.0 in let inside_it = inside ps i gone s.0 in let r : (c.len.result - i) + (i + 1) ≡ length ps = omega (arith, len, few, ok, inside_it) in let l = length_others ps i (c.len.result - i) r in let m = ap length left in omega (arith, l, m)
+    let holds : Holds c.exchange-empty.new.seat.me.0 gone.object h.0 = ap (λ z. get_elem? z.held gone.object) same ∙ (ap (get_elem? hs) s.1 ∙ h.1) in let t = c.store.ensures.2.0 h.0 holds in let left : c.store.new.seat.me.1 ≡ others ps i = ap (λ z. z.1) t ∙ (ap (λ z. rest z.1) e.3 ∙ ap rest front_is) in let len = c.len.ensures in let few = c.remove-slot.ensures.len in let ok = p.hand.ok.0 in let inside_it = inside ps i gone s.0 in let r : (c.len.result - i) + (i + 1) ≡ length ps = omega (arith, len, few, ok, inside_it) in let l = length_others ps i (c.len.result - i) r in let m = ap length left in omega (arith, l, m)
 
 pub invariant_of-pass : goal.invariant_of-pass
 invariant_of-pass g c = let p = c.args.pass.now in let hs = p.seat.me.0.held in let ps = p.hand.items in let i = c.place_of-i.result in let q = c.place_of-i.ensures in let found = ap (λ z. get_elem? z i) (sym c.as_slice.ensures.value) ∙ q.1 in let gone = c.remove-slot.result in let s = place_shows hs ps p.holding p.once i c.args.object (q.0, found, q.2) gone c.remove-slot.ensures.value in
     let front_is : c.turn_by.new.seat.me.1 ≡ (gone.object, None) ∷ others ps i = c.turn_by.ensures.turned ∙ (ap (λ z. drop i z ++ take i z) p.out ∙ front_slots ps i gone s.0) in let e = c.exchange-empty.ensures in let same : c.exchange-empty.new.seat.me.0 ≡ p.seat.me.0 = ap (λ z. z.0) e.3 ∙ c.turn_by.ensures.own.2 in let h = c.requires.known in
-    let holds : Holds c.exchange-empty.new.seat.me.0 gone.object h.0 = ap (λ z. get_elem? z.held gone.object) same ∙ (ap (get_elem? hs) s.1 ∙ h.1) in let t = c.store.ensures.2 h.0 holds in let left : c.store.new.seat.me.1 ≡ others ps i = ap (λ z. z.1) t ∙ (ap (λ z. rest z.1) e.3 ∙ ap rest front_is) in let v : c.turn_by-2.new.seat.me.0 ≡ releasing p.seat.me.0 gone.object h.0 = c.turn_by-2.ensures.own.2 ∙ (ap (λ z. z.0) t ∙ ap (λ z. releasing z gone.object h.0) same) in let len = c.len.ensures in let few = c.remove-slot.ensures.len in let ok = p.hand.ok.0 in let inside_it = inside ps i gone s.0 in let r : (c.len.result - i) + (i + 1) ≡ length ps = omega (arith, len, few, ok, inside_it) in let hand = c.remove-slot.ensures.items in let n = p.numbers in let within = subst (λ (z : ℕ). z < length hs) (sym s.1) s.2 in record {
+    let holds : Holds c.exchange-empty.new.seat.me.0 gone.object h.0 = ap (λ z. get_elem? z.held gone.object) same ∙ (ap (get_elem? hs) s.1 ∙ h.1) in let t = c.store.ensures.2.0 h.0 holds in let left : c.store.new.seat.me.1 ≡ others ps i = ap (λ z. z.1) t ∙ (ap (λ z. rest z.1) e.3 ∙ ap rest front_is) in let v : c.turn_by-2.new.seat.me.0 ≡ releasing p.seat.me.0 gone.object h.0 = c.turn_by-2.ensures.own.2 ∙ (ap (λ z. z.0) t ∙ ap (λ z. releasing z gone.object h.0) same) in let len = c.len.ensures in let few = c.remove-slot.ensures.len in let ok = p.hand.ok.0 in let inside_it = inside ps i gone s.0 in let r : (c.len.result - i) + (i + 1) ≡ length ps = omega (arith, len, few, ok, inside_it) in let hand = c.remove-slot.ensures.items in let n = p.numbers in let within = subst (λ (z : ℕ). z < length hs) (sym s.1) s.2 in record {
       numbers = (n.0 ∙ sym (ap (λ z. z.low) v), n.1 ∙ sym (ap (λ z. z.end) v), n.2);
       out = c.turn_by-2.ensures.turned ∙ (ap (λ z. drop (c.len.result - i) z ++ take (c.len.result - i) z) left ∙ (back_slots ps i (c.len.result - i) r ∙ ap (map slot_of) (sym hand)));
       holding = λ k. ap (has k) hand ∙ (holding_removed hs ps gone i p.once s.0 within p.holding k ∙ ap (λ z. is_held z.held k) (sym v));
@@ -60,7 +60,7 @@ invariant_of-pass g c = let p = c.args.pass.now in let hs = p.seat.me.0.held in 
 pub returns-clause-told : goal.returns-clause-told
 returns-clause-told g c = let p = c.args.pass.now in let hs = p.seat.me.0.held in let ps = p.hand.items in let i = c.place_of-i.result in let q = c.place_of-i.ensures in let found = ap (λ z. get_elem? z i) (sym c.as_slice.ensures.value) ∙ q.1 in let gone = c.remove-slot.result in let s = place_shows hs ps p.holding p.once i c.args.object (q.0, found, q.2) gone c.remove-slot.ensures.value in
     let front_is : c.turn_by.new.seat.me.1 ≡ (gone.object, None) ∷ others ps i = c.turn_by.ensures.turned ∙ (ap (λ z. drop i z ++ take i z) p.out ∙ front_slots ps i gone s.0) in let e = c.exchange-empty.ensures in let same : c.exchange-empty.new.seat.me.0 ≡ p.seat.me.0 = ap (λ z. z.0) e.3 ∙ c.turn_by.ensures.own.2 in let h = c.requires.known in
-    let holds : Holds c.exchange-empty.new.seat.me.0 gone.object h.0 = ap (λ z. get_elem? z.held gone.object) same ∙ (ap (get_elem? hs) s.1 ∙ h.1) in let t = c.store.ensures.2 h.0 holds in let left : c.store.new.seat.me.1 ≡ others ps i = ap (λ z. z.1) t ∙ (ap (λ z. rest z.1) e.3 ∙ ap rest front_is) in let v : c.turn_by-2.new.seat.me.0 ≡ releasing p.seat.me.0 gone.object h.0 = c.turn_by-2.ensures.own.2 ∙ (ap (λ z. z.0) t ∙ ap (λ z. releasing z gone.object h.0) same) in let hand = c.remove-slot.ensures.items in let within = subst (λ (z : ℕ). z < length hs) (sym s.1) s.2 in
+    let holds : Holds c.exchange-empty.new.seat.me.0 gone.object h.0 = ap (λ z. get_elem? z.held gone.object) same ∙ (ap (get_elem? hs) s.1 ∙ h.1) in let t = c.store.ensures.2.0 h.0 holds in let left : c.store.new.seat.me.1 ≡ others ps i = ap (λ z. z.1) t ∙ (ap (λ z. rest z.1) e.3 ∙ ap rest front_is) in let v : c.turn_by-2.new.seat.me.0 ≡ releasing p.seat.me.0 gone.object h.0 = c.turn_by-2.ensures.own.2 ∙ (ap (λ z. z.0) t ∙ ap (λ z. releasing z gone.object h.0) same) in let hand = c.remove-slot.ensures.items in let within = subst (λ (z : ℕ). z < length hs) (sym s.1) s.2 in
     let vals : spread (length c.turn_by-2.new.seat.me.0.held) c.remove-slot.new.self.items ≡ set (values p) c.args.object None = (λ j. spread (length (v j).held) (hand j)) ∙ (ap (λ (z : ℕ). spread z (remove ps i)) (length-set hs gone.object None) ∙ (spread_remove (length hs) ps i gone p.once s.0 within ∙ ap (λ (z : ℕ). set (spread (length hs) ps) z None) s.1)) in
     let is : c.turn_by-2.new.seat.me.0 ≡ releasing p.seat.me.0 c.args.object h.0 = v ∙ ap (λ z. releasing p.seat.me.0 z h.0) s.1 in
     let len = c.remove-slot.ensures.len in let ok = p.hand.ok.0 in let ok_after = c.remove-slot.new.self.ok.0 in let less : length c.remove-slot.new.self.items + 1 ≡ length ps = omega (arith, len, ok, ok_after) in
@@ -69,5 +69,5 @@ returns-clause-told g c = let p = c.args.pass.now in let hs = p.seat.me.0.held i
 pub returns-clause-own : goal.returns-clause-own
 returns-clause-own g c = let p = c.args.pass.now in let hs = p.seat.me.0.held in let ps = p.hand.items in let i = c.place_of-i.result in let q = c.place_of-i.ensures in let found = ap (λ z. get_elem? z i) (sym c.as_slice.ensures.value) ∙ q.1 in let gone = c.remove-slot.result in let s = place_shows hs ps p.holding p.once i c.args.object (q.0, found, q.2) gone c.remove-slot.ensures.value in
     let front_is : c.turn_by.new.seat.me.1 ≡ (gone.object, None) ∷ others ps i = c.turn_by.ensures.turned ∙ (ap (λ z. drop i z ++ take i z) p.out ∙ front_slots ps i gone s.0) in let e = c.exchange-empty.ensures in let same : c.exchange-empty.new.seat.me.0 ≡ p.seat.me.0 = ap (λ z. z.0) e.3 ∙ c.turn_by.ensures.own.2 in let h = c.requires.known in
-    let holds : Holds c.exchange-empty.new.seat.me.0 gone.object h.0 = ap (λ z. get_elem? z.held gone.object) same ∙ (ap (get_elem? hs) s.1 ∙ h.1) in let t = c.store.ensures.2 h.0 holds in let left : c.store.new.seat.me.1 ≡ others ps i = ap (λ z. z.1) t ∙ (ap (λ z. rest z.1) e.3 ∙ ap rest front_is) in let v : c.turn_by-2.new.seat.me.0 ≡ releasing p.seat.me.0 gone.object h.0 = c.turn_by-2.ensures.own.2 ∙ (ap (λ z. z.0) t ∙ ap (λ z. releasing z gone.object h.0) same) in let table = c.turn_by-2.ensures.own.0 ∙ (c.store.ensures.0 ∙ (e.0 ∙ c.turn_by.ensures.own.0)) in
+    let holds : Holds c.exchange-empty.new.seat.me.0 gone.object h.0 = ap (λ z. get_elem? z.held gone.object) same ∙ (ap (get_elem? hs) s.1 ∙ h.1) in let t = c.store.ensures.2.0 h.0 holds in let left : c.store.new.seat.me.1 ≡ others ps i = ap (λ z. z.1) t ∙ (ap (λ z. rest z.1) e.3 ∙ ap rest front_is) in let v : c.turn_by-2.new.seat.me.0 ≡ releasing p.seat.me.0 gone.object h.0 = c.turn_by-2.ensures.own.2 ∙ (ap (λ z. z.0) t ∙ ap (λ z. releasing z gone.object h.0) same) in let table = c.turn_by-2.ensures.own.0 ∙ (c.store.ensures.0 ∙ (e.0 ∙ c.turn_by.ensures.own.0)) in
     ((table, c.turn_by-2.ensures.own.1 ∙ (c.store.ensures.1 ∙ (e.1 ∙ c.turn_by.ensures.own.1))), (table ∙ c.requires.own.0, ap (λ z. z.terms) v ∙ c.requires.own.1))

@@ -17,7 +17,7 @@ settle_at-requires-clause-own g c = let p = c.args.pass.now in let same : p.seat
     (c.requires.own.0, omega (arith, all.0, words.0, same, within))
 
 pub returns-then-is_empty-clause-told : goal.returns-then-is_empty-clause-told
-returns-then-is_empty-clause-told g c = let p = c.args.pass.now in let ok = p.hand.ok.0 in let none = eqb-true (vec_len p.hand) 0 (sym c.is_empty.ensures ∙ c.if-is_empty.true) in settled_none p _ (omega (arith, none, ok)) refl refl
+returns-then-is_empty-clause-told g c = let p = c.args.pass.now in let ok = p.hand.ok.0 in let none = eqb-true (vec_len p.hand) 0 (sym c.is_empty.ensures ∙ c.if-is_empty.true) in settled_none p _ (omega (arith, none, ok)) (ap (λ z. z.0) c.see.ensures.kept) refl
 
 pub returns-clause-told : goal.returns-clause-told
 returns-clause-told g c = let p = c.args.pass.now in let vs = spread (length p.seat.me.0.held) p.hand.items in
