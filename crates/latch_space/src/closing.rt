@@ -6,7 +6,7 @@ ghost use Rattle.latch_space.specs.Passes.{view, count};
 ghost use Rattle.latch_space.specs.Spaces.{IsPassOf};
 
 use crate::error::NoMemory;
-use crate::pass::Pass;
+use crate::pass::Parts;
 use crate::space::Space;
 use atomic_table::Closed;
 use latch_law::World;
@@ -33,7 +33,7 @@ fn gathered<O>(mut closed: Closed<Option<O>, Global>, mut objects: Vec<O>) -> Ve
 
 impl<W: World> Space<W> {
     /// Gives the objects back, in order. After `NoMemory` the space and the pass are gone.
-    pub fn close(self, alloc: Global, pass: Pass<W>) -> Result<Vec<W::Object>, NoMemory>
+    pub(crate) fn close_of(self, alloc: Global, pass: Parts<W>) -> Result<Vec<W::Object>, NoMemory>
     where
         W::Object: Drop,
         W::Shape: Drop,

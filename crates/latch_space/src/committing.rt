@@ -10,7 +10,7 @@ ghost use Rattle.latch_space.specs.Hands.{spread};
 ghost use Rattle.latch_space.specs.Passes.{view, values, count, known_values, IsSamePass, IsWhole};
 ghost use Rattle.latch_space.specs.Spaces.{IsPassOf};
 
-use crate::pass::{Pass, Place, SeatOf};
+use crate::pass::{Parts, Place, SeatOf};
 use crate::plays::{Commits, Looks, Makes};
 use crate::space::Space;
 use crossbeam_utils::Backoff;
@@ -117,9 +117,9 @@ impl<W: World> Space<W> {
     /// known to hold what it was known to hold, and the caller brings the values back to it.
     ///
     /// A step that another pass overtook is tried again: it spins for a short while, then yields.
-    pub fn commit<N: Means<W::Change>, R: Wait>(
+    pub(crate) fn commit_of<N: Means<W::Change>, R: Wait>(
         &self,
-        pass: &mut Pass<W>,
+        pass: &mut Parts<W>,
         index: u32,
         change: &N,
         wait: &R,

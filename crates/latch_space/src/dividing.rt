@@ -6,7 +6,7 @@ ghost use Rattle.latch_space.specs.Passes.{view, values, count, IsSamePass};
 ghost use Rattle.latch_space.specs.Spaces.{IsPassOf};
 
 use crate::error::NoMemory;
-use crate::pass::{Pass, PassOf};
+use crate::pass::{Parts, PassOf};
 use crate::plays::{Both, Halves};
 use crate::space::Space;
 use latch_law::World;
@@ -15,7 +15,7 @@ use std::alloc::Global;
 impl<W: World> Space<W> {
     /// A new pass, which gets the upper half of the numbers and their answers. The old one keeps
     /// what it holds, and after `NoMemory` it is as it was.
-    pub fn split(&self, alloc: Global, pass: &mut Pass<W>) -> Result<Pass<W>, NoMemory>
+    pub(crate) fn split_of(&self, alloc: Global, pass: &mut Parts<W>) -> Result<Parts<W>, NoMemory>
         requires own { IsPassOf self.now pass.old }
         requires two { (view pass.old).low + 2 ≤ (view pass.old).end }
         ensures own { IsSamePass pass.old pass.new × IsPassOf self.now pass.new }
@@ -44,7 +44,7 @@ impl<W: World> Space<W> {
     }
 
     /// Takes in the pass whose numbers follow. Its answers come behind the others.
-    pub fn join(&self, pass: &mut Pass<W>, other: Pass<W>)
+    pub(crate) fn join_of(&self, pass: &mut Parts<W>, other: Parts<W>)
         requires own { IsPassOf self.now pass.old }
         requires others { IsPassOf self.now other }
         requires nothing { (count pass.old ≡ 0) × (count other ≡ 0) }

@@ -35,14 +35,14 @@ pub(crate) fn turn_by<S, V>(seat: &mut Seat<S, V>, times: usize)
 
 impl<Sh, O, C, A> PassOf<Sh, O, C, A> {
     /// The lowest number, which is the pass's name, and the end of its numbers.
-    pub fn numbers(&self) -> (u32, u32)
+    pub(crate) fn numbers(&self) -> (u32, u32)
         ensures { (result.0 ≡ (view self.now).low) × (result.1 ≡ (view self.now).end) }
     {
         (self.low, self.end)
     }
 
     /// Whether the pass holds the object, which may be taken out.
-    pub fn holds(&self, object: u32) -> bool
+    pub(crate) fn holds(&self, object: u32) -> bool
         ensures { result ≡ is_held (view self.now).held object }
     {
         for place in self.hand.iter() {
@@ -54,7 +54,7 @@ impl<Sh, O, C, A> PassOf<Sh, O, C, A> {
     }
 
     /// The object as it stands now.
-    pub fn look(&self, object: u32) -> &O
+    pub(crate) fn look(&self, object: u32) -> &O
         requires { (x : O) × Shows self.now object x }
         ensures { Shows self.now object result.now }
     {
@@ -67,7 +67,7 @@ impl<Sh, O, C, A> PassOf<Sh, O, C, A> {
 
     /// The object itself. Its place stays empty until `put_back`, before which there is no commit,
     /// settle or release.
-    pub fn take_out(&mut self, object: u32) -> O
+    pub(crate) fn take_out(&mut self, object: u32) -> O
         requires { (x : O) × Shows self.old object x }
         ensures value { Shows self.old object result }
         ensures seat { (self.new.seat ≡ self.old.seat) × (count self.new ≡ count self.old) }
@@ -81,7 +81,7 @@ impl<Sh, O, C, A> PassOf<Sh, O, C, A> {
     }
 
     /// Puts a value into the place of an object that was taken out.
-    pub fn put_back(&mut self, object: u32, value: O)
+    pub(crate) fn put_back(&mut self, object: u32, value: O)
         requires held { is_held (view self.old).held object ≡ true }
         requires out { get_elem? (values self.old) object ≡ some None }
         ensures seat { (self.new.seat ≡ self.old.seat) × (count self.new ≡ count self.old) }

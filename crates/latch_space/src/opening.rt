@@ -7,7 +7,7 @@ ghost use Rattle.latch_space.specs.Passes.{view, values, count};
 ghost use Rattle.latch_space.specs.Spaces.{IsPassOf};
 
 use crate::error::NoMemory;
-use crate::pass::{Pass, PassOf};
+use crate::pass::{Parts, PassOf};
 use crate::space::{Space, SpaceOf};
 use atomic_table::Table;
 use latch_law::{Terms, World};
@@ -28,14 +28,14 @@ fn zeros(alloc: Global, count: usize) -> Result<Vec<u64>, AllocError>
 impl<W: World> Space<W> {
     /// A space with these objects and empty lists, and its first pass, which has all numbers.
     /// After `NoMemory` the shape and the objects are gone.
-    pub fn open(
+    pub(crate) fn open_of(
         alloc: Global,
         shape: W::Shape,
         objects: Vec<W::Object>,
         indexes: u32,
         max_changes: u64,
         passes: u32,
-    ) -> Result<(Space<W>, Pass<W>), NoMemory>
+    ) -> Result<(Space<W>, Parts<W>), NoMemory>
     where
         W::Object: Drop,
         W::Shape: Drop,

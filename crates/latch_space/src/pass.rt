@@ -31,8 +31,8 @@ pub struct PassOf<Sh, O, C, A> {
     ghost room: { 16 ≤ vec_capacity hand },
 }
 
-/// A pass of a space of the world W.
-pub type Pass<W: World> = PassOf<W::Shape, W::Object, W::Change, W::Answer>;
+/// A pass over the types of a world, without the state that fits it.
+pub(crate) type Parts<W: World> = PassOf<W::Shape, W::Object, W::Change, W::Answer>;
 
 /// Its seat at the table.
 pub(crate) type SeatOf<W: World> = Seat<

@@ -5,7 +5,7 @@ ghost use Rattle.latch_space.specs.Has.{SameHands};
 ghost use Rattle.latch_space.specs.Passes.{view, values, count, IsSamePass};
 ghost use Rattle.latch_space.specs.Spaces.{IsPassOf};
 
-use crate::pass::{Pass, SeatOf};
+use crate::pass::{Parts, SeatOf};
 use crate::plays::{Reads, Says, Sees};
 use crate::space::Space;
 use latch_law::{Means, World};
@@ -21,16 +21,6 @@ impl<W: World> Space<W> {
         ensures kept { seat.new.me ≡ seat.old.me }
     {
         self.table.shared.load::<Sees<W>>(seat, 0);
-    }
-
-    /// Tells that some lawful state fits the pass, and changes nothing.
-    pub fn witness(&self, pass: &mut Pass<W>)
-        requires own { IsPassOf self.now pass.old }
-        ensures own { IsSamePass pass.old pass.new × IsPassOf self.now pass.new }
-        ensures fits { IsFitted W.lawful W.answers W.refers (view pass.new) }
-        ensures kept { (view pass.new ≡ view pass.old) × SameHands pass.old pass.new }
-    {
-        self.see(&mut pass.seat);
     }
 
     fn read_at<X: Says<W::Answer>, N: Means<W::Answer>>(
@@ -58,7 +48,12 @@ impl<W: World> Space<W> {
 
     /// Gives the answer at the end of the index's list, and returns that point. The pass has then
     /// seen the list up to there.
-    pub fn read_point<N: Means<W::Answer>>(&self, pass: &mut Pass<W>, index: u32, answer: &N) -> u64
+    pub(crate) fn read_point_of<N: Means<W::Answer>>(
+        &self,
+        pass: &mut Parts<W>,
+        index: u32,
+        answer: &N,
+    ) -> u64
         requires own { IsPassOf self.now pass.old }
         requires index { index < self.now.terms.indexes }
         requires rule { MayAnswer W.lawful W.answers W.refers (view pass.old) index

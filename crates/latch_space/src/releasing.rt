@@ -9,14 +9,14 @@ ghost use Rattle.latch_space.specs.Has.{DidRelease};
 ghost use Rattle.latch_space.specs.Spaces.{IsPassOf};
 
 use crate::hand::{place_of, turn_by};
-use crate::pass::{Pass, Place};
+use crate::pass::{Parts, Place};
 use crate::plays::Releases;
 use crate::space::Space;
 use latch_law::World;
 
 impl<W: World> Space<W> {
     /// Gives the object back, which has its known value, and keeps a reference to it.
-    pub fn release(&self, pass: &mut Pass<W>, object: u32)
+    pub(crate) fn release_of(&self, pass: &mut Parts<W>, object: u32)
         requires own { IsPassOf self.now pass.old }
         requires known { (h : Holding W.Object) × Holds (view pass.old) object h
             × Shows pass.old object h.known }
@@ -35,7 +35,9 @@ impl<W: World> Space<W> {
         // The object is at home before its latch says so.
         let empty = self.table.shared.exchange(&mut pass.seat, slot, value);
         let None = empty else { unreachable!() };
-        self.table.shared.store::<Releases<W>>(&mut pass.seat, slot, 0);
+        self.table
+            .shared
+            .store::<Releases<W>>(&mut pass.seat, slot, 0);
         turn_by(&mut pass.seat, rest);
     }
 }

@@ -7,7 +7,7 @@ ghost use Rattle.latch_space.specs.Passes.{view, values, count, known_values, Is
 ghost use Rattle.latch_space.specs.Has.{DidSettle};
 ghost use Rattle.latch_space.specs.Spaces.{IsPassOf};
 
-use crate::pass::{Pass, Place, SeatOf};
+use crate::pass::{Parts, Place, SeatOf};
 use crate::plays::{Settles, Values};
 use crate::space::Space;
 use latch_law::World;
@@ -38,7 +38,7 @@ impl<W: World> Space<W> {
     }
 
     /// What the pass holds, as it now is, becomes what it is known to hold. No list changes.
-    pub fn settle(&self, pass: &mut Pass<W>)
+    pub(crate) fn settle_of(&self, pass: &mut Parts<W>)
         requires own { IsPassOf self.now pass.old }
         requires whole { IsWhole pass.old }
         requires rule { W.follows (view pass.old).terms (known_values pass.old) (values pass.old)

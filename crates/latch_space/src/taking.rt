@@ -5,7 +5,7 @@ ghost use Rattle.latch_space.specs.Passes.{view, count, IsSamePass, Lacks};
 ghost use Rattle.latch_space.specs.Spaces.{IsPassOf};
 ghost use Rattle.latch_space.specs.Takes.{Tells, DidTakeAfter};
 
-use crate::pass::{Pass, Place};
+use crate::pass::{Parts, Place};
 use crate::plays::Takes;
 use crate::space::Space;
 use crossbeam_utils::Backoff;
@@ -23,7 +23,7 @@ pub enum Take {
 
 impl<W: World> Space<W> {
     /// Takes the object if it is free at this call's one step.
-    pub fn try_take(&self, pass: &mut Pass<W>, object: u32) -> Take
+    pub(crate) fn try_take_of(&self, pass: &mut Parts<W>, object: u32) -> Take
         requires own { IsPassOf self.now pass.old }
         requires lacks { Lacks pass.old object }
         requires room { count pass.old < 16 }
@@ -50,7 +50,7 @@ impl<W: World> Space<W> {
     }
 
     /// Tries until the object is taken: it spins for a short while, and then yields between tries.
-    pub fn take<R: Wait>(&self, pass: &mut Pass<W>, object: u32, wait: &R)
+    pub(crate) fn take_of<R: Wait>(&self, pass: &mut Parts<W>, object: u32, wait: &R)
         requires own { IsPassOf self.now pass.old }
         requires lacks { Lacks pass.old object }
         requires room { count pass.old < 16 }
@@ -60,7 +60,7 @@ impl<W: World> Space<W> {
     {
         let backoff = Backoff::new();
         for _ in wait.forever() {
-            if let Take::Taken = self.try_take(pass, object) {
+            if let Take::Taken = self.try_take_of(pass, object) {
                 return;
             }
             backoff.snooze();

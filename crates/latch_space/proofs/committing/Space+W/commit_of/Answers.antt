@@ -6,7 +6,7 @@ use Rattle.latch_space.proofs.InHand.{value_held}
 use Rattle.latch_space.proofs.Ending.{ends_stay, ends_fitted, changes_of}
 use Rattle.latch_law.specs.Fitting.{AreValuesOf}
 use Rattle.latch_space.proofs.Pointwise.{length-values}
-use Rattle.latch_space.proofs.committing.Space+W.commit.Goals as goal
+use Rattle.latch_space.proofs.committing.Space+W.commit_of.Goals as goal
 
 pub invariant_of-pass : goal.invariant_of-pass
 invariant_of-pass g c = let p = c.args.pass.now in let n = p.numbers in
