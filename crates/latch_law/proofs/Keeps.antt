@@ -105,7 +105,6 @@ module _ (Sh O C A : Type 0) (lawful : Whole Sh O C → Type 0) (follows : Terms
           (λ g at_g. ap (λ (z : Holding O). (releasing v k z, rest me.1)) (same_some h g (some-injective (Some h) (Some g) (sym holds ∙ at_g))), record { whole = w'; is_lawful = law; fits = fits }),
         )
 
-
     -- what a state that fits a pass has of the terms, and of what the pass holds
     is_on : (w : Whole Sh O C) (v : Vi) → Fits answers refers w v → IsOn v.terms w
     is_on w v f = let lens = f.counted in record { shape = f.shape; max_changes = f.max_changes; passes = f.passes; objects = lens.0; latches = lens.1; lists = lens.2 }

@@ -112,11 +112,7 @@ impl<W: World> Space<W> {
         unreachable!()
     }
 
-    /// Adds the change to the index's list, and returns its point, its number from 0 plus 1. What
-    /// the pass holds, as it now is, becomes what it is known to hold. After `LogFull` the pass is
-    /// known to hold what it was known to hold, and the caller brings the values back to it.
-    ///
-    /// A step that another pass overtook is tried again: it spins for a short while, then yields.
+    // `commit`, on a pass without its state.
     pub(crate) fn commit_of<N: Means<W::Change>, R: Wait>(
         &self,
         pass: &mut Parts<W>,

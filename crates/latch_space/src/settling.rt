@@ -37,7 +37,7 @@ impl<W: World> Space<W> {
         self.table.shared.fetch_or::<Settles<W, X>>(seat, word, 0);
     }
 
-    /// What the pass holds, as it now is, becomes what it is known to hold. No list changes.
+    // `settle`, on a pass without its state.
     pub(crate) fn settle_of(&self, pass: &mut Parts<W>)
         requires own { IsPassOf self.now pass.old }
         requires whole { IsWhole pass.old }
