@@ -11,6 +11,7 @@ use Rattle.latch_space.specs.Commits.{Ends, Changes}
 use Rattle.latch_space.proofs.Pointwise.{learnt_of}
 use Rattle.latch_law.proofs.Lists.{length-learnt}
 use Rattle.latch_space.proofs.InHand.{held_learnt}
+use Rattle.latch_law.specs.Fitting.{IsFitted}
 use Rattle.latch_law.specs.Views.{entry_of}
 
 pub record Stays {Sh O C A : Type 0} (v v' : Knows Sh O C A) : Type 0 where
@@ -41,6 +42,11 @@ module _ {Sh O C A : Type 0} (lawful : Whole Sh O C → Type 0) (answers : Whole
   }
 
 module _ {Sh O C A : Type 0} (lawful : Whole Sh O C → Type 0) (answers : Whole Sh O C → ℕ → ℕ → A → Type 0) (refers : Whole Sh O C → Reference O → Type 0) where
+  -- however a commit ends, a lawful state fits then
+  pub ends_fitted : (v v' : Knows Sh O C A) (i : ℕ) (vs : List (Option O)) (c : C) (r : Result ℕ LogFull) → Ends lawful answers refers v i vs c r v' → IsFitted lawful answers refers v'
+  ends_fitted v v' i vs c (Ok p) t = record { whole = t.stands.whole; is_lawful = t.stands.is_lawful; fits = t.stands.fits }
+  ends_fitted v v' i vs c (Err full) t = record { whole = t.stands.whole; is_lawful = t.stands.is_lawful; fits = t.stands.fits }
+
   pub changes_of : (p q : PassOf Sh O C A) (i : ℕ) (c : C) (r : Result ℕ LogFull) → Ends lawful answers refers (view p) i (values p) c r (view q) → q.hand ≡ p.hand → Changes p r q
   changes_of p q i c (Ok n) t same = let held = ap (λ z. z.held) t.view in
       learnt_of p q held ((λ k. spread (length (held k)) (same k).items) ∙ ap (λ (z : ℕ). spread z p.hand.items) (length-learnt (values p) (view p).held)) (ap (λ z. length z.items) same)

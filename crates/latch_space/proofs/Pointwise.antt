@@ -126,10 +126,9 @@ module _ {Sh O C A : Type 0} where
   known_whole p known j h e = (h.known, known j h e)
 
   -- with an empty hand a settle has nothing to do
-  pub settled_none : (p q : PassOf Sh O C A) → count p ≡ 0 → q.seat ≡ p.seat → q.hand ≡ p.hand → DidSettle p q
-  settled_none p q none seat hand = let n : ℕ = length (view p).held in let same : learnt (values p) (view p).held ≡ (view p).held =
-      ap (λ (z : List (Place O)). learnt (spread n z) (view p).held) (empty_list p.hand.items none) ∙ learnt_nothing n (view p).held in
-      let stays : view q ≡ view p = ap (λ z. z.me.0) seat in record {
+  pub settled_none : (p q : PassOf Sh O C A) → count p ≡ 0 → view q ≡ view p → q.hand ≡ p.hand → DidSettle p q
+  settled_none p q none stays hand = let n : ℕ = length (view p).held in let same : learnt (values p) (view p).held ≡ (view p).held =
+      ap (λ (z : List (Place O)). learnt (spread n z) (view p).held) (empty_list p.hand.items none) ∙ learnt_nothing n (view p).held in record {
         view = stays ∙ (λ k. record (view p) { held = sym same k });
         learnt = learnt_of p q (ap (λ z. z.held) stays ∙ sym same) (λ k. spread (length (stays k).held) (hand k).items) (ap (λ z. length z.items) hand);
       }

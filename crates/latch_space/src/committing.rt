@@ -3,14 +3,14 @@ ghost use Rattle.std.specs.Prelude.{◌≡◌, ◌≢◌, ◌+◌, ◌<◌, List
 ghost use mathlib.Core.Option.{some};
 ghost use lib.ListN.{get_elem?};
 ghost use Rattle.latch_law.specs.declared.knows.Entry.{Entry};
-ghost use Rattle.latch_law.specs.Fitting.{AreValuesOf, Extends, StandsIn};
+ghost use Rattle.latch_law.specs.Fitting.{AreValuesOf, Extends, IsFitted, StandsIn};
 ghost use Rattle.latch_law.specs.Views.{knowns, with_seen, entry_of, committing};
 ghost use Rattle.latch_space.specs.Commits.{Ends, Changes};
 ghost use Rattle.latch_space.specs.Hands.{spread};
 ghost use Rattle.latch_space.specs.Passes.{view, values, count, known_values, IsSamePass, IsWhole};
 ghost use Rattle.latch_space.specs.Spaces.{IsPassOf};
 
-use crate::pass::{Pass, Place, SeatOf};
+use crate::pass::{Parts, Place, SeatOf};
 use crate::plays::{Commits, Looks, Makes};
 use crate::space::Space;
 use crossbeam_utils::Backoff;
@@ -29,7 +29,8 @@ impl<W: World> Space<W> {
         requires live { seat.old.me.0.low < seat.old.me.0.end }
         requires index { (index < length seat.old.me.0.seen) × (index < self.now.terms.indexes) }
         ensures own { (seat.new.table_id ≡ seat.old.table_id) × (seat.new.id ≡ seat.old.id) }
-        ensures told { (xs : List (Entry W.Change)) × (result ≡ length xs) × Extends seat.old.me.0 index xs
+        ensures told { (xs : List (Entry W.Change)) × (result ≡ length xs)
+            × Extends seat.old.me.0 index xs
             × StandsIn W.lawful W.answers W.refers seat.new.me.0 index xs
             × (seat.new.me ≡ (with_seen seat.old.me.0 index xs, seat.old.me.1)) }
     {
@@ -55,8 +56,8 @@ impl<W: World> Space<W> {
         requires whole { AreValuesOf seat.old.me.0 (spread (length seat.old.me.0.held) hand.now) }
         requires rule { W.follows seat.old.me.0.terms (knowns seat.old.me.0.held)
             (spread (length seat.old.me.0.held) hand.now) (Some (index, N.meaning change.now)) }
-        requires seen { (xs : List (Entry W.Change)) × (get_elem? seat.old.me.0.seen index ≡ some xs)
-            × (length xs ≡ at) }
+        requires seen { (xs : List (Entry W.Change))
+            × (get_elem? seat.old.me.0.seen index ≡ some xs) × (length xs ≡ at) }
         requires room { at < self.now.terms.max_changes }
         ensures own { (seat.new.table_id ≡ seat.old.table_id) × (seat.new.id ≡ seat.old.id) }
         ensures told { (xs : List (Entry W.Change)) → get_elem? seat.old.me.0.seen index ≡ some xs
@@ -111,14 +112,10 @@ impl<W: World> Space<W> {
         unreachable!()
     }
 
-    /// Adds the change to the index's list, and returns its point, its number from 0 plus 1. What the
-    /// pass holds, as it now is, becomes what it is known to hold. After `LogFull` the pass is
-    /// known to hold what it was known to hold, and the caller brings the values back to it.
-    ///
-    /// A step that another pass overtook is tried again: it spins for a short while, then yields.
-    pub fn commit<N: Means<W::Change>, R: Wait>(
+    // `commit`, on a pass without its state.
+    pub(crate) fn commit_of<N: Means<W::Change>, R: Wait>(
         &self,
-        pass: &mut Pass<W>,
+        pass: &mut Parts<W>,
         index: u32,
         change: &N,
         wait: &R,
@@ -133,6 +130,7 @@ impl<W: World> Space<W> {
             (N.meaning change.now) result (view pass.new) }
         ensures hands { Changes pass.old result pass.new }
         ensures kept { (values pass.new ≡ values pass.old) × (count pass.new ≡ count pass.old) }
+        ensures fits { IsFitted W.lawful W.answers W.refers (view pass.new) }
     {
         self.commit_in(
             &mut pass.seat,

@@ -49,19 +49,25 @@ impl<W: World> Play<Option<W::Object>, Knows<W::Shape, W::Object, W::Change, W::
 }
 
 /// A step that frees an object.
-pub(crate) struct Releases;
+pub(crate) struct Releases<W> {
+    world: PhantomData<W>,
+}
 
-impl<Sh, O, C, A> Play<Option<O>, Knows<Sh, O, C, A>> for Releases {
-    ghost then = { released };
+impl<W: World> Play<Option<W::Object>, Knows<W::Shape, W::Object, W::Change, W::Answer>>
+    for Releases<W> {
+    ghost then = { released W.lawful W.answers W.refers };
 }
 
 /// A step after which what is held is known as it is.
-pub(crate) struct Settles<X> {
-    values: PhantomData<X>,
+pub(crate) struct Settles<W, X> {
+    world: PhantomData<(W, X)>,
 }
 
-impl<Sh, O, C, A, X: Values<O>> Play<Option<O>, Knows<Sh, O, C, A>> for Settles<X> {
-    ghost then = { settled X.values };
+impl<W: World, X: Values<W::Object>> Play<
+    Option<W::Object>,
+    Knows<W::Shape, W::Object, W::Change, W::Answer>,
+> for Settles<W, X> {
+    ghost then = { settled W.lawful W.answers W.refers X.values };
 }
 
 /// A step that changes nothing.

@@ -3,10 +3,10 @@ use Rattle.latch_space.specs.Commits.{Ends}
 use Rattle.latch_space.specs.Hands.{spread}
 use Rattle.latch_space.specs.declared.pass.Place.{Place}
 use Rattle.latch_space.proofs.InHand.{value_held}
-use Rattle.latch_space.proofs.Ending.{ends_stay, changes_of}
+use Rattle.latch_space.proofs.Ending.{ends_stay, ends_fitted, changes_of}
 use Rattle.latch_law.specs.Fitting.{AreValuesOf}
 use Rattle.latch_space.proofs.Pointwise.{length-values}
-use Rattle.latch_space.proofs.committing.Space+W.commit.Goals as goal
+use Rattle.latch_space.proofs.committing.Space+W.commit_of.Goals as goal
 
 pub invariant_of-pass : goal.invariant_of-pass
 invariant_of-pass g c = let p = c.args.pass.now in let n = p.numbers in
@@ -33,3 +33,7 @@ pub returns-clause-hands : goal.returns-clause-hands
 returns-clause-hands g c = let p = c.args.pass.now in
     changes_of g.W.World.lawful g.W.World.answers g.W.World.refers p _ c.args.index (g.N.Means.meaning c.args.change.now) c.commit_in.result
     (subst (λ (z : List (Place g.row.W-Object.Denot)). Ends g.W.World.lawful g.W.World.answers g.W.World.refers p.seat.me.0 c.args.index (spread (length p.seat.me.0.held) z) (g.N.Means.meaning c.args.change.now) c.commit_in.result c.commit_in.new.seat.me.0) c.as_slice.ensures.value c.commit_in.ensures.told) refl
+
+pub returns-clause-fits : goal.returns-clause-fits
+returns-clause-fits g c = let p = c.args.pass.now in
+    ends_fitted g.W.World.lawful g.W.World.answers g.W.World.refers p.seat.me.0 _ c.args.index (spread (length p.seat.me.0.held) c.as_slice.result.now) (g.N.Means.meaning c.args.change.now) c.commit_in.result c.commit_in.ensures.told
