@@ -1,0 +1,7 @@
+pub mod EachLemmas
+pub mod RowLemmas
+pub mod CutLemmas
+pub mod KeyLemmas
+pub mod StoreLemmas
+pub mod OrderLemmas
+pub mod BesideLemmas

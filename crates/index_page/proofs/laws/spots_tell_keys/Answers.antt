@@ -1,0 +1,5 @@
+use Rattle.index_page.proofs.KeyLemmas.{tells_key}
+use Rattle.index_page.proofs.laws.spots_tell_keys.Goals as goal
+
+pub returns : goal.returns
+returns c = tells_key

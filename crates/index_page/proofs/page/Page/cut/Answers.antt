@@ -1,0 +1,33 @@
+use Rattle.std.proofs.Common.{suc, ◌+◌, ◌-◌, ◌/◌, add-one, sym, ap, ◌∙◌, subst, arith, take, drop, List}
+use Rattle.key_tuple.specs.Place.{cut_of}
+use Rattle.index_page.specs.Rows.{Row}
+use Rattle.index_page.specs.Page.{PageRows}
+use Rattle.index_page.specs.Search.{AllOut, AllIn}
+use Rattle.index_page.proofs.CutLemmas.{mode_cuts, in_from, out_upto}
+use Rattle.index_page.proofs.page.Page.cut.Goals as goal
+
+pub loop-low-preserved-then-is_past : goal.loop-low-preserved-then-is_past
+loop-low-preserved-then-is_past g c =
+    let tuple = g.A.Fields.fields_of c.args.tuple.now in
+    let p = cut_of c.args.mode tuple in
+    let middle = c.loop-low.low + (c.loop-low.high - c.loop-low.low) / 2 in
+    let admitted = in_from p (mode_cuts c.args.mode tuple) c.self.inside.rows middle _ c.self.invariant.ascend c.stored.ensures (sym c.is_past.ensures ∙ c.if-is_past.true) in
+    record {
+      ordered = omega arith;
+      within = omega arith;
+      out = c.loop-low.invariant.out;
+      past = subst (λ (rows : List Row). AllIn p (drop middle rows)) (ap (λ (q : PageRows). q.rows) c.self.view_is) admitted;
+    }
+
+pub loop-low-preserved : goal.loop-low-preserved
+loop-low-preserved g c =
+    let tuple = g.A.Fields.fields_of c.args.tuple.now in
+    let p = cut_of c.args.mode tuple in
+    let middle = c.loop-low.low + (c.loop-low.high - c.loop-low.low) / 2 in
+    let left_out = out_upto p (mode_cuts c.args.mode tuple) c.self.inside.rows middle _ c.self.invariant.ascend c.stored.ensures (sym c.is_past.ensures ∙ c.if-is_past.false) in
+    record {
+      ordered = omega arith;
+      within = c.loop-low.invariant.within;
+      out = rw add-one (subst (λ (rows : List Row). AllOut p (take (suc middle) rows)) (ap (λ (q : PageRows). q.rows) c.self.view_is) left_out);
+      past = c.loop-low.invariant.past;
+    }

@@ -1,0 +1,11 @@
+use Rattle.std.proofs.Common.{rules}
+use Rattle.key_tuple.specs.Place.{not_below, above}
+use Rattle.index_page.proofs.search.is_past.Goals as goal
+
+pub returns-in-Ge : goal.returns-in-Ge
+unfolding not_below above
+returns-in-Ge g c = search rules
+
+pub returns-in-G : goal.returns-in-G
+unfolding not_below above
+returns-in-G g c = search rules

@@ -1,0 +1,42 @@
+-- What stands beside a row, and what a page is after a row was put in or taken out.
+use Rattle.std.specs.Prelude.{ℕ, ◌≡◌, Option, Some, None, List, ◌∷◌, ◌++◌}
+use Rattle.index_page.specs.Rows.{Row, find_row, first_row, last_row, IsAt}
+use Rattle.index_page.specs.Page.{PageRows}
+
+-- the place of the row after the one at `place`
+pub record NextIs (rows : List Row) (place : ℕ) (next : Option ℕ) : Type 0 where
+  pub left : List Row
+  pub row : Row
+  pub right : List Row
+  pub split : rows ≡ left ++ row ∷ right
+  pub place_is : row.place ≡ place
+  pub next_at : IsAt rows next (first_row right)
+
+-- the place of the row before the one at `place`
+pub record PrevIs (rows : List Row) (place : ℕ) (prev : Option ℕ) : Type 0 where
+  pub left : List Row
+  pub row : Row
+  pub right : List Row
+  pub split : rows ≡ left ++ row ∷ right
+  pub place_is : row.place ≡ place
+  pub prev_at : IsAt rows prev (last_row left)
+
+-- the row stands among those that were there, at a place at which none stood; all else is as before
+pub record Inserts (old new : PageRows) (row : Row) : Type 0 where
+  pub below : List Row
+  pub above : List Row
+  pub was : old.rows ≡ below ++ above
+  pub is : new.rows ≡ below ++ row ∷ above
+  pub head : new.head ≡ old.head
+  pub vacant : find_row row.place old.rows ≡ None
+  pub stands : find_row row.place new.rows ≡ Some row
+
+-- the row at this place is gone; all else is as before
+pub record Deletes (old new : PageRows) (place : ℕ) : Type 0 where
+  pub left : List Row
+  pub row : Row
+  pub right : List Row
+  pub was : old.rows ≡ left ++ row ∷ right
+  pub place_is : row.place ≡ place
+  pub is : new.rows ≡ left ++ right
+  pub head : new.head ≡ old.head

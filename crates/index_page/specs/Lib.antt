@@ -1,0 +1,6 @@
+pub mod Rows
+pub mod Page
+pub mod Search
+pub mod Changes
+pub mod Laws
+pub mod Store

@@ -1,0 +1,147 @@
+//! Rows at their places.
+ghost use Rattle.std.specs.Prelude.{◌≡◌, ◌≤◌, ◌<◌, [], ◌∷◌, ◌++◌, length, Some, None, IfOk, OnOk, OnErr, IsSome, slice_get};
+ghost use Rattle.std.specs.List.{insert, remove};
+ghost use Rattle.key_tuple.specs.Limits.{IsWithinLimits};
+ghost use Rattle.index_page.specs.declared.TheConstants.{MAX_ROWS};
+ghost use Rattle.index_page.specs.Rows.{row_of, body_by, find_row};
+ghost use Rattle.index_page.specs.Page.{PlacesDiffer, IsShort};
+ghost use Rattle.index_page.specs.Store.{rows_in, IsStore, IsSpare};
+
+use crate::body::Body;
+use crate::places::Places;
+use crate::record::Record;
+use crate::spot::Place;
+use key_tuple::Fields;
+use std::alloc::{AllocError, Global};
+use std::marker::Model;
+
+/// Rows in an order that its caller gives them, each at a place that stays. Seen as the list of them.
+#[derive(Debug, Drop)]
+pub(crate) struct Heap {
+    alloc: Global,
+    slots: Vec<Record>,
+    places: Places,
+}
+
+impl Model for Heap {
+    ghost use Rattle.std.specs.Prelude.{List};
+    ghost use Rattle.index_page.specs.Rows.{Row};
+    ghost use Rattle.index_page.specs.Store.{rows_in, IsStore};
+
+    ghost Value = { List Row };
+
+    ghost view = { λ h. rows_in h.slots.items h.places.live };
+
+    ghost invariant = { λ h. IsStore h.slots.items h.places };
+}
+
+impl Heap {
+    pub(crate) fn new(alloc: Global) -> Heap
+        ensures { result ≡ [] }
+    {
+        Heap {
+            alloc,
+            slots: Vec::new(alloc),
+            places: Places::new(alloc),
+        }
+    }
+
+    /// Takes all rows out.
+    pub(crate) fn clear(&mut self)
+        ensures { self.new ≡ [] }
+    {
+        self.slots.clear();
+        self.places.clear();
+    }
+
+    /// How many rows there are.
+    pub(crate) fn len(&self) -> usize
+        ensures { result ≡ length self.now }
+    {
+        self.places.live().len()
+    }
+
+    /// The row with that number, from 0.
+    pub(crate) fn stored(&self, i: usize) -> (Place, &Record)
+        requires { i < length self.now }
+        ensures { slice_get self.now i ≡ Some (row_of result.0 result.1.now.key result.1.now.body) }
+    {
+        let place = self.places.live()[i];
+        (place, &self.slots[place as usize])
+    }
+
+    /// The row at that place.
+    pub(crate) fn record(&self, place: Place) -> &Record
+        requires { IsSome (find_row place self.now) }
+        ensures { find_row place self.now ≡ Some (row_of place result.now.key result.now.body) }
+    {
+        &self.slots[place as usize]
+    }
+
+    /// Puts a row before the one with that number, at a place at which none stands.
+    pub(crate) fn insert_at<A: Fields>(
+        &mut self,
+        at: usize,
+        key: &A,
+        body: Body<'_>,
+    ) -> Result<Place, AllocError>
+        requires at { at ≤ length self.old }
+        requires key { IsWithinLimits (A.fields_of key.now) }
+        requires room { length self.old ≤ MAX_ROWS }
+        ensures ok { IfOk result (λ place.
+            self.new ≡ insert self.old at (row_of place (A.fields_of key.now) (body_by body.entry))) }
+        ensures vacant { IfOk result (λ place. find_row place self.old ≡ None) }
+        ensures differ { OnOk result (PlacesDiffer self.new) }
+        ensures short { OnOk result (IsShort (body_by body.entry)) }
+        ensures err { OnErr result (self.new ≡ self.old) }
+    {
+        let place = vacancy(self.alloc, &mut self.slots, &mut self.places)?;
+        let slot = &mut self.slots[place as usize];
+        slot.fill(key, body)?;
+        self.places.claim(at, place)?;
+        Ok(place)
+    }
+
+    /// Takes out the row with that number.
+    pub(crate) fn remove_at(&mut self, at: usize)
+        requires { at < length self.old }
+        ensures rows { self.new ≡ remove self.old at }
+        ensures differ { PlacesDiffer self.new }
+    {
+        let place = self.places.live()[at];
+        self.places.release(at);
+        let slot = &mut self.slots[place as usize];
+        slot.clear();
+    }
+
+    /// The same rows at the same places.
+    pub(crate) fn copy(&self) -> Result<Heap, AllocError>
+        ensures { IfOk result (λ h. h ≡ self.now) }
+    {
+        Ok(Heap {
+            alloc: self.alloc,
+            slots: self.slots.clone()?,
+            places: self.places.copy(self.alloc)?,
+        })
+    }
+}
+
+/// A vacant place with a slot: one that is there, or a further one.
+fn vacancy(alloc: Global, slots: &mut Vec<Record>, places: &mut Places) -> Result<Place, AllocError>
+    requires store { IsStore slots.old.items places.old }
+    requires room { length places.old.live ≤ MAX_ROWS }
+    ensures spare { IfOk result (IsSpare places.new) }
+    ensures store { IsStore slots.new.items places.new }
+    ensures live { places.new.live ≡ places.old.live }
+    ensures rows { rows_in slots.new.items places.new.live ≡ rows_in slots.old.items places.old.live }
+{
+    if let Some(place) = places.spare() {
+        return Ok(place);
+    }
+    let place = slots.len() as Place;
+    slots.reserve(1)?;
+    let blank = Record::blank(alloc)?;
+    places.add(place)?;
+    slots.push_reserved(blank);
+    Ok(place)
+}

@@ -1,0 +1,32 @@
+//! A page of a B-tree index: a head, and rows by ascending keys at places that stay.
+//! It has no limit of bytes, and it never looks at another page.
+#![tactic(auto)]
+
+mod body;
+mod change;
+mod copy;
+mod head;
+mod heap;
+mod laws;
+mod page;
+mod places;
+mod record;
+mod row_ref;
+mod search;
+mod spot;
+#[cfg(test)]
+mod tests;
+
+pub use body::Body;
+pub use copy::PageCopy;
+pub use head::PageHead;
+pub use laws::{places_tell_rows, spots_tell_keys};
+pub use page::Page;
+pub use row_ref::RowRef;
+pub use spot::{Place, Spot};
+
+/// No page has this number.
+pub const NO_PAGE: u32 = 4_294_967_295;
+
+/// A page with more rows takes no further one.
+pub const MAX_ROWS: u32 = 8_388_608;

@@ -1,0 +1,124 @@
+//! Searches in a page, and the rows beside a row.
+ghost use Rattle.std.specs.Prelude.{◌≡◌, ◌≤◌, ◌<◌, length, take, drop, IfSome, IsSome};
+ghost use Rattle.key_tuple.specs.Place.{At, cut_of};
+ghost use Rattle.index_page.specs.Rows.{find_row, IsAt};
+ghost use Rattle.index_page.specs.Search.{AllOut, AllIn, agreement, Finds, IsPosition, nth_row};
+ghost use Rattle.index_page.specs.Changes.{NextIs, PrevIs};
+
+use crate::page::Page;
+use crate::record::Record;
+use crate::spot::{Place, Spot};
+use key_tuple::{Fields, Match, Mode, compare, matches};
+
+impl Page {
+    /// The rows around the cut of a mode: `Ge` and `L` cut before the first row that isn't below the
+    /// tuple, `G` and `Le` before the first row that is above it. It takes no memory.
+    pub fn search<A: Fields>(&self, tuple: &A, mode: Mode) -> Spot
+        requires { length (A.fields_of tuple.now) ≤ self.now.head.fields }
+        ensures { Finds mode (A.fields_of tuple.now) self.now.rows result }
+    {
+        let cut = self.cut(tuple, mode);
+        let (before, low) = self.beside(tuple, cut.checked_sub(1));
+        let after_cut = if cut < self.rows.len() {
+            Some(cut)
+        } else {
+            None
+        };
+        let (after, up) = self.beside(tuple, after_cut);
+        Spot {
+            before,
+            after,
+            low,
+            up,
+        }
+    }
+
+    /// The place of the next row, none at the last one.
+    pub fn next(&self, place: Place) -> Option<Place>
+        requires { IsSome (find_row place self.now.rows) }
+        ensures { NextIs self.now.rows place result }
+    {
+        let count = self.rows.len();
+        let next = self.position(place) + 1;
+        if next < count {
+            Some(self.rows.stored(next).0)
+        } else {
+            None
+        }
+    }
+
+    /// The place of the row before, none at the first one.
+    pub fn prev(&self, place: Place) -> Option<Place>
+        requires { IsSome (find_row place self.now.rows) }
+        ensures { PrevIs self.now.rows place result }
+    {
+        let at = self.position(place);
+        if at == 0 {
+            None
+        } else {
+            Some(self.rows.stored(at - 1).0)
+        }
+    }
+
+    /// How many rows the mode's cut leaves out.
+    pub(crate) fn cut<A: Fields>(&self, tuple: &A, mode: Mode) -> usize
+        requires { length (A.fields_of tuple.now) ≤ self.now.head.fields }
+        ensures within { result ≤ length self.now.rows }
+        ensures out { AllOut (cut_of mode (A.fields_of tuple.now)) (take result self.now.rows) }
+        ensures past { AllIn (cut_of mode (A.fields_of tuple.now)) (drop result self.now.rows) }
+    {
+        let mut low = 0;
+        let mut high = self.rows.len();
+        while low < high {
+            let middle = low + (high - low) / 2;
+            if is_past(mode, tuple, self.rows.stored(middle).1) {
+                high = middle;
+            } else {
+                low = middle + 1;
+            }
+        }
+        low
+    }
+
+    /// The number of the row at a place.
+    pub(crate) fn position(&self, place: Place) -> usize
+        requires { IsSome (find_row place self.now.rows) }
+        ensures { IsPosition self.now.rows place result }
+    {
+        self.cut(self.rows.record(place), Mode::Ge)
+    }
+
+    /// The place of a row by its number, and how far the tuple agrees with it.
+    fn beside<A: Fields>(&self, tuple: &A, number: Option<usize>) -> (Option<Place>, Match)
+        requires fields { length (A.fields_of tuple.now) ≤ self.now.head.fields }
+        requires within { IfSome number (λ i. i < length self.now.rows) }
+        ensures place { IsAt self.now.rows result.0 (nth_row self.now.rows number) }
+        ensures figures { result.1 ≡ agreement (A.fields_of tuple.now) (nth_row self.now.rows number) }
+    {
+        match number {
+            Some(i) => {
+                let (place, record) = self.rows.stored(i);
+                (Some(place), matches(tuple, record))
+            }
+            None => (
+                None,
+                Match {
+                    fields: 0,
+                    bytes: 0,
+                },
+            ),
+        }
+    }
+}
+
+/// The row is past the mode's cut.
+fn is_past<A: Fields>(mode: Mode, tuple: &A, row: &Record) -> bool
+    requires { length (A.fields_of tuple.now) ≤ length row.now.key }
+    ensures { result ≡ cut_of mode (A.fields_of tuple.now) (At row.now.key) }
+{
+    let order = compare(tuple, row);
+    match mode {
+        Mode::Ge | Mode::L => !order.is_gt(),
+        Mode::G | Mode::Le => order.is_lt(),
+    }
+}
