@@ -1,0 +1,19 @@
+//! The world of some indexes: their pages, their lists of changes, and the law that ties the two.
+//! Nothing here searches, and nothing waits.
+#![tactic(auto)]
+
+mod answer;
+mod deed;
+mod frame;
+mod law;
+mod layout;
+mod opening;
+mod world;
+
+pub use answer::{Answer, Made};
+pub use deed::{Deed, Say};
+pub use frame::{Frame, Object};
+pub use law::opens_lawfully;
+pub use layout::Layout;
+pub use opening::first_objects;
+pub use world::{IndexWorld, WorldPass, WorldSpace};
