@@ -1,0 +1,144 @@
+-- A change that is committed while the leaf is held follows, is right, and is the one that is told.
+use Rattle.std.proofs.Common.{◌≡◌, ℕ, ◌+◌, ◌-◌, ◌<◌, true, [], ◌∷◌, ◌++◌, append_assoc, length, length-append, take, set, sym, ap, subst, ◌∙◌, arith, refl, Result, Ok, Err, Contains, cond}
+use Rattle.std.proofs.lemmas.List.{length-map, take_all, take-append-le}
+use mathlib.Core.List.{map-append}
+use lib.ListN.{get_elem?}
+use Rattle.atomic_table.proofs.Lists.{set_here}
+use Rattle.latch_law.specs.declared.knows.Entry.{Entry}
+use Rattle.latch_law.specs.declared.knows.Saying.TheVariants as what
+use Rattle.latch_law.specs.Fitting.{Extends, DidCommit, WasFull}
+use Rattle.latch_law.specs.Views.{holding, learnt, entry_of}
+use Rattle.latch_law.proofs.Lists.{learnt_at, known_at, known_back}
+use Rattle.latch_space.specs.declared.committing.LogFull.{LogFull}
+use Rattle.latch_space.specs.Has.{Learnt, SameHands}
+use Rattle.latch_space.specs.Commits.{Ends, Changes}
+use Rattle.latch_space.specs.Passes.{view, values, known_values, IsWhole}
+use Rattle.map_history.specs.Map.{MapChange, map_after, is_allowed, AreLawful}
+use Rattle.map_history.specs.Operation.{Ask, Make}
+use Rattle.map_history.specs.Reply.{Done, reply_of, refusal}
+use Rattle.map_history.specs.Report.{Replied}
+use Rattle.map_history.specs.LegalReport.{Mark, marks_of, has_form}
+use Rattle.map_history.proofs.HistoryLemmas.{lawful-last}
+use Rattle.index_world.specs.declared.frame.Frame.{Frame}
+use Rattle.index_world.specs.declared.frame.Object.TheVariants as object
+use Rattle.index_world.specs.Answers.{Deed}
+use Rattle.index_world.specs.Following.{change_keeps, root_stays}
+use Rattle.index_world.specs.Law.{IsLawful, MakesChange, IsMade, IsRootLeaf}
+use Rattle.index_world.specs.Meanings.{change_in}
+use Rattle.index_world.specs.Once.{IsRightBy, AnswersOnce}
+use Rattle.index_world.specs.References.{IsReference}
+use Rattle.index_world.specs.Rightness.{IsRight, map_at}
+use Rattle.index_world.specs.Spoken.{View, spoken}
+use Rattle.index_world.specs.State.{Entries, changes}
+use Rattle.index_engine.specs.Passes.{Caller, HoldsLeaf}
+use Rattle.index_engine.specs.Says.{dashes, DidMake, IsFullThen, Commits}
+use Rattle.index_engine.proofs.ViewLemmas.{spoken-push, one_mark, more_seen, extends_length, now_seen}
+
+module _ (p : Caller) (i : ℕ) where
+  -- the one object that it holds isn't taken out
+  pub leaf_whole : (f g : Frame) → HoldsLeaf p i f g → IsWhole p
+  leaf_whole f g holds k h held = let same = holds.alone k h held in (object.Frame g, ap (get_elem? (values p)) same ∙ holds.has.value)
+
+  -- the change may be made of what is held
+  pub leaf_follows : (f g : Frame) (c : MapChange) → HoldsLeaf p i f g → MakesChange i c f g → IsMade (known_values p) (values p) i c
+  leaf_follows f g c holds makes = record {
+    leaf = i;
+    old = f;
+    new = g;
+    becomes = (let held = holds.has.held in known_at (view p).held i (holding held.0 (object.Frame f)) held.1, holds.has.value);
+    made = makes;
+    others = λ k x y differs becomes. (let held = known_back (view p).held k (object.Frame x) becomes.0 in absurd (differs (holds.alone k held.0 held.1)));
+  }
+
+  -- a leaf that keeps its page stays the root
+  module _ (q : Caller) (ask : Ask) where
+    -- what is known of the leaf once its value is
+    learnt_leaf : (f g : Frame) (c : MapChange) → (view q).held ≡ learnt (values p) (view p).held → (view q).terms ≡ (view p).terms → Learnt p q → HoldsLeaf p i f g → MakesChange i c f g → HoldsLeaf q i g g
+    learnt_leaf f g c held terms learns holds makes = record {
+      has = learns.has i (object.Frame f) (object.Frame g) holds.has;
+      alone = λ k h at. (let before = learnt_at (values p) (view p).held k h (ap (λ z. get_elem? z k) (sym held) ∙ at) in holds.alone k before.0 before.1);
+      one = learns.count ∙ holds.one;
+      root = subst (λ t. IsRootLeaf t.shape i g) (sym terms) (root_stays (view p).terms.shape i f g (change_keeps i c f g makes) holds.root);
+    }
+
+    -- what is held stays so
+    same_leaf : (f g : Frame) → (view q).held ≡ (view p).held → (view q).terms ≡ (view p).terms → SameHands p q → HoldsLeaf p i f g → HoldsLeaf q i f g
+    same_leaf f g held terms same holds = record {
+      has = record { held = (holds.has.held.0, ap (λ z. get_elem? z i) held ∙ holds.has.held.1); value = ap (λ z. get_elem? z i) same.values ∙ holds.has.value };
+      alone = λ k h at. holds.alone k h (ap (λ z. get_elem? z k) (sym held) ∙ at);
+      one = same.count ∙ holds.one;
+      root = subst (λ t. IsRootLeaf t.shape i f) (sym terms) holds.root;
+    }
+
+    module _ (deed : Deed) (deed_is : deed ≡ record { change = change_in ask; columns = dashes }) (asked : ask ≡ Make (change_in ask)) (point : ℕ) (did : DidCommit IsLawful IsRight IsReference (view p) i (values p) deed point (view q)) where
+      abbrev longer : Entries
+      longer = did.list ++ entry_of (view p) deed ∷ []
+
+      length_is : length longer ≡ point
+      length_is = let at = did.point in omega (arith, length-append did.list (entry_of (view p) deed ∷ []), at)
+
+      extends : Extends (view p) i longer
+      extends ys seen = let more = did.extends ys seen in (more.0 ++ entry_of (view p) deed ∷ [], sym (append_assoc ys more.0 (entry_of (view p) deed ∷ [])) ∙ ap (λ z. z ++ entry_of (view p) deed ∷ []) more.1)
+
+      seen_is : (view q).seen ≡ set (view p).seen i longer
+      seen_is = ap (λ (z : View). z.seen) did.view
+
+      changes_are : changes longer ≡ changes did.list ++ deed.change ∷ []
+      changes_are = map-append (λ (e : Entry Deed). e.change.change) did.list (entry_of (view p) deed ∷ [])
+
+      allowed : is_allowed (map_after (changes did.list)) deed.change ≡ true
+      allowed = lawful-last (changes did.list) deed.change (subst AreLawful changes_are (did.stands.is_lawful.lists i longer did.stands.list))
+
+      map_before : map_at longer (point - 1) ≡ map_after (changes did.list)
+      map_before = let at = did.point in let few : length (changes did.list) ≡ length did.list = length-map did.list (λ (e : Entry Deed). e.change.change) in
+          ap (λ n. map_at longer n) (omega (arith, at)) ∙ (ap (λ cs. map_after (take (length did.list) cs)) changes_are
+          ∙ (ap map_after (take-append-le (length did.list) (changes did.list) (deed.change ∷ []) (omega (arith, few))) ∙ ap map_after (take_all (length did.list) (changes did.list) (omega (arith, few)))))
+
+      right_by : IsRightBy (view p).terms.max_changes longer ask (Replied Done point dashes)
+      right_by = ap (λ m. reply_of m ask) map_before ∙ (ap (reply_of (map_after (changes did.list))) asked ∙ ap (λ b. cond b Done (refusal (change_in ask))) (ap (λ (d : Deed). is_allowed (map_after (changes did.list)) d.change) (sym deed_is) ∙ allowed))
+
+      mark_is : (m : Mark) → Contains (marks_of (Replied Done point dashes)) m → (m.point ≡ point) × (m.grows ≡ 1)
+      mark_is m among = let same = one_mark (record { point = point; grows = 1 }) m among in (ap (λ (z : Mark). z.point) (sym same), ap (λ (z : Mark). z.grows) (sym same))
+
+      once : AnswersOnce (view p) (view q) i ask (Replied Done point dashes)
+      once = record {
+        numbers = record { low = ap (λ (z : View). z.low) did.view; end = ap (λ (z : View). z.end) did.view; terms = ap (λ (z : View). z.terms) did.view };
+        form = ap (λ a. has_form a (Replied Done point dashes)) asked;
+        said = ap (λ (z : View). spoken z.said) did.view ∙ (spoken-push (view p).said (record { index = i; point = length did.list + 1; by = (view p).low; what = what.Change deed })
+            ∙ (λ k. spoken (view p).said ++ record { index = i; by = (view p).low; ask = ask_is k; answer = Replied Done (sym did.point k) (columns_are k) } ∷ []));
+        seen = more_seen (view p) i longer extends (view q).seen seen_is;
+        least = λ m ys among seen. (let mark = mark_is m among in let long = extends_length (view p) i did.list did.extends (set (view p).seen i did.list) refl ys seen in let at = did.point in omega (arith, mark.0, mark.1, long, at));
+        most = λ m zs among seen. (let mark = mark_is m among in let same = ap length (now_seen (view p) i longer extends (view q).seen seen_is zs seen) in let long = length_is in omega (arith, mark.0, same, long));
+        right = λ zs seen. subst (λ z. IsRightBy (view p).terms.max_changes z ask (Replied Done point dashes)) (now_seen (view p) i longer extends (view q).seen seen_is zs seen) right_by;
+      }
+        where
+          ask_is : Make deed.change ≡ ask
+          ask_is = ap (λ (d : Deed). Make d.change) deed_is ∙ sym asked
+
+          columns_are : deed.columns ≡ dashes
+          columns_are = ap (λ (d : Deed). d.columns) deed_is
+
+      -- the change was made once
+      pub did_make : Learnt p q → DidMake p q i ask point
+      did_make learns = record {
+        leaf = λ f g holds makes. learnt_leaf f g (change_in ask) (ap (λ (z : View). z.held) did.view) (ap (λ (z : View). z.terms) did.view) learns holds makes;
+        once = once;
+      }
+
+    -- the list was full
+    pub full_then : (n : ℕ) → i < length (view p).seen → WasFull IsLawful IsRight IsReference (view p) i n (view q) → SameHands p q → IsFullThen p q i n
+    full_then n room was same = record {
+      leaf = λ f g holds. same_leaf f g (ap (λ (z : View). z.held) was.view) (ap (λ (z : View). z.terms) was.view) same holds;
+      quiet = record {
+        numbers = record { low = ap (λ (z : View). z.low) was.view; end = ap (λ (z : View). z.end) was.view; terms = ap (λ (z : View). z.terms) was.view };
+        said = ap (λ (z : View). spoken z.said) was.view;
+        seen = more_seen (view p) i was.list was.extends (view q).seen (ap (λ (z : View). z.seen) was.view);
+      };
+      full = record { list = was.list; seen = ap (λ (z : View). get_elem? z.seen i) was.view ∙ set_here (view p).seen i was.list room; full = sym was.count ∙ (was.full ∙ ap (λ (z : View). z.terms.max_changes) (sym was.view)) };
+      number = was.full;
+    }
+
+    -- how the commit ended
+    pub commit_ends : (deed : Deed) → i < length (view p).seen → deed ≡ record { change = change_in ask; columns = dashes } → ask ≡ Make (change_in ask) → (result : Result ℕ LogFull) → Ends IsLawful IsRight IsReference (view p) i (values p) deed result (view q) → Changes p result q → Commits p i ask result q
+    commit_ends deed room deed_is asked (Ok point) did learns = did_make deed deed_is asked point did learns
+    commit_ends deed room deed_is asked (Err full) was same = full_then full.0 room was same

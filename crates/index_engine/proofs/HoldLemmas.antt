@@ -1,0 +1,82 @@
+-- What is known of a leaf that is held.
+use Rattle.std.proofs.Common.{◌≡◌, ℕ, ◌+◌, ◌<◌, length, sym, ap, subst, ◌∙◌, arith, refl, Some}
+use Rattle.std.proofs.lemmas.List.{length-map}
+use mathlib.Core.Logic.{dite}
+use mathlib.Core.Option.{some}
+use native.Mathlib.Decide.{ℕ_discrete}
+use lib.ListN.{get_elem?}
+use Rattle.latch_law.specs.declared.knows.Entry.{Entry}
+use Rattle.latch_law.specs.declared.knows.Holding.{Holding}
+use Rattle.latch_law.specs.Rule.{Holds, Fits}
+use Rattle.latch_law.specs.Views.{with_refused}
+use Rattle.latch_law.proofs.Lists.{inside, there, same_some, none_is_not}
+use Rattle.latch_space.specs.Has.{Has}
+use Rattle.latch_space.specs.Passes.{view, count}
+use Rattle.latch_space.specs.Takes.{DidTakeAfter}
+use Rattle.latch_space.proofs.Pointwise.{lacks_each}
+use Rattle.map_history.specs.Map.{slice, map_after}
+use Rattle.index_page.specs.Page.{PageRows}
+use Rattle.index_world.specs.declared.frame.Frame.{Frame}
+use Rattle.index_world.specs.declared.frame.Object.{Object}
+use Rattle.index_world.specs.declared.frame.Object.TheVariants as object
+use Rattle.index_world.specs.Answers.{Deed}
+use Rattle.index_world.specs.Law.{IsRootLeaf, IsLawful}
+use Rattle.index_world.specs.References.{IsReference}
+use Rattle.index_world.specs.Rightness.{IsRight}
+use Rattle.index_world.specs.Spoken.{View}
+use Rattle.index_world.specs.State.{State, Entries, changes, frame_of, low_in, high_in, pair_of, rows_of}
+use Rattle.index_engine.specs.Passes.{Caller, HoldsLeaf, HasAtMost}
+use Rattle.index_engine.proofs.MapLemmas.{slice_all, map_fits}
+
+pub framed : (x : Object) → x ≡ object.Frame (frame_of x)
+framed (object.Frame f) = refl
+
+-- in a lawful state the root of an index has the map of its list
+pub root_map : (w : State) (i : ℕ) (f : Frame) (page : PageRows) (xs : Entries) → IsLawful w → get_elem? w.objects i ≡ some (object.Frame f) → f.page ≡ Some page → get_elem? w.lists i ≡ some xs → rows_of page ≡ map_after (changes xs)
+root_map w i f page xs law at paged listed = let root = law.rooted i f at in
+    let same : root.page ≡ page = same_some root.page page (sym root.paged ∙ paged) in
+    let level : page.head.level ≡ 0 = ap (λ (p : PageRows). p.head.level) (sym same) ∙ root.level in
+    let index : page.head.index ≡ i = ap (λ (p : PageRows). p.head.index) (sym same) ∙ root.index in
+    law.contents i f page xs at paged level (ap (get_elem? w.lists) index ∙ listed) ∙ ((λ k. slice (low_in (root.bounds.0 k)) (high_in (root.bounds.1 k)) (map_after (changes xs))) ∙ slice_all (map_after (changes xs)))
+
+-- and no more rows than the list may have changes
+pub root_fits : (w : State) (v : View) (i : ℕ) (f : Frame) → IsLawful w → Fits IsRight IsReference w v → get_elem? w.objects i ≡ some (object.Frame f) → HasAtMost v.terms.max_changes f
+root_fits w v i f law fits at page paged =
+    let below : i < length w.lists = (let room = inside w.objects i (object.Frame f) at in let counted = law.counted in omega (arith, room, counted.frames, counted.lists)) in
+    let xs = there w.lists i below in
+    let same : length (rows_of page) ≡ length page.rows = length-map page.rows pair_of in
+    let rows : length (rows_of page) ≡ length (map_after (changes xs.0)) = ap length (root_map w i f page xs.0 law at paged xs.1) in
+    let few : length (changes xs.0) ≡ length xs.0 = length-map xs.0 (λ (e : Entry Deed). e.change.change) in
+    let most = fits.bounded i xs.0 xs.1 in
+    let terms = fits.max_changes in
+    omega (arith, same, rows, map_fits (changes xs.0), few, most, terms)
+
+module _ (p q : Caller) (i : ℕ) (none : count p ≡ 0) (told : DidTakeAfter IsLawful IsRight IsReference p i q) where
+  abbrev taken : Frame
+  taken = frame_of told.value
+
+  at : get_elem? told.was_free.whole.objects i ≡ some (object.Frame taken)
+  at = told.was_free.value ∙ ap some (framed told.value)
+
+  same_shape : told.was_free.whole.shape ≡ (view q).terms.shape
+  same_shape = told.was_free.fits.shape ∙ ap (λ (z : View). z.terms.shape) (sym told.view)
+
+  -- what it held before it holds still, which is nothing
+  alone : (k : ℕ) (h : Holding Object) → Holds (view q) k h → k ≡ i
+  alone k h held = dite (ℕ_discrete k i) (λ is. is) (λ isnt. absurd (never k h (sym (told.took.others k isnt).0 ∙ held)))
+    where
+      never : (k : ℕ) (h : Holding Object) → get_elem? (view p).held k ≡ some (Some h) → ⊥
+      never k h e = none_is_not h (sym (lacks_each p k none (let room = inside (view p).held k (Some h) e in let all = p.all in omega (arith, room, all.0))) ∙ e)
+
+  -- a leaf that was taken is held alone
+  pub took_leaf : (f : Frame) × HoldsLeaf q i f f × HasAtMost (view p).terms.max_changes f
+  took_leaf = (
+    taken,
+    record {
+      has = subst (λ (x : Object). Has q i x x) (framed told.value) told.took.has;
+      alone = alone;
+      one = told.took.count ∙ ap (λ n. n + 1) none;
+      root = subst (λ s. IsRootLeaf s i taken) same_shape (told.was_free.is_lawful.rooted i taken at);
+    },
+    root_fits told.was_free.whole (with_refused (view p) told.refused) i taken told.was_free.is_lawful told.was_free.fits at,
+  )

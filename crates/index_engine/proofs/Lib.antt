@@ -1,0 +1,14 @@
+pub mod MapLemmas
+pub mod HoldLemmas
+pub mod ViewLemmas
+pub mod SayLemmas
+pub mod CommitLemmas
+pub mod ChangeLemmas
+pub mod OnceLemmas
+pub mod CallLemmas
+pub mod RowLemmas
+pub mod SettingLemmas
+pub mod LeafPlaceLemmas
+pub mod LeafKeyLemmas
+pub mod LeafFindLemmas
+pub mod LeafChangeLemmas

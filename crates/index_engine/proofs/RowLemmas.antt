@@ -1,0 +1,99 @@
+-- A row that is put into a held leaf, or taken out of it, makes a change that may be committed.
+use Rattle.std.proofs.Common.{◌≡◌, ℕ, true, false, List, sym, ap, subst, ◌∙◌, refl, Option, Some, None, Result, Ok, Err, IfOk, is_none, is_some}
+use Rattle.key_tuple.specs.Order.{FieldList}
+use Rattle.key_tuple.specs.Place.{At, before, within}
+use Rattle.key_tuple.specs.declared.error.NoMemory.{NoMemory}
+use Rattle.latch_law.proofs.Lists.{same_some}
+use Rattle.map_history.specs.declared.reply.Told.{Told}
+use Rattle.map_history.specs.Map.{Pair, MapChange, Put, Del, value_at}
+use Rattle.map_history.specs.Operation.{Ask, Make}
+use Rattle.map_history.specs.Reply.{Done}
+use Rattle.map_history.specs.Report.{Answer, Replied}
+use Rattle.index_page.specs.Page.{PageRows}
+use Rattle.index_world.specs.declared.frame.Frame.{Frame}
+use Rattle.index_world.specs.Law.{IsRootLeaf, MakesChange}
+use Rattle.index_world.specs.Once.{IsQuiet, IsStill, AnswersOnce}
+use Rattle.index_world.specs.Shape.{Shape}
+use Rattle.index_world.specs.Spoken.{View}
+use Rattle.index_world.specs.State.{low_in, high_in, low_of, high_of, rows_of}
+use Rattle.index_engine.specs.Frames.{PutsRow, TakesRow}
+use Rattle.index_engine.specs.Leaf.{IsFoundAt}
+use Rattle.index_engine.specs.Says.{dashes, SeesFull, TellsOnce, told_made}
+use Rattle.index_engine.proofs.OnceLemmas.{quiet_then_tells, tells_then_still}
+
+-- each key is within the bounds of a root
+root_range : (shape : Shape) (i : ℕ) (f : Frame) (key : FieldList) → IsRootLeaf shape i f → within (low_of f) (high_of f) (At key) ≡ true
+unfolding before
+root_range shape i f key root = λ k. within (low_in (root.bounds.0 k)) (high_in (root.bounds.1 k)) (At key)
+
+-- a row that was put into a leaf that lacked its key is a change
+pub put_makes : (shape : Shape) (i : ℕ) (f g : Frame) (place : ℕ) (key : FieldList) (value : List ℕ) → IsRootLeaf shape i f → (puts : PutsRow f g place key value) → value_at key (rows_of puts.before) ≡ None → MakesChange i (Put key value) f g
+put_makes shape i f g place key value root puts absent = let same = same_some root.page puts.before (sym root.paged ∙ puts.paged_before) in record {
+  before = puts.before;
+  paged_before = puts.paged_before;
+  after = puts.after;
+  paged_after = puts.paged_after;
+  head = puts.inserts.head;
+  low = puts.range.low;
+  high = puts.range.high;
+  index = ap (λ (p : PageRows). p.head.index) (sym same) ∙ root.index;
+  level = ap (λ (p : PageRows). p.head.level) (sym same) ∙ root.level;
+  inside = root_range shape i f key root;
+  allowed = ap is_none absent;
+  made = puts.map;
+}
+
+-- and so is a row that was taken out
+pub del_makes : (shape : Shape) (i : ℕ) (f g : Frame) (key : FieldList) (value : List ℕ) (page : PageRows) → IsRootLeaf shape i f → TakesRow f g key → f.page ≡ Some page → value_at key (rows_of page) ≡ Some value → MakesChange i (Del key) f g
+del_makes shape i f g key value page root takes paged there = let same = same_some root.page takes.before (sym root.paged ∙ takes.paged_before) in let page_is = same_some page takes.before (sym paged ∙ takes.paged_before) in record {
+  before = takes.before;
+  paged_before = takes.paged_before;
+  after = takes.after;
+  paged_after = takes.paged_after;
+  head = takes.head;
+  low = takes.range.low;
+  high = takes.range.high;
+  index = ap (λ (p : PageRows). p.head.index) (sym same) ∙ root.index;
+  level = ap (λ (p : PageRows). p.head.level) (sym same) ∙ root.level;
+  inside = root_range shape i f key root;
+  allowed = ap (λ (p : PageRows). is_some (value_at key (rows_of p))) (sym page_is) ∙ ap is_some there;
+  made = takes.map;
+}
+
+-- a row that was found has a value
+pub found_some : (page : PageRows) (key : FieldList) (o : Option ℕ) → IsFoundAt page key o → is_some o ≡ true → (value : List ℕ) × (value_at key (rows_of page) ≡ Some value)
+found_some page key (Some place) found there = (_, found.value)
+found_some page key None found there = absurd cc
+
+-- and where none was there is none
+pub found_none : (page : PageRows) (key : FieldList) (o : Option ℕ) → IsFoundAt page key o → is_some o ≡ false → value_at key (rows_of page) ≡ None
+found_none page key (Some place) found none = absurd cc
+found_none page key None found none = found
+
+-- a change that was made is told so, also when the leaf is given back
+pub tells_made : (i : ℕ) (change : MapChange) (row : Pair) (told : Told) (point : ℕ) (v v0 v1 : View) → told ≡ told_made point → AnswersOnce v v0 i (Make change) (Replied Done point dashes) → IsStill v0 v1 → TellsOnce v v1 i (Make change) told row
+tells_made i change row told point v v0 v1 is once still = subst (λ t. TellsOnce v v1 i (Make change) t row) (sym is)
+    (tells_then_still i (Make change) (told_made point) row v v0 v1 (record { answer = Replied Done point dashes; told_is = refl; once = once }) still)
+
+-- the pass knows the same after a change of its hand
+pub quiet_same : (v v0 v1 : View) → IsQuiet v v0 → v1 ≡ v0 → IsQuiet v v1
+quiet_same v v0 v1 quiet same = subst (IsQuiet v) (sym same) quiet
+
+pub full_same : (i : ℕ) (v0 v1 : View) → SeesFull v0 i → v1 ≡ v0 → SeesFull v1 i
+full_same i v0 v1 full same = subst (λ (v : View). SeesFull v i) (sym same) full
+
+-- the number of a full list, as the pass knows it then
+pub most_same : (n : ℕ) (v v0 v1 : View) → n ≡ v.terms.max_changes → IsQuiet v v0 → v1 ≡ v0 → n ≡ v1.terms.max_changes
+most_same n v v0 v1 is quiet same = is ∙ (ap (λ t. t.max_changes) (sym quiet.numbers.terms) ∙ ap (λ (z : View). z.terms.max_changes) (sym same))
+
+-- what is told at the end is the one answer of the call
+pub quiet_then_result : (i : ℕ) (ask : Ask) (row : Pair) (v v0 v1 : View) (result : Result Told NoMemory) → IsQuiet v v0 → IfOk result (λ told. TellsOnce v0 v1 i ask told row) → IfOk result (λ told. TellsOnce v v1 i ask told row)
+quiet_then_result i ask row v v0 v1 (Ok told) quiet tells = quiet_then_tells i ask told row v v0 v1 quiet tells
+quiet_then_result i ask row v v0 v1 (Err e) quiet tells = tt
+
+-- what was known before a change of the hand is what is known after it
+pub quiet_before_same : (v v0 v1 : View) → v0 ≡ v → IsQuiet v0 v1 → IsQuiet v v1
+quiet_before_same v v0 v1 same quiet = subst (λ (z : View). IsQuiet z v1) same quiet
+
+pub once_before_same : (i : ℕ) (ask : Ask) (answer : Answer) (v v0 v1 : View) → v0 ≡ v → AnswersOnce v0 v1 i ask answer → AnswersOnce v v1 i ask answer
+once_before_same i ask answer v v0 v1 same once = subst (λ (z : View). AnswersOnce z v1 i ask answer) same once

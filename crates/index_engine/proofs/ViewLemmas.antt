@@ -1,0 +1,37 @@
+-- What a step adds to the own answers, and to what was seen.
+use Rattle.std.proofs.Common.{◌≡◌, ◌≢◌, ⊎_elim, ℕ, zero, suc, ◌≤◌, List, [], ◌∷◌, ◌++◌, append-nil, append_assoc, length, length-append, set, sym, ap, ◌∙◌, arith, refl, Contains}
+use mathlib.Core.Logic.{dite}
+use mathlib.Core.Option.{some}
+use native.Mathlib.Decide.{ℕ_discrete}
+use lib.ListN.{get_elem?}
+use Rattle.atomic_table.proofs.Lists.{set_here, set_else, at_set}
+use Rattle.latch_law.specs.Fitting.{Extends}
+use Rattle.latch_law.proofs.Lists.{inside}
+use Rattle.map_history.specs.LegalReport.{Mark}
+use Rattle.index_world.specs.Spoken.{View, OwnAnswer, spoken_at, spoken}
+use Rattle.index_world.specs.State.{Entries}
+
+-- the last answer is printed behind the others
+pub spoken-push : (qs : List OwnAnswer) (q : OwnAnswer) → spoken (qs ++ q ∷ []) ≡ spoken qs ++ spoken_at q
+spoken-push [] q = append-nil (spoken_at q)
+spoken-push (r ∷ qs) q = ap (λ z. spoken_at r ++ z) (spoken-push qs q) ∙ sym (append_assoc (spoken_at r) (spoken qs) (spoken_at q))
+
+-- a list of one mark has that mark alone
+pub one_mark : (m n : Mark) → Contains (m ∷ []) n → m ≡ n
+one_mark m n (zero, below, is) = is
+one_mark m n (suc k, below, is) = absurd (omega (arith, below))
+
+module _ (v : View) (i : ℕ) (list : Entries) (extends : Extends v i list) (seen' : List Entries) (is : seen' ≡ set v.seen i list) where
+  -- what was seen is still seen once a longer list is
+  pub more_seen : (j : ℕ) (ys : Entries) → get_elem? v.seen j ≡ some ys → (zs : Entries) × (get_elem? seen' j ≡ some (ys ++ zs))
+  more_seen j ys at = dite (ℕ_discrete j i)
+      (λ same. let more = extends ys (ap (get_elem? v.seen) (sym same) ∙ at) in (more.0, (λ k. get_elem? (is k) (same k)) ∙ (set_here v.seen i list (inside v.seen i ys (ap (get_elem? v.seen) (sym same) ∙ at)) ∙ ap some (sym more.1))))
+      (λ differs. ([], ap (λ z. get_elem? z j) is ∙ (set_else v.seen i j list differs ∙ (at ∙ ap some (sym (append-nil ys))))))
+
+  -- what was seen of it is no longer than it
+  pub extends_length : (ys : Entries) → get_elem? v.seen i ≡ some ys → length ys ≤ length list
+  extends_length ys at = let more = extends ys at in let whole = ap length more.1 in omega (arith, whole, length-append ys more.0)
+
+  -- of that index exactly the list is seen
+  pub now_seen : (zs : Entries) → get_elem? seen' i ≡ some zs → list ≡ zs
+  now_seen zs at = ⊎_elim (λ (here : (i ≡ i) × (list ≡ zs)). here.1) (λ (else : (i ≢ i) × (get_elem? v.seen i ≡ some zs)). absurd (else.0 refl)) (at_set v.seen i i list zs (ap (λ z. get_elem? z i) (sym is) ∙ at))

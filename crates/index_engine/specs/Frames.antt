@@ -1,0 +1,56 @@
+-- Changes of the page of a frame.
+use Rattle.std.specs.Prelude.{ℕ, ◌≡◌, ◌≤◌, Some, None, List, length}
+use Rattle.key_tuple.specs.Order.{FieldList}
+use Rattle.map_history.specs.Map.{Put, Del, value_at, after_change}
+use Rattle.index_page.specs.declared.TheConstants.{MAX_ROWS}
+use Rattle.index_page.specs.Changes.{Inserts}
+use Rattle.index_page.specs.Page.{PageRows}
+use Rattle.index_page.specs.Rows.{Bytes, row_of}
+use Rattle.index_world.specs.declared.frame.Frame.{Frame}
+use Rattle.index_world.specs.State.{rows_of}
+use Rattle.index_engine.specs.Leaf.{HasRow}
+
+-- the frame has a leaf for keys of as many fields
+pub record HasLeaf (f : Frame) (key : FieldList) : Type 0 where
+  pub page : PageRows
+  pub paged : f.page ≡ Some page
+  pub level : page.head.level ≡ 0
+  pub fields : length key ≡ page.head.fields
+
+-- the frame has a leaf that lacks the key and has room for its row
+pub record LacksRow (f : Frame) (key : FieldList) : Type 0 where
+  pub leaf : HasLeaf f key
+  pub absent : value_at key (rows_of leaf.page) ≡ None
+  pub room : length leaf.page.rows ≤ MAX_ROWS
+
+-- the frame's bounds and its clock are as before
+pub record SameRange (f g : Frame) : Type 0 where
+  pub low : g.low ≡ f.low
+  pub high : g.high ≡ f.high
+  pub clock : g.clock ≡ f.clock
+
+-- the row was put in at the place
+pub record PutsRow (f g : Frame) (place : ℕ) (key : FieldList) (value : List ℕ) : Type 0 where
+  pub before : PageRows
+  pub paged_before : f.page ≡ Some before
+  pub after : PageRows
+  pub paged_after : g.page ≡ Some after
+  pub inserts : Inserts before after (row_of place key (Bytes value))
+  pub map : rows_of after ≡ after_change (rows_of before) (Put key value)
+  pub range : SameRange f g
+
+-- the row of the key was taken out
+pub record TakesRow (f g : Frame) (key : FieldList) : Type 0 where
+  pub before : PageRows
+  pub paged_before : f.page ≡ Some before
+  pub after : PageRows
+  pub paged_after : g.page ≡ Some after
+  pub head : after.head ≡ before.head
+  pub map : rows_of after ≡ after_change (rows_of before) (Del key)
+  pub range : SameRange f g
+
+-- the row of the key stands at the place of the frame's page
+pub record HasRowAt (f : Frame) (place : ℕ) (key : FieldList) : Type 0 where
+  pub page : PageRows
+  pub paged : f.page ≡ Some page
+  pub row : HasRow page place key

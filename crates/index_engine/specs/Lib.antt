@@ -1,0 +1,7 @@
+pub mod Leaf
+pub mod Passes
+pub mod Says
+pub mod Frames
+pub mod Changes
+pub mod Settings
+pub mod Engines

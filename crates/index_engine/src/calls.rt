@@ -1,0 +1,89 @@
+//! The operations.
+ghost use Rattle.std.specs.Prelude.{◌≡◌, ◌≢◌, ◌<◌, None, IfOk, OnErr, OnOk};
+ghost use Rattle.map_history.specs.Map as map;
+ghost use Rattle.map_history.specs.Operation as asked;
+ghost use Rattle.index_world.specs.Meanings.{row_in};
+ghost use Rattle.index_world.specs.Once.{IsQuiet};
+ghost use Rattle.index_engine.specs.Engines.{known, IsOf, IsSame, indexes_of, FitsKey};
+ghost use Rattle.index_engine.specs.Says.{TellsOnce};
+
+use crate::engine::{Engine, EnginePass};
+use crate::{deleting, getting, putting};
+use key_tuple::{Key, NoMemory, Value};
+use map_history::{Reply, RowBuf, Told};
+use std::sync::Wait;
+
+impl Engine {
+    /// The value of the key: `Found`, with the row in `out`, or `Absent`.
+    pub fn get<R: Wait>(
+        &self,
+        pass: &mut EnginePass,
+        index: u32,
+        key: &Key,
+        out: &mut RowBuf,
+        wait: &R,
+    ) -> Result<Told, NoMemory>
+        requires own { IsOf self.now pass.old }
+        requires index { index < indexes_of self.now }
+        requires key { FitsKey self.now index key.now.tuple }
+        ensures own { IsSame pass.old pass.new × IsOf self.now pass.new }
+        ensures ok { IfOk result (λ told. TellsOnce (known pass.old) (known pass.new) index
+            (asked.Get key.now.tuple) told out.new) }
+        ensures kept { IfOk result (λ told. told.reply ≢ Reply.Found → out.new ≡ out.old) }
+        ensures err { OnErr result (IsQuiet (known pass.old) (known pass.new)) }
+    {
+        Ok(getting::get(&self.space, &mut pass.world, index, key, out, wait))
+    }
+
+    /// A new row: `Ok`, `Duplicate` where the key is there, or `LogFull` where the index has had all
+    /// the changes that it may. They are tried in the order `Duplicate`, `LogFull`, `Ok`. After
+    /// `NoMemory` nothing has changed.
+    pub fn put<R: Wait>(
+        &self,
+        pass: &mut EnginePass,
+        index: u32,
+        key: &Key,
+        value: &Value,
+        wait: &R,
+    ) -> Result<Told, NoMemory>
+        requires own { IsOf self.now pass.old }
+        requires index { index < indexes_of self.now }
+        requires key { FitsKey self.now index key.now.tuple }
+        ensures own { IsSame pass.old pass.new × IsOf self.now pass.new }
+        ensures ok { IfOk result (λ told. TellsOnce (known pass.old) (known pass.new) index
+            (asked.Make (map.Put key.now.tuple value.now)) told (row_in None)) }
+        ensures err { OnErr result (IsQuiet (known pass.old) (known pass.new)) }
+    {
+        let most = u64::from(pass.sizes.max_changes);
+        putting::put(&self.space, &mut pass.world, index, most, key, value, wait)
+    }
+
+    /// A row taken out: `Ok`, `Absent` where the key isn't there, or `LogFull`. After `NoMemory`
+    /// nothing has changed.
+    pub fn del<R: Wait>(
+        &self,
+        pass: &mut EnginePass,
+        index: u32,
+        key: &Key,
+        wait: &R,
+    ) -> Result<Told, NoMemory>
+        requires own { IsOf self.now pass.old }
+        requires index { index < indexes_of self.now }
+        requires key { FitsKey self.now index key.now.tuple }
+        ensures own { IsSame pass.old pass.new × IsOf self.now pass.new }
+        ensures ok { IfOk result (λ told. TellsOnce (known pass.old) (known pass.new) index
+            (asked.Make (map.Del key.now.tuple)) told (row_in None)) }
+        ensures err { OnErr result (IsQuiet (known pass.old) (known pass.new)) }
+    {
+        let most = u64::from(pass.sizes.max_changes);
+        deleting::del(
+            &self.space,
+            &mut pass.world,
+            index,
+            most,
+            key,
+            &mut pass.copy,
+            wait,
+        )
+    }
+}

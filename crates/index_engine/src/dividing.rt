@@ -1,0 +1,67 @@
+//! Passes of an engine are cut in two and joined.
+ghost use Rattle.std.specs.Prelude.{◌≡◌, ◌+◌, ◌≤◌, IfOk, OnErr};
+ghost use Rattle.latch_law.specs.Views.{left_part, right_part, both_parts};
+ghost use Rattle.index_engine.specs.Engines.{known, IsOf, IsSame};
+
+use crate::engine::{Engine, EnginePass};
+use index_page::PageCopy;
+use key_tuple::NoMemory;
+use map_history::Sizes;
+use std::alloc::Global;
+
+impl Engine {
+    /// A new pass, which gets the upper half of the numbers and their answers. After `NoMemory` the
+    /// old one is as it was.
+    pub fn split(&self, alloc: Global, pass: &mut EnginePass) -> Result<EnginePass, NoMemory>
+        requires own { IsOf self.now pass.old }
+        requires two { (known pass.old).low + 2 ≤ (known pass.old).end }
+        ensures own { IsSame pass.old pass.new × IsOf self.now pass.new }
+        ensures kept { IfOk result (λ _. known pass.new ≡ left_part (known pass.old)) }
+        ensures given { IfOk result (λ other. IsOf self.now other × (other.sizes ≡ pass.old.sizes)
+            × (known other ≡ right_part (known pass.old))) }
+        ensures err { OnErr result (known pass.new ≡ known pass.old) }
+    {
+        let copy = PageCopy::new(alloc)?;
+        let world = self
+            .space
+            .split(alloc, &mut pass.world)
+            .map_err(|_| NoMemory)?;
+        Ok(EnginePass {
+            world,
+            sizes: pass.sizes,
+            copy,
+        })
+    }
+
+    /// Takes in the pass whose numbers follow. Its answers come behind the others.
+    pub fn join(&self, pass: &mut EnginePass, other: EnginePass)
+        requires own { IsOf self.now pass.old }
+        requires others { IsOf self.now other }
+        requires next { (known pass.old).end ≡ (known other).low }
+        ensures own { IsSame pass.old pass.new × IsOf self.now pass.new }
+        ensures joined { known pass.new ≡ both_parts (known pass.old) (known other) }
+    {
+        let EnginePass {
+            world,
+            sizes: _,
+            copy: _,
+        } = other;
+        self.space.join(&mut pass.world, world);
+    }
+}
+
+impl EnginePass {
+    /// The lowest number, which is the pass's name, and the end of its numbers.
+    pub fn numbers(&self) -> (u32, u32)
+        ensures { (result.0 ≡ (known self.now).low) × (result.1 ≡ (known self.now).end) }
+    {
+        self.world.numbers()
+    }
+
+    /// The sizes that its engine was opened with.
+    pub fn sizes(&self) -> &Sizes
+        ensures { result.now ≡ self.now.sizes }
+    {
+        &self.sizes
+    }
+}

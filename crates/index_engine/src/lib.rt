@@ -1,0 +1,24 @@
+//! Operations on shared indexes, each answered once.
+//! Nothing here keeps a list of its own: an answer is right by the world's law.
+#![tactic(auto)]
+
+mod answering;
+mod calls;
+mod changing;
+mod committing;
+mod deleting;
+mod dividing;
+mod engine;
+mod error;
+mod framed;
+mod getting;
+mod holding;
+mod leaf;
+mod opening;
+mod putting;
+mod saying;
+mod setting;
+
+pub use engine::{Engine, EnginePass};
+pub use error::EngineError;
+pub use setting::Setting;
