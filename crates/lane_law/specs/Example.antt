@@ -1,0 +1,109 @@
+-- A worked example: line 2 of a lane puts a row, and line 1 of another lane finds it.
+use Rattle.std.specs.Prelude.{ℕ, ◌≡◌, ◌≤◌, None, List, [], ◌∷◌, length, replicate}
+use Rattle.key_tuple.specs.Order.{FieldList}
+use Rattle.latch_law.specs.declared.knows.Saying.TheVariants as what
+use Rattle.change_log.specs.Log.{Log}
+use Rattle.map_history.specs.declared.columns.How.TheVariants as how
+use Rattle.map_history.specs.declared.columns.Note.TheVariants as note
+use Rattle.map_history.specs.declared.sizes.Sizes.{Sizes}
+use Rattle.map_history.specs.Map.{MapChange, Put}
+use Rattle.map_history.specs.Operation.{Get, Make}
+use Rattle.map_history.specs.Reply.{Value, Done}
+use Rattle.map_history.specs.Report.{Columns, AnswerLine, Replied, Report}
+use Rattle.map_history.specs.Statistics.{counts_of}
+use Rattle.map_history.specs.LegalReport.{Line, Run, IsLegalReport}
+use Rattle.index_world.specs.Answers.{Deed, Gives, Replies}
+use Rattle.index_world.specs.State.{State}
+use Rattle.index_world.specs.Law.{IsLawful}
+use Rattle.index_world.specs.Spoken.{View}
+use Rattle.lane_law.specs.Worked.{answered}
+use Rattle.lane_law.specs.Runs.{HasNoScan, RunsAll}
+use Rattle.lane_law.specs.Merged.{entry_of, HasNotes, LinesAscend, AreLookedUp}
+
+-- the key `a`
+abbrev pub key : FieldList
+key = (97 ∷ []) ∷ []
+
+-- the value `b`
+abbrev pub value : List ℕ
+value = 98 ∷ []
+
+-- the columns of answers that no hash was asked for
+abbrev pub dashes : Columns
+dashes = record { how = how.Dash; note = note.Dash }
+
+-- the row that is put
+abbrev pub row : MapChange
+row = Put key value
+
+-- the same, as an entry of the list has it
+abbrev pub row_made : Deed
+row_made = record { change = row; columns = dashes }
+
+-- the first lane's line
+abbrev pub put_line : Line
+put_line = record { line = 2; op = record { index = 0; ask = Make row } }
+
+-- the second lane's line
+abbrev pub get_line : Line
+get_line = record { line = 1; op = record { index = 0; ask = Get key } }
+
+-- the index `i`, and the two lanes
+abbrev pub example_run : Sizes → Run
+example_run sizes = record { sizes = sizes; names = (105 ∷ []) ∷ []; lanes = (put_line ∷ []) ∷ (get_line ∷ []) ∷ [] }
+
+-- what the put is told, and what the get
+abbrev pub told_put : AnswerLine
+told_put = answered put_line (Replied Done 1 dashes)
+
+-- it finds the row at the point of the put
+abbrev pub told_get : AnswerLine
+told_get = answered get_line (Replied (Value value) 1 dashes)
+
+-- the report of the two lanes
+abbrev pub example_report : Report
+example_report = record {
+  lanes = (told_put ∷ []) ∷ (told_get ∷ []) ∷ [];
+  indexes = record { name = 105 ∷ []; entries = record { lane = 1; line = 2; change = row } ∷ []; counts = counts_of (dashes ∷ dashes ∷ []) } ∷ [];
+}
+
+-- what the two lanes noted
+abbrev pub example_logs : List Log
+example_logs = record { noted = record { index = 0; entry = entry_of 0 put_line 1 } ∷ []; room = 1 } ∷ record { noted = []; room = 1 } ∷ []
+
+-- a lawful state of one index whose list has the put, with nothing held
+pub record IsExample (sizes : Sizes) (w : State) : Type 0 where
+  pub lawful : IsLawful w
+  pub lists : w.lists ≡ (record { change = row_made; by = 0 } ∷ []) ∷ []
+  pub latches : w.latches ≡ replicate (length w.objects) 0
+  pub passes : w.passes ≡ 2
+  pub max_changes : w.max_changes ≡ sizes.max_changes
+  pub room : 1 ≤ w.max_changes
+  pub indexes : w.shape.indexes ≡ 1
+  pub pages : w.shape.pages ≡ sizes.pages
+
+-- what the joined pass of the two lanes knows
+abbrev pub example_view : State → View
+example_view w = record {
+  terms = record { shape = w.shape; objects = length w.objects; indexes = 1; max_changes = w.max_changes; passes = 2 };
+  low = 0;
+  end = 2;
+  held = replicate (length w.objects) None;
+  seen = [] ∷ [];
+  said = record { index = 0; point = 1; by = 0; what = what.Change row_made } ∷ record { index = 0; point = 1; by = 1; what = what.Answer (Replies (Get key) (Gives (Value value)) None dashes) } ∷ [];
+  refused = [];
+  references = [];
+}
+
+-- all that the laws ask for holds of it, and so does what they give
+pub record IsMet (sizes : Sizes) (w : State) : Type 0 where
+  pub plain : HasNoScan (example_run sizes)
+  pub runs : RunsAll (example_run sizes) example_report w (example_view w)
+  pub notes : HasNotes (example_run sizes) example_report example_logs
+  pub ascend : LinesAscend (example_run sizes)
+  pub looked : AreLookedUp (example_run sizes) example_report example_logs
+  pub legal : IsLegalReport (example_run sizes) example_report
+
+-- in each such state
+abbrev pub WorkedExample : Type 0
+WorkedExample = (sizes : Sizes) (w : State) → IsExample sizes w → IsMet sizes w

@@ -1,0 +1,47 @@
+-- The laws of lanes.
+use Rattle.std.specs.Prelude.{ℕ, ◌≡◌, ◌+◌, ◌<◌, false, List, [], ◌∷◌, ◌++◌, length, AllPairs}
+use Rattle.std.specs.List.{AllZip}
+use Rattle.latch_law.specs.Views.{both_parts}
+use mathlib.Core.Option.{some}
+use lib.ListN.{get_elem?}
+use Rattle.change_log.specs.declared.entry.Entry.{Entry}
+use Rattle.change_log.specs.Log.{Log}
+use Rattle.change_log.specs.Merge.{IsMerge}
+use Rattle.map_history.specs.Operation.{is_scan}
+use Rattle.map_history.specs.Report.{Answer, AnswerLine, Report}
+use Rattle.map_history.specs.LegalReport.{Line, Run, Precedes, marks_of, IsLegalReport}
+use Rattle.index_world.specs.State.{State, Entries}
+use Rattle.index_world.specs.Spoken.{View, spoken}
+use Rattle.index_world.specs.Once.{AnswersOnce}
+use Rattle.lane_law.specs.Worked.{answered, AreInOrder, Worked}
+use Rattle.lane_law.specs.Runs.{all_sayings, HasNoScan, RunsAll, AreEntries}
+use Rattle.lane_law.specs.Merged.{notes_of, lane_notes, all_notes, HasNotes, LinesAscend, IsNumbered, AreLookedUp}
+
+-- A lane that worked goes on by one line of an index that its pass knows, which is answered once.
+pub record LanesGoOn : Type 0 where
+  pub none : (v : View) → Worked v v [] []
+  pub more : (u v w : View) (lines : List Line) (answers : List AnswerLine) (line : Line) (answer : Answer) → Worked u v lines answers → line.op.index < length v.seen → AllPairs Precedes (marks_of answer) → AnswersOnce v w line.op.index line.op.ask answer
+      → Worked u w (lines ++ line ∷ []) (answers ++ answered line answer ∷ [])
+  pub plain : (u v w : View) (lines : List Line) (answers : List AnswerLine) (line : Line) (answer : Answer) → Worked u v lines answers → line.op.index < length v.seen → is_scan line.op.ask ≡ false → AnswersOnce v w line.op.index line.op.ask answer
+      → Worked u w (lines ++ line ∷ []) (answers ++ answered line answer ∷ [])
+
+-- What a lane notes goes on with it. What is said, noted and in order of two runs of lanes is so of both in a row, where the second has the numbers that follow those of the first; and a lane that began with nothing said is a run of one lane.
+pub record RunsJoin : Type 0 where
+  pub note : (k : ℕ) (lines : List Line) (answers : List AnswerLine) (line : Line) (answer : Answer) → length answers ≡ length lines → lane_notes k (lines ++ line ∷ []) (answers ++ answered line answer ∷ []) ≡ lane_notes k lines answers ++ notes_of k line answer
+  pub one : (u v : View) (lines : List Line) (answers : List AnswerLine) → spoken u.said ≡ [] → Worked u v lines answers → spoken v.said ≡ all_sayings u.low (lines ∷ []) (answers ∷ [])
+  pub said : (u v : View) (n m : ℕ) (lanes lanes' : List (List Line)) (told told' : List (List AnswerLine)) → length told ≡ length lanes → m ≡ n + length lanes → spoken u.said ≡ all_sayings n lanes told → spoken v.said ≡ all_sayings m lanes' told'
+      → spoken (both_parts u v).said ≡ all_sayings n (lanes ++ lanes') (told ++ told')
+  pub noted : (n m : ℕ) (lanes lanes' : List (List Line)) (told told' : List (List AnswerLine)) → length told ≡ length lanes → m ≡ n + length lanes → all_notes n (lanes ++ lanes') (told ++ told') ≡ all_notes n lanes told ++ all_notes m lanes' told'
+  pub in_order : (lanes lanes' : List (List Line)) (told told' : List (List AnswerLine)) → AllZip AreInOrder lanes told → AllZip AreInOrder lanes' told' → AllZip AreInOrder (lanes ++ lanes') (told ++ told')
+
+-- what lanes without scans are told is a legal report
+abbrev pub LanesAreLegal : Type 0
+LanesAreLegal = (run : Run) (report : Report) (w : State) (v : View) → HasNoScan run → RunsAll run report w v → AreEntries run report w → IsLegalReport run report
+
+-- where each lane noted its changes, the merged logs of an index are its list, entry by entry
+abbrev pub MergedLogsAreLists : Type 0
+MergedLogsAreLists = (run : Run) (report : Report) (w : State) (v : View) (logs : List Log) → RunsAll run report w v → HasNotes run report logs → (i : ℕ) (xs : Entries) (merged : List Entry) → get_elem? w.lists i ≡ some xs → IsMerge i logs merged → IsNumbered run report i xs merged
+
+-- and where the numbers of lines ascend, the printed entries that are looked up by them are those of the lists
+abbrev pub MergedLogsAreEntries : Type 0
+MergedLogsAreEntries = (run : Run) (report : Report) (w : State) (v : View) (logs : List Log) → RunsAll run report w v → HasNotes run report logs → LinesAscend run → AreLookedUp run report logs → AreEntries run report w

@@ -1,0 +1,34 @@
+//! The laws of lanes.
+ghost use Rattle.lane_law.specs.Example.{WorkedExample};
+ghost use Rattle.lane_law.specs.Laws.{LanesGoOn, RunsJoin, LanesAreLegal, MergedLogsAreLists};
+ghost use Rattle.lane_law.specs.Laws.{MergedLogsAreEntries};
+
+/// A lane goes on line by line.
+pub fn lanes_go_on()
+    ensures { LanesGoOn }
+{}
+
+/// What is known of two runs of lanes is known of both in a row.
+pub fn runs_join()
+    ensures { RunsJoin }
+{}
+
+/// What lanes are told of one space is a legal report.
+pub fn lanes_are_legal()
+    ensures { LanesAreLegal }
+{}
+
+/// The merged logs of the lanes are the lists of changes, entry by entry.
+pub fn merged_logs_are_lists()
+    ensures { MergedLogsAreLists }
+{}
+
+/// A report whose entries are looked up by the merged logs has the entries of the lists.
+pub fn merged_logs_are_entries()
+    ensures { MergedLogsAreEntries }
+{}
+
+/// Two lanes of one line each, for which all this holds.
+pub fn worked_example()
+    ensures { WorkedExample }
+{}

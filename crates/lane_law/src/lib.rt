@@ -1,0 +1,10 @@
+//! Why what some lanes are told of one space is a legal report.
+//! Laws alone: nothing here runs, waits or takes memory.
+#![tactic(auto)]
+
+mod laws;
+
+pub use laws::{
+    lanes_are_legal, lanes_go_on, merged_logs_are_entries, merged_logs_are_lists, runs_join,
+    worked_example,
+};
