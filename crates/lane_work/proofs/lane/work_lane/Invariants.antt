@@ -1,0 +1,15 @@
+use Rattle.std.proofs.Common.{◌≡◌, ◌≤◌, length, take}
+use Rattle.script.specs.Views.{line_texts}
+use Rattle.index_engine.specs.Engines.{known, IsOf, IsSame}
+use Rattle.lane_work.specs.Works.{Works}
+use Rattle.lane_work.proofs.lane.work_lane.Given as goal
+
+-- the lines so far are worked, and there is room for as many notes as there are lines
+abbrev pub invariant-loop-line : goal.invariant-loop-line
+invariant-loop-line g l = record {
+  same : IsSame l.fn.pass l.pass;
+  own : IsOf l.engine l.pass;
+  works : Works (known l.fn.pass) (known l.pass) (line_texts (take l.line-index l.lines)) l.answers l.log;
+  room : l.log.room ≡ length l.lines;
+  few : length l.log.noted ≤ l.line-index;
+}

@@ -1,0 +1,34 @@
+-- What a lane's work is.
+use Rattle.std.specs.Prelude.{ℕ, ◌≡◌, Option, Some, List, [], ◌∷◌, ◌++◌, map}
+use Rattle.change_log.specs.declared.entry.Noted.{Noted}
+use Rattle.map_history.specs.declared.reply.Reply.{Reply}
+use Rattle.map_history.specs.declared.reply.Reply.TheVariants as word
+use Rattle.map_history.specs.declared.reply.Told.{Told}
+use Rattle.script.specs.declared.lane.Line.{Line}
+use Rattle.script.specs.Views.{line_text}
+use Rattle.change_log.specs.Log.{Log}
+use Rattle.map_history.specs.LegalReport as legal
+use Rattle.map_history.specs.Report.{AnswerLine}
+use Rattle.index_world.specs.Spoken.{View}
+use Rattle.one_lane.specs.Lane.{answer_line_text}
+use Rattle.lane_law.specs.Worked.{Worked}
+use Rattle.lane_law.specs.Merged.{lane_notes}
+
+-- The lines were answered one after another by a pass that knew v and knows v': their answers are printed so, and the changes among them are noted.
+pub record Works (v v' : View) (lines : List legal.Line) (texts : List (List ℕ)) (log : Log) : Type 0 where
+  pub answers : List AnswerLine
+  pub worked : Worked v v' lines answers
+  pub printed : texts ≡ map answer_line_text answers
+  pub noted : log.noted ≡ lane_notes v.low lines answers
+
+-- the entry of a line that is told so: a change that was made
+abbrev pub note_of : ℕ → legal.Line → Told → List Noted
+note_of lane line told = by_word told.reply told.point
+  where
+    by_word : Reply → Option ℕ → List Noted
+    by_word word.Ok (Some point) = record { index = line.op.index; entry = record { number = point; lane = lane; line = line.line } } ∷ []
+    by_word reply point = []
+
+-- the log has the entry of the line behind the others
+abbrev pub NotesLine : Log → Log → ℕ → Line → Told → Type 0
+NotesLine old new lane line told = new.noted ≡ old.noted ++ note_of lane (line_text line) told

@@ -1,0 +1,66 @@
+//! A whole lane.
+ghost use Rattle.std.specs.Prelude.{◌≡◌, ◌+◌, ◌<◌, length, IfOk};
+ghost use Rattle.script.specs.Views.{line_texts};
+ghost use Rattle.index_engine.specs.Engines.{known, IsOf, IsSame};
+ghost use Rattle.lane_work.specs.Workable.{AreWorkable};
+ghost use Rattle.lane_work.specs.Works.{Works, NotesLine};
+
+use crate::line::work_line;
+use change_log::{Entry, LaneLog};
+use index_engine::{Engine, EnginePass};
+use key_tuple::NoMemory;
+use map_history::{Reply, RowBuf, Told};
+use one_lane::Texts;
+use script::Line;
+use std::alloc::Global;
+use std::sync::Wait;
+
+/// What a lane was told: its printed answers, and the changes that it made.
+#[derive(Drop)]
+pub struct LaneWork {
+    pub answers: Texts,
+    pub log: LaneLog,
+}
+
+/// Works the lines of a lane, which has this number from 1, one after another.
+pub fn work_lane<R: Wait>(
+    alloc: Global,
+    engine: &Engine,
+    pass: &mut EnginePass,
+    lane: u32,
+    lines: &[Line],
+    wait: &R,
+) -> Result<LaneWork, NoMemory>
+    requires own { IsOf engine.now pass.old }
+    requires lane { lane ≡ (known pass.old).low + 1 }
+    requires lines { AreWorkable engine.now lines.now }
+    ensures own { IsSame pass.old pass.new × IsOf engine.now pass.new }
+    ensures ok { IfOk result (λ work. Works (known pass.old) (known pass.new)
+        (line_texts lines.now) work.answers work.log) }
+{
+    let mut answers = Texts::new(alloc);
+    let mut log = LaneLog::reserve(alloc, lines.len())?;
+    let mut row = RowBuf::new(alloc)?;
+    for line in lines {
+        let told = work_line(engine, pass, line, &mut row, wait)?;
+        answers.add_answer(line.line, &told, &row, &line.op)?;
+        note(&mut log, lane, line, &told);
+    }
+    Ok(LaneWork { answers, log })
+}
+
+/// Notes the change of a line, if it made one.
+fn note(log: &mut LaneLog, lane: u32, line: &Line, told: &Told)
+    requires room { length log.old.noted < log.old.room }
+    ensures noted { NotesLine log.old log.new lane line.now told.now }
+    ensures room { log.new.room ≡ log.old.room }
+{
+    if let (Reply::Ok, Some(number)) = (told.reply, told.point) {
+        let entry = Entry {
+            number,
+            lane,
+            line: line.line,
+        };
+        log.note(line.op.index(), entry);
+    }
+}

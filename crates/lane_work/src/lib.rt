@@ -1,0 +1,10 @@
+//! A lane's lines, worked through an engine one after another: their printed answers, and a log of
+//! the changes. Nothing here opens files or starts threads.
+#![tactic(auto)]
+
+mod lane;
+mod line;
+#[cfg(test)]
+mod tests;
+
+pub use lane::{LaneWork, work_lane};

@@ -1,0 +1,36 @@
+//! One line, asked of an engine.
+ghost use Rattle.std.specs.Prelude.{◌≡◌, ◌<◌, IfOk, OnErr};
+ghost use Rattle.script.specs.Views.{line_text};
+ghost use Rattle.index_world.specs.Once.{IsQuiet};
+ghost use Rattle.index_engine.specs.Engines.{known, IsOf, IsSame};
+ghost use Rattle.index_engine.specs.Says.{TellsOnce};
+ghost use Rattle.lane_work.specs.Workable.{IsWorkable};
+
+use index_engine::{Engine, EnginePass};
+use key_tuple::NoMemory;
+use map_history::{Op, RowBuf, Told};
+use script::Line;
+use std::sync::Wait;
+
+/// Asks the engine what a line asks for. A found row is put in `row`.
+pub(crate) fn work_line<R: Wait>(
+    engine: &Engine,
+    pass: &mut EnginePass,
+    line: &Line,
+    row: &mut RowBuf,
+    wait: &R,
+) -> Result<Told, NoMemory>
+    requires own { IsOf engine.now pass.old }
+    requires line { IsWorkable engine.now line.now }
+    ensures own { IsSame pass.old pass.new × IsOf engine.now pass.new }
+    ensures ok { IfOk result (λ told. TellsOnce (known pass.old) (known pass.new)
+        (line_text line.now).op.index (line_text line.now).op.ask told row.new) }
+    ensures err { OnErr result (IsQuiet (known pass.old) (known pass.new)) }
+{
+    match &line.op {
+        Op::Get { index, key } => engine.get(pass, *index, key, row, wait),
+        Op::Put { index, key, value } => engine.put(pass, *index, key, value, wait),
+        Op::Del { index, key } => engine.del(pass, *index, key, wait),
+        Op::Set { .. } | Op::Seek { .. } | Op::Scan { .. } => unreachable!(),
+    }
+}
