@@ -3,11 +3,12 @@ ghost use Rattle.std.specs.Prelude.{◌≡◌, ◌<◌, true};
 ghost use Rattle.latch_space.specs.Passes.{view, count, IsSamePass};
 ghost use Rattle.latch_space.specs.Spaces.{IsPassOf};
 ghost use Rattle.map_history.specs.Operation.{operation_by};
+ghost use Rattle.map_history.specs.Told.{columns_told};
 ghost use Rattle.index_world.specs.declared.frame.Frame.{Frame};
 ghost use Rattle.index_world.specs.Meanings.{row_in};
 ghost use Rattle.index_world.specs.Once.{IsQuiet};
 ghost use Rattle.index_engine.specs.Passes.{HoldsLeaf};
-ghost use Rattle.index_engine.specs.Says.{CanSay, SeesFull, TellsOnce, told_made};
+ghost use Rattle.index_engine.specs.Says.{dashes, CanSay, SeesFull, TellsOnce, told_made};
 
 use crate::holding::let_go;
 use crate::saying::say;
@@ -31,6 +32,7 @@ pub(crate) fn answer(
     ensures once { TellsOnce (view pass.old) (view pass.new) index
         (operation_by op.entry).ask result (row_in row.entry) }
     ensures reply { result.reply ≡ reply }
+    ensures dashed { columns_told result ≡ dashes }
 {
     let told = say(space, pass, index, op, reply, row);
     let_go(space, pass, index);

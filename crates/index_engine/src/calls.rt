@@ -2,10 +2,11 @@
 ghost use Rattle.std.specs.Prelude.{◌≡◌, ◌≢◌, ◌<◌, None, IfOk, OnErr, OnOk};
 ghost use Rattle.map_history.specs.Map as map;
 ghost use Rattle.map_history.specs.Operation as asked;
+ghost use Rattle.map_history.specs.Told.{columns_told};
 ghost use Rattle.index_world.specs.Meanings.{row_in};
 ghost use Rattle.index_world.specs.Once.{IsQuiet};
 ghost use Rattle.index_engine.specs.Engines.{known, IsOf, IsSame, indexes_of, FitsKey};
-ghost use Rattle.index_engine.specs.Says.{TellsOnce};
+ghost use Rattle.index_engine.specs.Says.{dashes, TellsOnce};
 
 use crate::engine::{Engine, EnginePass};
 use crate::{deleting, getting, putting};
@@ -30,6 +31,7 @@ impl Engine {
         ensures ok { IfOk result (λ told. TellsOnce (known pass.old) (known pass.new) index
             (asked.Get key.now.tuple) told out.new) }
         ensures kept { IfOk result (λ told. told.reply ≢ Reply.Found → out.new ≡ out.old) }
+        ensures dashed { IfOk result (λ told. columns_told told ≡ dashes) }
         ensures err { OnErr result (IsQuiet (known pass.old) (known pass.new)) }
     {
         Ok(getting::get(&self.space, &mut pass.world, index, key, out, wait))
@@ -52,6 +54,7 @@ impl Engine {
         ensures own { IsSame pass.old pass.new × IsOf self.now pass.new }
         ensures ok { IfOk result (λ told. TellsOnce (known pass.old) (known pass.new) index
             (asked.Make (map.Put key.now.tuple value.now)) told (row_in None)) }
+        ensures dashed { IfOk result (λ told. columns_told told ≡ dashes) }
         ensures err { OnErr result (IsQuiet (known pass.old) (known pass.new)) }
     {
         let most = u64::from(pass.sizes.max_changes);
@@ -73,6 +76,7 @@ impl Engine {
         ensures own { IsSame pass.old pass.new × IsOf self.now pass.new }
         ensures ok { IfOk result (λ told. TellsOnce (known pass.old) (known pass.new) index
             (asked.Make (map.Del key.now.tuple)) told (row_in None)) }
+        ensures dashed { IfOk result (λ told. columns_told told ≡ dashes) }
         ensures err { OnErr result (IsQuiet (known pass.old) (known pass.new)) }
     {
         let most = u64::from(pass.sizes.max_changes);

@@ -1,6 +1,10 @@
 //! Passes of an engine are cut in two and joined.
 ghost use Rattle.std.specs.Prelude.{◌≡◌, ◌+◌, ◌≤◌, IfOk, OnErr};
+ghost use Rattle.latch_law.specs.Fitting.{IsFitted};
 ghost use Rattle.latch_law.specs.Views.{left_part, right_part, both_parts};
+ghost use Rattle.index_world.specs.Law.{IsLawful};
+ghost use Rattle.index_world.specs.References.{IsReference};
+ghost use Rattle.index_world.specs.Rightness.{IsRight};
 ghost use Rattle.index_engine.specs.Engines.{known, IsOf, IsSame};
 
 use crate::engine::{Engine, EnginePass};
@@ -56,6 +60,13 @@ impl EnginePass {
         ensures { (result.0 ≡ (known self.now).low) × (result.1 ≡ (known self.now).end) }
     {
         self.world.numbers()
+    }
+
+    /// Some lawful state fits the pass.
+    pub fn fits(&self)
+        ensures { IsFitted IsLawful IsRight IsReference (known self.now) }
+    {
+        self.world.fits();
     }
 
     /// The sizes that its engine was opened with.

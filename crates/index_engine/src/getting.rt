@@ -3,10 +3,10 @@ ghost use Rattle.std.specs.Prelude.{◌≡◌, ◌≢◌, ◌<◌, length};
 ghost use Rattle.latch_space.specs.Passes.{view, count, IsSamePass};
 ghost use Rattle.latch_space.specs.Spaces.{IsPassOf};
 ghost use Rattle.map_history.specs.Operation as asked;
-ghost use Rattle.map_history.specs.Told.{Says};
+ghost use Rattle.map_history.specs.Told.{Says, columns_told};
 ghost use Rattle.index_world.specs.State.{rows_of};
 ghost use Rattle.index_engine.specs.Passes.{IsWorld, FitsIndex};
-ghost use Rattle.index_engine.specs.Says.{TellsOnce};
+ghost use Rattle.index_engine.specs.Says.{dashes, TellsOnce};
 
 use crate::answering::answer;
 use crate::holding::{held_page, hold};
@@ -34,6 +34,7 @@ pub(crate) fn get<R: Wait>(
     ensures nothing { count pass.new ≡ 0 }
     ensures once { TellsOnce (view pass.old) (view pass.new) index (asked.Get key.now.tuple) result out.new }
     ensures kept { result.reply ≢ Reply.Found → out.new ≡ out.old }
+    ensures dashed { columns_told result ≡ dashes }
 {
     hold(space, pass, index, wait);
     let reply = look_up(held_page(pass, index), key, out);

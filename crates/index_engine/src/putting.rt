@@ -4,12 +4,13 @@ ghost use Rattle.latch_space.specs.Passes.{view, count, IsSamePass};
 ghost use Rattle.latch_space.specs.Spaces.{IsPassOf};
 ghost use Rattle.map_history.specs.Map as map;
 ghost use Rattle.map_history.specs.Operation.{Make};
+ghost use Rattle.map_history.specs.Told.{columns_told};
 ghost use Rattle.index_world.specs.Meanings.{row_in};
 ghost use Rattle.index_world.specs.Once.{IsQuiet};
 ghost use Rattle.index_engine.specs.Changes.{HoldsWith, HoldsNewRow};
 ghost use Rattle.index_engine.specs.Frames.{LacksRow};
 ghost use Rattle.index_engine.specs.Passes.{IsWorld, FitsIndex};
-ghost use Rattle.index_engine.specs.Says.{TellsOnce};
+ghost use Rattle.index_engine.specs.Says.{dashes, TellsOnce};
 
 use crate::answering::{answer, is_full, made};
 use crate::changing::{put_in, take_back};
@@ -42,6 +43,7 @@ pub(crate) fn put<R: Wait>(
     ensures nothing { count pass.new ≡ 0 }
     ensures ok { IfOk result (λ told. TellsOnce (view pass.old) (view pass.new) index
         (Make (map.Put key.now.tuple value.now)) told (row_in None)) }
+    ensures dashed { IfOk result (λ told. columns_told told ≡ dashes) }
     ensures err { OnErr result (IsQuiet (view pass.old) (view pass.new)) }
 {
     hold(space, pass, index, wait);
@@ -72,6 +74,7 @@ fn put_row<R: Wait>(
     ensures nothing { count pass.new ≡ 0 }
     ensures ok { IfOk result (λ told. TellsOnce (view pass.old) (view pass.new) index
         (Make (map.Put key.now.tuple value.now)) told (row_in None)) }
+    ensures dashed { IfOk result (λ told. columns_told told ≡ dashes) }
     ensures err { OnErr result (IsQuiet (view pass.old) (view pass.new)) }
 {
     match put_in(pass, index, key, value) {
@@ -100,6 +103,7 @@ fn commit_put<R: Wait>(
     ensures nothing { count pass.new ≡ 0 }
     ensures once { TellsOnce (view pass.old) (view pass.new) index
         (Make (map.Put key.now.tuple value.now)) result (row_in None) }
+    ensures dashed { columns_told result ≡ dashes }
 {
     let op = OpRef::Put { index, key, value };
     match commit(space, pass, index, op, wait) {

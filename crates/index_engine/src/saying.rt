@@ -3,10 +3,11 @@ ghost use Rattle.std.specs.Prelude.{◌≡◌, ◌<◌, Some, None};
 ghost use Rattle.latch_space.specs.Passes.{view, IsSamePass};
 ghost use Rattle.latch_space.specs.Spaces.{IsPassOf};
 ghost use Rattle.map_history.specs.Operation.{operation_by};
+ghost use Rattle.map_history.specs.Told.{columns_told};
 ghost use Rattle.index_world.specs.declared.frame.Frame.{Frame};
 ghost use Rattle.index_world.specs.Meanings.{row_in};
 ghost use Rattle.index_engine.specs.Passes.{HoldsLeaf};
-ghost use Rattle.index_engine.specs.Says.{CanSay, TellsOnce};
+ghost use Rattle.index_engine.specs.Says.{dashes, CanSay, TellsOnce};
 
 use index_world::{Say, WorldPass, WorldSpace};
 use map_history::{How, Note, OpRef, Reply, RowBuf, Told};
@@ -27,6 +28,7 @@ pub(crate) fn say(
     ensures held { (f : Frame) → HoldsLeaf pass.old index f f → HoldsLeaf pass.new index f f }
     ensures once { TellsOnce (view pass.old) (view pass.new) index (operation_by op.entry).ask result (row_in row.entry) }
     ensures reply { result.reply ≡ reply }
+    ensures dashed { columns_told result ≡ dashes }
 {
     let how = How::Dash;
     let note = Note::Dash;

@@ -1,7 +1,7 @@
 -- A lane's work, one line more.
 use Rattle.std.proofs.Common.{◌≡◌, ℕ, zero, suc, ◌+◌, ◌<◌, ◌≤◌, Option, None, false, IfSome, List, [], ◌∷◌, ◌++◌, length, get_or, take, refl, ap, ◌∙◌, sym, subst, arith, Some}
 use Rattle.std.proofs.lemmas.List.{take_more, map-append}
-use Rattle.std.specs.List.{AllZip}
+use Rattle.std.specs.List.{AllZip, AllByRecursion}
 use Rattle.change_log.specs.Log.{Log}
 use Rattle.latch_space.proofs.Pointwise.{sees_each}
 use Rattle.map_history.specs.declared.op.Op.{Op}
@@ -13,7 +13,7 @@ use Rattle.map_history.specs.Map.{Pair}
 use Rattle.map_history.specs.Operation.{is_scan, operation_of}
 use Rattle.map_history.specs.Report.{AnswerLine}
 use Rattle.map_history.specs.Spelling.{answer_text}
-use Rattle.map_history.specs.Told.{answer_of}
+use Rattle.map_history.specs.Told.{answer_of, columns_told}
 use Rattle.map_history.specs.LegalReport as legal
 use Rattle.script.specs.declared.lane.Line.{Line}
 use Rattle.script.specs.Views.{line_text, line_texts}
@@ -21,19 +21,19 @@ use Rattle.index_world.specs.Spoken.{View}
 use Rattle.index_engine.specs.declared.engine.Engine.{Engine}
 use Rattle.index_engine.specs.declared.engine.EnginePass.{EnginePass}
 use Rattle.index_engine.specs.Engines.{known, IsOf, IsSame}
-use Rattle.index_engine.specs.Says.{TellsOnce}
+use Rattle.index_engine.specs.Says.{dashes, TellsOnce}
 use Rattle.one_lane.specs.Lane.{answer_line_text}
 use Rattle.lane_law.specs.Merged.{notes_of}
 use Rattle.lane_law.specs.Worked.{answered}
 use Rattle.lane_law.proofs.JoinLemmas.{notes_more}
 use Rattle.lane_law.proofs.WorkLemmas.{worked_none, plain_marks, worked_more}
 use Rattle.lane_work.specs.Workable.{IsWorkable, AreWorkable}
-use Rattle.lane_work.specs.Works.{Works, note_of}
-use Rattle.lane_work.proofs.NoteLemmas.{noted_by}
+use Rattle.lane_work.specs.Works.{HasDashes, Works, note_of}
+use Rattle.lane_work.proofs.NoteLemmas.{noted_by, dashes_told}
 
 -- no line, no work
 pub works_none : (v : View) (texts : List (List ℕ)) (log : Log) → texts ≡ [] → log.noted ≡ [] → Works v v [] texts log
-works_none v texts log empty none = record { answers = []; worked = worked_none v; printed = empty; noted = none }
+works_none v texts log empty none = record { answers = []; worked = worked_none v; printed = empty; noted = none; dashed = tt }
 
 long : (lines : List legal.Line) (answers : List AnswerLine) → AllZip legal.Answers lines answers → length answers ≡ length lines
 long [] [] all = refl
@@ -41,11 +41,15 @@ long [] (y ∷ answers) all = absurd all
 long (x ∷ lines) [] all = absurd all
 long (x ∷ lines) (y ∷ answers) all = ap suc (long lines answers all.1)
 
+all_push : {A : Type 0} (P : A → Type 0) (xs : List A) (x : A) → AllByRecursion P xs → P x → AllByRecursion P (xs ++ x ∷ [])
+all_push P [] x all last = (last, tt)
+all_push P (y ∷ xs) x all last = (all.0, all_push P xs x all.1 last)
+
 -- one line more
 pub works_more : (u v w : View) (lines : List legal.Line) (texts texts' : List (List ℕ)) (log log' : Log) (line : legal.Line) (told : Told) (row : Pair) (lane : ℕ)
     → Works u v lines texts log → line.op.index < length v.seen → is_scan line.op.ask ≡ false → TellsOnce v w line.op.index line.op.ask told row → lane ≡ u.low + 1
-    → IfSome (answer_of line.op.ask told row) (λ a. texts' ≡ texts ++ answer_text line.line a ∷ []) → log'.noted ≡ log.noted ++ note_of lane line told → Works u w (lines ++ line ∷ []) texts' log'
-works_more u v w lines texts texts' log log' line told row lane works room plain tells is added noted =
+    → IfSome (answer_of line.op.ask told row) (λ a. texts' ≡ texts ++ answer_text line.line a ∷ []) → log'.noted ≡ log.noted ++ note_of lane line told → columns_told told ≡ dashes → Works u w (lines ++ line ∷ []) texts' log'
+works_more u v w lines texts texts' log log' line told row lane works room plain tells is added noted plain_columns =
     let answer = tells.answer in
     let text : texts' ≡ texts ++ answer_text line.line answer ∷ [] = subst (λ o. IfSome o (λ a. texts' ≡ texts ++ answer_text line.line a ∷ [])) tells.told_is added in
     let note : note_of lane line told ≡ notes_of u.low line answer = ap (λ n. note_of n line told) is ∙ noted_by u.low line told.reply told.point told.how told.note row answer tells.told_is in
@@ -54,6 +58,7 @@ works_more u v w lines texts texts' log log' line told row lane works room plain
       worked = worked_more u v w lines works.answers line answer works.worked room (plain_marks line.op.ask answer plain tells.once.form) tells.once;
       printed = text ∙ (ap (λ xs. xs ++ answer_text line.line answer ∷ []) works.printed ∙ sym (map-append answer_line_text works.answers (answered line answer ∷ [])));
       noted = noted ∙ ((λ i. works.noted i ++ note i) ∙ sym (notes_more u.low lines works.answers line answer (long lines works.answers works.worked.in_order.form)));
+      dashed = all_push (λ (a : AnswerLine). HasDashes a.answer) works.answers (answered line answer) works.dashed (dashes_told line.op.ask told.reply told.point told.how told.note row answer tells.told_is plain_columns);
     }
 
 -- the line at a place can be worked

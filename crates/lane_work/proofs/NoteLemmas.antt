@@ -1,5 +1,5 @@
 -- What a line notes by the word that it is told is what its answer notes.
-use Rattle.std.proofs.Common.{◌≡◌, ◌≢◌, ℕ, ◌+◌, [], ap, ◌∙◌, refl, Option, Some, None}
+use Rattle.std.proofs.Common.{◌≡◌, ◌≢◌, ℕ, ◌+◌, [], ap, subst, ◌∙◌, refl, Option, Some, None}
 use Rattle.latch_law.proofs.Lists.{same_some}
 use Rattle.map_history.specs.declared.columns.How.{How}
 use Rattle.map_history.specs.declared.columns.Note.{Note}
@@ -11,8 +11,9 @@ use Rattle.map_history.specs.Reply.{MapReply, Value, Row, Done, Absent, Duplicat
 use Rattle.map_history.specs.Report.{Columns, Answer, Replied, LogFull, SpaceFull}
 use Rattle.map_history.specs.LegalReport.{Line}
 use Rattle.map_history.specs.Told.{said, replied_at, answer_of}
+use Rattle.index_engine.specs.Says.{dashes}
 use Rattle.lane_law.specs.Merged.{notes_of}
-use Rattle.lane_work.specs.Works.{note_of}
+use Rattle.lane_work.specs.Works.{HasDashes, note_of}
 
 -- a reply without a change notes nothing
 plain_notes : (k : ℕ) (line : Line) (o : Option MapReply) (point : Option ℕ) (columns : Columns) (answer : Answer) → ((r : MapReply) → o ≡ Some r → r ≢ Done) → replied_at o point columns ≡ Some answer → [] ≡ notes_of k line answer
@@ -65,3 +66,17 @@ noted_by k line word.Ok point how note row answer e = ok_notes k line point how 
 noted_by k line word.Duplicate point how note row answer e = plain_notes k line (Some Duplicate) point (record { how = how; note = note }) answer duplicate_never e
 noted_by k line word.SpaceFull point how note row answer e = ap (notes_of k line) (same_some (SpaceFull (record { how = how; note = note })) answer e)
 noted_by k line (word.LogFull n) point how note row answer e = ap (notes_of k line) (same_some (LogFull n (record { how = how; note = note })) answer e)
+
+reply_dashes : (o : Option MapReply) (point : Option ℕ) (columns : Columns) (answer : Answer) → columns ≡ dashes → replied_at o point columns ≡ Some answer → HasDashes answer
+reply_dashes None point columns answer is e = absurd cc
+reply_dashes (Some r) None columns answer is e = absurd cc
+reply_dashes (Some r) (Some p) columns answer is e = subst HasDashes (same_some (Replied r p columns) answer e) is
+
+-- an answer that is told with dashes has dashes
+pub dashes_told : (ask : Ask) (reply : Reply) (point : Option ℕ) (how : How) (note : Note) (row : Pair) (answer : Answer) → answer_of ask (record { reply = reply; point = point; how = how; note = note }) row ≡ Some answer → record { how = how; note = note } ≡ dashes → HasDashes answer
+dashes_told ask word.Found point how note row answer e is = reply_dashes (said ask word.Found row) point (record { how = how; note = note }) answer is e
+dashes_told ask word.Absent point how note row answer e is = reply_dashes (Some Absent) point (record { how = how; note = note }) answer is e
+dashes_told ask word.Ok point how note row answer e is = reply_dashes (Some Done) point (record { how = how; note = note }) answer is e
+dashes_told ask word.Duplicate point how note row answer e is = reply_dashes (Some Duplicate) point (record { how = how; note = note }) answer is e
+dashes_told ask word.SpaceFull point how note row answer e is = subst HasDashes (same_some (SpaceFull (record { how = how; note = note })) answer e) is
+dashes_told ask (word.LogFull n) point how note row answer e is = subst HasDashes (same_some (LogFull n (record { how = how; note = note })) answer e) is

@@ -6,20 +6,30 @@ use Rattle.map_history.specs.declared.reply.Reply.TheVariants as word
 use Rattle.map_history.specs.declared.reply.Told.{Told}
 use Rattle.script.specs.declared.lane.Line.{Line}
 use Rattle.script.specs.Views.{line_text}
+use Rattle.std.specs.List.{AllByRecursion}
 use Rattle.change_log.specs.Log.{Log}
 use Rattle.map_history.specs.LegalReport as legal
-use Rattle.map_history.specs.Report.{AnswerLine}
+use Rattle.map_history.specs.Report.{Answer, Replied, LogFull, SpaceFull, Scanned, AnswerLine}
 use Rattle.index_world.specs.Spoken.{View}
 use Rattle.one_lane.specs.Lane.{answer_line_text}
+use Rattle.index_engine.specs.Says.{dashes}
 use Rattle.lane_law.specs.Worked.{Worked}
 use Rattle.lane_law.specs.Merged.{lane_notes}
 
--- The lines were answered one after another by a pass that knew v and knows v': their answers are printed so, and the changes among them are noted.
+-- an answer that tells of no hash: its columns are dashes
+abbrev pub HasDashes : Answer → Type 0
+HasDashes (Replied reply point columns) = columns ≡ dashes
+HasDashes (LogFull n columns) = columns ≡ dashes
+HasDashes (SpaceFull columns) = columns ≡ dashes
+HasDashes (Scanned pieces) = ⊥
+
+-- The lines were answered one after another by a pass that knew v and knows v': their answers are printed so, the changes among them are noted, and no column tells of a hash.
 pub record Works (v v' : View) (lines : List legal.Line) (texts : List (List ℕ)) (log : Log) : Type 0 where
   pub answers : List AnswerLine
   pub worked : Worked v v' lines answers
   pub printed : texts ≡ map answer_line_text answers
   pub noted : log.noted ≡ lane_notes v.low lines answers
+  pub dashed : AllByRecursion (λ (a : AnswerLine). HasDashes a.answer) answers
 
 -- the entry of a line that is told so: a change that was made
 abbrev pub note_of : ℕ → legal.Line → Told → List Noted

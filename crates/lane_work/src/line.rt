@@ -1,9 +1,10 @@
 //! One line, asked of an engine.
 ghost use Rattle.std.specs.Prelude.{◌≡◌, ◌<◌, IfOk, OnErr};
+ghost use Rattle.map_history.specs.Told.{columns_told};
 ghost use Rattle.script.specs.Views.{line_text};
 ghost use Rattle.index_world.specs.Once.{IsQuiet};
 ghost use Rattle.index_engine.specs.Engines.{known, IsOf, IsSame};
-ghost use Rattle.index_engine.specs.Says.{TellsOnce};
+ghost use Rattle.index_engine.specs.Says.{dashes, TellsOnce};
 ghost use Rattle.lane_work.specs.Workable.{IsWorkable};
 
 use index_engine::{Engine, EnginePass};
@@ -25,6 +26,7 @@ pub(crate) fn work_line<R: Wait>(
     ensures own { IsSame pass.old pass.new × IsOf engine.now pass.new }
     ensures ok { IfOk result (λ told. TellsOnce (known pass.old) (known pass.new)
         (line_text line.now).op.index (line_text line.now).op.ask told row.new) }
+    ensures dashed { IfOk result (λ told. columns_told told ≡ dashes) }
     ensures err { OnErr result (IsQuiet (known pass.old) (known pass.new)) }
 {
     match &line.op {
