@@ -9,5 +9,6 @@ pub mod Spoken
 pub mod Once
 pub mod Opening
 pub mod Following
+pub mod Keeping
 pub mod Staying
 pub mod Laws
