@@ -13,7 +13,7 @@ mod world;
 pub use answer::{Answer, Made};
 pub use deed::{Deed, Say};
 pub use frame::{Frame, Object};
-pub use law::opens_lawfully;
+pub use law::{one_row_is_lawful, opens_lawfully};
 pub use layout::Layout;
 pub use opening::first_objects;
 pub use world::{IndexWorld, WorldPass, WorldSpace};
