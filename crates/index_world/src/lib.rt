@@ -8,6 +8,8 @@ mod frame;
 mod law;
 mod layout;
 mod opening;
+#[cfg(test)]
+mod tests;
 mod world;
 
 pub use answer::{Answer, Made};
