@@ -13,17 +13,17 @@ pub record Deed : Type 0 where
   pub change : MapChange
   pub columns : Columns
 
--- the value of an entry that is never made
+-- some change, for a type of which no value is made
 abbrev pub no_deed : Deed
 no_deed = record { change = Del []; columns = record { how = how.Dash; note = note.Dash } }
 
--- what an operation is told that changes nothing: the map's reply, or that a list or the space is full
+-- what an operation is told that changes nothing: the map's reply, or that its list is full, or that there is no page for it
 pub data Word : Type 0 where
   Gives : MapReply → Word
   LogFull : Word
   SpaceFull : Word
 
--- where a page is
+-- where a page is: nowhere, in a block's frame, or in its image
 pub data Where : Type 0 where
   Free : Where
   InFrame : (block : ℕ) → Where
@@ -36,7 +36,7 @@ pub data Saying : Type 0 where
   Full : List Where → Saying
   Look : Saying
 
--- a reply that is bound to a number speaks at that point alone
+-- a reply that is bound to a number speaks at that point alone, and any other at each
 abbrev pub speaks_at : Option ℕ → ℕ → Bool
 speaks_at None p = true
 speaks_at (Some n) p = n == p

@@ -1,4 +1,4 @@
--- Which whole states are lawful, and which steps may be made of what is held.
+-- Which whole states are lawful, and which steps may be made with what is held.
 use Rattle.std.specs.Prelude.{ℕ, ◌≡◌, ◌≢◌, true, Option, Some, None, List, length}
 use mathlib.Core.Option.{some}
 use lib.ListN.{get_elem?}
@@ -17,13 +17,13 @@ use Rattle.index_world.specs.State.{State, Entries, changes, low_of, high_of, ro
 abbrev pub IsFrameAt : List Object → ℕ → Frame → Type 0
 IsFrameAt objects k frame = get_elem? objects k ≡ some (object.Frame frame)
 
--- there are a frame, a number of fields and a list for each index
+-- there are as many frames, numbers of fields and lists as indexes
 pub record AreCounted (shape : Shape) (objects : List Object) (entries : List Entries) : Type 0 where
   pub frames : length objects ≡ shape.indexes
   pub fields : length shape.fields ≡ shape.indexes
   pub lists : length entries ≡ shape.indexes
 
--- the frame has the one page of the index i: a leaf with no neighbours and no bounds
+-- the frame has the one page of the index i: a leaf of the same number, with no neighbours and no bounds, for keys of the index's fields
 pub record IsRootLeaf (shape : Shape) (i : ℕ) (frame : Frame) : Type 0 where
   pub page : PageRows
   pub paged : frame.page ≡ Some page
@@ -34,7 +34,7 @@ pub record IsRootLeaf (shape : Shape) (i : ℕ) (frame : Frame) : Type 0 where
   pub fields : get_elem? shape.fields i ≡ some page.head.fields
   pub bounds : (frame.low ≡ None) × (frame.high ≡ None)
 
--- the frame i has the page of the index i
+-- each frame has the page of the index of its number
 abbrev pub AreRooted : Shape → List Object → Type 0
 AreRooted shape objects = (i : ℕ) (frame : Frame) → IsFrameAt objects i frame → IsRootLeaf shape i frame
 
@@ -46,11 +46,11 @@ AreLawfulLists lists = (i : ℕ) (xs : Entries) → get_elem? lists i ≡ some x
 abbrev pub HoldsRange : Frame → PageRows → Entries → Type 0
 HoldsRange frame page xs = rows_of page ≡ slice (low_of frame) (high_of frame) (map_after (changes xs))
 
--- of each leaf
+-- each leaf holds the rows of its range
 abbrev pub AreContents : List Object → List Entries → Type 0
 AreContents objects lists = (k : ℕ) (frame : Frame) (page : PageRows) (xs : Entries) → IsFrameAt objects k frame → frame.page ≡ Some page → page.head.level ≡ 0 → get_elem? lists page.head.index ≡ some xs → HoldsRange frame page xs
 
--- a lawful state
+-- a lawful state: all is counted, each frame has its root, each list is lawful, and each leaf holds what its list makes
 pub record IsLawful (w : State) : Type 0 where
   pub counted : AreCounted w.shape w.objects w.lists
   pub rooted : AreRooted w.shape w.objects
@@ -63,7 +63,7 @@ pub record KeepsRows (x y : Frame) : Type 0 where
   pub low : y.low ≡ x.low
   pub high : y.high ≡ x.high
 
--- the change of the index i is made on the frame's leaf, which has its key within bounds
+-- the change of the index i is made on the frame's leaf: its key is within the leaf's bounds, the leaf's rows allow it, and they are what it makes of them
 pub record MakesChange (i : ℕ) (c : MapChange) (x y : Frame) : Type 0 where
   pub before : PageRows
   pub paged_before : x.page ≡ Some before
@@ -91,7 +91,7 @@ pub record IsMade (before news : List (Option Object)) (i : ℕ) (c : MapChange)
   pub made : MakesChange i c old new
   pub others : (k : ℕ) (x y : Frame) → k ≢ leaf → BecomesAt before news k x y → KeepsRows x y
 
--- What may be made of what is held: without a change each frame keeps its rows, and with one the change is made.
+-- What may follow: without a change each held frame keeps its rows, and with one the change is made on one of them.
 abbrev pub Follows : Terms Shape → List (Option Object) → List (Option Object) → Option (ℕ × Deed) → Type 0
 Follows terms before news None = (k : ℕ) (x y : Frame) → BecomesAt before news k x y → KeepsRows x y
 Follows terms before news (Some d) = IsMade before news d.0 d.1.change

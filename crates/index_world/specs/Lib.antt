@@ -8,6 +8,8 @@ pub mod Meanings
 pub mod Spoken
 pub mod Once
 pub mod Opening
+pub mod OneRow
 pub mod Following
+pub mod Keeping
 pub mod Staying
 pub mod Laws

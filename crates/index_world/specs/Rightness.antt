@@ -24,17 +24,17 @@ writes (Del k) = false
 abbrev pub rows_written : List Entries → ℕ
 rows_written lists = sum_by (λ (xs : Entries). count_by (λ (e : Entry Deed). writes e.change.change) xs) lists
 
--- there are few pages for the rows that were written
+-- pages are short: there are no more than two for each index and each row that was written, and one for each pass
 abbrev pub IsShort : State → Type 0
 IsShort w = w.shape.pages ≤ 2 * (w.shape.indexes + rows_written w.lists) + w.passes
 
--- a change that the map allows
+-- a change is asked for, and the map allows it
 pub record IsAllowed (m : Map) (ask : Ask) : Type 0 where
   pub change : MapChange
   pub asked : ask ≡ Make change
   pub allowed : is_allowed m change ≡ true
 
--- a change that writes a row
+-- a change is asked for that writes a row
 pub record AsksToWrite (ask : Ask) : Type 0 where
   pub change : MapChange
   pub asked : ask ≡ Make change
@@ -52,14 +52,14 @@ is_used Free = false
 is_used (InFrame block) = true
 is_used Image = true
 
--- what is said is right at the point p of the list
+-- what is said is right at the point p of the list: a reply where it speaks, a piece that has just the map's rows of its range, and a full where each page is used and pages are short
 abbrev pub IsSaid : State → Entries → ℕ → Saying → Type 0
 IsSaid w xs p (Replies ask word bound columns) = speaks_at bound p ≡ true → IsWord w xs p ask word
 IsSaid w xs p (Piece ask low high rows columns) = rows ≡ slice low high (map_at xs p)
 IsSaid w xs p (Full places) = (length places ≡ w.shape.pages) × AllByRecursion (λ (x : Where). is_used x ≡ true) places × IsShort w
 IsSaid w xs p Look = Unit {0}
 
--- and the list has that point
+-- the index has a list with that point, and what is said is right there
 pub record IsRight (w : State) (i p : ℕ) (a : Saying) : Type 0 where
   pub list : Entries
   pub there : get_elem? w.lists i ≡ some list

@@ -13,7 +13,7 @@ pub record Shape : Type 0 where
   pub nodes : ℕ
   pub fold_bits : ℕ
 
--- the shape that a layout has
+-- the shape that a layout stands for
 abbrev pub shape_of : Inside → Shape
 shape_of l = record { indexes = l.indexes; fields = l.fields.items; pages = l.pages; parts = l.parts; blocks = l.blocks; nodes = l.nodes; fold_bits = l.fold_bits }
 

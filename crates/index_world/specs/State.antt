@@ -1,4 +1,4 @@
--- A whole state of the world, and what its pages are.
+-- A whole state of the world, and the maps that its lists and leaves are.
 use Rattle.std.specs.Prelude.{ℕ, Option, Some, None, List, [], map}
 use Rattle.key_tuple.specs.declared.key.Key.{Key}
 use Rattle.key_tuple.specs.Place.{Place, Start, At, End}
@@ -13,7 +13,7 @@ use Rattle.index_world.specs.declared.frame.Object.TheVariants as object
 use Rattle.index_world.specs.Answers.{Deed}
 use Rattle.index_world.specs.Shape.{Shape}
 
--- a whole state
+-- a whole state: the shape, the objects and who holds each, and the lists
 abbrev pub State : Type 0
 State = Whole Shape Object Deed
 
@@ -29,12 +29,12 @@ changes xs = map (λ (e : Entry Deed). e.change.change) xs
 abbrev pub frame_of : Object → Frame
 frame_of (object.Frame frame) = frame
 
--- where a range begins
+-- where a range with this lower bound begins
 abbrev pub low_in : Option Key → Place
 low_in None = Start
 low_in (Some key) = At key.tuple
 
--- where a range ends
+-- where a range with this upper bound ends
 abbrev pub high_in : Option Key → Place
 high_in None = End
 high_in (Some key) = At key.tuple
@@ -43,7 +43,7 @@ high_in (Some key) = At key.tuple
 abbrev pub low_of : Frame → Place
 low_of frame = low_in frame.low
 
--- where it ends
+-- where the range of a frame's page ends
 abbrev pub high_of : Frame → Place
 high_of frame = high_in frame.high
 

@@ -18,5 +18,6 @@ pub struct Frame {
 /// An object of the space.
 #[derive(Drop)]
 pub enum Object {
+    /// A block's frame.
     Frame(Frame),
 }

@@ -8,12 +8,14 @@ mod frame;
 mod law;
 mod layout;
 mod opening;
+#[cfg(test)]
+mod tests;
 mod world;
 
 pub use answer::{Answer, Made};
 pub use deed::{Deed, Say};
 pub use frame::{Frame, Object};
-pub use law::opens_lawfully;
+pub use law::{one_row_is_lawful, opens_lawfully};
 pub use layout::Layout;
 pub use opening::first_objects;
 pub use world::{IndexWorld, WorldPass, WorldSpace};

@@ -16,6 +16,7 @@ use Rattle.index_world.specs.Answers.{Deed, Gives, Replies}
 use Rattle.index_world.specs.State.{State}
 use Rattle.index_world.specs.Law.{IsLawful}
 use Rattle.index_world.specs.Spoken.{View}
+use Rattle.index_world.specs.OneRow.{state_with}
 use Rattle.lane_law.specs.Worked.{answered}
 use Rattle.lane_law.specs.Runs.{HasNoScan, RunsAll}
 use Rattle.lane_law.specs.Merged.{entry_of, HasNotes, LinesAscend, AreLookedUp}
@@ -107,3 +108,7 @@ pub record IsMet (sizes : Sizes) (w : State) : Type 0 where
 -- in each such state
 abbrev pub WorkedExample : Type 0
 WorkedExample = (sizes : Sizes) (w : State) → IsExample sizes w → IsMet sizes w
+
+-- where a list may have a change, there is such a state
+abbrev pub ExampleStands : Type 0
+ExampleStands = (sizes : Sizes) → 1 ≤ sizes.max_changes → IsExample sizes (state_with sizes key value dashes 2)

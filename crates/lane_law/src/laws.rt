@@ -1,5 +1,5 @@
 //! The laws of lanes.
-ghost use Rattle.lane_law.specs.Example.{WorkedExample};
+ghost use Rattle.lane_law.specs.Example.{WorkedExample, ExampleStands};
 ghost use Rattle.lane_law.specs.Laws.{LanesGoOn, RunsJoin, LanesAreLegal, MergedLogsAreLists};
 ghost use Rattle.lane_law.specs.Laws.{MergedLogsAreEntries};
 
@@ -31,4 +31,9 @@ pub fn merged_logs_are_entries()
 /// Two lanes of one line each, for which all this holds.
 pub fn worked_example()
     ensures { WorkedExample }
+{}
+
+/// There is a state for these two lanes.
+pub fn example_stands()
+    ensures { ExampleStands }
 {}

@@ -5,6 +5,6 @@
 mod laws;
 
 pub use laws::{
-    lanes_are_legal, lanes_go_on, merged_logs_are_entries, merged_logs_are_lists, runs_join,
-    worked_example,
+    example_stands, lanes_are_legal, lanes_go_on, merged_logs_are_entries, merged_logs_are_lists,
+    runs_join, worked_example,
 };
