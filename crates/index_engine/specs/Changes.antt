@@ -14,6 +14,10 @@ pub record SamePass (p q : Caller) : Type 0 where
   pub same : IsSamePass p q
   pub view : view q ≡ view p
 
+-- a leaf that it holds as it is known to be is held so still
+abbrev pub HoldsAsBefore : Caller → Caller → ℕ → Type 0
+HoldsAsBefore p q i = (f : Frame) → HoldsLeaf p i f f → HoldsLeaf q i f f
+
 -- it holds the leaf, which is what it is known to be, and of which this is so
 pub record HoldsWith (p : Caller) (i : ℕ) (P : Frame → Type 0) : Type 0 where
   pub frame : Frame

@@ -1,9 +1,10 @@
--- Rows found on a leaf.
-use Rattle.std.specs.Prelude.{ℕ, ◌≡◌, Option, Some, None}
+-- Rows found on a leaf, and changes of its rows.
+use Rattle.std.specs.Prelude.{ℕ, ◌≡◌, Option, Some, None, List}
 use Rattle.key_tuple.specs.Order.{FieldList}
-use Rattle.map_history.specs.Map.{value_at}
+use Rattle.map_history.specs.Map.{MapChange, value_at, after_change}
+use Rattle.index_page.specs.Changes.{Inserts}
 use Rattle.index_page.specs.Page.{PageRows}
-use Rattle.index_page.specs.Rows.{Row, find_row}
+use Rattle.index_page.specs.Rows.{Row, Bytes, row_of, find_row}
 use Rattle.index_world.specs.State.{rows_of, value_in}
 
 -- the row of the key stands at the place
@@ -17,3 +18,15 @@ pub record HasRow (page : PageRows) (place : ℕ) (key : FieldList) : Type 0 whe
 abbrev pub IsFoundAt : PageRows → FieldList → Option ℕ → Type 0
 IsFoundAt page key None = value_at key (rows_of page) ≡ None
 IsFoundAt page key (Some place) = HasRow page place key
+
+-- the rows are those that the change makes of them
+abbrev pub IsMadeBy : PageRows → PageRows → MapChange → Type 0
+IsMadeBy before after change = rows_of after ≡ after_change (rows_of before) change
+
+-- the row of the key and the value was put in at the place
+abbrev pub InsertsAt : PageRows → PageRows → ℕ → FieldList → List ℕ → Type 0
+InsertsAt before after place key value = Inserts before after (row_of place key (Bytes value))
+
+-- the row was put in, at the place
+abbrev pub IsPutInAt : PageRows → PageRows → Row → ℕ → Type 0
+IsPutInAt before after row place = Inserts before after row × (row.place ≡ place)

@@ -4,10 +4,9 @@ ghost use Rattle.latch_space.specs.Passes.{view, count, IsSamePass};
 ghost use Rattle.latch_space.specs.Spaces.{IsPassOf};
 ghost use Rattle.map_history.specs.Operation.{operation_by};
 ghost use Rattle.map_history.specs.Told.{columns_told};
-ghost use Rattle.index_world.specs.declared.frame.Frame.{Frame};
 ghost use Rattle.index_world.specs.Meanings.{row_in};
 ghost use Rattle.index_world.specs.Once.{IsQuiet};
-ghost use Rattle.index_engine.specs.Passes.{HoldsLeaf};
+ghost use Rattle.index_engine.specs.Changes.{HoldsAsBefore};
 ghost use Rattle.index_engine.specs.Says.{dashes, CanSay, SeesFull, TellsOnce, told_made};
 
 use crate::holding::let_go;
@@ -45,7 +44,7 @@ pub(crate) fn is_full(space: &WorldSpace, pass: &mut WorldPass, index: u32, most
     requires index { index < space.now.terms.indexes }
     requires most { most ≡ space.now.terms.max_changes }
     ensures own { IsSamePass pass.old pass.new × IsPassOf space.now pass.new }
-    ensures held { (f : Frame) → HoldsLeaf pass.old index f f → HoldsLeaf pass.new index f f }
+    ensures held { HoldsAsBefore pass.old pass.new index }
     ensures quiet { IsQuiet (view pass.old) (view pass.new) }
     ensures full { result ≡ true → SeesFull (view pass.new) index }
 {

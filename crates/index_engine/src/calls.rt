@@ -37,8 +37,8 @@ impl Engine {
         Ok(getting::get(&self.space, &mut pass.world, index, key, out, wait))
     }
 
-    /// A new row: `Ok`, `Duplicate` where the key is there, or `LogFull` where the index has had all
-    /// the changes that it may. They are tried in the order `Duplicate`, `LogFull`, `Ok`. After
+    /// A new row: `Ok`, `Duplicate` where the key is there, or `LogFull` where the index has had
+    /// all the changes that it may. They are tried in the order `Duplicate`, `LogFull`, `Ok`. After
     /// `NoMemory` nothing has changed.
     pub fn put<R: Wait>(
         &self,

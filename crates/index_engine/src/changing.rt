@@ -3,12 +3,13 @@ ghost use Rattle.std.specs.Prelude.{◌≡◌, IfOk, OnOk, OnErr};
 ghost use Rattle.index_world.specs.declared.frame.Frame.{Frame};
 ghost use Rattle.index_engine.specs.Frames.{LacksRow, HasRowAt};
 ghost use Rattle.index_engine.specs.Passes.{HoldsLeaf};
-ghost use Rattle.index_engine.specs.Changes.{SamePass, HoldsWith, PutIn, HoldsPut, IsPutBack, TookOut, HoldsTaken, IsRestored};
+ghost use Rattle.index_engine.specs.Changes.{SamePass, HoldsWith, HoldsAsBefore, PutIn};
+ghost use Rattle.index_engine.specs.Changes.{HoldsPut, IsPutBack, TookOut, HoldsTaken, IsRestored};
 
 use crate::framed;
 use crate::holding::held_page;
 use index_page::{PageCopy, Place};
-use index_world::{Object, WorldPass};
+use index_world::{Frame, Object, WorldPass};
 use key_tuple::{Key, NoMemory, Value};
 
 /// Puts a new row in and tells its place. After `NoMemory` the leaf is as before.
@@ -20,10 +21,11 @@ pub(crate) fn put_in(
 ) -> Result<Place, NoMemory>
     requires held { HoldsWith pass.old index (λ f. LacksRow f key.now.tuple) }
     ensures same { SamePass pass.old pass.new }
-    ensures ok { IfOk result (λ place. PutIn pass.old pass.new index place key.now.tuple value.now) }
-    ensures err { OnErr result ((f : Frame) → HoldsLeaf pass.old index f f → HoldsLeaf pass.new index f f) }
+    ensures ok { IfOk result
+        (λ place. PutIn pass.old pass.new index place key.now.tuple value.now) }
+    ensures err { OnErr result (HoldsAsBefore pass.old pass.new index) }
 {
-    let Object::Frame(mut frame) = pass.take_out(index);
+    let mut frame = frame_of(pass.take_out(index));
     let result = framed::put_in(&mut frame, key, value);
     pass.put_back(index, Object::Frame(frame));
     result
@@ -35,7 +37,7 @@ pub(crate) fn take_back(pass: &mut WorldPass, index: u32, place: Place)
     ensures same { SamePass pass.old pass.new }
     ensures back { IsPutBack pass.old pass.new index place }
 {
-    let Object::Frame(mut frame) = pass.take_out(index);
+    let mut frame = frame_of(pass.take_out(index));
     framed::take_back(&mut frame, place);
     pass.put_back(index, Object::Frame(frame));
 }
@@ -46,8 +48,8 @@ pub(crate) fn take_out(pass: &mut WorldPass, index: u32, place: Place, key: &Key
     ensures same { SamePass pass.old pass.new }
     ensures out { TookOut pass.old pass.new index key.now.tuple }
 {
-    let Object::Frame(mut frame) = pass.take_out(index);
-    framed::take_out(&mut frame, place, key);
+    let mut frame = frame_of(pass.take_out(index));
+    framed::remove(&mut frame, place, key);
     pass.put_back(index, Object::Frame(frame));
 }
 
@@ -65,7 +67,15 @@ pub(crate) fn restore(pass: &mut WorldPass, index: u32, copy: &mut PageCopy)
     ensures same { SamePass pass.old pass.new }
     ensures back { IsRestored pass.old pass.new index copy.old }
 {
-    let Object::Frame(mut frame) = pass.take_out(index);
+    let mut frame = frame_of(pass.take_out(index));
     framed::restore(&mut frame, copy);
     pass.put_back(index, Object::Frame(frame));
+}
+
+/// The frame that an object is.
+fn frame_of(object: Object) -> Frame
+    ensures { object ≡ Object.Frame result }
+{
+    let Object::Frame(frame) = object;
+    frame
 }

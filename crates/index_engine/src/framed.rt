@@ -3,7 +3,8 @@ ghost use Rattle.std.specs.Prelude.{◌≡◌, ℕ, List, Some, IfOk, OnErr, OnO
 ghost use Rattle.key_tuple.specs.Order.{FieldList};
 ghost use Rattle.index_page.specs.Page.{PageRows};
 ghost use Rattle.index_world.specs.declared.frame.Frame.{Frame};
-ghost use Rattle.index_engine.specs.Frames.{HasLeaf, LacksRow, SameRange, PutsRow, TakesRow, HasRowAt};
+ghost use Rattle.index_engine.specs.Frames.{HasLeaf, LacksRow, SameRange};
+ghost use Rattle.index_engine.specs.Frames.{PutsRow, TakesRow, HasRowAt};
 
 use crate::leaf;
 use index_page::{PageCopy, Place};
@@ -24,7 +25,8 @@ pub(crate) fn put_in(frame: &mut Frame, key: &Key, value: &Value) -> Result<Plac
 
 /// Takes a row out that was just put in: the frame is as before that.
 pub(crate) fn take_back(frame: &mut Frame, place: Place)
-    requires { (f : Frame) × (key : FieldList) × (value : List ℕ) × PutsRow f frame.old place key value }
+    requires { (f : Frame) × (key : FieldList) × (value : List ℕ)
+        × PutsRow f frame.old place key value }
     ensures { (f : Frame) (key : FieldList) (value : List ℕ) → PutsRow f frame.old place key value
         → frame.new ≡ f }
 {
@@ -35,7 +37,7 @@ pub(crate) fn take_back(frame: &mut Frame, place: Place)
 }
 
 /// Takes the row of a key out, by its place.
-pub(crate) fn take_out(frame: &mut Frame, place: Place, key: &Key)
+pub(crate) fn remove(frame: &mut Frame, place: Place, key: &Key)
     requires { HasRowAt frame.old place key.now.tuple }
     ensures { TakesRow frame.old frame.new key.now.tuple }
 {

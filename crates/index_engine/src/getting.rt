@@ -32,7 +32,8 @@ pub(crate) fn get<R: Wait>(
     requires nothing { count pass.old ≡ 0 }
     ensures own { IsSamePass pass.old pass.new × IsPassOf space.now pass.new }
     ensures nothing { count pass.new ≡ 0 }
-    ensures once { TellsOnce (view pass.old) (view pass.new) index (asked.Get key.now.tuple) result out.new }
+    ensures once { TellsOnce (view pass.old) (view pass.new) index
+        (asked.Get key.now.tuple) result out.new }
     ensures kept { result.reply ≢ Reply.Found → out.new ≡ out.old }
     ensures dashed { columns_told result ≡ dashes }
 {

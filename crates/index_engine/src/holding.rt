@@ -16,7 +16,8 @@ pub(crate) fn hold<R: Wait>(space: &WorldSpace, pass: &mut WorldPass, index: u32
     requires index { index < space.now.terms.indexes }
     requires nothing { count pass.old ≡ 0 }
     ensures own { IsSamePass pass.old pass.new × IsPassOf space.now pass.new }
-    ensures held { (f : Frame) × HoldsLeaf pass.new index f f × HasAtMost space.now.terms.max_changes f }
+    ensures held { (f : Frame) × HoldsLeaf pass.new index f f
+        × HasAtMost space.now.terms.max_changes f }
     ensures still { IsStill (view pass.old) (view pass.new) }
 {
     space.take(pass, index, wait);

@@ -1,12 +1,11 @@
 //! The rows of a leaf as a map: find, put in, take out.
 ghost use Rattle.std.specs.Prelude.{◌≡◌, ◌≤◌, length, Some, None, IfOk, OnErr};
-ghost use Rattle.map_history.specs.Map.{Put, Del, value_at, after_change};
+ghost use Rattle.map_history.specs.Map.{Put, Del, value_at};
 ghost use Rattle.index_page.specs.declared.TheConstants.{MAX_ROWS};
 ghost use Rattle.index_page.specs.Page.{PageRows};
-ghost use Rattle.index_page.specs.Rows.{Row, Bytes, row_of, find_row};
-ghost use Rattle.index_page.specs.Changes.{Inserts};
+ghost use Rattle.index_page.specs.Rows.{Row};
 ghost use Rattle.index_world.specs.State.{rows_of};
-ghost use Rattle.index_engine.specs.Leaf.{IsFoundAt, HasRow};
+ghost use Rattle.index_engine.specs.Leaf.{IsFoundAt, HasRow, IsMadeBy, InsertsAt, IsPutInAt};
 
 use index_page::{Body, Page, Place};
 use key_tuple::{Fields, Key, Mode, NoMemory, Value};
@@ -31,8 +30,8 @@ pub(crate) fn insert(page: &mut Page, key: &Key, value: &Value) -> Result<Place,
     requires fields { length key.now.tuple ≡ page.old.head.fields }
     requires absent { value_at key.now.tuple (rows_of page.old) ≡ None }
     requires room { length page.old.rows ≤ MAX_ROWS }
-    ensures row { IfOk result (λ place. Inserts page.old page.new (row_of place key.now.tuple (Bytes value.now))) }
-    ensures map { IfOk result (λ _. rows_of page.new ≡ after_change (rows_of page.old) (Put key.now.tuple value.now)) }
+    ensures row { IfOk result (λ place. InsertsAt page.old page.new place key.now.tuple value.now) }
+    ensures map { IfOk result (λ _. IsMadeBy page.old page.new (Put key.now.tuple value.now)) }
     ensures err { OnErr result (page.new ≡ page.old) }
 {
     key.tuple().is_within_limits();
@@ -43,8 +42,9 @@ pub(crate) fn insert(page: &mut Page, key: &Key, value: &Value) -> Result<Place,
 
 /// Takes a row out that was just put in: the leaf is as before that.
 pub(crate) fn take_back(page: &mut Page, place: Place)
-    requires { (before : PageRows) × (row : Row) × Inserts before page.old row × (row.place ≡ place) }
-    ensures { (before : PageRows) (row : Row) → Inserts before page.old row → row.place ≡ place → page.new ≡ before }
+    requires { (before : PageRows) × (row : Row) × IsPutInAt before page.old row place }
+    ensures { (before : PageRows) (row : Row) → IsPutInAt before page.old row place
+        → page.new ≡ before }
 {
     page.is_in_order();
     page.delete(place);
@@ -54,7 +54,7 @@ pub(crate) fn take_back(page: &mut Page, place: Place)
 pub(crate) fn remove(page: &mut Page, place: Place, key: &Key)
     requires { HasRow page.old place key.now.tuple }
     ensures head { page.new.head ≡ page.old.head }
-    ensures map { rows_of page.new ≡ after_change (rows_of page.old) (Del key.now.tuple) }
+    ensures map { IsMadeBy page.old page.new (Del key.now.tuple) }
 {
     page.is_in_order();
     page.delete(place);

@@ -18,6 +18,8 @@ mod opening;
 mod putting;
 mod saying;
 mod setting;
+#[cfg(test)]
+mod tests;
 
 pub use engine::{Engine, EnginePass};
 pub use error::EngineError;

@@ -32,7 +32,8 @@ impl Engine {
         ensures refused { IfSome (first_broken sizes.now (length fields.now) lanes)
             (λ s. result ≡ Err (EngineError.BadSize s)) }
         ensures cause { IfErr result (λ e. (e ≡ EngineError.NoMemory)
-            ⊎ IfSome (first_broken sizes.now (length fields.now) lanes) (λ s. e ≡ EngineError.BadSize s)) }
+            ⊎ IfSome (first_broken sizes.now (length fields.now) lanes)
+            (λ s. e ≡ EngineError.BadSize s)) }
     {
         if let Some(setting) = broken_setting(sizes, fields.len() as u32, lanes) {
             return Err(EngineError::BadSize(setting));

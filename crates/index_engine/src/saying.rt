@@ -4,9 +4,8 @@ ghost use Rattle.latch_space.specs.Passes.{view, IsSamePass};
 ghost use Rattle.latch_space.specs.Spaces.{IsPassOf};
 ghost use Rattle.map_history.specs.Operation.{operation_by};
 ghost use Rattle.map_history.specs.Told.{columns_told};
-ghost use Rattle.index_world.specs.declared.frame.Frame.{Frame};
 ghost use Rattle.index_world.specs.Meanings.{row_in};
-ghost use Rattle.index_engine.specs.Passes.{HoldsLeaf};
+ghost use Rattle.index_engine.specs.Changes.{HoldsAsBefore};
 ghost use Rattle.index_engine.specs.Says.{dashes, CanSay, TellsOnce};
 
 use index_world::{Say, WorldPass, WorldSpace};
@@ -25,8 +24,9 @@ pub(crate) fn say(
     requires index { index < space.now.terms.indexes }
     requires held { CanSay pass.old index (operation_by op).ask reply (row_in row) }
     ensures own { IsSamePass pass.old pass.new × IsPassOf space.now pass.new }
-    ensures held { (f : Frame) → HoldsLeaf pass.old index f f → HoldsLeaf pass.new index f f }
-    ensures once { TellsOnce (view pass.old) (view pass.new) index (operation_by op.entry).ask result (row_in row.entry) }
+    ensures held { HoldsAsBefore pass.old pass.new index }
+    ensures once { TellsOnce (view pass.old) (view pass.new) index
+        (operation_by op.entry).ask result (row_in row.entry) }
     ensures reply { result.reply ≡ reply }
     ensures dashed { columns_told result ≡ dashes }
 {

@@ -17,8 +17,8 @@ pub enum Setting {
 }
 
 impl Setting {
-    /// The setting is within its limits, for so many indexes and lanes. Products of two settings are
-    /// judged with the second, but that of partitions and blocks with the first.
+    /// The setting is within its limits, for so many indexes and lanes. Products of two settings
+    /// are judged with the second, but that of partitions and blocks with the first.
     fn is_allowed(self, sizes: &Sizes, indexes: u32, lanes: u32) -> bool
         requires { lanes ≤ 64 }
         ensures { result ≡ is_allowed sizes.now indexes lanes self }
