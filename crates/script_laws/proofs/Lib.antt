@@ -1,0 +1,4 @@
+pub mod SchemaLemmas
+pub mod NumberLemmas
+pub mod ByteLemmas
+pub mod LimitLemmas

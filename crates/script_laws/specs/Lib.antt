@@ -1,0 +1,3 @@
+pub mod SchemaLaws
+pub mod LaneLaws
+pub mod Samples
