@@ -1,0 +1,166 @@
+//! Writes the files of a measurement: `generate KIND LANES LINES SEED FOLDER`.
+//!
+//! FOLDER gets `bench.schema` and, for each lane from 1, `bench-LANE.lane` with a comment and LINES
+//! lines that ask. The same words write the same bytes.
+
+use std::env;
+use std::fs::{self, File};
+use std::io::{self, BufWriter, Write};
+use std::path::Path;
+use std::process::ExitCode;
+
+const USAGE: &str = "usage: generate gets|puts|mix LANES LINES SEED FOLDER";
+const SCHEMA: &str =
+    "# rows with even numbers, and rows with odd ones\nindex item 1\nindex price 2\n";
+
+#[derive(Clone, Copy)]
+enum Kind {
+    /// A fifth of the lines put keys in no order, the others get these with skew.
+    Gets,
+    /// Each key is above those that the lane put before.
+    Puts,
+    /// Two gets for a put and a del, with skew, over an eighth as many keys as lines.
+    Mix,
+}
+
+struct Plan {
+    kind: Kind,
+    lanes: u64,
+    lines: u64,
+    seed: u64,
+}
+
+/// Numbers that look random: a counter with a large odd stride, scattered.
+struct Numbers(u64);
+
+impl Numbers {
+    fn next(&mut self) -> u64 {
+        self.0 = self.0.wrapping_add(0x9e37_79b9_7f4a_7c15);
+        scatter(self.0)
+    }
+
+    fn below(&mut self, end: u64) -> u64 {
+        self.next() % end
+    }
+
+    /// Halves `end` some times, each number of times being as likely, and draws below what is left:
+    /// the n-th key is asked for about 1/n as often as the first.
+    fn skewed(&mut self, end: u64) -> u64 {
+        let halvings = self.below(u64::from(u64::BITS - end.leading_zeros()));
+        self.below(end >> halvings)
+    }
+}
+
+/// A permutation of the numbers, so distinct rows have distinct keys.
+fn scatter(number: u64) -> u64 {
+    let number = (number ^ (number >> 30)).wrapping_mul(0xbf58_476d_1ce4_e5b9);
+    let number = (number ^ (number >> 27)).wrapping_mul(0x94d0_49bb_1331_11eb);
+    number ^ (number >> 31)
+}
+
+/// The index and the key of a number. Of one index, a greater number has a greater key.
+fn key(number: u64) -> String {
+    if number % 2 == 0 {
+        format!("item {number:016x}")
+    } else {
+        format!("price {:012x},{:04x}", number >> 16, number & 0xffff)
+    }
+}
+
+/// A value of 20 to 36 bytes, of which one is escaped; one in 64 is the empty value.
+fn value(draw: u64) -> String {
+    if draw % 64 == 0 {
+        return "~".to_string();
+    }
+    let digits = 16 + (draw % 17) as usize;
+    format!("row%20{draw:0digits$x}")
+}
+
+/// Line `line` of lane `lane`, both from 0.
+fn text_of(plan: &Plan, lane: u64, line: u64, numbers: &mut Numbers) -> String {
+    let put = |number, draw| format!("put {} {}", key(number), value(draw));
+    match plan.kind {
+        Kind::Puts => {
+            let pair = line / 2 * plan.lanes + lane;
+            put(2 * pair + line % 2, numbers.next())
+        }
+        Kind::Gets => {
+            let rows = plan.lines.div_ceil(5);
+            let own = |row| scatter(lane << 40 | row);
+            if line < rows {
+                put(own(line), numbers.next())
+            } else {
+                format!("get {}", key(own(numbers.skewed(rows))))
+            }
+        }
+        Kind::Mix => {
+            let number = scatter(numbers.skewed(plan.lines.div_ceil(8)));
+            match numbers.below(4) {
+                0 => put(number, numbers.next()),
+                1 => format!("del {}", key(number)),
+                _ => format!("get {}", key(number)),
+            }
+        }
+    }
+}
+
+fn write_lane(plan: &Plan, lane: u64, file: File) -> io::Result<()> {
+    let mut out = BufWriter::new(file);
+    let mut numbers = Numbers(scatter(plan.seed) ^ scatter(lane + 1));
+    writeln!(
+        out,
+        "# lane {} of {}, seed {}",
+        lane + 1,
+        plan.lanes,
+        plan.seed
+    )?;
+    for line in 0..plan.lines {
+        writeln!(out, "{}", text_of(plan, lane, line, &mut numbers))?;
+    }
+    out.flush()
+}
+
+fn write_all(plan: &Plan, folder: &Path) -> io::Result<()> {
+    fs::create_dir_all(folder)?;
+    fs::write(folder.join("bench.schema"), SCHEMA)?;
+    for lane in 0..plan.lanes {
+        let name = format!("bench-{}.lane", lane + 1);
+        write_lane(plan, lane, File::create(folder.join(name))?)?;
+    }
+    Ok(())
+}
+
+fn read_words(words: &[String]) -> Option<(Plan, &Path)> {
+    let [kind, lanes, lines, seed, folder] = words else {
+        return None;
+    };
+    let kind = match kind.as_str() {
+        "gets" => Kind::Gets,
+        "puts" => Kind::Puts,
+        "mix" => Kind::Mix,
+        _ => return None,
+    };
+    let (lanes, lines) = (lanes.parse().ok()?, lines.parse().ok()?);
+    let plan = Plan {
+        kind,
+        lanes,
+        lines,
+        seed: seed.parse().ok()?,
+    };
+    Some((plan, Path::new(folder)))
+}
+
+fn main() -> ExitCode {
+    let words: Vec<String> = env::args().skip(1).collect();
+    let Some((plan, folder)) = read_words(&words) else {
+        eprintln!("{USAGE}");
+        return ExitCode::from(2);
+    };
+    match write_all(&plan, folder) {
+        Ok(()) => ExitCode::SUCCESS,
+        Err(error) => {
+            eprintln!("generate: {}: {error}", folder.display());
+            ExitCode::FAILURE
+        }
+    }
+}

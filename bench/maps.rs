@@ -1,0 +1,87 @@
+//! The maps of some indexes, and the lanes that ask them.
+
+use crate::script::{Field, Key, Line, Operation};
+use std::collections::BTreeMap;
+use std::collections::btree_map::Entry;
+use std::sync::Mutex;
+use std::thread;
+
+/// How many changes an index takes.
+const MAX_CHANGES: usize = 1_000_000;
+
+pub enum Said {
+    Ok,
+    Duplicate,
+    Absent,
+    Found(Field),
+    LogFull,
+}
+
+/// What was said, and how many changes its index had had by then.
+pub struct Answer {
+    pub said: Said,
+    pub point: usize,
+}
+
+/// A line that was told `Ok`, and the number of its lane.
+pub struct Change<'a> {
+    pub lane: usize,
+    pub line: &'a Line,
+}
+
+#[derive(Default)]
+pub struct Index<'a> {
+    rows: BTreeMap<Key, Field>,
+    pub changes: Vec<Change<'a>>,
+}
+
+impl<'a> Index<'a> {
+    fn work(&mut self, lane: usize, line: &'a Line) -> Answer {
+        let has_room = self.changes.len() < MAX_CHANGES;
+        let said = match &line.operation {
+            Operation::Get(key) => match self.rows.get(key) {
+                Some(value) => Said::Found(value.clone()),
+                None => Said::Absent,
+            },
+            Operation::Put(key, value) => match self.rows.entry(key.clone()) {
+                Entry::Occupied(_) => Said::Duplicate,
+                Entry::Vacant(place) if has_room => {
+                    place.insert(value.clone());
+                    Said::Ok
+                }
+                Entry::Vacant(_) => Said::LogFull,
+            },
+            Operation::Del(key) if has_room => match self.rows.remove(key) {
+                Some(_) => Said::Ok,
+                None => Said::Absent,
+            },
+            Operation::Del(key) if self.rows.contains_key(key) => Said::LogFull,
+            Operation::Del(_) => Said::Absent,
+        };
+        if matches!(said, Said::Ok) {
+            self.changes.push(Change { lane, line });
+        }
+        Answer {
+            said,
+            point: self.changes.len(),
+        }
+    }
+}
+
+/// Works each lane on a thread of its own and gives its answers. Lanes are numbered from 1.
+pub fn work_all<'a>(indexes: &[Mutex<Index<'a>>], lanes: &'a [Vec<Line>]) -> Vec<Vec<Answer>> {
+    let work_line = |lane, line: &'a Line| indexes[line.index].lock().unwrap().work(lane, line);
+    let work_lane =
+        |lane, lines: &'a [Line]| lines.iter().map(|line| work_line(lane, line)).collect();
+    thread::scope(|scope| {
+        let start = |(lane, lines)| scope.spawn(move || work_lane(lane, lines));
+        let threads: Vec<_> = (1..)
+            .zip(lanes.iter().map(Vec::as_slice))
+            .map(start)
+            .collect();
+        threads
+            .into_iter()
+            .map(|thread| thread.join().unwrap())
+            .collect()
+    })
+}

@@ -1,0 +1,107 @@
+//! The report, in the form that docs/FORMATS.md gives.
+
+use crate::maps::{Answer, Change, Index, Said};
+use crate::script::{Key, Line, Operation, Shape};
+use std::io::{self, Write};
+use std::sync::Mutex;
+
+const STATISTICS: &str = "hit 0 off 0 cold 0 short 0 part-busy 0 no-entry 0 block-busy 0 clock 0 \
+    unequal 0 by-clock 0 by-busy 0 by-moved 0 by-last 0 built 0 same 0 arena 0 raced 0 worn 0";
+
+/// Writes the whole report of lanes that are done.
+pub fn write_report(
+    out: &mut impl Write,
+    shapes: &[Shape],
+    lanes: &[Vec<Line>],
+    answers: &[Vec<Answer>],
+    indexes: &[Mutex<Index>],
+) -> io::Result<()> {
+    writeln!(out, "ahi run")?;
+    for (lane, (lines, answers)) in (1..).zip(lanes.iter().zip(answers)) {
+        write_lane(out, lane, lines, answers)?;
+    }
+    for (shape, index) in shapes.iter().zip(indexes) {
+        write_changes(out, shape, &index.lock().unwrap().changes)?;
+    }
+    for shape in shapes {
+        writeln!(
+            out,
+            "stats {} {STATISTICS}",
+            String::from_utf8_lossy(&shape.name)
+        )?;
+    }
+    writeln!(out, "end")
+}
+
+fn write_field(out: &mut impl Write, field: &[u8]) -> io::Result<()> {
+    if field.is_empty() {
+        return out.write_all(b"~");
+    }
+    for &byte in field {
+        match byte {
+            b'%' | b',' => write!(out, "%{byte:02x}")?,
+            b'!'..=b'}' => out.write_all(&[byte])?,
+            _ => write!(out, "%{byte:02x}")?,
+        }
+    }
+    Ok(())
+}
+
+fn write_key(out: &mut impl Write, key: &Key) -> io::Result<()> {
+    for (place, field) in key.iter().enumerate() {
+        out.write_all(if place == 0 { b" " } else { b"," })?;
+        write_field(out, field)?;
+    }
+    Ok(())
+}
+
+fn write_answer(out: &mut impl Write, number: usize, answer: &Answer) -> io::Result<()> {
+    let point = answer.point;
+    match &answer.said {
+        Said::Ok => writeln!(out, "{number} ok @{point} - -"),
+        Said::Duplicate => writeln!(out, "{number} duplicate @{point} - -"),
+        Said::Absent => writeln!(out, "{number} absent @{point} - -"),
+        Said::LogFull => writeln!(out, "{number} log-full {point} - -"),
+        Said::Found(value) => {
+            write!(out, "{number} found ")?;
+            write_field(out, value)?;
+            writeln!(out, " @{point} - -")
+        }
+    }
+}
+
+fn write_change(out: &mut impl Write, number: usize, change: &Change) -> io::Result<()> {
+    write!(out, "{number} {} {} ", change.lane, change.line.number)?;
+    match &change.line.operation {
+        Operation::Put(key, value) => {
+            out.write_all(b"put")?;
+            write_key(out, key)?;
+            out.write_all(b" ")?;
+            write_field(out, value)?;
+        }
+        Operation::Get(key) | Operation::Del(key) => {
+            out.write_all(b"del")?;
+            write_key(out, key)?;
+        }
+    }
+    writeln!(out)
+}
+
+fn write_lane(
+    out: &mut impl Write,
+    lane: usize,
+    lines: &[Line],
+    answers: &[Answer],
+) -> io::Result<()> {
+    writeln!(out, "lane {lane}")?;
+    let mut both = lines.iter().zip(answers);
+    both.try_for_each(|(line, answer)| write_answer(out, line.number, answer))
+}
+
+fn write_changes(out: &mut impl Write, shape: &Shape, changes: &[Change]) -> io::Result<()> {
+    let name = String::from_utf8_lossy(&shape.name);
+    writeln!(out, "changes {name} {}", changes.len())?;
+    (1..)
+        .zip(changes)
+        .try_for_each(|(number, change)| write_change(out, number, change))
+}

@@ -1,0 +1,124 @@
+//! The schema and lane files as the peer reads them; the grammar is in docs/FORMATS.md.
+//!
+//! A bad line is refused by its number alone. That two indexes have one name isn't looked for.
+
+pub type Field = Vec<u8>;
+pub type Key = Vec<Field>;
+
+/// What the schema says of an index.
+pub struct Shape {
+    pub name: Vec<u8>,
+    fields: usize,
+}
+
+pub enum Operation {
+    Get(Key),
+    Put(Key, Field),
+    Del(Key),
+}
+
+/// A line that asks. `index` is the place of its index in the schema.
+pub struct Line {
+    pub number: usize,
+    pub index: usize,
+    pub operation: Operation,
+}
+
+/// The number of the first line that isn't in the grammar.
+pub struct BadLine(pub usize);
+
+const KEY_BYTES: usize = 767;
+const VALUE_BYTES: usize = 2048;
+
+pub fn read_schema(text: &[u8]) -> Result<Vec<Shape>, BadLine> {
+    speaking_lines(text)
+        .map(|(number, line)| read_shape(line).ok_or(BadLine(number)))
+        .collect()
+}
+
+pub fn read_lane(text: &[u8], shapes: &[Shape]) -> Result<Vec<Line>, BadLine> {
+    let read = |(number, line)| read_line(number, line, shapes).ok_or(BadLine(number));
+    speaking_lines(text).map(read).collect()
+}
+
+/// The lines that say something, with their numbers from 1.
+fn speaking_lines(text: &[u8]) -> impl Iterator<Item = (usize, &[u8])> {
+    let numbered = (1..).zip(text.split(|&byte| byte == b'\n'));
+    numbered.filter(|(_, line)| !line.is_empty() && line[0] != b'#')
+}
+
+fn read_shape(line: &[u8]) -> Option<Shape> {
+    let mut words = line.split(|&byte| byte == b' ');
+    let (verb, name, fields) = (words.next()?, words.next()?, words.next()?);
+    let fields = match fields {
+        b"1" => 1,
+        b"2" => 2,
+        b"3" => 3,
+        b"4" => 4,
+        _ => return None,
+    };
+    let is_shape = verb == b"index" && is_name(name) && words.next().is_none();
+    is_shape.then(|| Shape {
+        name: name.to_vec(),
+        fields,
+    })
+}
+
+fn is_name(word: &[u8]) -> bool {
+    let fits = |byte: &u8| matches!(byte, b'a'..=b'z' | b'0'..=b'9' | b'_');
+    word.len() <= 32 && word.first().is_some_and(u8::is_ascii_lowercase) && word.iter().all(fits)
+}
+
+fn read_line(number: usize, line: &[u8], shapes: &[Shape]) -> Option<Line> {
+    let mut words = line.split(|&byte| byte == b' ');
+    let (verb, name, key) = (words.next()?, words.next()?, words.next()?);
+    let index = shapes.iter().position(|shape| shape.name == name)?;
+    let key = read_key(key, shapes[index].fields)?;
+    let operation = match verb {
+        b"get" => Operation::Get(key),
+        b"del" => Operation::Del(key),
+        b"put" => Operation::Put(key, read_value(words.next()?)?),
+        _ => return None,
+    };
+    words.next().is_none().then_some(Line {
+        number,
+        index,
+        operation,
+    })
+}
+
+fn read_key(word: &[u8], fields: usize) -> Option<Key> {
+    let key: Key = word
+        .split(|&byte| byte == b',')
+        .map(read_field)
+        .collect::<Option<_>>()?;
+    let bytes: usize = key.iter().map(Vec::len).sum();
+    (key.len() == fields && bytes <= KEY_BYTES).then_some(key)
+}
+
+fn read_value(word: &[u8]) -> Option<Field> {
+    read_field(word).filter(|value| value.len() <= VALUE_BYTES)
+}
+
+fn read_field(word: &[u8]) -> Option<Field> {
+    match word {
+        b"" => return None,
+        b"~" => return Some(Vec::new()),
+        _ => {}
+    }
+    let mut field = Vec::with_capacity(word.len());
+    let mut rest = word.iter();
+    while let Some(&byte) = rest.next() {
+        field.push(match byte {
+            b'%' => 16 * read_digit(*rest.next()?)? + read_digit(*rest.next()?)?,
+            b',' => return None,
+            b'!'..=b'}' => byte,
+            _ => return None,
+        });
+    }
+    Some(field)
+}
+
+fn read_digit(byte: u8) -> Option<u8> {
+    char::from(byte).to_digit(16).map(|digit| digit as u8)
+}
