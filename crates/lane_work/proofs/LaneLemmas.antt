@@ -41,7 +41,7 @@ long [] (y ∷ answers) all = absurd all
 long (x ∷ lines) [] all = absurd all
 long (x ∷ lines) (y ∷ answers) all = ap suc (long lines answers all.1)
 
-all_push : {A : Type 0} (P : A → Type 0) (xs : List A) (x : A) → AllByRecursion P xs → P x → AllByRecursion P (xs ++ x ∷ [])
+pub all_push : {A : Type 0} (P : A → Type 0) (xs : List A) (x : A) → AllByRecursion P xs → P x → AllByRecursion P (xs ++ x ∷ [])
 all_push P [] x all last = (last, tt)
 all_push P (y ∷ xs) x all last = (all.0, all_push P xs x all.1 last)
 

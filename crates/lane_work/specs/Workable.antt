@@ -1,5 +1,5 @@
 -- Lines that an engine can be asked.
-use Rattle.std.specs.Prelude.{◌<◌, List}
+use Rattle.std.specs.Prelude.{◌≡◌, ◌<◌, List, [], ◌∷◌}
 use Rattle.std.specs.List.{AllByRecursion}
 use Rattle.map_history.specs.declared.op.Op.{Op}
 use Rattle.map_history.specs.declared.op.Op.TheVariants as op
@@ -23,3 +23,8 @@ IsWorkable engine line = IsWorkableOp engine line.op
 -- lines that all are
 abbrev pub AreWorkable : Engine → List Line → Type 0
 AreWorkable engine lines = AllByRecursion (IsWorkable engine) lines
+
+-- three indexes, each with keys of two fields
+pub record HasTwoFields (engine : Engine) : Type 0 where
+  pub indexes : indexes_of engine ≡ 3
+  pub fields : engine.space.terms.shape.fields ≡ 2 ∷ 2 ∷ 2 ∷ []
