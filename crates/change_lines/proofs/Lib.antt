@@ -1,0 +1,5 @@
+pub mod Elements
+pub mod SearchLemmas
+pub mod LineLemmas
+pub mod NotedLemmas
+pub mod PrintLemmas

@@ -1,0 +1,17 @@
+//! What a caller knows of the lines that it looks up.
+ghost use Rattle.change_lines.specs.Laws.{NotesHaveLines, MadeLinesArePrinted, EntriesAreLookedUp};
+
+/// What lanes noted of lines whose answers have their form has its lines.
+pub fn notes_have_lines()
+    ensures { NotesHaveLines }
+{}
+
+/// Made lines can be printed, and what is printed of them is looked up.
+pub fn made_lines_are_printed()
+    ensures { MadeLinesArePrinted }
+{}
+
+/// A report whose entries are those of the made lines has looked up entries.
+pub fn entries_are_looked_up()
+    ensures { EntriesAreLookedUp }
+{}
