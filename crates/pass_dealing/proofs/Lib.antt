@@ -1,0 +1,4 @@
+pub mod ListLemmas
+pub mod GatherLemmas
+pub mod DealLemmas
+pub mod SayLemmas

@@ -1,0 +1,35 @@
+-- What the passes of lanes say, one behind another.
+use Rattle.std.proofs.Common.{◌≡◌, ℕ, suc, ◌+◌, List, [], ◌∷◌, ◌++◌, refl, ap, sym, ◌∙◌, subst, arith, append_assoc}
+use Rattle.map_history.specs.Report.{AnswerLine}
+use Rattle.map_history.specs.LegalReport.{Line}
+use Rattle.index_world.specs.Spoken.{OwnAnswer, Spoken, spoken, spoken_at}
+use Rattle.index_engine.specs.declared.engine.EnginePass.{EnginePass}
+use Rattle.index_engine.specs.Engines.{known}
+use Rattle.lane_law.specs.Worked.{lane_sayings}
+use Rattle.lane_law.specs.Runs.{all_sayings}
+use Rattle.pass_dealing.specs.Gathered.{all_said}
+use Rattle.pass_dealing.specs.Laws.{SayLanes}
+
+spoken_append : (xs ys : List OwnAnswer) → spoken (xs ++ ys) ≡ spoken xs ++ spoken ys
+spoken_append [] ys = refl
+spoken_append (x ∷ xs) ys = ap (λ (s : List Spoken). spoken_at x ++ s) (spoken_append xs ys) ∙ sym (append_assoc (spoken_at x) (spoken xs) (spoken ys))
+
+-- all but the first said what their lanes were answered
+say_rest : (n : ℕ) (p : EnginePass) (l : List Line) (t : List AnswerLine) (passes : List EnginePass) (lanes : List (List Line)) (told : List (List AnswerLine)) → SayLanes n (p ∷ passes) (l ∷ lanes) (t ∷ told) → SayLanes (n + 1) passes lanes told
+say_rest n p l t passes lanes told say = record {
+  lanes_long = (let long = say.lanes_long in omega (arith, long));
+  told_long = (let long = say.told_long in omega (arith, long));
+  each = λ k q lines answers at lane answer. let same : n + suc k ≡ (n + 1) + k = omega arith in subst (λ (m : ℕ). spoken (known q).said ≡ lane_sayings m lines answers) same (say.each (suc k) q lines answers at lane answer);
+}
+
+-- what they said is what all lanes were answered
+pub said_all : (n : ℕ) (passes : List EnginePass) (lanes : List (List Line)) (told : List (List AnswerLine)) → SayLanes n passes lanes told → spoken (all_said passes) ≡ all_sayings n lanes told
+said_all n [] [] told say = refl
+said_all n [] (l ∷ lanes) told say = let long = say.lanes_long in absurd (omega arith)
+said_all n (p ∷ passes) [] told say = let long = say.lanes_long in absurd (omega arith)
+said_all n (p ∷ passes) (l ∷ lanes) [] say = let long = say.told_long in absurd (omega arith)
+said_all n (p ∷ passes) (l ∷ lanes) (t ∷ told) say =
+    let same : n + 0 ≡ n = omega arith in
+    let first : spoken (known p).said ≡ lane_sayings n l t = subst (λ (k : ℕ). spoken (known p).said ≡ lane_sayings k l t) same (say.each 0 p l t refl refl refl) in
+    let others = said_all (n + 1) passes lanes told (say_rest n p l t passes lanes told say) in
+    spoken_append (known p).said (all_said passes) ∙ (λ i. first i ++ others i)

@@ -1,0 +1,3 @@
+pub mod Dealt
+pub mod Gathered
+pub mod Laws
