@@ -1,2 +1,3 @@
 pub mod Workable
 pub mod Works
+pub mod Alone

@@ -2,6 +2,7 @@
 //! the changes. Nothing here opens files or starts threads.
 #![tactic(auto)]
 
+mod alone;
 #[cfg(test)]
 mod generated;
 mod lane;
@@ -9,4 +10,5 @@ mod line;
 #[cfg(test)]
 mod tests;
 
+pub use alone::{runs_alone_are_legal, work_alone};
 pub use lane::{LaneWork, work_lane};

@@ -1,0 +1,30 @@
+-- Where all columns are dashes no word is counted.
+use Rattle.std.proofs.Common.{◌≡◌, ℕ, Bool, true, false, cond, eqb, List, [], ◌∷◌}
+use Rattle.std.proofs.lemmas.List.Concat.{flat_map-cons}
+use Rattle.std.specs.List.{AllByRecursion, zip}
+use Rattle.map_history.specs.Report.{Columns, Answer, Replied, LogFull, SpaceFull, Scanned, AnswerLine}
+use Rattle.map_history.specs.LegalReport.{Line, columns_of, columns_in}
+use Rattle.map_history.specs.Statistics.{counts_of}
+use Rattle.index_engine.specs.Says.{dashes}
+use Rattle.one_lane.proofs.Dashes.{counts_of-dashes}
+use Rattle.one_lane.proofs.Places.{All-append}
+use Rattle.lane_work.specs.Works.{HasDashes}
+
+dashes_of : (answer : Answer) → HasDashes answer → AllByRecursion (λ c. c ≡ dashes) (columns_of answer)
+dashes_of (Replied reply point columns) has = (has, tt)
+dashes_of (LogFull n columns) has = (has, tt)
+dashes_of (SpaceFull columns) has = (has, tt)
+dashes_of (Scanned pieces) has = absurd has
+
+chosen : (b : Bool) (columns : List Columns) → AllByRecursion (λ c. c ≡ dashes) columns → AllByRecursion (λ c. c ≡ dashes) (cond b columns [])
+chosen true columns all = all
+chosen false columns all = tt
+
+dashes_in : (i : ℕ) (lines : List Line) (answers : List AnswerLine) → AllByRecursion (λ (a : AnswerLine). HasDashes a.answer) answers → AllByRecursion (λ c. c ≡ dashes) (columns_in i (zip lines answers))
+dashes_in i [] answers all = tt
+dashes_in i (l ∷ lines) [] all = tt
+dashes_in i (l ∷ lines) (a ∷ answers) all = rw (flat_map-cons (λ (x : Line × AnswerLine). cond (eqb x.0.op.index i) (columns_of x.1.answer) []) (l, a) (zip lines answers)) (All-append (λ c. c ≡ dashes) _ _ (chosen (eqb l.op.index i) (columns_of a.answer) (dashes_of a.answer all.0)) (dashes_in i lines answers all.1))
+
+-- the counts of such a lane are those of no columns
+pub nothing_counted : (i : ℕ) (lines : List Line) (answers : List AnswerLine) → AllByRecursion (λ (a : AnswerLine). HasDashes a.answer) answers → counts_of (columns_in i (zip lines answers)) ≡ counts_of []
+nothing_counted i lines answers all = counts_of-dashes (columns_in i (zip lines answers)) (dashes_in i lines answers all)
