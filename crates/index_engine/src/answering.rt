@@ -1,5 +1,5 @@
 //! Calls end: an answer, and the leaf given back.
-ghost use Rattle.std.specs.Prelude.{◌≡◌, ◌<◌, true};
+ghost use Rattle.std.specs.Prelude.{◌≡◌, ◌≢◌, ◌<◌, true};
 ghost use Rattle.latch_space.specs.Passes.{view, count, IsSamePass};
 ghost use Rattle.latch_space.specs.Spaces.{IsPassOf};
 ghost use Rattle.map_history.specs.Operation.{operation_by};
@@ -32,6 +32,7 @@ pub(crate) fn answer(
         (operation_by op.entry).ask result (row_in row.entry) }
     ensures reply { result.reply ≡ reply }
     ensures dashed { columns_told result ≡ dashes }
+    ensures room { result.reply ≢ Reply.SpaceFull }
 {
     let told = say(space, pass, index, op, reply, row);
     let_go(space, pass, index);

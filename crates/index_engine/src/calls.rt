@@ -32,6 +32,7 @@ impl Engine {
             (asked.Get key.now.tuple) told out.new) }
         ensures kept { IfOk result (λ told. told.reply ≢ Reply.Found → out.new ≡ out.old) }
         ensures dashed { IfOk result (λ told. columns_told told ≡ dashes) }
+        ensures room { IfOk result (λ told. told.reply ≢ Reply.SpaceFull) }
         ensures err { OnErr result (IsQuiet (known pass.old) (known pass.new)) }
     {
         Ok(getting::get(&self.space, &mut pass.world, index, key, out, wait))
@@ -55,6 +56,7 @@ impl Engine {
         ensures ok { IfOk result (λ told. TellsOnce (known pass.old) (known pass.new) index
             (asked.Make (map.Put key.now.tuple value.now)) told (row_in None)) }
         ensures dashed { IfOk result (λ told. columns_told told ≡ dashes) }
+        ensures room { IfOk result (λ told. told.reply ≢ Reply.SpaceFull) }
         ensures err { OnErr result (IsQuiet (known pass.old) (known pass.new)) }
     {
         let most = u64::from(pass.sizes.max_changes);
@@ -77,6 +79,7 @@ impl Engine {
         ensures ok { IfOk result (λ told. TellsOnce (known pass.old) (known pass.new) index
             (asked.Make (map.Del key.now.tuple)) told (row_in None)) }
         ensures dashed { IfOk result (λ told. columns_told told ≡ dashes) }
+        ensures room { IfOk result (λ told. told.reply ≢ Reply.SpaceFull) }
         ensures err { OnErr result (IsQuiet (known pass.old) (known pass.new)) }
     {
         let most = u64::from(pass.sizes.max_changes);

@@ -1,5 +1,5 @@
 //! A row taken out.
-ghost use Rattle.std.specs.Prelude.{◌≡◌, ◌<◌, IfOk, OnErr, None};
+ghost use Rattle.std.specs.Prelude.{◌≡◌, ◌≢◌, ◌<◌, IfOk, OnErr, None};
 ghost use Rattle.latch_space.specs.Passes.{view, count, IsSamePass};
 ghost use Rattle.latch_space.specs.Spaces.{IsPassOf};
 ghost use Rattle.map_history.specs.Map as map;
@@ -44,6 +44,7 @@ pub(crate) fn del<R: Wait>(
     ensures ok { IfOk result (λ told. TellsOnce (view pass.old) (view pass.new) index
         (Make (map.Del key.now.tuple)) told (row_in None)) }
     ensures dashed { IfOk result (λ told. columns_told told ≡ dashes) }
+    ensures room { IfOk result (λ told. told.reply ≢ Reply.SpaceFull) }
     ensures err { OnErr result (IsQuiet (view pass.old) (view pass.new)) }
 {
     hold(space, pass, index, wait);
@@ -82,6 +83,7 @@ fn del_row<R: Wait>(
     ensures once { TellsOnce (view pass.old) (view pass.new) index
         (Make (map.Del key.now.tuple)) result (row_in None) }
     ensures dashed { columns_told result ≡ dashes }
+    ensures room { result.reply ≢ Reply.SpaceFull }
 {
     let op = OpRef::Del { index, key };
     take_out(pass, index, place, key);

@@ -36,6 +36,7 @@ pub(crate) fn get<R: Wait>(
         (asked.Get key.now.tuple) result out.new }
     ensures kept { result.reply ≢ Reply.Found → out.new ≡ out.old }
     ensures dashed { columns_told result ≡ dashes }
+    ensures room { result.reply ≢ Reply.SpaceFull }
 {
     hold(space, pass, index, wait);
     let reply = look_up(held_page(pass, index), key, out);

@@ -1,5 +1,5 @@
 //! A new row.
-ghost use Rattle.std.specs.Prelude.{◌≡◌, ◌<◌, IfOk, OnErr, None};
+ghost use Rattle.std.specs.Prelude.{◌≡◌, ◌≢◌, ◌<◌, IfOk, OnErr, None};
 ghost use Rattle.latch_space.specs.Passes.{view, count, IsSamePass};
 ghost use Rattle.latch_space.specs.Spaces.{IsPassOf};
 ghost use Rattle.map_history.specs.Map as map;
@@ -44,6 +44,7 @@ pub(crate) fn put<R: Wait>(
     ensures ok { IfOk result (λ told. TellsOnce (view pass.old) (view pass.new) index
         (Make (map.Put key.now.tuple value.now)) told (row_in None)) }
     ensures dashed { IfOk result (λ told. columns_told told ≡ dashes) }
+    ensures room { IfOk result (λ told. told.reply ≢ Reply.SpaceFull) }
     ensures err { OnErr result (IsQuiet (view pass.old) (view pass.new)) }
 {
     hold(space, pass, index, wait);
@@ -75,6 +76,7 @@ fn put_row<R: Wait>(
     ensures ok { IfOk result (λ told. TellsOnce (view pass.old) (view pass.new) index
         (Make (map.Put key.now.tuple value.now)) told (row_in None)) }
     ensures dashed { IfOk result (λ told. columns_told told ≡ dashes) }
+    ensures room { IfOk result (λ told. told.reply ≢ Reply.SpaceFull) }
     ensures err { OnErr result (IsQuiet (view pass.old) (view pass.new)) }
 {
     match put_in(pass, index, key, value) {
@@ -104,6 +106,7 @@ fn commit_put<R: Wait>(
     ensures once { TellsOnce (view pass.old) (view pass.new) index
         (Make (map.Put key.now.tuple value.now)) result (row_in None) }
     ensures dashed { columns_told result ≡ dashes }
+    ensures room { result.reply ≢ Reply.SpaceFull }
 {
     let op = OpRef::Put { index, key, value };
     match commit(space, pass, index, op, wait) {

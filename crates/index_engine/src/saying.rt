@@ -1,5 +1,5 @@
 //! An answer is given while the leaf is held.
-ghost use Rattle.std.specs.Prelude.{◌≡◌, ◌<◌, Some, None};
+ghost use Rattle.std.specs.Prelude.{◌≡◌, ◌≢◌, ◌<◌, Some, None};
 ghost use Rattle.latch_space.specs.Passes.{view, IsSamePass};
 ghost use Rattle.latch_space.specs.Spaces.{IsPassOf};
 ghost use Rattle.map_history.specs.Operation.{operation_by};
@@ -29,6 +29,7 @@ pub(crate) fn say(
         (operation_by op.entry).ask result (row_in row.entry) }
     ensures reply { result.reply ≡ reply }
     ensures dashed { columns_told result ≡ dashes }
+    ensures room { result.reply ≢ Reply.SpaceFull }
 {
     let how = How::Dash;
     let note = Note::Dash;

@@ -1,5 +1,5 @@
 //! One line, asked of an engine.
-ghost use Rattle.std.specs.Prelude.{◌≡◌, ◌<◌, IfOk, OnErr};
+ghost use Rattle.std.specs.Prelude.{◌≡◌, ◌≢◌, ◌<◌, IfOk, OnErr};
 ghost use Rattle.map_history.specs.Told.{columns_told};
 ghost use Rattle.script.specs.Views.{line_text};
 ghost use Rattle.index_world.specs.Once.{IsQuiet};
@@ -9,7 +9,7 @@ ghost use Rattle.lane_work.specs.Workable.{IsWorkable};
 
 use index_engine::{Engine, EnginePass};
 use key_tuple::NoMemory;
-use map_history::{Op, RowBuf, Told};
+use map_history::{Op, Reply, RowBuf, Told};
 use script::Line;
 use std::sync::Wait;
 
@@ -27,6 +27,7 @@ pub(crate) fn work_line<R: Wait>(
     ensures ok { IfOk result (λ told. TellsOnce (known pass.old) (known pass.new)
         (line_text line.now).op.index (line_text line.now).op.ask told row.new) }
     ensures dashed { IfOk result (λ told. columns_told told ≡ dashes) }
+    ensures room { IfOk result (λ told. told.reply ≢ Reply.SpaceFull) }
     ensures err { OnErr result (IsQuiet (known pass.old) (known pass.new)) }
 {
     match &line.op {
