@@ -26,13 +26,13 @@ same_asked : (c d : MapChange) → Make c ≡ Make d → c ≡ d
 same_asked c d e = cc
 
 -- an entry of the report is the entry of the list, made by its lane
-record IsListed (w : State) (i n by : ℕ) (c : MapChange) : Type 0 where
+pub record IsListed (w : State) (i n by : ℕ) (c : MapChange) : Type 0 where
   pub deed : Deed
   pub change : deed.change ≡ c
   pub entry : IsEntry w i n (record { change = deed; by = by })
 
 module _ (run : Run) (report : Report) (w : State) (v : View) (all : RunsAll run report w v) (entries : AreEntries run report w) where
-  listed : (i n : ℕ) (entry : ChangeLine) (named : NamesLine run report i n entry) → IsListed w i n named.lane entry.change
+  pub listed : (i n : ℕ) (entry : ChangeLine) (named : NamesLine run report i n entry) → IsListed w i n named.lane entry.change
   listed i n entry named =
       let made = ok_made run report w v all named.lane named.place named.line (n + 1) named.columns named.answered in
       let index : named.line.op.index ≡ i = ap (λ (o : Operation). o.index) named.same_op in

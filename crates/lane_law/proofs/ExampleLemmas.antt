@@ -24,11 +24,12 @@ use Rattle.index_world.specs.State.{State, Entries}
 use Rattle.index_world.specs.Rightness.{IsRight}
 use Rattle.index_world.specs.References.{IsReference}
 use Rattle.index_world.specs.Spoken.{OwnAnswer}
-use Rattle.lane_law.specs.Runs.{HasNoScan, RunsAll}
+use Rattle.lane_law.specs.Runs.{HasNoScan, RunsAll, AreEntries}
 use Rattle.lane_law.specs.Merged.{entry_of, LinesAscend, IsLookedUp, AreLookedUp}
 use Rattle.lane_law.specs.Example.{row_made, key, value, put_line, get_line, dashes, example_run, example_report, example_logs, example_view, IsExample, IsMet}
 use Rattle.lane_law.proofs.PairLemmas.{all_pairs_none, all_pairs_one}
 use Rattle.lane_law.proofs.LegalLemmas.{legal}
+use Rattle.lane_law.proofs.TrailLemmas.{trail}
 use Rattle.lane_law.proofs.LookLemmas.{are_entries}
 
 -- the one place of a list of one element
@@ -129,11 +130,13 @@ module _ (sizes : Sizes) (w : State) (is : IsExample sizes w) where
   met =
       let plain : HasNoScan (example_run sizes) = ((refl, tt), ((refl, tt), tt)) in
       let rising : LinesAscend (example_run sizes) = (all_pairs_one (λ (x y : Line). x.line < y.line) put_line, (all_pairs_one (λ (x y : Line). x.line < y.line) get_line, tt)) in
+      let entries : AreEntries (example_run sizes) example_report w = are_entries (example_run sizes) example_report w (example_view w) example_logs runs refl rising looked in
       record {
         plain = plain;
         runs = runs;
         notes = refl;
         ascend = rising;
         looked = looked;
-        legal = legal (example_run sizes) example_report w (example_view w) plain runs (are_entries (example_run sizes) example_report w (example_view w) example_logs runs refl rising looked);
+        legal = legal (example_run sizes) example_report w (example_view w) plain runs entries;
+        trail = trail (example_run sizes) example_report w (example_view w) runs entries;
       }

@@ -11,5 +11,6 @@ pub mod NoteLemmas
 pub mod CoverLemmas
 pub mod MergeLemmas
 pub mod LookLemmas
+pub mod TrailLemmas
 pub mod JoinLemmas
 pub mod ExampleLemmas

@@ -18,6 +18,7 @@ use Rattle.index_world.specs.Law.{IsLawful}
 use Rattle.index_world.specs.Spoken.{View}
 use Rattle.index_world.specs.OneRow.{state_with}
 use Rattle.lane_law.specs.Worked.{answered}
+use Rattle.lane_law.specs.Trail.{IsTrail}
 use Rattle.lane_law.specs.Runs.{HasNoScan, RunsAll}
 use Rattle.lane_law.specs.Merged.{entry_of, HasNotes, LinesAscend, AreLookedUp}
 
@@ -104,6 +105,7 @@ pub record IsMet (sizes : Sizes) (w : State) : Type 0 where
   pub ascend : LinesAscend (example_run sizes)
   pub looked : AreLookedUp (example_run sizes) example_report example_logs
   pub legal : IsLegalReport (example_run sizes) example_report
+  pub trail : IsTrail (example_run sizes) example_report (example_view w)
 
 -- in each such state
 abbrev pub WorkedExample : Type 0

@@ -15,6 +15,7 @@ use Rattle.index_world.specs.Spoken.{View, spoken}
 use Rattle.index_world.specs.Once.{AnswersOnce}
 use Rattle.lane_law.specs.Worked.{answered, AreInOrder, Worked}
 use Rattle.lane_law.specs.Runs.{all_sayings, HasNoScan, RunsAll, AreEntries}
+use Rattle.lane_law.specs.Trail.{IsTrail}
 use Rattle.lane_law.specs.Merged.{notes_of, lane_notes, all_notes, HasNotes, LinesAscend, IsNumbered, AreLookedUp}
 
 -- A lane that worked goes on by one line of an index that its pass knows, which is answered once.
@@ -45,3 +46,7 @@ MergedLogsAreLists = (run : Run) (report : Report) (w : State) (v : View) (logs 
 -- and where the numbers of lines ascend, the printed entries that are looked up by them are those of the lists
 abbrev pub MergedLogsAreEntries : Type 0
 MergedLogsAreEntries = (run : Run) (report : Report) (w : State) (v : View) (logs : List Log) → RunsAll run report w v → HasNotes run report logs → LinesAscend run → AreLookedUp run report logs → AreEntries run report w
+
+-- and the joined pass of the lanes tells that what is printed is what it did
+abbrev pub PassesAreTrails : Type 0
+PassesAreTrails = (run : Run) (report : Report) (w : State) (v : View) → RunsAll run report w v → AreEntries run report w → IsTrail run report v

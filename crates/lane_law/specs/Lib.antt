@@ -1,5 +1,6 @@
 pub mod Worked
 pub mod Runs
 pub mod Merged
+pub mod Trail
 pub mod Laws
 pub mod Example

@@ -1,7 +1,7 @@
 //! The laws of lanes.
 ghost use Rattle.lane_law.specs.Example.{WorkedExample, ExampleStands};
 ghost use Rattle.lane_law.specs.Laws.{LanesGoOn, RunsJoin, LanesAreLegal, MergedLogsAreLists};
-ghost use Rattle.lane_law.specs.Laws.{MergedLogsAreEntries};
+ghost use Rattle.lane_law.specs.Laws.{MergedLogsAreEntries, PassesAreTrails};
 
 /// A lane goes on line by line.
 pub fn lanes_go_on()
@@ -26,6 +26,11 @@ pub fn merged_logs_are_lists()
 /// A report whose entries are looked up by the merged logs has the entries of the lists.
 pub fn merged_logs_are_entries()
     ensures { MergedLogsAreEntries }
+{}
+
+/// What is printed of the lanes is what their joined pass did.
+pub fn passes_are_trails()
+    ensures { PassesAreTrails }
 {}
 
 /// Two lanes of one line each, for which all this holds.
