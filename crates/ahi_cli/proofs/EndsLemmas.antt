@@ -1,13 +1,15 @@
 -- How a call ends, from what its parts did.
-use Rattle.std.proofs.Common.{◌≡◌, ◌≢◌, ℕ, suc, ◌≤◌, Option, Some, Result, Ok, Err, List, [], ◌∷◌, length, map, refl, ap, ◌∙◌, sym, subst, ◌⊎◌, inl, inr}
+use Rattle.std.proofs.Common.{◌≡◌, ◌≢◌, ℕ, suc, ◌≤◌, Option, Some, None, Result, Ok, Err, List, [], ◌∷◌, length, map, refl, ap, ◌∙◌, sym, subst, ◌⊎◌, inl, inr}
 use Rattle.std.specs.List.{AllByRecursion, slice_get, zip}
-use Rattle.std.specs.Option.{ForSome}
+use Rattle.std.specs.Option.{ForSome, option_map}
 use Rattle.io_port.specs.Faults.{ShowsFault}
 use Rattle.io_port.specs.Sink.{Puts}
 use Rattle.map_history.specs.LegalReport.{Line}
 use Rattle.map_history.specs.Report.{Answer, Replied, LogFull, SpaceFull, Scanned, AnswerLine, IndexPart}
 use Rattle.map_history.specs.Statistics.{counts_of}
 use Rattle.script.specs.Schema.{SchemaText}
+use Rattle.index_engine.specs.declared.setting.Setting.{Setting}
+use Rattle.index_engine.specs.Settings.{first_broken}
 use Rattle.one_lane.specs.OneLane.{Told, list_at, after_lines, opening, part_of, report_of, AreAskable}
 use Rattle.one_lane.proofs.SoFar.{SoFar, IsPlain}
 use Rattle.one_lane.proofs.Fold.{ends}
@@ -21,9 +23,9 @@ use Rattle.ahi_cli.specs.declared.stop.Stop.TheVariants as stop
 use Rattle.ahi_cli.specs.Entries.{AsksChange, IsChange, AreChanges}
 use Rattle.ahi_cli.specs.Ends.{Output, IsWritten, IsRefused, IsCutOff, Ends}
 use Rattle.ahi_cli.specs.Files.{Spells, StopsReading}
-use Rattle.ahi_cli.specs.FirstRefusal.{named_stop}
+use Rattle.ahi_cli.specs.FirstRefusal.{named_stop, sizes_stop}
 use Rattle.ahi_cli.specs.Prints.{Prints, EndsWith, EndsRefused, ended}
-use Rattle.ahi_cli.specs.Run.{Asked, HasDashes, Reports, Stops, report_bytes}
+use Rattle.ahi_cli.specs.Run.{Asked, HasDashes, HasFirst, Stops}
 use Rattle.ahi_cli.specs.Stops.{status_of, stop_text}
 use Rattle.ahi_cli.specs.Words.{accepted, file_names}
 use Rattle.ahi_cli.proofs.FirstLemmas.{unrefused}
@@ -58,34 +60,6 @@ have_zeros [] lists = tt
 have_zeros (n ∷ names) [] = tt
 have_zeros (n ∷ names) (lines ∷ lists) = (refl, have_zeros names lists)
 
--- what the lane of two files is told is reported
-pub reports : (asked : Asked) (names : List ℕ × List ℕ) (schema : SchemaText) (lines : List Line) → accepted asked.words ≡ Some names → ForSome asked.told (λ files. Spells files names schema lines) → AreAskable (length schema.names) lines → Reports asked (report_bytes schema lines)
-reports asked names schema lines accepts spelled askable = record {
-  names = names;
-  accepts = accepts;
-  unrefused = λ files there. ap (named_stop files) accepts ∙ unrefused files names schema lines (spelled files there);
-  report = λ files there. record {
-    schema = schema;
-    lines = lines;
-    spelled = spelled files there;
-    legal = record {
-      report = report_of schema.names told;
-      spelled = refl;
-      legal = legal schema.sizes schema.names lines told so_far;
-    };
-    without_hash = record {
-      columns = (have_dashes told.answers so_far.plain, tt);
-      zeros = have_zeros schema.names told.lists;
-    };
-  };
-}
-  where
-    told : Told
-    told = after_lines schema.sizes.max_changes (opening (length schema.names)) lines
-
-    so_far : SoFar schema.sizes.max_changes (length schema.names) lines told
-    so_far = ends schema.sizes.max_changes (length schema.names) lines askable
-
 whole_ends : (old new : Option (List ℕ)) (f f' : ℕ) (text : List ℕ) (whole : Status) → whole ≢ SinkFault → whole ≢ NoMemory → Puts old new text → f ≤ f' → EndsWith old new f f' text whole whole
 whole_ends old new f f' text Done s n p le = (refl, p, le)
 whole_ends old new f f' text Script s n p le = (refl, p, le)
@@ -107,6 +81,7 @@ refusal_ends old new f f' stop.Usage there r p = print_ends old new f f' (stop_t
 refusal_ends old new f f' (stop.Script file line code) there r p = print_ends old new f f' (stop_text (stop.Script file line code)) Script (λ e. cc) (λ e. cc) r p
 refusal_ends old new f f' (stop.Shelf file) there r p = print_ends old new f f' (stop_text (stop.Shelf file)) ShelfFault (λ e. cc) (λ e. cc) r p
 refusal_ends old new f f' (stop.TooLarge file) there r p = print_ends old new f f' (stop_text (stop.TooLarge file)) TooLarge (λ e. cc) (λ e. cc) r p
+refusal_ends old new f f' (stop.Sizes setting) there r p = print_ends old new f f' (stop_text (stop.Sizes setting)) TooLarge (λ e. cc) (λ e. cc) r p
 refusal_ends old new f f' stop.NoMemory there r p = absurd (there refl)
 
 -- how a call ends with this status
@@ -147,6 +122,7 @@ line_of_other_status stop.Usage = λ e. cc
 line_of_other_status (stop.Script file line code) = λ e. cc
 line_of_other_status (stop.Shelf file) = λ e. cc
 line_of_other_status (stop.TooLarge file) = λ e. cc
+line_of_other_status (stop.Sizes setting) = λ e. cc
 line_of_other_status stop.NoMemory = λ e. cc
 
 -- the line of a refusal with its cause ends it with that refusal's status
@@ -165,12 +141,26 @@ refused_ends Writes Refuses out stop.Usage status cause e = by_status Writes Ref
 refused_ends Writes Refuses out (stop.Script file line code) status cause e = by_status Writes Refuses out status (line_by Writes Refuses out (stop.Script file line code) status (cause (λ e. cc)) e)
 refused_ends Writes Refuses out (stop.Shelf file) status cause e = by_status Writes Refuses out status (line_by Writes Refuses out (stop.Shelf file) status (cause (λ e. cc)) e)
 refused_ends Writes Refuses out (stop.TooLarge file) status cause e = by_status Writes Refuses out status (line_by Writes Refuses out (stop.TooLarge file) status (cause (λ e. cc)) e)
+refused_ends Writes Refuses out (stop.Sizes setting) status cause e = by_status Writes Refuses out status (line_by Writes Refuses out (stop.Sizes setting) status (cause (λ e. cc)) e)
 refused_ends Writes Refuses out stop.NoMemory status cause e = subst (Ends Writes Refuses out) (sym e.0) (by_status Writes Refuses out NoMemory (inl e.1))
 
 -- the cause of a refusal in reading is one of the call's
-pub reading_stops : (asked : Asked) (names : List ℕ × List ℕ) (refusal : Stop) → accepted asked.words ≡ Some names → StopsReading asked.told asked.failures (file_names names) refusal → refusal ≢ stop.NoMemory → Stops asked refusal
+pub reading_stops : (asked : Asked) (names : List ℕ × List (List ℕ)) (refusal : Stop) → accepted asked.words ≡ Some names → StopsReading asked.told asked.failures (file_names names) refusal → refusal ≢ stop.NoMemory → Stops asked refusal
 reading_stops asked names stop.Usage accepts s other = absurd s
 reading_stops asked names (stop.Script file line code) accepts s other = record { names = names; accepts = accepts; first = λ files e. ap (named_stop files) accepts ∙ s files e }
 reading_stops asked names (stop.Shelf file) accepts s other = record { names = names; accepts = accepts; fails = s }
 reading_stops asked names (stop.TooLarge file) accepts s other = record { names = names; accepts = accepts; first = λ files e. ap (named_stop files) accepts ∙ s files e }
+reading_stops asked names (stop.Sizes setting) accepts s other = absurd s
 reading_stops asked names stop.NoMemory accepts s other = absurd (other refl)
+
+-- files that spell a run have no first refusal but that of its sizes
+pub sizes_first : (asked : Asked) (names : List ℕ × List (List ℕ)) (schema : SchemaText) (lanes : List (List Line)) → accepted asked.words ≡ Some names → ForSome asked.told (λ files. Spells files names schema lanes) → HasFirst asked (sizes_stop schema (length names.1))
+sizes_first asked names schema lanes accepts spelled = λ files e. ap (named_stop files) accepts ∙ unrefused files names schema lanes (spelled files e)
+
+-- sizes within their limits leave nothing to be refused
+pub sizes_pass : (asked : Asked) (names : List ℕ × List (List ℕ)) (schema : SchemaText) (lanes : List (List Line)) → accepted asked.words ≡ Some names → ForSome asked.told (λ files. Spells files names schema lanes) → first_broken schema.sizes (length schema.names) (length names.1) ≡ None → HasFirst asked None
+sizes_pass asked names schema lanes accepts spelled allowed = λ files e. sizes_first asked names schema lanes accepts spelled files e ∙ ap (option_map stop.Sizes) allowed
+
+-- and a setting that isn't is the cause of the refusal
+pub sizes_stopped : (asked : Asked) (names : List ℕ × List (List ℕ)) (schema : SchemaText) (lanes : List (List Line)) (setting : Setting) → accepted asked.words ≡ Some names → ForSome asked.told (λ files. Spells files names schema lanes) → first_broken schema.sizes (length schema.names) (length names.1) ≡ Some setting → Stops asked (stop.Sizes setting)
+sizes_stopped asked names schema lanes setting accepts spelled broken = record { names = names; accepts = accepts; first = λ files e. sizes_first asked names schema lanes accepts spelled files e ∙ ap (option_map stop.Sizes) broken }

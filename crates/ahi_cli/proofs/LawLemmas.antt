@@ -4,14 +4,14 @@ use Rattle.io_port.specs.Shelf.{Files}
 use Rattle.ahi_cli.specs.declared.status.Status.{Status}
 use Rattle.ahi_cli.specs.declared.status.Status.TheVariants as status
 use Rattle.ahi_cli.specs.declared.stop.Stop.{Stop}
-use Rattle.ahi_cli.specs.declared.stop.Stop.TheVariants.{Usage, Script, Shelf, TooLarge, NoMemory}
+use Rattle.ahi_cli.specs.declared.stop.Stop.TheVariants.{Usage, Script, Shelf, TooLarge, Sizes, NoMemory}
 use Rattle.ahi_cli.specs.Ends.{Output, IsPut, IsRefused}
-use Rattle.ahi_cli.specs.FirstRefusal.{first_refusal, named_stop}
+use Rattle.ahi_cli.specs.FirstRefusal.{first_refusal, named_stop, sizes_stop}
 use Rattle.ahi_cli.specs.Law.{RunEnds, IsShelfSound, IsSinkSound, IsWellAsked, IsEndOf, IsMissedFile}
 use Rattle.ahi_cli.specs.Run.{Asked, Stops}
 use Rattle.ahi_cli.specs.Stops.{status_of, stop_text}
 use Rattle.ahi_cli.specs.Words.{accepted}
-use Rattle.ahi_cli.proofs.FirstLemmas.{unrefused}
+use Rattle.ahi_cli.proofs.FirstLemmas.{unrefused, as_many}
 
 -- a refusal with its cause is the first one, where no load failed
 is_first : (asked : Asked) (files : Files) (refusal : Stop) → asked.told ≡ Some files → IsShelfSound asked → Stops asked refusal → first_refusal asked.words files ≡ Some refusal
@@ -19,6 +19,7 @@ is_first asked files Usage told sound cause = ap (named_stop files) cause
 is_first asked files (Script file line code) told sound cause = cause.first files told
 is_first asked files (Shelf file) told sound cause = absurd (sound cause.fails.failed.0)
 is_first asked files (TooLarge file) told sound cause = cause.first files told
+is_first asked files (Sizes setting) told sound cause = cause.first files told
 is_first asked files NoMemory told sound cause = absurd cause
 
 refused_end : (asked : Asked) (out : Output) (end : Status) (files : Files) → asked.told ≡ Some files → IsShelfSound asked → IsRefused (Stops asked) end out → IsEndOf asked out end (first_refusal asked.words files)
@@ -45,6 +46,7 @@ missed asked out end files file told first r = told_as r.refusal r.has_status r.
     told_as (Script n line code) has cause put = absurd (let both : Some (Script n line code) ≡ Some (Shelf file) = sym (cause.first files told) ∙ first in cc)
     told_as (Shelf n) has cause put = (sym has, record { file = n; unloaded = cause; told = put })
     told_as (TooLarge n) has cause put = absurd (let both : Some (TooLarge n) ≡ Some (Shelf file) = sym (cause.first files told) ∙ first in cc)
+    told_as (Sizes s) has cause put = absurd (let both : Some (Sizes s) ≡ Some (Shelf file) = sym (cause.first files told) ∙ first in cc)
     told_as NoMemory has cause put = absurd cause
 
 pub ends_by_missing : (asked : Asked) (out : Output) (end : Status) (files : Files) (file : ℕ) → asked.told ≡ Some files → first_refusal asked.words files ≡ Some (Shelf file) → IsSinkSound out → RunEnds asked out end → ((end ≡ status.ShelfFault) × IsMissedFile asked out) ⊎ (end ≡ status.NoMemory)
@@ -62,6 +64,7 @@ only_usage asked Usage none cause = refl
 only_usage asked (Script file line code) none cause = absurd (let both : None ≡ Some cause.names = sym none ∙ cause.accepts in cc)
 only_usage asked (Shelf file) none cause = absurd (let both : None ≡ Some cause.names = sym none ∙ cause.accepts in cc)
 only_usage asked (TooLarge file) none cause = absurd (let both : None ≡ Some cause.names = sym none ∙ cause.accepts in cc)
+only_usage asked (Sizes setting) none cause = absurd (let both : None ≡ Some cause.names = sym none ∙ cause.accepts in cc)
 only_usage asked NoMemory none cause = absurd cause
 
 usage_end : (asked : Asked) (out : Output) (end : Status) → accepted asked.words ≡ None → IsRefused (Stops asked) end out → IsEndOf asked out end (Some Usage)
@@ -79,7 +82,9 @@ ends_by_words asked out status.NoMemory none sound e = inr refl
 
 -- a run that is asked well has no refusal
 no_refusal : (asked : Asked) → (w : IsWellAsked asked) → first_refusal asked.words w.files ≡ None
-no_refusal asked w = ap (named_stop w.files) w.accepts ∙ unrefused w.files w.names w.schema w.lines w.spelled
+no_refusal asked w =
+    let count = as_many w.files w.schema w.spelled.size w.names.1 w.lanes w.spelled.lane_files in
+    ap (named_stop w.files) w.accepts ∙ unrefused w.files w.names w.schema w.lanes w.spelled ∙ ap (sizes_stop w.schema) count ∙ w.allowed
 
 -- so it ends well
 pub ends_well : (asked : Asked) (out : Output) (end : Status) → IsWellAsked asked → IsSinkSound out → RunEnds asked out end → (end ≡ status.Done) ⊎ (end ≡ status.NoMemory)

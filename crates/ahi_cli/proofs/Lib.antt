@@ -1,6 +1,7 @@
 pub mod PrintLemmas
 pub mod FirstLemmas
 pub mod FileLemmas
+pub mod LaneLemmas
 pub mod LoopLemmas
 pub mod TextsLemmas
 pub mod SpellLemmas

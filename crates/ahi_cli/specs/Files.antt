@@ -1,6 +1,8 @@
 -- What is read of the files of a command, and why it isn't.
-use Rattle.std.specs.Prelude.{ℕ, ◌≡◌, ◌+◌, ◌≤◌, List, length, take, slice_get, Option, Some, None, Ok}
+use Rattle.std.specs.Prelude.{ℕ, ◌≡◌, ◌+◌, ◌≤◌, List, [], ◌∷◌, length, take, slice_get, Option, Some, None, Ok, Vec}
 use Rattle.std.specs.Option.{ForSome}
+use Rattle.std.specs.List.{AllByRecursion}
+use Rattle.std.specs.declared.alloc.Global.{Global}
 use Rattle.io_port.specs.Faults.{ShowsFault}
 use Rattle.io_port.specs.Shelf.{Files, IsLonger}
 use Rattle.io_port.specs.declared.shelf.Shelf.{Ghosts}
@@ -8,9 +10,11 @@ use Rattle.map_history.specs.LegalReport.{Line}
 use Rattle.script.specs.declared.TheConstants.{MAX_FILE_BYTES}
 use Rattle.script.specs.Schema.{SchemaText, schema_of}
 use Rattle.script.specs.Lane.{lane_of}
+use Rattle.script.specs.declared.lane.Line as script
+use Rattle.lane_work.specs.Alone.{AreLinesOf}
 use Rattle.ahi_cli.specs.declared.stop.Stop.{Stop}
 use Rattle.ahi_cli.specs.declared.stop.Stop.TheVariants.{Script, Shelf, TooLarge, NoMemory}
-use Rattle.ahi_cli.specs.FirstRefusal.{file_stop, files_stop}
+use Rattle.ahi_cli.specs.FirstRefusal.{file_stop, reading_stop, files_stop}
 
 -- what a shelf tells of its failures around a call: how many there were and are, and the last name
 pub record Failures : Type 0 where
@@ -42,13 +46,14 @@ StopsLoading told failures file name limit (TooLarge n) = (n ≡ file) × IsLong
 StopsLoading told failures file name limit NoMemory = Unit {0}
 StopsLoading told failures file name limit stop = ⊥
 
--- the file of this name spells the schema and has so many bytes
+-- the file of this name spells the schema, has so many bytes, and isn't too long
 pub record SpellsSchema (files : Files) (name : List ℕ) (schema : SchemaText)
     (size : ℕ) : Type 0 where
   pub bytes : List ℕ
   pub there : files name ≡ Some bytes
   pub spelled : schema_of bytes ≡ Ok schema
   pub sized : size ≡ length bytes
+  pub fits : size ≤ MAX_FILE_BYTES
 
 -- the file of this name spells the lines, and with so many bytes before it they aren't too long
 pub record SpellsLane (files : Files) (name : List ℕ) (schema : SchemaText) (before : ℕ)
@@ -73,12 +78,25 @@ StopsFile told failures file name refusal (TooLarge n) =
 StopsFile told failures file name refusal NoMemory = Unit {0}
 StopsFile told failures file name refusal stop = ⊥
 
--- the two files spell the schema and the lines
-pub record Spells (files : Files) (names : List ℕ × List ℕ) (schema : SchemaText)
-    (lines : List Line) : Type 0 where
+-- the files of these names spell the lanes in their order, with so many bytes before the first one
+abbrev pub SpellsLanes : Files → SchemaText → ℕ → List (List ℕ) → List (List Line) → Type 0
+SpellsLanes files schema before [] [] = Unit {0}
+SpellsLanes files schema before (name ∷ names) (lines ∷ lanes) =
+    (lane : SpellsLane files name schema before lines)
+    × SpellsLanes files schema (before + length lane.bytes) names lanes
+SpellsLanes files schema before names lanes = ⊥
+
+-- the files spell the schema and the lanes
+pub record Spells (files : Files) (names : List ℕ × List (List ℕ)) (schema : SchemaText)
+    (lanes : List (List Line)) : Type 0 where
   pub size : ℕ
   pub schema_file : SpellsSchema files names.0 schema size
-  pub lane_file : SpellsLane files names.1 schema size lines
+  pub lane_files : SpellsLanes files schema size names.1 lanes
+
+-- in each lane are lines of indexes with so many fields
+abbrev pub AreLanesOf : List ℕ → List (Vec script.Line Global) → Type 0
+AreLanesOf fields lanes =
+    AllByRecursion (λ (lines : Vec script.Line Global). AreLinesOf fields lines.items) lanes
 
 -- of the files with these names the load of this one failed last, and none before it is refused
 pub record FailsAt (told : Option Files) (failures : Failures) (names : List (List ℕ))
@@ -86,7 +104,7 @@ pub record FailsAt (told : Option Files) (failures : Failures) (names : List (Li
   pub name : List ℕ
   pub named : slice_get names file ≡ Some name
   pub failed : FailsOn failures name
-  pub before : ForSome told (λ files. files_stop files (take file names) ≡ None)
+  pub before : ForSome told (λ files. reading_stop files (take file names) ≡ None)
 
 -- where the files are told, this is the first refusal of those with these names
 abbrev pub RefusesFirst : Option Files → List (List ℕ) → Stop → Type 0

@@ -1,11 +1,12 @@
--- The first refusal of a call: of its words, or of the files that they name.
+-- The first refusal of a call: of its words, of the files that they name, or of the sizes.
 use Rattle.std.specs.Prelude.{ℕ, ◌+◌, List, [], ◌∷◌, length, Option, Some, None, Result, Ok, Err}
-use Rattle.std.specs.Option.{option_or}
+use Rattle.std.specs.Option.{option_or, option_map}
 use Rattle.io_port.specs.Shelf.{Files}
 use Rattle.script.specs.declared.error.ScriptError.{ScriptError}
 use Rattle.script.specs.Schema.{SchemaText, schema_of}
+use Rattle.index_engine.specs.Settings.{first_broken}
 use Rattle.ahi_cli.specs.declared.stop.Stop.{Stop}
-use Rattle.ahi_cli.specs.declared.stop.Stop.TheVariants.{Usage, Shelf}
+use Rattle.ahi_cli.specs.declared.stop.Stop.TheVariants.{Usage, Shelf, Sizes}
 use Rattle.ahi_cli.specs.Stops.{schema_stop, lane_stop}
 use Rattle.ahi_cli.specs.Words.{accepted, file_names}
 
@@ -26,15 +27,27 @@ abbrev pub with_schema : Result SchemaText ScriptError → (SchemaText → Optio
 with_schema (Ok schema) refusal = refusal schema
 with_schema (Err e) refusal = None
 
--- the first refusal of the files with these names in their order, a schema and its lanes
-abbrev pub files_stop : Files → List (List ℕ) → Option Stop
-files_stop files [] = None
-files_stop files (name ∷ lanes) = file_stop 0 (files name) (λ bytes.
+-- the first refusal in reading the files with these names in their order, a schema and its lanes
+abbrev pub reading_stop : Files → List (List ℕ) → Option Stop
+reading_stop files [] = None
+reading_stop files (name ∷ lanes) = file_stop 0 (files name) (λ bytes.
     option_or (schema_stop bytes)
     (with_schema (schema_of bytes) (λ schema. lanes_stop files schema 1 (length bytes) lanes)))
 
+-- the refusal of a schema's sizes, for so many lanes
+abbrev pub sizes_stop : SchemaText → ℕ → Option Stop
+sizes_stop schema lanes =
+    option_map Sizes (first_broken schema.sizes (length schema.names) lanes)
+
+-- the first refusal of the files with these names: the sizes are judged behind all of them
+abbrev pub files_stop : Files → List (List ℕ) → Option Stop
+files_stop files [] = None
+files_stop files (name ∷ lanes) = option_or (reading_stop files (name ∷ lanes))
+    (file_stop 0 (files name) (λ bytes.
+    with_schema (schema_of bytes) (λ schema. sizes_stop schema (length lanes))))
+
 -- the first refusal of the files of accepted words; other words are a wrong use
-abbrev pub named_stop : Files → Option (List ℕ × List ℕ) → Option Stop
+abbrev pub named_stop : Files → Option (List ℕ × List (List ℕ)) → Option Stop
 named_stop files None = Some Usage
 named_stop files (Some names) = files_stop files (file_names names)
 

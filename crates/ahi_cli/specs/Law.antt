@@ -1,5 +1,5 @@
 -- When a run is done, and with which status it ends.
-use Rattle.std.specs.Prelude.{ℕ, ◌≡◌, ◌⊎◌, List, Option, Some, None}
+use Rattle.std.specs.Prelude.{ℕ, ◌≡◌, ◌⊎◌, List, length, Option, Some, None}
 use Rattle.io_port.specs.Faults.{ShowsFault}
 use Rattle.io_port.specs.Shelf.{Files}
 use Rattle.map_history.specs.LegalReport.{Line}
@@ -10,7 +10,7 @@ use Rattle.ahi_cli.specs.declared.stop.Stop.{Stop}
 use Rattle.ahi_cli.specs.declared.stop.Stop.TheVariants as stop
 use Rattle.ahi_cli.specs.Ends.{Output, IsPut, IsWritten, Ends}
 use Rattle.ahi_cli.specs.Files.{Spells}
-use Rattle.ahi_cli.specs.FirstRefusal.{first_refusal}
+use Rattle.ahi_cli.specs.FirstRefusal.{first_refusal, sizes_stop}
 use Rattle.ahi_cli.specs.Run.{Asked, Reports, Stops, IsUnloaded}
 use Rattle.ahi_cli.specs.Stops.{status_of, stop_text}
 use Rattle.ahi_cli.specs.Words.{accepted}
@@ -27,15 +27,17 @@ IsShelfSound asked = ShowsFault asked.failures.before asked.failures.now → ⊥
 abbrev pub IsSinkSound : Output → Type 0
 IsSinkSound out = ShowsFault out.faults out.faults' → ⊥
 
--- the words are accepted, the files that they name spell a run, and the shelf shows no fault
+-- the words are accepted, the files that they name spell a run, its sizes are within their limits,
+-- and the shelf shows no fault
 pub record IsWellAsked (asked : Asked) : Type 0 where
-  pub names : List ℕ × List ℕ
+  pub names : List ℕ × List (List ℕ)
   pub accepts : accepted asked.words ≡ Some names
   pub files : Files
   pub told : asked.told ≡ Some files
   pub schema : SchemaText
-  pub lines : List Line
-  pub spelled : Spells files names schema lines
+  pub lanes : List (List Line)
+  pub spelled : Spells files names schema lanes
+  pub allowed : sizes_stop schema (length lanes) ≡ None
   pub no_fault : IsShelfSound asked
 
 -- a run that is asked well ends with its report or for want of memory, if the sink shows no fault

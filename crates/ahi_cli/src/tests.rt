@@ -181,7 +181,7 @@ fn words_are_judged_first(rt: HostRuntime) -> Result<(), Fail> {
     let rows: [(&[&str], Status, &str); 6] = [
         (&["run", "s", "none"], Status::ShelfFault, "shelf 1\n"),
         (&["run", "s"], Status::Usage, usage),
-        (&["run", "s", "l", "l"], Status::Usage, usage),
+        (&["run", "s", "l", "-l"], Status::Usage, usage),
         (&["run", "s", ""], Status::Usage, usage),
         (&["run", "-s", "l"], Status::Usage, usage),
         (&["Run", "s", "l"], Status::Usage, usage),

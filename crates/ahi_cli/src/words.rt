@@ -1,29 +1,47 @@
 //! The words of the command line.
-ghost use Rattle.std.specs.Prelude.{◌≡◌, map, option_map, string_bytes};
-ghost use Rattle.ahi_cli.specs.Words.{accepted, names_file, names_of};
+ghost use Rattle.std.specs.Prelude.{◌≡◌, ◌≤◌, length, map, option_map, IfSome, string_bytes};
+ghost use Rattle.std.specs.List.{list_all};
+ghost use Rattle.ahi_cli.specs.Words.{accepted, are_lanes, names_file, names_of};
+
+/// The most lanes of a run.
+const MAX_LANES: usize = 64;
 
 /// The files that accepted words name.
 #[derive(Debug, Clone, Copy)]
 pub struct Command<'a> {
     pub schema: &'a str,
-    pub lane: &'a str,
+    pub lanes: &'a [String],
 }
 
-/// The command that the words give, if they are accepted: `run SCHEMA LANE`.
+/// The command that the words give, if they are accepted: `run SCHEMA LANE..` with 1 to 64 lanes.
 pub fn accept(words: &[String]) -> Option<Command<'_>>
-    ensures { option_map names_of result ≡ accepted (map string_bytes words.now) }
+    ensures accepted { option_map names_of result ≡ accepted (map string_bytes words.now) }
+    ensures lanes { IfSome result
+        (λ c. (1 ≤ length c.lanes.now) × (length c.lanes.now ≤ 64)) }
 {
     match words {
-        [verb, schema, lane] => {
-            let (schema, lane) = (schema.as_str(), lane.as_str());
-            if verb.as_str() == "run" && names_file(schema) && names_file(lane) {
-                Some(Command { schema, lane })
+        [verb, schema, lanes @ ..] => {
+            let schema = schema.as_str();
+            if verb.as_str() == "run" && names_file(schema) && are_lanes(lanes) {
+                Some(Command { schema, lanes })
             } else {
                 None
             }
         }
         _ => None,
     }
+}
+
+fn are_lanes(words: &[String]) -> bool
+    ensures { result ≡ are_lanes (map string_bytes words.now) }
+{
+    name_files(words) && 1 <= words.len() && words.len() <= MAX_LANES
+}
+
+fn name_files(words: &[String]) -> bool
+    ensures { result ≡ list_all names_file (map string_bytes words.now) }
+{
+    words.iter().all(|word| names_file(word.as_str()))
 }
 
 fn names_file(word: &str) -> bool
