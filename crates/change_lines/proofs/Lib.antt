@@ -3,3 +3,4 @@ pub mod SearchLemmas
 pub mod LineLemmas
 pub mod NotedLemmas
 pub mod PrintLemmas
+pub mod AllLemmas

@@ -1,5 +1,5 @@
 -- Which line made each change of an index.
-use Rattle.std.specs.Prelude.{ℕ, ◌≡◌, ◌+◌, ◌<◌, Some, List, map, AllPairs, Vec}
+use Rattle.std.specs.Prelude.{ℕ, ◌≡◌, ◌+◌, ◌<◌, Some, List, map, length, AllPairs, Vec}
 use Rattle.std.specs.List.{slice_get, AllByRecursion, AllZip}
 use Rattle.std.specs.declared.alloc.Global.{Global}
 use Rattle.change_log.specs.declared.entry.Entry.{Entry}
@@ -63,3 +63,12 @@ pub record AreMade (i : ℕ) (lanes : List (List Line)) (logs : List Log) (made 
   pub merged : List Entry
   pub merge : IsMerge i logs merged
   pub each : AllZip (IsMadeBy lanes) merged made
+
+-- lists that stand in vectors
+abbrev pub made_lists : List (Vec MadeLine Global) → List (List MadeLine)
+made_lists lists = map (λ (made : Vec MadeLine Global). made.items) lists
+
+-- for each of so many indexes, in their order, its changes with their lines
+pub record AreAllMade (n : ℕ) (lanes : List (List Line)) (logs : List Log) (all : List (List MadeLine)) : Type 0 where
+  pub count : length all ≡ n
+  pub each : (i : ℕ) (made : List MadeLine) → slice_get all i ≡ Some made → AreMade i lanes logs made

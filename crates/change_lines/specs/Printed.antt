@@ -1,5 +1,6 @@
 -- What is printed of a change and its line.
-use Rattle.std.specs.Prelude.{ℕ, IsSome, List, []}
+use Rattle.std.specs.Prelude.{ℕ, ◌≡◌, ◌+◌, Some, IsSome, List, []}
+use Rattle.std.specs.List.{slice_get}
 use Rattle.map_history.specs.Map.{MapChange, Del}
 use Rattle.map_history.specs.Operation.{Ask, Make}
 use Rattle.map_history.specs.Report.{ChangeLine}
@@ -24,3 +25,7 @@ entry_in made = record { lane = made.entry.lane; line = made.entry.line; change 
 -- its text, with its number
 abbrev pub made_text : MadeLine → List ℕ
 made_text made = change_text made.entry.number (entry_in made)
+
+-- the changes are numbered from 1, in their order
+abbrev pub AreCounted : List MadeLine → Type 0
+AreCounted made = (n : ℕ) (m : MadeLine) → slice_get made n ≡ Some m → m.entry.number ≡ n + 1

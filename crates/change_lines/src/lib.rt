@@ -8,6 +8,9 @@ mod made;
 #[cfg(test)]
 mod tests;
 
-pub use laws::{entries_are_looked_up, made_lines_are_printed, notes_have_lines};
-pub use looking::look_up;
+pub use laws::{
+    all_made_are_looked_up, all_made_are_printed, entries_are_looked_up, made_lines_are_printed,
+    notes_have_lines,
+};
+pub use looking::{look_up, look_up_all};
 pub use made::{MadeLine, put_change};

@@ -3,7 +3,7 @@ ghost use Rattle.std.specs.Prelude.{◌≡◌, ◌<◌, IfOk, AllPairs};
 ghost use Rattle.std.specs.List.{AllByRecursion, AllZip};
 ghost use Rattle.script.specs.Views.{line_text, line_texts};
 ghost use Rattle.change_lines.specs.Made.{Ascends, AllAscend, lane_texts, IsNumbered, HasNumber};
-ghost use Rattle.change_lines.specs.Made.{IsLineOf, HasLine, HaveLines, IsMadeBy, AreMade};
+ghost use Rattle.change_lines.specs.Made.{IsLineOf, HasLine, HaveLines, IsMadeBy, AreMade, made_lists, AreAllMade};
 
 use crate::made::MadeLine;
 use change_log::{Entry, LaneLog, merge};
@@ -24,6 +24,26 @@ pub fn look_up<'a>(
 {
     let merged = merge(alloc, logs, index)?;
     with_lines(alloc, lanes, &merged)
+}
+
+/// The changes of so many indexes, each list as `look_up` gives it.
+pub fn look_up_all<'a>(
+    alloc: Global,
+    lanes: &'a [Vec<Line>],
+    logs: &[LaneLog],
+    indexes: u32,
+) -> Result<Vec<Vec<MadeLine<'a>>>, NoMemory>
+    requires ascend { AllAscend (lane_texts lanes.now) }
+    requires noted { HaveLines (lane_texts lanes.now) logs.now }
+    ensures { IfOk result (λ all.
+        AreAllMade indexes (lane_texts lanes.now) logs.now (made_lists all.items)) }
+{
+    let mut all = Vec::with_capacity(alloc, indexes as usize)?;
+    for index in 0..indexes {
+        let made = look_up(alloc, lanes, logs, index)?;
+        all.push_reserved(made);
+    }
+    Ok(all)
 }
 
 /// Each entry with its line.

@@ -1,11 +1,11 @@
 //! A worked look-up of two lanes.
-ghost use Rattle.std.specs.Prelude.{◌≡◌, [], ◌∷◌, IfOk, IsSome};
+ghost use Rattle.std.specs.Prelude.{◌≡◌, ◌<◌, [], ◌∷◌, IfOk, IsSome};
 ghost use Rattle.std.specs.List.{AllByRecursion};
 ghost use Rattle.report_text.specs.Printed.{change_made};
 ghost use Rattle.change_lines.specs.Made.{lane_texts, AllAscend, HaveLines};
 ghost use Rattle.change_lines.specs.Printed.{AsksChange};
 
-use crate::{MadeLine, look_up, put_change};
+use crate::{MadeLine, look_up_all, put_change};
 use change_log::{Entry, LaneLog};
 use key_tuple::{Key, NoMemory, Value};
 use map_history::Op;
@@ -50,23 +50,26 @@ fn text_of(alloc: Global, changes: &[MadeLine<'_>]) -> Result<Vec<u8>, NoMemory>
     Ok(text)
 }
 
-/// The printed changes of an index.
+/// The printed changes of one of two indexes.
 fn printed(
     alloc: Global,
     lanes: &[Vec<Line>],
     logs: &[LaneLog],
-    index: u32,
+    index: usize,
 ) -> Result<Vec<u8>, NoMemory>
     requires ascend { AllAscend (lane_texts lanes.now) }
     requires noted { HaveLines (lane_texts lanes.now) logs.now }
+    requires within { index < 2 }
 {
-    let changes = look_up(alloc, lanes, logs, index)?;
-    text_of(alloc, &changes)
+    let all = look_up_all(alloc, lanes, logs, 2)?;
+    text_of(alloc, &all[index])
 }
 
 /// The printed changes of an index. Of the first, lane 1 made the first and the third change, and
 /// lane 2 the second.
-fn two_lanes(alloc: Global, index: u32) -> Result<Vec<u8>, Fail> {
+fn two_lanes(alloc: Global, index: usize) -> Result<Vec<u8>, Fail>
+    requires { index < 2 }
+{
     let a = put(alloc, 2, b"a")?;
     let b = put(alloc, 5, b"b")?;
     let c = put(alloc, 1, b"c")?;

@@ -1,0 +1,4 @@
+pub mod Prints
+pub mod Texts
+pub mod Reports
+pub mod Laws

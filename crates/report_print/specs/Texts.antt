@@ -1,0 +1,52 @@
+-- The text of a report, from the texts of its answers and the lines that made its changes.
+use Rattle.std.specs.Prelude.{ℕ, List, [], ◌∷◌, ◌++◌, length, codes, decimal}
+use Rattle.std.specs.List.{AllByRecursion, concat, flat_map, enumerate_from, zip}
+use Rattle.map_history.specs.Spelling.{stats_text}
+use Rattle.map_history.specs.Statistics.{counts_of}
+use Rattle.map_history.specs.Text.{line_of}
+use Rattle.change_lines.specs.declared.made.MadeLine.{MadeLine}
+use Rattle.change_lines.specs.Printed.{AsksChange, made_text}
+
+-- each line of each list asks for a change
+abbrev pub AskChanges : List (List MadeLine) → Type 0
+AskChanges made = AllByRecursion (AllByRecursion AsksChange) made
+
+-- the first line of a report
+abbrev pub first_line : List ℕ
+first_line = line_of (codes "ahi" ∷ codes "run" ∷ [])
+
+-- the last line of a report
+abbrev pub end_line : List ℕ
+end_line = line_of (codes "end" ∷ [])
+
+-- the line before the answers of a lane
+abbrev pub lane_line : ℕ → List ℕ
+lane_line number = line_of (codes "lane" ∷ decimal number ∷ [])
+
+-- the answers of a lane, behind the line with its number
+abbrev pub lane_text : ℕ × List (List ℕ) → List ℕ
+lane_text lane = lane_line lane.0 ++ concat lane.1
+
+-- the answers of all lanes, which are numbered from 1
+abbrev pub lanes_text : List (List (List ℕ)) → List ℕ
+lanes_text answers = flat_map lane_text (enumerate_from 1 answers)
+
+-- the line before the changes of an index
+abbrev pub changes_line : List ℕ → ℕ → List ℕ
+changes_line name count = line_of (codes "changes" ∷ name ∷ decimal count ∷ [])
+
+-- the changes of an index, behind the line that counts them
+abbrev pub index_text : List ℕ × List MadeLine → List ℕ
+index_text part = changes_line part.0 (length part.1) ++ flat_map made_text part.1
+
+-- the changes of all indexes
+abbrev pub indexes_text : List (List ℕ) → List (List MadeLine) → List ℕ
+indexes_text names made = flat_map index_text (zip names made)
+
+-- the statistics of an index of this name, of which no word was counted
+abbrev pub name_stats : List ℕ → List ℕ
+name_stats name = stats_text name (counts_of [])
+
+-- the report of some lanes over indexes of these names
+abbrev pub report_text_of : List (List ℕ) → List (List (List ℕ)) → List (List MadeLine) → List ℕ
+report_text_of names answers made = first_line ++ lanes_text answers ++ indexes_text names made ++ flat_map name_stats names ++ end_line

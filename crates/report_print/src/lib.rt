@@ -1,0 +1,18 @@
+//! A report of any number of lanes over some indexes, put to a sink line by line.
+//! Nothing here looks up a change, runs a lane or knows a file.
+#![tactic(auto)]
+
+mod halt;
+mod indexes;
+mod lanes;
+mod laws;
+mod line;
+mod report;
+mod statistics;
+#[cfg(test)]
+mod tests;
+
+pub use halt::Halt;
+pub use laws::{reports_are_spelled, reports_have_parts};
+pub use line::put_line;
+pub use report::put_report;
