@@ -1,64 +1,32 @@
 -- How a call ends, from what its parts did.
 use Rattle.std.proofs.Common.{◌≡◌, ◌≢◌, ℕ, suc, ◌≤◌, Option, Some, None, Result, Ok, Err, List, [], ◌∷◌, length, map, refl, ap, ◌∙◌, sym, subst, ◌⊎◌, inl, inr}
 use Rattle.std.specs.List.{AllByRecursion, slice_get, zip}
-use Rattle.std.specs.Option.{ForSome, option_map}
+use Rattle.std.specs.Option.{ForSome, IsSomeAnd, option_map}
 use Rattle.io_port.specs.Faults.{ShowsFault}
 use Rattle.io_port.specs.Sink.{Puts}
 use Rattle.map_history.specs.LegalReport.{Line}
-use Rattle.map_history.specs.Report.{Answer, Replied, LogFull, SpaceFull, Scanned, AnswerLine, IndexPart}
-use Rattle.map_history.specs.Statistics.{counts_of}
 use Rattle.script.specs.Schema.{SchemaText}
 use Rattle.index_engine.specs.declared.setting.Setting.{Setting}
+use Rattle.index_engine.specs.declared.error.EngineError.{EngineError}
+use Rattle.index_engine.specs.declared.error.EngineError.TheVariants as EngineError
 use Rattle.index_engine.specs.Settings.{first_broken}
-use Rattle.one_lane.specs.OneLane.{Told, list_at, after_lines, opening, part_of, report_of, AreAskable}
-use Rattle.one_lane.proofs.SoFar.{SoFar, IsPlain}
-use Rattle.one_lane.proofs.Fold.{ends}
-use Rattle.one_lane.proofs.Legal.{legal}
-use Rattle.ahi_cli.specs.declared.halt.Halt.{Halt}
-use Rattle.ahi_cli.specs.declared.halt.Halt.TheVariants as halt
+use Rattle.report_print.specs.declared.halt.Halt.{Halt}
+use Rattle.report_print.specs.declared.halt.Halt.TheVariants as halt
 use Rattle.ahi_cli.specs.declared.status.Status.{Status}
 use Rattle.ahi_cli.specs.declared.status.Status.TheVariants.{Done, Script, Usage, ShelfFault, SinkFault, TooLarge, NoMemory}
 use Rattle.ahi_cli.specs.declared.stop.Stop.{Stop}
 use Rattle.ahi_cli.specs.declared.stop.Stop.TheVariants as stop
-use Rattle.ahi_cli.specs.Entries.{AsksChange, IsChange, AreChanges}
 use Rattle.ahi_cli.specs.Ends.{Output, IsWritten, IsRefused, IsCutOff, Ends}
 use Rattle.ahi_cli.specs.Files.{Spells, StopsReading}
 use Rattle.ahi_cli.specs.FirstRefusal.{named_stop, sizes_stop}
-use Rattle.ahi_cli.specs.Prints.{Prints, EndsWith, EndsRefused, ended}
-use Rattle.ahi_cli.specs.Run.{Asked, HasDashes, HasFirst, Stops}
+use Rattle.report_print.specs.Prints.{Prints}
+use Rattle.ahi_cli.specs.Prints.{EndsWith, EndsRefused, halted, ended}
+use Rattle.ahi_cli.specs.Trail.{LeavesTrail}
+use Rattle.index_engine.specs.declared.engine.EnginePass.{EnginePass}
+use Rattle.ahi_cli.specs.Run.{Asked, Stops}
 use Rattle.ahi_cli.specs.Stops.{status_of, stop_text}
 use Rattle.ahi_cli.specs.Words.{accepted, file_names}
 use Rattle.ahi_cli.proofs.FirstLemmas.{unrefused}
-
-are_changes : (lines : List Line) → ((n : ℕ) (line : Line) → slice_get lines n ≡ Some line → IsChange line) → AreChanges lines
-are_changes [] at = tt
-are_changes (l ∷ lines) at = (at 0 l refl, are_changes lines (λ n line e. at (suc n) line e))
-
-all_are_changes : (lists : List (List Line)) → ((i n : ℕ) (line : Line) → slice_get (list_at lists i) n ≡ Some line → IsChange line) → AllByRecursion AreChanges lists
-all_are_changes [] at = tt
-all_are_changes (lines ∷ lists) at = (are_changes lines (at 0), all_are_changes lists (λ i. at (suc i)))
-
--- the lists of a lane are of changes
-pub lists_are_changes : (most indexes : ℕ) (lines : List Line) → AreAskable indexes lines → AllByRecursion AreChanges (after_lines most (opening indexes) lines).lists
-lists_are_changes most indexes lines askable =
-    let s = ends most indexes lines askable in
-    all_are_changes (after_lines most (opening indexes) lines).lists (λ i n line e. subst AsksChange (sym (s.made i n line e).asked) tt)
-
--- the answers of a lane have dashes
-have_dashes : (answers : List AnswerLine) → AllByRecursion (λ (a : AnswerLine). IsPlain a.answer) answers → AllByRecursion (λ (a : AnswerLine). HasDashes a.answer) answers
-have_dashes [] all = tt
-have_dashes (a ∷ answers) all = (has_dashes a.answer all.0, have_dashes answers all.1)
-  where
-    has_dashes : (a : Answer) → IsPlain a → HasDashes a
-    has_dashes (Replied reply point columns) plain = plain
-    has_dashes (LogFull n columns) plain = plain
-    has_dashes (SpaceFull columns) plain = plain
-    has_dashes (Scanned pieces) plain = plain
-
-have_zeros : (names : List (List ℕ)) (lists : List (List Line)) → AllByRecursion (λ (part : IndexPart). part.counts ≡ counts_of []) (map part_of (zip names lists))
-have_zeros [] lists = tt
-have_zeros (n ∷ names) [] = tt
-have_zeros (n ∷ names) (lines ∷ lists) = (refl, have_zeros names lists)
 
 whole_ends : (old new : Option (List ℕ)) (f f' : ℕ) (text : List ℕ) (whole : Status) → whole ≢ SinkFault → whole ≢ NoMemory → Puts old new text → f ≤ f' → EndsWith old new f f' text whole whole
 whole_ends old new f f' text Done s n p le = (refl, p, le)
@@ -116,6 +84,11 @@ done_by Writes Refuses out text TooLarge writes e = absurd (let other = e.0 in c
 pub done_ends : (Writes : List ℕ → Type 0) (Refuses : Stop → Type 0) (out : Output) (text : List ℕ) (status : Status) → Writes text → EndsWith out.old out.new out.faults out.faults' text Done status → Ends Writes Refuses out status
 done_ends Writes Refuses out text status writes e = by_status Writes Refuses out status (done_by Writes Refuses out text status writes e)
 
+-- a text of the command's own that was cut off ends it so
+pub halted_ends : (Writes : List ℕ → Type 0) (Refuses : Stop → Type 0) (out : Output) (text : List ℕ) (halt : Halt) (status : Status) → status ≡ halted halt → Writes text → Prints out.old out.new out.faults out.faults' text (Err halt) → Ends Writes Refuses out status
+halted_ends Writes Refuses out text halt status is writes p = done_ends Writes Refuses out text status writes
+    (subst (EndsWith out.old out.new out.faults out.faults' text Done) (sym is) (print_ends out.old out.new out.faults out.faults' text Done (λ e. cc) (λ e. cc) (Err halt) p))
+
 -- no refusal with a line has the status Done
 line_of_other_status : (refusal : Stop) → status_of refusal ≢ Done
 line_of_other_status stop.Usage = λ e. cc
@@ -153,14 +126,40 @@ reading_stops asked names (stop.TooLarge file) accepts s other = record { names 
 reading_stops asked names (stop.Sizes setting) accepts s other = absurd s
 reading_stops asked names stop.NoMemory accepts s other = absurd (other refl)
 
--- files that spell a run have no first refusal but that of its sizes
-pub sizes_first : (asked : Asked) (names : List ℕ × List (List ℕ)) (schema : SchemaText) (lanes : List (List Line)) → accepted asked.words ≡ Some names → ForSome asked.told (λ files. Spells files names schema lanes) → HasFirst asked (sizes_stop schema (length names.1))
-sizes_first asked names schema lanes accepts spelled = λ files e. ap (named_stop files) accepts ∙ unrefused files names schema lanes (spelled files e)
+written_as : (Writes Writes' : List ℕ → Type 0) (out : Output) → ((text : List ℕ) → Writes text → Writes' text) → IsWritten Writes out → IsWritten Writes' out
+written_as Writes Writes' out more w = record { text = w.text; writes = more w.text w.writes; put = w.put }
 
--- sizes within their limits leave nothing to be refused
-pub sizes_pass : (asked : Asked) (names : List ℕ × List (List ℕ)) (schema : SchemaText) (lanes : List (List Line)) → accepted asked.words ≡ Some names → ForSome asked.told (λ files. Spells files names schema lanes) → first_broken schema.sizes (length schema.names) (length names.1) ≡ None → HasFirst asked None
-sizes_pass asked names schema lanes accepts spelled allowed = λ files e. sizes_first asked names schema lanes accepts spelled files e ∙ ap (option_map stop.Sizes) allowed
+refused_as : (Refuses Refuses' : Stop → Type 0) (status : Status) (out : Output) → ((refusal : Stop) → Refuses refusal → Refuses' refusal) → IsRefused Refuses status out → IsRefused Refuses' status out
+refused_as Refuses Refuses' status out more r = record { refusal = r.refusal; has_status = r.has_status; cause = more r.refusal r.cause; put = r.put }
 
--- and a setting that isn't is the cause of the refusal
-pub sizes_stopped : (asked : Asked) (names : List ℕ × List (List ℕ)) (schema : SchemaText) (lanes : List (List Line)) (setting : Setting) → accepted asked.words ≡ Some names → ForSome asked.told (λ files. Spells files names schema lanes) → first_broken schema.sizes (length schema.names) (length names.1) ≡ Some setting → Stops asked (stop.Sizes setting)
-sizes_stopped asked names schema lanes setting accepts spelled broken = record { names = names; accepts = accepts; first = λ files e. sizes_first asked names schema lanes accepts spelled files e ∙ ap (option_map stop.Sizes) broken }
+cut_as : (Writes Writes' : List ℕ → Type 0) (Refuses Refuses' : Stop → Type 0) (out : Output) → ((text : List ℕ) → Writes text → Writes' text) → ((refusal : Stop) → Refuses refusal → Refuses' refusal) → IsCutOff Writes Refuses out → IsCutOff Writes' Refuses' out
+cut_as Writes Writes' Refuses Refuses' out more causes c = record {
+  text = c.text;
+  due = elim c.due [ inl w ↦ inl (more c.text w) | inr r ↦ inr record { refusal = r.refusal; cause = causes r.refusal r.cause; is_text = r.is_text } ];
+  part = c.part;
+}
+
+-- how a call ends, said of what more it may write and be refused for
+pub ends_as : (Writes Writes' : List ℕ → Type 0) (Refuses Refuses' : Stop → Type 0) (out : Output) (status : Status) → ((text : List ℕ) → Writes text → Writes' text) → ((refusal : Stop) → Refuses refusal → Refuses' refusal) → Ends Writes Refuses out status → Ends Writes' Refuses' out status
+ends_as Writes Writes' Refuses Refuses' out status more causes e = record {
+  done = λ is. written_as Writes Writes' out more (e.done is);
+  script = λ is. refused_as Refuses Refuses' Script out causes (e.script is);
+  usage = λ is. refused_as Refuses Refuses' Usage out causes (e.usage is);
+  shelf_fault = λ is. refused_as Refuses Refuses' ShelfFault out causes (e.shelf_fault is);
+  too_large = λ is. refused_as Refuses Refuses' TooLarge out causes (e.too_large is);
+  sink_fault = λ is. (cut_as Writes Writes' Refuses Refuses' out more causes (e.sink_fault is).0, (e.sink_fault is).1);
+  no_memory = λ is. elim (e.no_memory is) [ inl same ↦ inl same | inr part ↦ inr (cut_as Writes Writes' Refuses Refuses' out more causes part) ];
+}
+
+-- a call that isn't done leaves no pass
+pub leaves_none : (DidBy : EnginePass → List ℕ → Type 0) (out : Output) (trail : Option EnginePass) (status : Status) → status ≢ Done → trail ≡ None → LeavesTrail DidBy out trail status
+leaves_none DidBy out trail status other none = record { done = λ is. absurd (other is); other = λ _. none }
+
+-- a text that was put leaves the pass that did what it tells
+pub leaves_pass : (DidBy : EnginePass → List ℕ → Type 0) (out : Output) (pass : EnginePass) (text : List ℕ) → DidBy pass text → Puts out.old out.new text → out.faults ≤ out.faults' → LeavesTrail DidBy out (Some pass) Done
+leaves_pass DidBy out pass text did whole faults = record { done = λ is. record { text = text; writes = did; put = record { whole = whole; faults = faults } }; other = λ other. absurd (other refl) }
+
+-- what a call leaves, said of what more the pass did
+pub leaves_as : (DidBy DidBy' : EnginePass → List ℕ → Type 0) (out : Output) (trail : Option EnginePass) (status : Status) → ((pass : EnginePass) (text : List ℕ) → DidBy pass text → DidBy' pass text) → LeavesTrail DidBy out trail status → LeavesTrail DidBy' out trail status
+leaves_as DidBy DidBy' out None status more l = record { done = λ is. l.done is; other = l.other }
+leaves_as DidBy DidBy' out (Some pass) status more l = record { done = λ is. written_as (DidBy pass) (DidBy' pass) out (more pass) (l.done is); other = l.other }

@@ -1,5 +1,5 @@
 -- Why files aren't read.
-use Rattle.std.proofs.Common.{◌≡◌, ℕ, zero, suc, ◌+◌, ◌-◌, ◌<◌, ◌≤◌, Option, Some, None, true, ltb, List, [], ◌∷◌, ◌++◌, length, get_or, take, drop, drop-cons, refl, ap, ◌∙◌, sym, subst, arith, cond}
+use Rattle.std.proofs.Common.{◌≡◌, ℕ, zero, suc, ◌+◌, ◌-◌, ◌<◌, ◌≤◌, Option, Some, None, true, ltb, List, [], ◌∷◌, ◌++◌, length, get_or, take, drop, drop-cons, refl, ap, ◌∙◌, sym, subst, arith, cond, inl, inr}
 use Rattle.std.proofs.lemmas.Bool.Decides.{nat_tests}
 use Rattle.std.proofs.lemmas.List.{take-append-drop, length-take-le}
 use Rattle.std.proofs.lemmas.Option.{slice_get-get_or}
@@ -8,6 +8,7 @@ use Rattle.std.specs.Prelude.{slice_index}
 use mathlib.Core.Option.{some}
 use lib.ListN.{get_elem?}
 use Rattle.key_tuple.specs.Order.{FieldList}
+use Rattle.io_port.specs.Faults.{ShowsFault}
 use Rattle.io_port.specs.Shelf.{Files}
 use Rattle.map_history.specs.declared.op.Op.{Op}
 use Rattle.map_history.specs.declared.op.Op.TheVariants as op
@@ -18,7 +19,7 @@ use Rattle.script.specs.declared.lane.Line as script
 use Rattle.script.specs.Schema.{SchemaText, schema_of}
 use Rattle.script.specs.Lane.{lane_of, AreLaneLines, HasKey}
 use Rattle.script.specs.Views.{line_texts}
-use Rattle.lane_work.specs.Alone.{IsOpOf, AreLinesOf}
+use Rattle.lane_work.specs.Workable.{IsOpOf, AreLinesOf}
 use Rattle.ahi_cli.specs.declared.stop.Stop.{Stop}
 use Rattle.ahi_cli.specs.declared.stop.Stop.TheVariants.{Usage, Script, Shelf, TooLarge, Sizes, NoMemory}
 use Rattle.ahi_cli.specs.Stops.{schema_stop, lane_stop, stop_in}
@@ -26,7 +27,11 @@ use Rattle.ahi_cli.specs.FirstRefusal.{file_stop, lanes_stop, reading_stop, file
 use Rattle.ahi_cli.specs.Files.{Failures, FailsAt, StopsLoading, StopsFile, StopsReading, SpellsSchema}
 use Rattle.ahi_cli.specs.Words.{file_names}
 use Rattle.ahi_cli.proofs.FirstLemmas.{SpellsUpTo, spells_lanes, schema_passes, lanes_pass, all_pass, reading_refuses, schema_refuses, lane_refuses}
-use Rattle.ahi_cli.proofs.PrintLemmas.{faults-le}
+
+-- a fault of a later part of a call is one of the call
+faults-le : (a b c : ℕ) → a ≤ b → ShowsFault b c → ShowsFault a c
+faults-le a b c le (inl rose) = inl (omega arith)
+faults-le a b c le (inr last) = inr last
 
 -- a file that is longer is refused for that
 longer_file : (o : Option (List ℕ)) (file limit : ℕ) (refusal : List ℕ → Option Stop) → ((bytes : List ℕ) → limit < length bytes → refusal bytes ≡ Some (TooLarge file)) → IsSomeAnd o (λ bytes. limit < length bytes) → file_stop file o refusal ≡ Some (TooLarge file)

@@ -1,9 +1,7 @@
-pub mod PrintLemmas
 pub mod FirstLemmas
 pub mod FileLemmas
 pub mod LaneLemmas
-pub mod LoopLemmas
-pub mod TextsLemmas
-pub mod SpellLemmas
+pub mod ReportLemmas
 pub mod EndsLemmas
 pub mod LawLemmas
+pub mod ScriptLemmas

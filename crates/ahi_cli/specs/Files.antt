@@ -1,8 +1,6 @@
 -- What is read of the files of a command, and why it isn't.
-use Rattle.std.specs.Prelude.{ℕ, ◌≡◌, ◌+◌, ◌≤◌, List, [], ◌∷◌, length, take, slice_get, Option, Some, None, Ok, Vec}
+use Rattle.std.specs.Prelude.{ℕ, ◌≡◌, ◌+◌, ◌≤◌, List, [], ◌∷◌, length, take, slice_get, Option, Some, None, Ok}
 use Rattle.std.specs.Option.{ForSome}
-use Rattle.std.specs.List.{AllByRecursion}
-use Rattle.std.specs.declared.alloc.Global.{Global}
 use Rattle.io_port.specs.Faults.{ShowsFault}
 use Rattle.io_port.specs.Shelf.{Files, IsLonger}
 use Rattle.io_port.specs.declared.shelf.Shelf.{Ghosts}
@@ -10,8 +8,6 @@ use Rattle.map_history.specs.LegalReport.{Line}
 use Rattle.script.specs.declared.TheConstants.{MAX_FILE_BYTES}
 use Rattle.script.specs.Schema.{SchemaText, schema_of}
 use Rattle.script.specs.Lane.{lane_of}
-use Rattle.script.specs.declared.lane.Line as script
-use Rattle.lane_work.specs.Alone.{AreLinesOf}
 use Rattle.ahi_cli.specs.declared.stop.Stop.{Stop}
 use Rattle.ahi_cli.specs.declared.stop.Stop.TheVariants.{Script, Shelf, TooLarge, NoMemory}
 use Rattle.ahi_cli.specs.FirstRefusal.{file_stop, reading_stop, files_stop}
@@ -92,11 +88,6 @@ pub record Spells (files : Files) (names : List ℕ × List (List ℕ)) (schema 
   pub size : ℕ
   pub schema_file : SpellsSchema files names.0 schema size
   pub lane_files : SpellsLanes files schema size names.1 lanes
-
--- in each lane are lines of indexes with so many fields
-abbrev pub AreLanesOf : List ℕ → List (Vec script.Line Global) → Type 0
-AreLanesOf fields lanes =
-    AllByRecursion (λ (lines : Vec script.Line Global). AreLinesOf fields lines.items) lanes
 
 -- of the files with these names the load of this one failed last, and none before it is refused
 pub record FailsAt (told : Option Files) (failures : Failures) (names : List (List ℕ))

@@ -4,7 +4,8 @@ pub mod Stops
 pub mod FirstRefusal
 pub mod Prints
 pub mod Files
-pub mod Entries
 pub mod Ends
 pub mod Run
+pub mod Scripts
+pub mod Trail
 pub mod Law

@@ -1,29 +1,15 @@
--- What a part of a report, or the line of a refusal, does to the sink that it is put to.
+-- How a call ends with a text that is put.
 use Rattle.std.specs.Prelude.{ℕ, ◌≡◌, ◌≤◌, ◌⊎◌, List, Option, Result, Ok, Err}
 use Rattle.io_port.specs.Faults.{ShowsFault}
 use Rattle.io_port.specs.Sink.{Puts, PutsSome}
 use Rattle.io_port.specs.declared.sink.Sink.{Ghosts}
-use Rattle.ahi_cli.specs.declared.halt.Halt.{Halt}
-use Rattle.ahi_cli.specs.declared.halt.Halt.TheVariants as halt
+use Rattle.report_print.specs.declared.halt.Halt.{Halt}
+use Rattle.report_print.specs.declared.halt.Halt.TheVariants as halt
 use Rattle.ahi_cli.specs.declared.status.Status.{Status}
 use Rattle.ahi_cli.specs.declared.status.Status.TheVariants.{SinkFault, NoMemory}
 use Rattle.ahi_cli.specs.declared.stop.Stop.{Stop}
 use Rattle.ahi_cli.specs.declared.stop.Stop.TheVariants as stop
 use Rattle.ahi_cli.specs.Stops.{status_of, stop_text}
-
--- of a text, put between two moments with these bytes written and these faults counted: it was put
--- whole, or a first part of it was, and then a put failed or there was no memory
-abbrev pub Prints : Option (List ℕ) → Option (List ℕ) → ℕ → ℕ → List ℕ
-    → Result (Unit {0}) Halt → Type 0
-Prints old new faults faults' text (Ok done) = Puts old new text × (faults ≤ faults')
-Prints old new faults faults' text (Err halt.SinkFault) =
-    PutsSome old new text × ShowsFault faults faults'
-Prints old new faults faults' text (Err halt.NoMemory) = PutsSome old new text × (faults ≤ faults')
-
--- the same of this sink
-abbrev pub PrintsTo : {K : Type 0} → Ghosts K → K → K → List ℕ → Result (Unit {0}) Halt → Type 0
-PrintsTo sink old new text result =
-    Prints (sink.written old) (sink.written new) (sink.faults old) (sink.faults new) text result
 
 -- a text, put to end with a status: whole with that status, or a part with that of its halt
 abbrev pub EndsWith : Option (List ℕ) → Option (List ℕ) → ℕ → ℕ → List ℕ → Status → Status → Type 0
@@ -51,8 +37,12 @@ EndsRefusedAt sink old new stop status =
     EndsRefused (sink.written old) (sink.written new) (sink.faults old) (sink.faults new)
     stop status
 
+-- the status with which printing ends that was halted
+abbrev pub halted : Halt → Status
+halted halt.SinkFault = SinkFault
+halted halt.NoMemory = NoMemory
+
 -- the status with which printing ends
 abbrev pub ended : Result (Unit {0}) Halt → Status → Status
 ended (Ok x) whole = whole
-ended (Err halt.SinkFault) whole = SinkFault
-ended (Err halt.NoMemory) whole = NoMemory
+ended (Err h) whole = halted h

@@ -1,15 +1,17 @@
--- What `run` writes, and why it is refused.
-use Rattle.std.specs.Prelude.{ℕ, ◌≡◌, List, [], length, Option, Some, None}
+-- What `run` writes, why it is refused, and what the pass that it leaves did.
+use Rattle.std.specs.Prelude.{ℕ, ◌≡◌, List, [], Option, Some, None}
 use Rattle.std.specs.Option.{ForSome}
 use Rattle.std.specs.List.{AllByRecursion}
 use Rattle.io_port.specs.Shelf.{Files}
 use Rattle.io_port.specs.declared.shelf.Shelf.{Ghosts}
 use Rattle.map_history.specs.LegalReport.{Line, Run, IsLegalBytes}
-use Rattle.map_history.specs.Report.{Answer, Replied, LogFull, SpaceFull, Scanned, AnswerLine, IndexPart, Report}
+use Rattle.map_history.specs.Report.{AnswerLine, IndexPart, Report}
 use Rattle.map_history.specs.Statistics.{counts_of}
-use Rattle.map_history.specs.Spelling.{spell}
-use Rattle.one_lane.specs.OneLane.{dashes, report_of, after_lines, opening}
 use Rattle.script.specs.Schema.{SchemaText}
+use Rattle.index_engine.specs.declared.engine.EnginePass.{EnginePass}
+use Rattle.index_engine.specs.Engines.{known}
+use Rattle.lane_law.specs.Trail.{IsTrail}
+use Rattle.lane_work.specs.Works.{HasDashes}
 use Rattle.ahi_cli.specs.declared.stop.Stop.{Stop}
 use Rattle.ahi_cli.specs.declared.stop.Stop.TheVariants.{Usage, Script, Shelf, TooLarge, Sizes, NoMemory}
 use Rattle.ahi_cli.specs.Files.{Failures, failures_of, Spells, FailsAt}
@@ -30,13 +32,6 @@ asked_of words shelf old new = record {
   failures = failures_of shelf old new;
 }
 
--- an answer that tells of no hash: both columns are dashes
-abbrev pub HasDashes : Answer → Type 0
-HasDashes (Replied reply point columns) = columns ≡ dashes
-HasDashes (LogFull n columns) = columns ≡ dashes
-HasDashes (SpaceFull columns) = ⊥
-HasDashes (Scanned pieces) = ⊥
-
 -- no column tells of a hash, and all statistics are 0
 pub record IsWithoutHash (report : Report) : Type 0 where
   pub columns :
@@ -47,30 +42,46 @@ pub record IsWithoutHash (report : Report) : Type 0 where
 abbrev pub run_of : SchemaText → List (List Line) → Run
 run_of schema lanes = record { sizes = schema.sizes; names = schema.names; lanes = lanes }
 
--- the bytes are a legal report of what the files spell
-pub record IsReportOf (files : Files) (names : List ℕ × List (List ℕ)) (bytes : List ℕ) : Type 0 where
-  pub schema : SchemaText
-  pub lanes : List (List Line)
-  pub spelled : Spells files names schema lanes
+-- the bytes are a legal report of these lanes over a schema
+pub record IsReportOf (schema : SchemaText) (lanes : List (List Line))
+    (bytes : List ℕ) : Type 0 where
   pub legal : IsLegalBytes (run_of schema lanes) bytes
   pub without_hash : IsWithoutHash legal.report
 
--- the report of one lane's lines over a schema, in bytes
-abbrev pub report_bytes : SchemaText → List Line → List ℕ
-report_bytes schema lines =
-    let told = after_lines schema.sizes.max_changes (opening (length schema.names)) lines in
-    spell (report_of schema.names told)
+-- they are, and what they tell is what this pass did, in an engine of the schema's sizes
+pub record IsReportBy (pass : EnginePass) (schema : SchemaText) (lanes : List (List Line))
+    (bytes : List ℕ) : Type 0 where
+  pub report : IsReportOf schema lanes bytes
+  pub sizes : pass.sizes ≡ schema.sizes
+  pub trail : IsTrail (run_of schema lanes) report.legal.report (known pass)
+
+-- the files spell a schema and lanes, of which the bytes tell so
+pub record TellsFiles (IsTold : SchemaText → List (List Line) → List ℕ → Type 0) (files : Files)
+    (names : List ℕ × List (List ℕ)) (bytes : List ℕ) : Type 0 where
+  pub schema : SchemaText
+  pub lanes : List (List Line)
+  pub spelled : Spells files names schema lanes
+  pub told : IsTold schema lanes bytes
 
 -- where the files are told, the first refusal of the call is this, or there is none
 abbrev pub HasFirst : Asked → Option Stop → Type 0
 HasFirst asked refusal = ForSome asked.told (λ files. first_refusal asked.words files ≡ refusal)
 
--- the words are accepted, nothing is refused, and the bytes report the files, where they are told
-pub record Reports (asked : Asked) (bytes : List ℕ) : Type 0 where
+-- the words are accepted, nothing is refused, and of the files, where they are told, the bytes tell so
+pub record Tells (IsTold : SchemaText → List (List Line) → List ℕ → Type 0) (asked : Asked)
+    (bytes : List ℕ) : Type 0 where
   pub names : List ℕ × List (List ℕ)
   pub accepts : accepted asked.words ≡ Some names
   pub unrefused : HasFirst asked None
-  pub report : ForSome asked.told (λ files. IsReportOf files names bytes)
+  pub report : ForSome asked.told (λ files. TellsFiles IsTold files names bytes)
+
+-- the bytes are a legal report of what is asked
+abbrev pub Reports : Asked → List ℕ → Type 0
+Reports = Tells IsReportOf
+
+-- they are, and this pass did what they tell
+abbrev pub ReportsBy : EnginePass → Asked → List ℕ → Type 0
+ReportsBy pass = Tells (IsReportBy pass)
 
 -- the words are accepted, and this is the first refusal of their files
 pub record IsFirst (asked : Asked) (refusal : Stop) : Type 0 where

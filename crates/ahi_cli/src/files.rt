@@ -4,9 +4,10 @@ ghost use Rattle.std.specs.Option.{ForSome};
 ghost use Rattle.io_port.specs.Shelf.{IsFileOf};
 ghost use Rattle.script.specs.declared.TheConstants.{MAX_FILE_BYTES};
 ghost use Rattle.script.specs.Views.{schema_text, line_texts};
-ghost use Rattle.lane_work.specs.Alone.{AreLinesOf};
+ghost use Rattle.lane_work.specs.Workable.{AreLinesOf};
+ghost use Rattle.lane_threads.specs.Together.{AllAreLinesOf};
 ghost use Rattle.change_lines.specs.Made.{lane_texts, Ascends, AllAscend};
-ghost use Rattle.ahi_cli.specs.Files.{failures_of, KeepsFiles, StopsLoading, StopsFile, StopsReading, SpellsSchema, SpellsLane, SpellsLanes, Spells, AreLanesOf};
+ghost use Rattle.ahi_cli.specs.Files.{failures_of, KeepsFiles, StopsLoading, StopsFile, StopsReading, SpellsSchema, SpellsLane, SpellsLanes, Spells};
 ghost use Rattle.ahi_cli.specs.Stops.{schema_stop, lane_stop, refused};
 ghost use Rattle.ahi_cli.specs.Words.{names_of, file_names};
 
@@ -40,7 +41,7 @@ pub fn read_script<F: Shelf>(
 
     // Whether or not the files are told:
     ensures lanes { IfOk result (λ s. vec_len s.lanes ≡ length command.now.lanes.now) }
-    ensures lines { IfOk result (λ s. AreLanesOf s.schema.fields.items s.lanes.items) }
+    ensures lines { IfOk result (λ s. AllAreLinesOf s.schema.fields.items s.lanes.items) }
     ensures ascend { IfOk result (λ s. AllAscend (lane_texts s.lanes.items)) }
     ensures indexes { IfOk result (λ s. (1 ≤ vec_len s.schema.names)
         × (vec_len s.schema.names ≤ 64) × (vec_len s.schema.fields ≡ vec_len s.schema.names)) }
@@ -83,7 +84,7 @@ fn load_lanes<F: Shelf>(
         (λ files. SpellsLanes files (schema_text schema.now) before
         (map string_bytes command.now.lanes.now) (lane_texts v.items))) }
     ensures lanes { IfOk result (λ v. vec_len v ≡ length command.now.lanes.now) }
-    ensures lines { IfOk result (λ v. AreLanesOf schema.now.fields.items v.items) }
+    ensures lines { IfOk result (λ v. AllAreLinesOf schema.now.fields.items v.items) }
     ensures ascend { IfOk result (λ v. AllAscend (lane_texts v.items)) }
     ensures err { IfErr result (StopsReading (F.holds shelf.old)
         (failures_of F.Shelf shelf.old shelf.new) (file_names (names_of command.now))) }

@@ -2,11 +2,9 @@
 #![tactic(auto)]
 
 mod files;
-mod halt;
 mod law;
-mod print;
-mod report;
 mod run;
+mod script_run;
 mod status;
 mod stop;
 #[cfg(test)]

@@ -1,61 +1,68 @@
 //! The top call.
-ghost use Rattle.std.specs.Prelude.{◌≡◌, List, ℕ, map, length, string_bytes};
-ghost use Rattle.script.specs.Views.{schema_text, line_texts};
-ghost use Rattle.one_lane.specs.OneLane.{AreAskable};
-ghost use Rattle.ahi_cli.specs.Prints.{PrintsTo, EndsWithAt, EndsRefusedAt, ended};
+ghost use Rattle.std.specs.Prelude.{◌≡◌, ◌≢◌, map, string_bytes};
+ghost use Rattle.report_print.specs.Prints.{PrintsTo};
+ghost use Rattle.ahi_cli.specs.Prints.{EndsRefusedAt, halted, ended};
 ghost use Rattle.ahi_cli.specs.Ends.{Ends, output_of};
-ghost use Rattle.ahi_cli.specs.Run.{asked_of, Reports, Stops, report_bytes};
+ghost use Rattle.ahi_cli.specs.Run.{asked_of, Reports, ReportsBy, Stops};
 ghost use Rattle.ahi_cli.specs.Stops.{stop_text};
+ghost use Rattle.ahi_cli.specs.Trail.{LeavesTrail};
 
-use crate::files::{Script, read_script};
-use crate::halt::Halt;
-use crate::print::put_line;
-use crate::report::put_report;
+use crate::files::read_script;
+use crate::script_run::run_script;
 use crate::status::Status;
 use crate::stop::Stop;
 use crate::words::accept;
+use index_engine::EnginePass;
 use io_port::{Shelf, Sink};
-use one_lane::run_lane;
+use lanes::Gate;
+use report_print::{Halt, put_line};
 use std::alloc::Global;
+use std::sync::Wait;
+use std::thread::Threads;
 
 /// Runs the program on the words after its name: reads the files from the shelf, the schema first,
-/// then the lanes, and puts the report to the sink line by line, or the line of the first refusal.
+/// then the lanes, runs the lanes in threads, and puts the report to the sink line by line, or the
+/// line of the first refusal. Lane k, counted from 1, asks the gate before each of its lines.
 ///
-/// `Done` means that the bytes put are a legal report of what the files spell.
-pub fn run_words<R: AllocGlobal, F: Shelf, K: Sink>(
+/// `Done` means that the bytes put are a legal report of what the files spell, whatever order the
+/// lanes' steps came in. `trail` is then the pass of all lanes, which did what is printed; after any
+/// other status it is `None`.
+pub fn run_words<
+    R: AllocGlobal + Threads + Sync,
+    W: Wait + Sync,
+    F: Shelf,
+    K: Sink,
+    G: Gate + Sync,
+>(
     rt: &R,
+    wait: &W,
     words: &[String],
     shelf: &mut F,
     sink: &mut K,
+    gate: &G,
+    trail: &mut Option<EnginePass>,
 ) -> Status
     ensures ends { let asked = asked_of (map string_bytes words.now) F.Shelf shelf.old shelf.new in
         Ends (Reports asked) (Stops asked) (output_of K.Sink sink.old sink.new) result }
+    ensures trail { let asked = asked_of (map string_bytes words.now) F.Shelf shelf.old shelf.new in
+        LeavesTrail (λ pass. ReportsBy pass asked) (output_of K.Sink sink.old sink.new)
+        trail.new result }
 {
     let alloc = rt.alloc();
+    *trail = None;
     let Some(command) = accept(words) else {
         return refuse(alloc, sink, Stop::Usage);
     };
     match read_script(alloc, shelf, &command) {
-        Ok(script) => run_script(alloc, &script, sink),
+        Ok(script) => run_script(rt, wait, alloc, &script, sink, gate, trail),
         Err(stop) => refuse(alloc, sink, stop),
     }
 }
 
-/// Runs a lane and puts its report.
-fn run_script<K: Sink>(alloc: Global, script: &Script, sink: &mut K) -> Status {
-    let schema = &script.schema;
-    let [lines] = script.lanes.as_slice() else {
-        return Status::NoMemory;
-    };
-    match run_lane(alloc, lines, schema.names.len(), schema.sizes.max_changes) {
-        Ok(run) => end(put_report(alloc, sink, &schema.names, &run), Status::Done),
-        Err(_) => Status::NoMemory,
-    }
-}
-
 /// Puts the line of a refusal.
-fn refuse<K: Sink>(alloc: Global, sink: &mut K, stop: Stop) -> Status
-    ensures { EndsRefusedAt K.Sink sink.old sink.new stop result }
+pub(crate) fn refuse<K: Sink>(alloc: Global, sink: &mut K, stop: Stop) -> Status
+    ensures ends { EndsRefusedAt K.Sink sink.old sink.new stop result }
+    ensures other { result ≢ Status.Done }
 {
     if stop == Stop::NoMemory {
         return Status::NoMemory;
@@ -77,7 +84,16 @@ fn end(printed: Result<(), Halt>, done: Status) -> Status
 {
     match printed {
         Ok(()) => done,
-        Err(Halt::SinkFault) => Status::SinkFault,
-        Err(Halt::NoMemory) => Status::NoMemory,
+        Err(halt) => halted(halt),
+    }
+}
+
+/// The status with which printing ends that was halted.
+pub(crate) fn halted(halt: Halt) -> Status
+    ensures { result ≡ halted halt }
+{
+    match halt {
+        Halt::SinkFault => Status::SinkFault,
+        Halt::NoMemory => Status::NoMemory,
     }
 }

@@ -1,5 +1,6 @@
 //! How an engine begins.
 ghost use Rattle.std.specs.Prelude.{◌≡◌, ◌⊎◌, ◌<◌, ◌≤◌, length, Some, Err, IfOk, IfErr, IfSome};
+ghost use Rattle.std.specs.Option.{IsSomeAnd};
 ghost use Rattle.latch_law.specs.Rule.{first_view};
 ghost use Rattle.latch_space.specs.Passes.{view, count};
 ghost use Rattle.latch_space.specs.Spaces.{IsPassOf};
@@ -32,7 +33,7 @@ impl Engine {
         ensures refused { IfSome (first_broken sizes.now (length fields.now) lanes)
             (λ s. result ≡ Err (EngineError.BadSize s)) }
         ensures cause { IfErr result (λ e. (e ≡ EngineError.NoMemory)
-            ⊎ IfSome (first_broken sizes.now (length fields.now) lanes)
+            ⊎ IsSomeAnd (first_broken sizes.now (length fields.now) lanes)
             (λ s. e ≡ EngineError.BadSize s)) }
     {
         if let Some(setting) = broken_setting(sizes, fields.len() as u32, lanes) {

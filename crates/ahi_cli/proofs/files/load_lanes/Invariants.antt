@@ -4,7 +4,8 @@ use Rattle.std.specs.String.{string_bytes}
 use Rattle.script.specs.declared.TheConstants.{MAX_FILE_BYTES}
 use Rattle.script.specs.Views.{schema_text}
 use Rattle.change_lines.specs.Made.{lane_texts, AllAscend}
-use Rattle.ahi_cli.specs.Files.{KeepsFiles, AreLanesOf}
+use Rattle.lane_threads.specs.Together.{AllAreLinesOf}
+use Rattle.ahi_cli.specs.Files.{KeepsFiles}
 use Rattle.ahi_cli.proofs.FirstLemmas.{SpellsUpTo}
 use Rattle.ahi_cli.proofs.files.load_lanes.Given as goal
 
@@ -14,7 +15,7 @@ invariant-loop-i g l = record {
   spelled : ForSome (g.F.Shelf.holds l.fn.shelf) (λ files. SpellsUpTo files (schema_text l.schema) l.before (take l.i (map string_bytes l.command.lanes.now)) (lane_texts l.lanes.items) l.size);
   fits : l.size ≤ MAX_FILE_BYTES;
   count : length l.lanes.items ≡ l.i;
-  lines : AreLanesOf l.schema.fields.items l.lanes.items;
+  lines : AllAreLinesOf l.schema.fields.items l.lanes.items;
   ascend : AllAscend (lane_texts l.lanes.items);
   kept : KeepsFiles g.F.Shelf l.fn.shelf l.shelf;
 }
