@@ -1,5 +1,5 @@
 -- Lanes that work one engine together, and what their report is.
-use Rattle.std.specs.Prelude.{ℕ, ◌≡◌, Vec, List, [], ◌∷◌, length, map}
+use Rattle.std.specs.Prelude.{ℕ, ◌≡◌, Vec, List, [], length, map}
 use Rattle.std.specs.List.{AllByRecursion, AllZip, zip}
 use Rattle.std.specs.declared.alloc.Global.{Global}
 use Rattle.change_log.specs.Log.{Log}
