@@ -1,5 +1,3 @@
 pub mod NoteLemmas
 pub mod LaneLemmas
 pub mod PlainLemmas
-pub mod DashLemmas
-pub mod AloneLemmas

@@ -1,3 +1,2 @@
 pub mod Workable
 pub mod Works
-pub mod Alone

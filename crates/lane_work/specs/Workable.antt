@@ -1,6 +1,9 @@
 -- Lines that an engine can be asked.
-use Rattle.std.specs.Prelude.{◌≡◌, ◌<◌, List, [], ◌∷◌}
+use Rattle.std.specs.Prelude.{ℕ, ◌≡◌, ◌<◌, List, [], ◌∷◌, length}
 use Rattle.std.specs.List.{AllByRecursion}
+use mathlib.Core.Option.{some}
+use lib.ListN.{get_elem?}
+use Rattle.key_tuple.specs.Order.{FieldList}
 use Rattle.map_history.specs.declared.op.Op.{Op}
 use Rattle.map_history.specs.declared.op.Op.TheVariants as op
 use Rattle.script.specs.declared.lane.Line.{Line}
@@ -23,6 +26,23 @@ IsWorkable engine line = IsWorkableOp engine line.op
 -- lines that all are
 abbrev pub AreWorkable : Engine → List Line → Type 0
 AreWorkable engine lines = AllByRecursion (IsWorkable engine) lines
+
+-- a key of an index that has so many fields
+abbrev pub IsKeyOf : List ℕ → ℕ → FieldList → Type 0
+IsKeyOf fields index key = get_elem? fields index ≡ some (length key)
+
+-- a get, a put or a del by such a key
+abbrev pub IsOpOf : List ℕ → Op → Type 0
+IsOpOf fields (op.Get index key) = IsKeyOf fields index key.tuple
+IsOpOf fields (op.Put index key value) = IsKeyOf fields index key.tuple
+IsOpOf fields (op.Set index key value) = ⊥
+IsOpOf fields (op.Del index key) = IsKeyOf fields index key.tuple
+IsOpOf fields (op.Seek index mode tuple) = ⊥
+IsOpOf fields (op.Scan index from to limit) = ⊥
+
+-- lines that all ask so
+abbrev pub AreLinesOf : List ℕ → List Line → Type 0
+AreLinesOf fields lines = AllByRecursion (λ (line : Line). IsOpOf fields line.op) lines
 
 -- three indexes, each with keys of two fields
 pub record HasTwoFields (engine : Engine) : Type 0 where

@@ -8,6 +8,7 @@ ghost use Rattle.lane_work.specs.Workable.{IsWorkableOp, AreWorkable, HasTwoFiel
 use crate::work_lane;
 use index_engine::Engine;
 use key_tuple::{Key, KeyError, Value};
+use lanes::NoGate;
 use map_history::{Op, Sizes};
 use one_lane::run_lane;
 use script::Line;
@@ -93,7 +94,7 @@ fn the_engine_answers_as_plain_maps_do(rt: HostRuntime) -> Result<(), Fail> {
     let alloc = rt.alloc();
     let (engine, mut pass) = Engine::open(alloc, &SIZES, &[2, 2, 2], 1)?;
     let lines = lines(alloc, &engine, LINES)?;
-    let work = work_lane(alloc, &engine, &mut pass, 1, &lines, &rt)?;
+    let work = work_lane(alloc, &engine, &mut pass, 1, &lines, &rt, &NoGate)?;
     let plain = run_lane(alloc, &lines, 3, SIZES.max_changes)?;
     assert_eq!(rt; work.answers.count(), plain.answers.count());
     for i in 0..work.answers.count() {

@@ -9,6 +9,7 @@ use crate::line::work_line;
 use change_log::{Entry, LaneLog};
 use index_engine::{Engine, EnginePass};
 use key_tuple::NoMemory;
+use lanes::Gate;
 use map_history::{Reply, RowBuf, Told};
 use one_lane::Texts;
 use script::Line;
@@ -22,14 +23,16 @@ pub struct LaneWork {
     pub log: LaneLog,
 }
 
-/// Works the lines of a lane, which has this number from 1, one after another.
-pub fn work_lane<R: Wait>(
+/// Works the lines of a lane, which has this number from 1, one after another. The gate is asked
+/// before each.
+pub fn work_lane<R: Wait, G: Gate>(
     alloc: Global,
     engine: &Engine,
     pass: &mut EnginePass,
     lane: u32,
     lines: &[Line],
     wait: &R,
+    gate: &G,
 ) -> Result<LaneWork, NoMemory>
     requires own { IsOf engine.now pass.old }
     requires lane { lane ≡ (known pass.old).low + 1 }
@@ -42,6 +45,7 @@ pub fn work_lane<R: Wait>(
     let mut log = LaneLog::reserve(alloc, lines.len())?;
     let mut row = RowBuf::new(alloc)?;
     for line in lines {
+        gate.before(lane, line.line);
         let told = work_line(engine, pass, line, &mut row, wait)?;
         answers.add_answer(line.line, &told, &row, &line.op)?;
         note(&mut log, lane, line, &told);

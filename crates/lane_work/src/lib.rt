@@ -2,7 +2,6 @@
 //! the changes. Nothing here opens files or starts threads.
 #![tactic(auto)]
 
-mod alone;
 #[cfg(test)]
 mod generated;
 mod lane;
@@ -10,5 +9,4 @@ mod line;
 #[cfg(test)]
 mod tests;
 
-pub use alone::{runs_alone_are_legal, work_alone};
 pub use lane::{LaneWork, work_lane};

@@ -4,6 +4,7 @@ ghost use Rattle.std.specs.Prelude.{◌≡◌, [], ◌∷◌, IfOk};
 use crate::work_lane;
 use index_engine::Engine;
 use key_tuple::{Key, KeyError, Value};
+use lanes::NoGate;
 use map_history::{Op, Sizes};
 use script::Line;
 use std::alloc::Global;
@@ -58,7 +59,7 @@ fn each_line_is_answered_in_order(rt: HostRuntime) -> Result<(), Fail> {
             },
         },
     ];
-    let work = work_lane(alloc, &engine, &mut pass, 1, lines.as_slice(), &rt)?;
+    let work = work_lane(alloc, &engine, &mut pass, 1, lines.as_slice(), &rt, &NoGate)?;
     assert_eq!(rt; work.answers.count(), 3);
     assert_eq!(rt; work.answers.text(0), b"1 absent @0 - -\n".as_slice());
     assert_eq!(rt; work.answers.text(1), b"3 ok @1 - -\n".as_slice());

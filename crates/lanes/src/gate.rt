@@ -1,9 +1,8 @@
 //! What a lane asks before each of its lines.
-use std::marker::Sync;
 
 /// Called by a lane before each of its lines. All lanes share it, and a lane waits for as long as
 /// the call does. It promises nothing.
-pub trait Gate: Sync {
+pub trait Gate {
     fn before(&self, lane: u32, line: u32);
 }
 

@@ -8,7 +8,7 @@ use std::thread::{Threads, join_mut};
 
 /// Lets each doer work once, in a thread of its own where one can be made, and gives them back in
 /// order.
-pub fn run_lanes<R: Threads + Sync, W: Wait + Sync, D: Doer, G: Gate>(
+pub fn run_lanes<R: Threads + Sync, W: Wait + Sync, D: Doer, G: Gate + Sync>(
     rt: &R,
     wait: &W,
     mut doers: Vec<D>,
@@ -21,7 +21,7 @@ pub fn run_lanes<R: Threads + Sync, W: Wait + Sync, D: Doer, G: Gate>(
 }
 
 // Halves of halves, down to one doer.
-fn work_all<R: Threads + Sync, W: Wait + Sync, D: Doer, G: Gate>(
+fn work_all<R: Threads + Sync, W: Wait + Sync, D: Doer, G: Gate + Sync>(
     rt: &R,
     wait: &W,
     gate: &G,
@@ -40,11 +40,11 @@ fn work_all<R: Threads + Sync, W: Wait + Sync, D: Doer, G: Gate>(
     join_mut(
         rt,
         &mut ||
-            requires { IsSync R.row × IsSync W.row }
+            requires { IsSync R.row × IsSync W.row × IsSync G.row }
             ensures { AllZip D.worked front.entry.now front.exit.now }
         { work_all(rt, wait, gate, front) },
         &mut ||
-            requires { IsSync R.row × IsSync W.row }
+            requires { IsSync R.row × IsSync W.row × IsSync G.row }
             ensures { AllZip D.worked back.entry.now back.exit.now }
         { work_all(rt, wait, gate, back) },
     );

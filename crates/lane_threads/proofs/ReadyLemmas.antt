@@ -1,0 +1,82 @@
+-- That a lane is ready is a fact with one proof at most, so it comes out of its type; and lines of a schema can be worked by an engine for it.
+use Rattle.std.proofs.Common.{◌≡◌, ℕ, List, [], ◌∷◌, length, refl, ap, ◌∙◌, arith}
+use Rattle.std.specs.Coded.{Coded, Coded-set, coded_ℕ, coded_list, coded×, code_by, ×_prop, Unit-prop, le_prop}
+use Rattle.std.specs.List.{AllByRecursion}
+use Rattle.std.specs.declared.alloc.Global.{Global}
+use Rattle.std.specs.Prelude.{Vec}
+use mathlib.Core.Logic.{∥∥₁_elim}
+use mathlib.Core.Option.{is_set}
+use lib.ListN.{get_elem?}
+use Rattle.atomic_table.specs.Seated.{table_id_coded}
+use Rattle.latch_law.proofs.Lists.{inside}
+use Rattle.latch_law.specs.declared.knows.Terms.{Terms}
+use Rattle.map_history.specs.declared.op.Op.{Op}
+use Rattle.map_history.specs.declared.op.Op.TheVariants as op
+use Rattle.map_history.specs.declared.sizes.Sizes.{Sizes}
+use Rattle.script.specs.declared.lane.Line.{Line}
+use Rattle.index_world.specs.Shape.{Shape}
+use Rattle.index_engine.specs.declared.engine.Engine.{Engine}
+use Rattle.index_engine.specs.declared.engine.EnginePass.{EnginePass}
+use Rattle.index_engine.specs.Engines.{known, IsOf, terms_for}
+use Rattle.lane_work.specs.Workable.{IsWorkableOp, AreWorkable, IsOpOf, AreLinesOf}
+use Rattle.lane_threads.specs.Ready.{IsReady}
+use Rattle.lane_threads.specs.Together.{AllAreLinesOf}
+
+-- a shape as a tuple of numbers and lists
+coded_shape : Coded Shape
+coded_shape = code_by (ℕ × (List ℕ × (ℕ × (ℕ × (ℕ × (ℕ × ℕ))))))
+    (coded× coded_ℕ (coded× (coded_list coded_ℕ) (coded× coded_ℕ (coded× coded_ℕ (coded× coded_ℕ (coded× coded_ℕ coded_ℕ))))))
+    (λ s. (s.indexes, (s.fields, (s.pages, (s.parts, (s.blocks, (s.nodes, s.fold_bits)))))))
+    (λ p. record { indexes = p.0; fields = p.1.0; pages = p.1.1.0; parts = p.1.1.1.0; blocks = p.1.1.1.1.0; nodes = p.1.1.1.1.1.0; fold_bits = p.1.1.1.1.1.1 })
+    (λ _. refl)
+
+-- and the terms of a space
+coded_terms : Coded (Terms Shape)
+coded_terms = code_by (Shape × (ℕ × (ℕ × (ℕ × ℕ))))
+    (coded× coded_shape (coded× coded_ℕ (coded× coded_ℕ (coded× coded_ℕ coded_ℕ))))
+    (λ t. (t.shape, (t.objects, (t.indexes, (t.max_changes, t.passes)))))
+    (λ p. record { shape = p.0; objects = p.1.0; indexes = p.1.1.0; max_changes = p.1.1.1.0; passes = p.1.1.1.1 })
+    (λ _. refl)
+
+own_prop : (engine : Engine) (pass : EnginePass) → IsProp (IsOf engine pass)
+own_prop engine pass = ×_prop (Coded-set table_id_coded pass.world.seat.table_id engine.space.table.shared.table_id) (Coded-set coded_terms (known pass).terms engine.space.terms)
+
+op_prop : (engine : Engine) (o : Op) → IsProp (IsWorkableOp engine o)
+op_prop engine (op.Get index key) = ×_prop le_prop (is_set (Coded-set coded_ℕ) _ _)
+op_prop engine (op.Put index key value) = ×_prop le_prop (is_set (Coded-set coded_ℕ) _ _)
+op_prop engine (op.Set index key value) = λ x. absurd x
+op_prop engine (op.Del index key) = ×_prop le_prop (is_set (Coded-set coded_ℕ) _ _)
+op_prop engine (op.Seek index mode tuple) = λ x. absurd x
+op_prop engine (op.Scan index from to limit) = λ x. absurd x
+
+lines_prop : (engine : Engine) (lines : List Line) → IsProp (AreWorkable engine lines)
+lines_prop engine [] = Unit-prop
+lines_prop engine (line ∷ lines) = ×_prop (op_prop engine line.op) (lines_prop engine lines)
+
+module _ (engine : Engine) (lane : ℕ) (pass : EnginePass) (lines : List Line) (ready : ∥ IsReady engine lane pass lines ∥₁) where
+  -- a lane that is ready has all that its type says
+  pub ready_is : IsReady engine lane pass lines
+  ready_is = record {
+    own = ∥∥₁_elim ready (own_prop engine pass) (λ r. r.own);
+    lane_is = ∥∥₁_elim ready (Coded-set coded_ℕ _ _) (λ r. r.lane_is);
+    lines_can = ∥∥₁_elim ready (lines_prop engine lines) (λ r. r.lines_can);
+  }
+
+module _ (engine : Engine) (sizes : Sizes) (fields : List ℕ) (lanes : ℕ) (terms : engine.space.terms ≡ terms_for sizes fields lanes) where
+  workable_op : (o : Op) → IsOpOf fields o → IsWorkableOp engine o
+  workable_op (op.Get index key) can = let below = inside fields index (length key.tuple) can in let count = ap (λ (t : Terms Shape). t.indexes) terms in (omega (arith, below, count), ap (λ (t : Terms Shape). get_elem? t.shape.fields index) terms ∙ can)
+  workable_op (op.Put index key value) can = let below = inside fields index (length key.tuple) can in let count = ap (λ (t : Terms Shape). t.indexes) terms in (omega (arith, below, count), ap (λ (t : Terms Shape). get_elem? t.shape.fields index) terms ∙ can)
+  workable_op (op.Set index key value) can = absurd can
+  workable_op (op.Del index key) can = let below = inside fields index (length key.tuple) can in let count = ap (λ (t : Terms Shape). t.indexes) terms in (omega (arith, below, count), ap (λ (t : Terms Shape). get_elem? t.shape.fields index) terms ∙ can)
+  workable_op (op.Seek index mode tuple) can = absurd can
+  workable_op (op.Scan index from to limit) can = absurd can
+
+  -- the lines of a schema can be worked by an engine for it
+  lane_workable : (lines : List Line) → AreLinesOf fields lines → AreWorkable engine lines
+  lane_workable [] all = tt
+  lane_workable (line ∷ lines) all = (workable_op line.op all.0, lane_workable lines all.1)
+
+  -- those of each lane
+  pub all_workable : (lanes : List (Vec Line Global)) → AllAreLinesOf fields lanes → AllByRecursion (λ (lines : Vec Line Global). AreWorkable engine lines.items) lanes
+  all_workable [] all = tt
+  all_workable (lines ∷ lanes) all = (lane_workable lines.items all.0, all_workable lanes all.1)

@@ -1,0 +1,63 @@
+-- Lanes that work one engine together, and what their report is.
+use Rattle.std.specs.Prelude.{ℕ, ◌≡◌, Vec, List, [], length, map}
+use Rattle.std.specs.List.{AllByRecursion, AllZip, zip}
+use Rattle.std.specs.declared.alloc.Global.{Global}
+use Rattle.change_log.specs.Log.{Log}
+use Rattle.latch_law.specs.Fitting.{IsFitted}
+use Rattle.map_history.specs.declared.sizes.Sizes.{Sizes}
+use Rattle.map_history.specs.LegalReport.{Run, IsLegalReport}
+use Rattle.map_history.specs.LegalReport as legal
+use Rattle.map_history.specs.Report.{AnswerLine, ChangeLine, IndexPart, Report}
+use Rattle.map_history.specs.Statistics.{counts_of}
+use Rattle.script.specs.declared.lane.Line.{Line}
+use Rattle.index_world.specs.Law.{IsLawful}
+use Rattle.index_world.specs.References.{IsReference}
+use Rattle.index_world.specs.Rightness.{IsRight}
+use Rattle.index_world.specs.Spoken.{spoken}
+use Rattle.index_engine.specs.declared.engine.EnginePass.{EnginePass}
+use Rattle.index_engine.specs.Engines.{known, terms_for}
+use Rattle.one_lane.specs.Lane.{answer_line_text}
+use Rattle.lane_law.specs.Merged.{all_notes, LinesAscend, AreLookedUp}
+use Rattle.lane_law.specs.Runs.{all_sayings}
+use Rattle.lane_law.specs.Worked.{AreInOrder}
+use Rattle.lane_work.specs.Workable.{AreLinesOf}
+use Rattle.lane_work.specs.Works.{HasDashes}
+use Rattle.change_lines.specs.Made.{lane_texts}
+
+-- What is known when some lanes worked an engine of these sizes together: their answers are printed so, the changes among them are noted lane by lane, and the joined pass of all lanes said these answers and nothing else. Some lawful state fits that pass.
+pub record RanTogether (sizes : Sizes) (fields : List ℕ) (lanes : List (List legal.Line)) (texts : List (List (List ℕ))) (logs : List Log) (pass : EnginePass) : Type 0 where
+  pub answers : List (List AnswerLine)
+  pub printed : texts ≡ map (λ (told : List AnswerLine). map answer_line_text told) answers
+  pub dashed : AllByRecursion (λ (told : List AnswerLine). AllByRecursion (λ (a : AnswerLine). HasDashes a.answer) told) answers
+  pub noted : map (λ (log : Log). log.noted) logs ≡ all_notes 0 lanes answers
+  pub in_order : AllZip AreInOrder lanes answers
+  pub said : spoken (known pass).said ≡ all_sayings 0 lanes answers
+  pub low : (known pass).low ≡ 0
+  pub end : (known pass).end ≡ length lanes
+  pub terms : (known pass).terms ≡ terms_for sizes fields (length lanes)
+  pub sizes_are : pass.sizes ≡ sizes
+  pub fitted : IsFitted IsLawful IsRight IsReference (known pass)
+
+-- each lane's lines ask for keys of indexes with so many fields
+abbrev pub AllAreLinesOf : List ℕ → List (Vec Line Global) → Type 0
+AllAreLinesOf fields lanes = AllByRecursion (λ (lines : Vec Line Global). AreLinesOf fields lines.items) lanes
+
+-- the run of these lanes over indexes of these names
+abbrev pub run_of : Sizes → List (List ℕ) → List (Vec Line Global) → Run
+run_of sizes names lanes = record { sizes = sizes; names = names; lanes = lane_texts lanes }
+
+-- an index's part of the report, with these entries and statistics that count nothing
+abbrev pub part_with : List ℕ × List ChangeLine → IndexPart
+part_with part = record { name = part.0; entries = part.1; counts = counts_of [] }
+
+-- the report of these answers and entries
+abbrev pub report_of : List (List AnswerLine) → List (List ℕ) → List (List ChangeLine) → Report
+report_of answers names entries = record { lanes = answers; indexes = map part_with (zip names entries) }
+
+-- a report of such a run whose entries are looked up in the lanes' logs is legal
+abbrev pub RunsAreLegal : Type 0
+RunsAreLegal = (sizes : Sizes) (fields : List ℕ) (names : List (List ℕ)) (lanes : List (Vec Line Global)) (texts : List (List (List ℕ))) (logs : List Log) (pass : EnginePass) (entries : List (List ChangeLine))
+    → length names ≡ length fields → length entries ≡ length names → AllAreLinesOf fields lanes → (ran : RanTogether sizes fields (lane_texts lanes) texts logs pass)
+    → let run = run_of sizes names lanes in
+    let report = report_of ran.answers names entries in
+    LinesAscend run → AreLookedUp run report logs → IsLegalReport run report

@@ -1,0 +1,48 @@
+//! Lanes taken apart after they worked.
+ghost use Rattle.std.specs.Prelude.{◌≡◌, IfOk};
+ghost use Rattle.lane_threads.specs.Doing.{AreParts};
+
+use crate::doer::{DoneLane, LaneDoer};
+use change_log::LaneLog;
+use index_engine::EnginePass;
+use key_tuple::NoMemory;
+use one_lane::Texts;
+use std::alloc::Global;
+
+/// What lanes had and were told, in order.
+#[derive(Drop)]
+pub(crate) struct Parts {
+    pub(crate) passes: Vec<EnginePass>,
+    pub(crate) answers: Vec<Texts>,
+    pub(crate) logs: Vec<LaneLog>,
+}
+
+impl LaneDoer<'_> {
+    fn done(self) -> Option<DoneLane>
+        ensures { result ≡ self.entry.done }
+    {
+        let LaneDoer { ready: _, done } = self;
+        done
+    }
+}
+
+/// The parts of all lanes. A lane that isn't done makes it `NoMemory`.
+pub(crate) fn take_apart(alloc: Global, doers: Vec<LaneDoer<'_>>) -> Result<Parts, NoMemory>
+    ensures { IfOk result (λ parts. AreParts doers.entry.items parts.passes.items
+        parts.answers.items parts.logs.items) }
+{
+    let mut passes = Vec::with_capacity(alloc, doers.len())?;
+    let mut answers = Vec::with_capacity(alloc, doers.len())?;
+    let mut logs = Vec::with_capacity(alloc, doers.len())?;
+    for doer in doers {
+        let DoneLane { pass, work } = doer.done().ok_or(NoMemory)?;
+        passes.push(pass)?;
+        answers.push(work.answers)?;
+        logs.push(work.log)?;
+    }
+    Ok(Parts {
+        passes,
+        answers,
+        logs,
+    })
+}

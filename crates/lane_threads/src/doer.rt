@@ -1,0 +1,32 @@
+//! A lane before and after it works.
+ghost use Rattle.lane_threads.specs.Ready.{IsReady};
+
+use index_engine::{Engine, EnginePass};
+use lane_work::LaneWork;
+use script::Line;
+use std::alloc::Global;
+
+/// A lane that can work: its lines, its pass, and its number from 1.
+#[derive(Drop)]
+pub(crate) struct ReadyLane<'a> {
+    pub(crate) alloc: Global,
+    pub(crate) engine: &'a Engine,
+    pub(crate) pass: EnginePass,
+    pub(crate) lane: u32,
+    pub(crate) lines: &'a [Line],
+    ghost ready: { ∥ IsReady engine.now lane pass lines.now ∥₁ },
+}
+
+/// A lane that has worked: its pass, and what it was told.
+#[derive(Drop)]
+pub(crate) struct DoneLane {
+    pub(crate) pass: EnginePass,
+    pub(crate) work: LaneWork,
+}
+
+/// What goes to a thread: a lane that can work, and then the same lane done, unless memory lacked.
+#[derive(Drop)]
+pub(crate) struct LaneDoer<'a> {
+    pub(crate) ready: Option<ReadyLane<'a>>,
+    pub(crate) done: Option<DoneLane>,
+}

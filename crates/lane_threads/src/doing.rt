@@ -1,0 +1,37 @@
+//! How a lane works.
+ghost use Rattle.std.specs.Prelude.{IfOk};
+ghost use Rattle.lane_threads.specs.Doing.{Does, WorkedOnce};
+
+use crate::doer::{DoneLane, LaneDoer, ReadyLane};
+use key_tuple::NoMemory;
+use lane_work::work_lane;
+use lanes::{Doer, Gate};
+use std::sync::Wait;
+use std::thread::Threads;
+
+impl ReadyLane<'_> {
+    /// Works all lines. After `NoMemory` the pass is gone, and its number with it.
+    fn work<W: Wait, G: Gate>(self, wait: &W, gate: &G) -> Result<DoneLane, NoMemory>
+        ensures { IfOk result (Does self.entry) }
+    {
+        let ReadyLane {
+            alloc,
+            engine,
+            mut pass,
+            lane,
+            lines,
+        } = self;
+        let work = work_lane(alloc, engine, &mut pass, lane, lines, wait, gate)?;
+        Ok(DoneLane { pass, work })
+    }
+}
+
+impl Doer for LaneDoer<'_> {
+    ghost worked = { WorkedOnce };
+
+    fn work<R: Threads + Sync, W: Wait + Sync, G: Gate>(&mut self, _rt: &R, wait: &W, gate: &G) {
+        if let Some(lane) = self.ready.take() {
+            self.done = lane.work(wait, gate).ok();
+        }
+    }
+}

@@ -1,0 +1,15 @@
+//! Lanes of lines, each worked in a thread of its own, over one engine.
+//! Nothing here opens files or prints.
+#![tactic(auto)]
+
+mod apart;
+mod doer;
+mod doing;
+mod laws;
+mod readying;
+#[cfg(test)]
+mod tests;
+mod together;
+
+pub use laws::runs_are_legal;
+pub use together::{LanesWork, work_lanes};

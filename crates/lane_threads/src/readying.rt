@@ -1,0 +1,58 @@
+//! Lanes made ready.
+ghost use Rattle.std.specs.Prelude.{◌≡◌, ◌+◌, length, IfOk};
+ghost use Rattle.std.specs.List.{AllByRecursion};
+ghost use Rattle.index_engine.specs.Engines.{known, IsOf};
+ghost use Rattle.lane_work.specs.Workable.{AreWorkable};
+ghost use Rattle.pass_dealing.specs.Dealt.{AreLanes};
+ghost use Rattle.lane_threads.specs.Doing.{IsReadyFor, AreReadyFor};
+
+use crate::doer::{LaneDoer, ReadyLane};
+use index_engine::{Engine, EnginePass};
+use key_tuple::NoMemory;
+use script::Line;
+use std::alloc::Global;
+
+/// A doer for each lane, with the pass at its place.
+pub(crate) fn ready_lanes<'a>(
+    alloc: Global,
+    engine: &'a Engine,
+    passes: Vec<EnginePass>,
+    lanes: &'a [Vec<Line>],
+) -> Result<Vec<LaneDoer<'a>>, NoMemory>
+    requires long { length passes.items ≡ length lanes.now }
+    requires own { AreLanes engine.now 0 passes.items }
+    requires lines { AllByRecursion (λ lines. AreWorkable engine.now lines.items) lanes.now }
+    ensures { IfOk result (λ doers. AreReadyFor engine.entry.now passes.items
+        lanes.entry.now doers.items) }
+{
+    let mut doers = Vec::with_capacity(alloc, lanes.len())?;
+    let mut given = passes.into_iter();
+    for lines in lanes {
+        let Some(pass) = given.next() else {
+            unreachable!()
+        };
+        doers.push(ready(alloc, engine, pass, lines))?;
+    }
+    Ok(doers)
+}
+
+/// A doer for these lines. Its lane has the number that ends its pass.
+fn ready<'a>(alloc: Global, engine: &'a Engine, pass: EnginePass, lines: &'a [Line]) -> LaneDoer<'a>
+    requires own { IsOf engine.now pass }
+    requires one { (known pass).end ≡ (known pass).low + 1 }
+    requires lines { AreWorkable engine.now lines.now }
+    ensures { IsReadyFor engine.entry.now pass lines.entry.now result }
+{
+    let (_, lane) = pass.numbers();
+    let ready = ReadyLane {
+        alloc,
+        engine,
+        pass,
+        lane,
+        lines,
+    };
+    LaneDoer {
+        ready: Some(ready),
+        done: None,
+    }
+}

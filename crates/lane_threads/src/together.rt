@@ -1,0 +1,73 @@
+//! All lanes together.
+ghost use Rattle.std.specs.Prelude.{◌≡◌, ◌⊎◌, ◌<◌, ◌≤◌, length, Err, IfOk, IfErr, IfSome};
+ghost use Rattle.std.specs.List.{AllByRecursion};
+ghost use Rattle.index_engine.specs.Settings.{first_broken};
+ghost use Rattle.lane_work.specs.Workable.{AreLinesOf};
+ghost use Rattle.change_lines.specs.Made.{lane_texts};
+ghost use Rattle.lane_threads.specs.Together.{RanTogether};
+
+use crate::apart::{Parts, take_apart};
+use crate::readying::ready_lanes;
+use change_log::LaneLog;
+use index_engine::{Engine, EngineError, EnginePass};
+use lanes::{Gate, run_lanes};
+use map_history::Sizes;
+use one_lane::Texts;
+use pass_dealing::{deal, gather, lanes_are_gathered, lanes_are_in_row};
+use script::Line;
+use std::alloc::Global;
+use std::sync::Wait;
+use std::thread::Threads;
+
+/// What lanes were told together: the printed answers of each, what each noted, and the pass of
+/// them all.
+#[derive(Drop)]
+pub struct LanesWork {
+    pub answers: Vec<Texts>,
+    pub logs: Vec<LaneLog>,
+    pub pass: EnginePass,
+}
+
+/// Opens an engine of these sizes, and works each lane's lines in a thread of its own where one can
+/// be made. A lane that lacks memory makes the whole `NoMemory`, once all lanes have ended.
+pub fn work_lanes<R: Threads + Sync, W: Wait + Sync, G: Gate + Sync>(
+    rt: &R,
+    wait: &W,
+    alloc: Global,
+    sizes: &Sizes,
+    fields: &[u8],
+    lanes: &[Vec<Line>],
+    gate: &G,
+) -> Result<LanesWork, EngineError>
+    requires indexes { (0 < length fields.now) × (length fields.now ≤ 64) }
+    requires lanes { (0 < length lanes.now) × (length lanes.now ≤ 64) }
+    requires lines { AllByRecursion (λ lines. AreLinesOf fields.now lines.items) lanes.now }
+    ensures ok { IfOk result (λ work. RanTogether sizes.now fields.now (lane_texts lanes.now)
+        work.answers.items work.logs.items work.pass) }
+    ensures refused { IfSome (first_broken sizes.now (length fields.now) (length lanes.now))
+        (λ s. result ≡ Err (EngineError.BadSize s)) }
+    ensures cause { IfErr result (λ e. (e ≡ EngineError.NoMemory)
+        ⊎ IfSome (first_broken sizes.now (length fields.now) (length lanes.now))
+        (λ s. e ≡ EngineError.BadSize s)) }
+{
+    let (engine, pass) = Engine::open(alloc, sizes, fields, lanes.len() as u32)?;
+    let passes = deal(alloc, &engine, pass)?;
+    let doers = ready_lanes(alloc, &engine, passes, lanes)?;
+    let worked = run_lanes(rt, wait, doers, gate);
+    let Parts {
+        passes,
+        answers,
+        logs,
+    } = take_apart(alloc, worked)?;
+    lanes_are_in_row();
+    lanes_are_gathered();
+    let Some(pass) = gather(&engine, passes) else {
+        unreachable!()
+    };
+    pass.fits();
+    Ok(LanesWork {
+        answers,
+        logs,
+        pass,
+    })
+}
