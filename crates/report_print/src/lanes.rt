@@ -12,11 +12,7 @@ use one_lane::Texts;
 use report_text::Word;
 
 /// Puts the answers of all lanes, which are numbered from 1.
-pub fn put_lanes<K: Sink>(
-    sink: &mut K,
-    line: &mut Vec<u8>,
-    answers: &[Texts],
-) -> Result<(), Halt>
+pub fn put_lanes<K: Sink>(sink: &mut K, line: &mut Vec<u8>, answers: &[Texts]) -> Result<(), Halt>
     ensures { PrintsTo K.Sink sink.old sink.new (lanes_text answers.now) result }
 {
     for (i, texts) in answers.iter().enumerate() {
