@@ -1,13 +1,11 @@
 -- The text of a report is its spelling.
-use Rattle.std.proofs.Common.{◌≡◌, ℕ, suc, ◌+◌, Some, List, [], ◌∷◌, ◌++◌, length, map, codes, refl, ap, ◌∙◌, sym, arith}
+use Rattle.std.proofs.Common.{◌≡◌, ℕ, suc, ◌+◌, Some, List, [], ◌∷◌, ◌++◌, length, map, refl, ap, ◌∙◌, sym, arith}
 use Rattle.std.proofs.lemmas.List.{length-map}
 use Rattle.std.proofs.lemmas.List.Concat.{concat_is}
 use Rattle.std.proofs.lemmas.List.Folds.{flat_map-map}
-use Rattle.std.specs.List.{slice_get, AllByRecursion, concat, flat_map, enumerate_from, zip}
-use Rattle.std.specs.Fmt.{decimal}
+use Rattle.std.specs.List.{slice_get, AllByRecursion, flat_map, enumerate_from, zip}
 use Rattle.map_history.specs.Report.{AnswerLine, ChangeLine, IndexPart}
-use Rattle.map_history.specs.Spelling.{spell, change_text, changes_text, stats_text, answer_text, lane_text}
-use Rattle.map_history.specs.Text.{line_of}
+use Rattle.map_history.specs.Spelling.{spell, change_text, changes_text, stats_text, lane_text}
 use Rattle.one_lane.specs.Lane.{answer_line_text}
 use Rattle.change_lines.specs.declared.made.MadeLine.{MadeLine}
 use Rattle.change_lines.specs.Printed.{AreCounted, entry_in, made_text}

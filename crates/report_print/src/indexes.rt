@@ -1,5 +1,5 @@
 //! The changes of the indexes.
-ghost use Rattle.std.specs.Prelude.{◌≡◌, ◌+◌, ◌<◌, ◌++◌, List, ℕ, map, length, string_bytes};
+ghost use Rattle.std.specs.Prelude.{◌≡◌, map, length, string_bytes};
 ghost use Rattle.std.specs.List.{AllByRecursion, flat_map};
 ghost use Rattle.change_lines.specs.Made.{made_lists};
 ghost use Rattle.change_lines.specs.Printed.{AsksChange, made_text};

@@ -1,5 +1,4 @@
 //! The answers of the lanes.
-ghost use Rattle.std.specs.Prelude.{◌≡◌, ◌+◌, ◌<◌, ◌++◌, List, ℕ, length};
 ghost use Rattle.std.specs.List.{concat};
 ghost use Rattle.report_print.specs.Prints.{PrintsTo};
 ghost use Rattle.report_print.specs.Texts.{lane_line, lane_text, lanes_text};
@@ -12,11 +11,7 @@ use one_lane::Texts;
 use report_text::Word;
 
 /// Puts the answers of all lanes, which are numbered from 1.
-pub fn put_lanes<K: Sink>(
-    sink: &mut K,
-    line: &mut Vec<u8>,
-    answers: &[Texts],
-) -> Result<(), Halt>
+pub fn put_lanes<K: Sink>(sink: &mut K, line: &mut Vec<u8>, answers: &[Texts]) -> Result<(), Halt>
     ensures { PrintsTo K.Sink sink.old sink.new (lanes_text answers.now) result }
 {
     for (i, texts) in answers.iter().enumerate() {
@@ -41,6 +36,7 @@ fn put_lane_line<K: Sink>(sink: &mut K, line: &mut Vec<u8>, number: u64) -> Resu
     ensures { PrintsTo K.Sink sink.old sink.new (lane_line number) result }
 {
     line.clear();
+    // `lane_head` takes a u32, and a slice may have more lanes than that counts.
     report_text::put_line::<Blank>(line, &[Word::Text("lane"), Word::Number(number)])?;
     put_line(sink, line)
 }

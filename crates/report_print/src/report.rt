@@ -1,5 +1,5 @@
 //! A whole report.
-ghost use Rattle.std.specs.Prelude.{◌≡◌, ◌+◌, ◌<◌, ◌++◌, List, ℕ, map, length, string_bytes};
+ghost use Rattle.std.specs.Prelude.{◌≡◌, map, length, string_bytes};
 ghost use Rattle.change_lines.specs.Made.{made_lists};
 ghost use Rattle.report_print.specs.Prints.{PrintsTo};
 ghost use Rattle.report_print.specs.Texts.{AskChanges, first_line, end_line, report_text_of};

@@ -1,5 +1,5 @@
 //! The statistics of the indexes, which count nothing.
-ghost use Rattle.std.specs.Prelude.{◌≡◌, ◌+◌, ◌<◌, ◌++◌, List, ℕ, map, length, string_bytes};
+ghost use Rattle.std.specs.Prelude.{map, string_bytes};
 ghost use Rattle.std.specs.List.{flat_map};
 ghost use Rattle.report_print.specs.Prints.{PrintsTo};
 ghost use Rattle.report_print.specs.Texts.{name_stats};

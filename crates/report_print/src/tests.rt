@@ -1,6 +1,11 @@
 //! A worked report, byte for byte.
-ghost use Rattle.std.specs.Prelude.{◌≡◌, IfOk, IsSome};
+ghost use Rattle.std.specs.Prelude.{◌≡◌, IfOk, IsSome, length};
+ghost use Rattle.std.specs.List.{AllByRecursion};
 ghost use Rattle.report_text.specs.Printed.{change_made};
+ghost use Rattle.script.specs.declared.lane.Line.{Line};
+ghost use Rattle.change_lines.specs.Made.{made_lists};
+ghost use Rattle.change_lines.specs.Printed.{AsksChange};
+ghost use Rattle.report_print.specs.Texts.{AskChanges};
 
 use crate::{Halt, put_report};
 use change_lines::MadeLine;
@@ -52,9 +57,23 @@ fn add_ok(answers: &mut Texts, row: &RowBuf, line: &Line, point: u64) -> Result<
     answers.add_answer(line.line, &told, row, &line.op)
 }
 
+/// The answers of two lanes: lane 1 has the second and the third line, lane 2 the first.
+fn answers_of(alloc: Global, lines: &[Line]) -> Result<Vec<Texts>, Fail>
+    requires { length lines.now ≡ 3 }
+{
+    let row = RowBuf::new(alloc)?;
+    let mut one = Texts::new(alloc);
+    add_ok(&mut one, &row, &lines[1], 2)?;
+    add_ok(&mut one, &row, &lines[2], 1)?;
+    let mut two = Texts::new(alloc);
+    add_ok(&mut two, &row, &lines[0], 1)?;
+    Ok(Vec::from_array(alloc, [one, two])?)
+}
+
 /// The change that a line of a lane made.
 fn made(number: u64, lane: u32, line: &Line) -> MadeLine<'_>
-    ensures { result.line ≡ line }
+    requires { IsSome (change_made line.now.op) }
+    ensures { AsksChange result }
 {
     let entry = Entry {
         number,
@@ -64,24 +83,30 @@ fn made(number: u64, lane: u32, line: &Line) -> MadeLine<'_>
     MadeLine { entry, line }
 }
 
-/// Puts the report of two lanes over two indexes. Of the first, lane 2 made the first change and
-/// lane 1 the second.
+/// The changes of two indexes: of the first, lane 2 made the first change and lane 1 the second.
+fn made_of(alloc: Global, lines: &[Line]) -> Result<Vec<Vec<MadeLine<'_>>>, Fail>
+    requires three { length lines.now ≡ 3 }
+    requires changes { AllByRecursion (λ (l : Line). IsSome (change_made l.op)) lines.now }
+    ensures two { IfOk result (λ made. length made.items ≡ 2) }
+    ensures changes { IfOk result (λ made. AskChanges (made_lists made.items)) }
+{
+    let of_one = [made(1, 2, &lines[0]), made(2, 1, &lines[1])];
+    let of_two = [made(1, 1, &lines[2])];
+    let of_one = Vec::from_array(alloc, of_one)?;
+    let of_two = Vec::from_array(alloc, of_two)?;
+    Ok(Vec::from_array(alloc, [of_one, of_two])?)
+}
+
+/// Puts the report of two lanes over two indexes.
 fn put_two_lanes(alloc: Global, sink: &mut MemorySink) -> Result<Result<(), Halt>, Fail> {
     let first = put(alloc, 1, b"a", b"x")?;
     let second = del(alloc, 2, b"a")?;
     let third = put(alloc, 3, b"b", b"y")?;
-    let row = RowBuf::new(alloc)?;
-    let mut one = Texts::new(alloc);
-    add_ok(&mut one, &row, &second, 2)?;
-    add_ok(&mut one, &row, &third, 1)?;
-    let mut two = Texts::new(alloc);
-    add_ok(&mut two, &row, &first, 1)?;
+    let lines = [first, second, third];
+    let answers = answers_of(alloc, &lines)?;
+    let made = made_of(alloc, &lines)?;
     let names = [String::from_str(alloc, "t")?, String::from_str(alloc, "u")?];
-    let made = [
-        Vec::from_array(alloc, [made(1, 2, &first), made(2, 1, &second)])?,
-        Vec::from_array(alloc, [made(1, 1, &third)])?,
-    ];
-    Ok(put_report(alloc, sink, &names, &[one, two], &made))
+    Ok(put_report(alloc, sink, &names, &answers, &made))
 }
 
 #[test]
@@ -114,6 +139,9 @@ fn a_put_is_one_line(rt: HostRuntime) -> Result<(), Fail> {
     let alloc = rt.alloc();
     let mut sink = MemorySink::with_room(alloc, 1000, [3].to_vec(alloc)?)?;
     assert_eq!(rt; put_two_lanes(alloc, &mut sink)?, Err(Halt::SinkFault));
-    assert_eq!(rt; sink.written(), b"ahi run\nlane 1\n2 ok @2 - -\n".as_slice());
+    assert_eq!(rt;
+        sink.written(),
+        b"ahi run\nlane 1\n2 ok @2 - -\n".as_slice()
+    );
     Ok(())
 }
