@@ -5,6 +5,8 @@ use std::alloc::Global;
 use std::test::Fail;
 
 mod generated;
+mod lanes;
+mod legality;
 
 const SCHEMA: &str = "index t 1\n";
 
