@@ -101,11 +101,11 @@ fn replay_all<'a>(alloc: Global, lists: &[Vec<Change<'a>>]) -> Result<Vec<Histor
     Ok(histories)
 }
 
-fn check_lanes(
+fn check_lanes<'r, 'a>(
     alloc: Global,
     most_changes: u64,
-    report: &Report<'_>,
-    histories: &[History<'_>],
+    report: &'r Report<'a>,
+    histories: &'r [History<'a>],
 ) -> Result<(), Lie> {
     for (place, answers) in report.lanes.iter().enumerate() {
         let judge = Judge {
