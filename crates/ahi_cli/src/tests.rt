@@ -5,6 +5,7 @@ use std::alloc::Global;
 use std::test::Fail;
 
 mod generated;
+mod judged;
 mod lanes;
 mod legality;
 
@@ -28,7 +29,7 @@ pub(crate) struct Fails {
 
 pub(crate) const NONE: Fails = Fails {
     load: 9,
-    put: 99_999,
+    put: u64::MAX,
 };
 
 /// Runs the words on a schema `s` and a lane `l`, with ample room for a short report.

@@ -53,6 +53,23 @@ pub(crate) fn lane_text(
     Ok(text)
 }
 
+/// Lanes 1 to this number.
+pub(crate) fn lane_texts(
+    alloc: Global,
+    seed: u64,
+    lanes: u64,
+    lines: u64,
+    indexes: u64,
+    keys: u64,
+) -> Result<Vec<String>, AllocError> {
+    let mut texts = Vec::new(alloc);
+    for before in 0..lanes {
+        let lane = before.wrapping_add(1);
+        texts.push(lane_text(alloc, seed, lane, lines, indexes, keys)?)?;
+    }
+    Ok(texts)
+}
+
 /// A key of the index by its number. Keys of two fields and more share their beginnings.
 fn key_text(alloc: Global, index: u64, key: u64) -> Result<String, AllocError> {
     let mut text = String::new(alloc);

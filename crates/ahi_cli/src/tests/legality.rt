@@ -6,6 +6,7 @@ mod dealt;
 mod forms;
 mod full;
 mod history;
+mod lies;
 mod told;
 mod verdict;
 mod words;
@@ -15,7 +16,7 @@ use history::History;
 use std::alloc::{AllocError, AllocFailed, Global};
 use std::str;
 use told::{Change, Report, read_report};
-use verdict::{Judge, check_changes};
+use verdict::{Evidence, check_changes};
 
 /// How many changes an index may have.
 pub(crate) const MOST_CHANGES: u64 = 1_000_000;
@@ -108,13 +109,13 @@ fn check_lanes<'r, 'a>(
     histories: &'r [History<'a>],
 ) -> Result<(), Lie> {
     for (place, answers) in report.lanes.iter().enumerate() {
-        let judge = Judge {
+        let evidence = Evidence {
             most_changes,
             lane: place.wrapping_add(1),
             lists: &report.lists,
             histories,
         };
-        judge.check_lane(alloc, answers)?;
+        evidence.check_lane(alloc, answers)?;
     }
     Ok(())
 }

@@ -1,5 +1,5 @@
 //! Lanes dealt by chance to plain maps, a line at a time: such a run's report is legal.
-use crate::tests::lanes::{draw, lane_text, schema_text};
+use crate::tests::lanes::{draw, lane_texts, schema_text};
 use crate::tests::legality::asked::{Act, Index, Line, read_schema};
 use crate::tests::legality::told::COUNTS;
 use crate::tests::legality::{Lie, judge, read_lanes};
@@ -69,27 +69,6 @@ impl<'a> Table<'a> {
 }
 
 impl<'a> Deal<'a> {
-    fn new(alloc: Global, indexes: usize, lanes: usize) -> Result<Deal<'a>, Lie> {
-        let mut deal = Deal {
-            tables: Vec::new(alloc),
-            lanes: Vec::new(alloc),
-        };
-        for _ in 0..indexes {
-            deal.tables.push(Table {
-                rows: BTreeMap::new(alloc),
-                list: String::new(alloc),
-                count: 0,
-            })?;
-        }
-        for _ in 0..lanes {
-            deal.lanes.push(Lane {
-                next: 0,
-                answers: String::new(alloc),
-            })?;
-        }
-        Ok(deal)
-    }
-
     /// Works the next line of the lane at this place, and says whether there was one.
     fn step(&mut self, alloc: Global, asked: &[Vec<Line<'a>>], place: usize) -> Result<bool, Lie> {
         let (Some(lane), Some(lines)) = (self.lanes.get_mut(place), asked.get(place)) else {
@@ -125,46 +104,81 @@ impl<'a> Deal<'a> {
         }
         Ok(())
     }
+}
 
-    fn report(&self, alloc: Global, indexes: &[Index<'_>]) -> Result<String, Lie> {
-        let mut text = String::from_str(alloc, "ahi run\n")?;
-        for (place, lane) in self.lanes.iter().enumerate() {
-            let head = format!(in alloc; "lane {}\n", place.wrapping_add(1))?;
-            text.push_str(head.as_str())?;
-            text.push_str(lane.answers.as_str())?;
-        }
-        for (index, table) in indexes.iter().zip(self.tables.iter()) {
-            let head = format!(in alloc; "changes {} {}\n", index.name, table.count)?;
-            text.push_str(head.as_str())?;
-            text.push_str(table.list.as_str())?;
-        }
-        for index in indexes {
-            text.push_str(format!(in alloc; "stats {} {COUNTS}\n", index.name)?.as_str())?;
-        }
-        text.push_str("end\n")?;
-        Ok(text)
+fn new_tables<'a>(alloc: Global, count: usize) -> Result<Vec<Table<'a>>, Lie> {
+    let mut tables = Vec::new(alloc);
+    for _ in 0..count {
+        tables.push(Table {
+            rows: BTreeMap::new(alloc),
+            list: String::new(alloc),
+            count: 0,
+        })?;
     }
+    Ok(tables)
+}
+
+fn new_lanes(alloc: Global, count: usize) -> Result<Vec<Lane>, Lie> {
+    let mut lanes = Vec::new(alloc);
+    for _ in 0..count {
+        lanes.push(Lane {
+            next: 0,
+            answers: String::new(alloc),
+        })?;
+    }
+    Ok(lanes)
+}
+
+fn put_answers(alloc: Global, text: &mut String, lanes: &[Lane]) -> Result<(), Lie> {
+    for (place, lane) in lanes.iter().enumerate() {
+        let number = place.wrapping_add(1);
+        text.push_str(format!(in alloc; "lane {number}\n{}", lane.answers)?.as_str())?;
+    }
+    Ok(())
+}
+
+/// Puts the lists to one text and the statistics to another.
+fn put_lists(
+    alloc: Global,
+    lists: &mut String,
+    statistics: &mut String,
+    deal: &Deal<'_>,
+    indexes: &[Index<'_>],
+) -> Result<(), Lie> {
+    for (index, table) in indexes.iter().zip(deal.tables.iter()) {
+        let (name, count) = (index.name, table.count);
+        let list = format!(in alloc; "changes {name} {count}\n{}", table.list)?;
+        lists.push_str(list.as_str())?;
+        statistics.push_str(format!(in alloc; "stats {name} {COUNTS}\n")?.as_str())?;
+    }
+    Ok(())
 }
 
 /// The report of a run in which the lanes' lines are worked in an order that the seed draws.
-fn dealt(alloc: Global, schema: &str, lanes: &[String], seed: u64) -> Result<String, Lie> {
+fn report_of(alloc: Global, schema: &str, lanes: &[String], seed: u64) -> Result<String, Lie> {
     let indexes = read_schema(alloc, schema)?;
     let asked = read_lanes(alloc, &indexes, lanes)?;
-    let mut deal = Deal::new(alloc, indexes.len(), asked.len())?;
+    let mut deal = Deal {
+        tables: new_tables(alloc, indexes.len())?,
+        lanes: new_lanes(alloc, asked.len())?,
+    };
     deal.work(alloc, &asked, seed)?;
-    deal.report(alloc, &indexes)
+    let mut text = String::from_str(alloc, "ahi run\n")?;
+    let mut statistics = String::new(alloc);
+    put_answers(alloc, &mut text, &deal.lanes)?;
+    put_lists(alloc, &mut text, &mut statistics, &deal, &indexes)?;
+    text.push_str(statistics.as_str())?;
+    text.push_str("end\n")?;
+    Ok(text)
 }
 
 #[test]
 fn dealt_lanes_are_legal(rt: HostRuntime) -> Result<(), Fail> {
     let alloc = rt.alloc();
     let schema = schema_text(alloc, 3)?;
-    let mut lanes = Vec::new(alloc);
-    for lane in 1..9 {
-        lanes.push(lane_text(alloc, 5, lane, 500, 3, 6)?)?;
-    }
+    let lanes = lane_texts(alloc, 5, 8, 500, 3, 6)?;
     for seed in 0..3 {
-        let report = dealt(alloc, schema.as_str(), &lanes, seed)?;
+        let report = report_of(alloc, schema.as_str(), &lanes, seed)?;
         let judged = judge(alloc, schema.as_str(), &lanes, report.as_bytes());
         assert_eq!(rt; judged, Ok(()), "{seed}");
     }

@@ -7,7 +7,7 @@ use std::alloc::Global;
 
 /// What a lane's answers are judged by.
 #[derive(Clone, Copy)]
-pub(super) struct Judge<'r, 'a> {
+pub(super) struct Evidence<'r, 'a> {
     pub(super) most_changes: u64,
     pub(super) lane: usize,
     pub(super) lists: &'r [Vec<Change<'a>>],
@@ -59,7 +59,7 @@ fn makes(answer: &Answer<'_>, index: usize, number: u64, change: &Change<'_>) ->
         && line.key == change.key
 }
 
-impl<'r, 'a> Judge<'r, 'a> {
+impl<'r, 'a> Evidence<'r, 'a> {
     /// Checks the lane's answers in their order.
     pub(super) fn check_lane(&self, alloc: Global, answers: &[Answer<'a>]) -> Result<(), Lie> {
         let mut points = vec![in alloc; 0u64; self.lists.len()]?;
