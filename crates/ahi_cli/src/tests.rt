@@ -5,6 +5,9 @@ use std::alloc::Global;
 use std::test::Fail;
 
 mod generated;
+mod judged;
+mod lanes;
+mod legality;
 
 const SCHEMA: &str = "index t 1\n";
 
@@ -26,7 +29,7 @@ pub(crate) struct Fails {
 
 pub(crate) const NONE: Fails = Fails {
     load: 9,
-    put: 99_999,
+    put: u64::MAX,
 };
 
 /// Runs the words on a schema `s` and a lane `l`, with ample room for a short report.

@@ -1,5 +1,6 @@
 //! A generated lane against a naive reading, which knows nothing of the crates' maps, parsers or printing.
 use crate::Status;
+use crate::tests::lanes::draw;
 use crate::tests::{NONE, WORDS, run_within};
 use std::alloc::{AllocError, Global};
 use std::test::Fail;
@@ -48,13 +49,6 @@ struct Reading {
     rows: Vec<Row>,
     changes: Vec<Change>,
     answers: String,
-}
-
-fn draw(state: &mut u64) -> u64 {
-    *state = state
-        .wrapping_mul(6_364_136_223_846_793_005)
-        .wrapping_add(1_442_695_040_888_963_407);
-    *state >> 33
 }
 
 fn draw_line(state: &mut u64) -> Asked {
