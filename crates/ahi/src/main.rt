@@ -1,8 +1,9 @@
-//! `ahi run SCHEMA LANE`: asks ordered maps what the lines of a lane ask, and prints the report.
+//! `ahi run SCHEMA LANE..`: runs lanes of operations over shared indexes, and prints the report.
 #![tactic(auto)]
 
 use ahi_cli::{Status, run_words};
 use io_port::{FileShelf, OutSink};
+use lanes::NoGate;
 use std::env;
 use std::io::ErrorKind;
 use std::process::ExitCode;
@@ -27,5 +28,6 @@ fn run(rt: &HostRuntime) -> Status {
         Err(error) if error.kind() == ErrorKind::InvalidData => {}
         Err(_) => return Status::NoMemory,
     }
-    run_words(rt, &words, &mut FileShelf::new(rt), &mut OutSink::new(rt))
+    let (mut shelf, mut sink) = (FileShelf::new(rt), OutSink::new(rt));
+    run_words(rt, rt, &words, &mut shelf, &mut sink, &NoGate, &mut None)
 }

@@ -29,7 +29,7 @@ use Rattle.change_lines.proofs.AllLemmas.{all_printed, all_looked_up}
 use Rattle.change_lines.proofs.NotedLemmas.{have_lines}
 use Rattle.lane_threads.specs.Together.{RanTogether}
 use Rattle.lane_threads.proofs.LegalLemmas as threads
-use Rattle.report_print.specs.Reports.{part_with, report_of}
+use Rattle.lane_law.specs.Reports.{part_with, report_of}
 use Rattle.report_print.specs.Texts.{report_text_of, AskChanges}
 use Rattle.report_print.proofs.SpellLemmas.{report_spelled, has_parts}
 use Rattle.ahi_cli.specs.declared.files.Script.{Script}

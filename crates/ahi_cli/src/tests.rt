@@ -1,6 +1,7 @@
 //! Runs on files in memory, byte for byte.
 use crate::{Status, run_words};
 use io_port::{MemoryShelf, MemorySink};
+use lanes::NoGate;
 use std::alloc::Global;
 use std::test::Fail;
 
@@ -67,7 +68,7 @@ pub(crate) fn run_within(
     for word in words {
         given.push(String::from_str(alloc, word)?)?;
     }
-    let status = run_words(rt, &given, &mut shelf, &mut sink);
+    let status = run_words(rt, rt, &given, &mut shelf, &mut sink, &NoGate, &mut None);
     Ok((status, sink))
 }
 

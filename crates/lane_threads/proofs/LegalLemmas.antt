@@ -22,10 +22,11 @@ use Rattle.index_engine.specs.Engines.{known}
 use Rattle.lane_law.proofs.LegalLemmas as proved
 use Rattle.lane_law.proofs.LookLemmas.{are_entries}
 use Rattle.lane_law.specs.Merged.{LinesAscend, AreLookedUp}
+use Rattle.lane_law.specs.Reports.{part_with, report_of}
 use Rattle.lane_law.specs.Runs.{RunsAll}
 use Rattle.lane_work.specs.Workable.{IsOpOf, AreLinesOf}
 use Rattle.change_lines.specs.Made.{lane_texts}
-use Rattle.lane_threads.specs.Together.{AllAreLinesOf, RanTogether, run_of, part_with, report_of}
+use Rattle.lane_threads.specs.Together.{AllAreLinesOf, RanTogether, run_of}
 use Rattle.lane_threads.proofs.DashLemmas.{nothing_counted}
 
 plain_op : (fields : List ℕ) (o : Op) → IsOpOf fields o → is_scan (operation_of o).ask ≡ false
@@ -63,7 +64,7 @@ module _ (sizes : Sizes) (fields : List ℕ) (names : List (List ℕ)) (lanes : 
   report = report_of ran.answers names entries
 
   -- all that is known at the end of the run
-  runs : RunsAll run report ran.fitted.whole (known pass)
+  pub runs : RunsAll run report ran.fitted.whole (known pass)
   runs = record {
     lawful = ran.fitted.is_lawful;
     fits = ran.fitted.fits;

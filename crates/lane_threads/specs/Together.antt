@@ -8,7 +8,6 @@ use Rattle.map_history.specs.declared.sizes.Sizes.{Sizes}
 use Rattle.map_history.specs.LegalReport.{Run, IsLegalReport}
 use Rattle.map_history.specs.LegalReport as legal
 use Rattle.map_history.specs.Report.{AnswerLine, ChangeLine, IndexPart, Report}
-use Rattle.map_history.specs.Statistics.{counts_of}
 use Rattle.script.specs.declared.lane.Line.{Line}
 use Rattle.index_world.specs.Law.{IsLawful}
 use Rattle.index_world.specs.References.{IsReference}
@@ -18,6 +17,7 @@ use Rattle.index_engine.specs.declared.engine.EnginePass.{EnginePass}
 use Rattle.index_engine.specs.Engines.{known, terms_for}
 use Rattle.one_lane.specs.Lane.{answer_line_text}
 use Rattle.lane_law.specs.Merged.{all_notes, LinesAscend, AreLookedUp}
+use Rattle.lane_law.specs.Reports.{report_of}
 use Rattle.lane_law.specs.Runs.{all_sayings}
 use Rattle.lane_law.specs.Worked.{AreInOrder}
 use Rattle.lane_work.specs.Workable.{AreLinesOf}
@@ -45,14 +45,6 @@ AllAreLinesOf fields lanes = AllByRecursion (λ (lines : Vec Line Global). AreLi
 -- the run of these lanes over indexes of these names
 abbrev pub run_of : Sizes → List (List ℕ) → List (Vec Line Global) → Run
 run_of sizes names lanes = record { sizes = sizes; names = names; lanes = lane_texts lanes }
-
--- an index's part of the report, with these entries and statistics that count nothing
-abbrev pub part_with : List ℕ × List ChangeLine → IndexPart
-part_with part = record { name = part.0; entries = part.1; counts = counts_of [] }
-
--- the report of these answers and entries
-abbrev pub report_of : List (List AnswerLine) → List (List ℕ) → List (List ChangeLine) → Report
-report_of answers names entries = record { lanes = answers; indexes = map part_with (zip names entries) }
 
 -- a report of such a run whose entries are looked up in the lanes' logs is legal
 abbrev pub RunsAreLegal : Type 0

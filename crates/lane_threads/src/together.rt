@@ -1,6 +1,7 @@
 //! All lanes together.
 ghost use Rattle.std.specs.Prelude.{◌≡◌, ◌⊎◌, ◌<◌, ◌≤◌, length, Err, IfOk, IfErr, IfSome};
 ghost use Rattle.std.specs.List.{AllByRecursion};
+ghost use Rattle.std.specs.Option.{IsSomeAnd};
 ghost use Rattle.index_engine.specs.Settings.{first_broken};
 ghost use Rattle.lane_work.specs.Workable.{AreLinesOf};
 ghost use Rattle.change_lines.specs.Made.{lane_texts};
@@ -47,7 +48,7 @@ pub fn work_lanes<R: Threads + Sync, W: Wait + Sync, G: Gate + Sync>(
     ensures refused { IfSome (first_broken sizes.now (length fields.now) (length lanes.now))
         (λ s. result ≡ Err (EngineError.BadSize s)) }
     ensures cause { IfErr result (λ e. (e ≡ EngineError.NoMemory)
-        ⊎ IfSome (first_broken sizes.now (length fields.now) (length lanes.now))
+        ⊎ IsSomeAnd (first_broken sizes.now (length fields.now) (length lanes.now))
         (λ s. e ≡ EngineError.BadSize s)) }
 {
     let (engine, pass) = Engine::open(alloc, sizes, fields, lanes.len() as u32)?;

@@ -11,7 +11,7 @@ use Rattle.change_lines.specs.declared.made.MadeLine.{MadeLine}
 use Rattle.change_lines.specs.Printed.{AreCounted, entry_in, made_text}
 use Rattle.report_print.specs.Texts as text
 use Rattle.report_print.specs.Texts.{first_line, end_line, lane_line, lanes_text, changes_line, index_text, indexes_text, name_stats, report_text_of}
-use Rattle.report_print.specs.Reports.{part_with, report_of}
+use Rattle.lane_law.specs.Reports.{part_with, report_of}
 use Rattle.report_print.specs.Laws.{HasParts}
 
 -- the lanes from the number k + 1 on

@@ -7,7 +7,7 @@ use Rattle.one_lane.specs.Lane.{answer_line_text}
 use Rattle.change_lines.specs.declared.made.MadeLine.{MadeLine}
 use Rattle.change_lines.specs.Printed.{AreCounted, entry_in}
 use Rattle.report_print.specs.Texts.{report_text_of}
-use Rattle.report_print.specs.Reports.{report_of}
+use Rattle.lane_law.specs.Reports.{report_of}
 
 -- where the changes of each index are counted from 1, the text of the answers and the changes is the spelling of their report
 abbrev pub ReportsAreSpelled : Type 0

@@ -1,4 +1,3 @@
 pub mod Prints
 pub mod Texts
-pub mod Reports
 pub mod Laws

@@ -1,4 +1,4 @@
--- A report whose columns are dashes, from what its lanes were told and the entries of its indexes.
+-- A report of which no column tells of a hash, from what its lanes were answered and the entries of its indexes.
 use Rattle.std.specs.Prelude.{ℕ, List, [], map}
 use Rattle.std.specs.List.{zip}
 use Rattle.map_history.specs.Report.{AnswerLine, ChangeLine, IndexPart, Report}
