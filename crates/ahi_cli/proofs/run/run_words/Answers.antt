@@ -19,9 +19,9 @@ returns-in-Ok-clause-ends g c =
     let accepts : accepted asked.words ≡ Some names = sym c.accept.ensures.accepted ∙ ap (option_map names_of) c.in-Some.is in
     let count : length script.lanes.items ≡ length names.1 = omega (arith, c.in-Ok.ensures.lanes, script.lanes.ok.0, length-map c.in-Some.command.lanes.now string_bytes) in
     ends_as (TellsScript IsReportOf script) (Reports asked) (RefusesSizes script) (Stops asked) (output_of g.K.Sink c.args.sink.now c.run_script.new.sink) c.run_script.result
-        (λ text told. tells IsReportOf asked names script text accepts c.in-Ok.ensures.ok count told)
-        (λ refusal refused. refuses_sizes asked names script refusal accepts c.in-Ok.ensures.ok count refused)
-        c.run_script.ensures.ends
+    (λ text told. tells IsReportOf asked names script text accepts c.in-Ok.ensures.ok count told)
+    (λ refusal refused. refuses_sizes asked names script refusal accepts c.in-Ok.ensures.ok count refused)
+    c.run_script.ensures.ends
 
 pub returns-in-Ok-clause-trail : goal.returns-in-Ok-clause-trail
 returns-in-Ok-clause-trail g c =
@@ -31,8 +31,8 @@ returns-in-Ok-clause-trail g c =
     let accepts : accepted asked.words ≡ Some names = sym c.accept.ensures.accepted ∙ ap (option_map names_of) c.in-Some.is in
     let count : length script.lanes.items ≡ length names.1 = omega (arith, c.in-Ok.ensures.lanes, script.lanes.ok.0, length-map c.in-Some.command.lanes.now string_bytes) in
     leaves_as (λ pass. TellsScript (IsReportBy pass) script) (λ pass. ReportsBy pass asked) (output_of g.K.Sink c.args.sink.now c.run_script.new.sink) c.run_script.new.trail c.run_script.result
-        (λ pass text told. tells (IsReportBy pass) asked names script text accepts c.in-Ok.ensures.ok count told)
-        c.run_script.ensures.trail
+    (λ pass text told. tells (IsReportBy pass) asked names script text accepts c.in-Ok.ensures.ok count told)
+    c.run_script.ensures.trail
 
 pub returns-in-Err-clause-ends : goal.returns-in-Err-clause-ends
 returns-in-Err-clause-ends g c =
