@@ -1,5 +1,5 @@
 //! Laws of the grammar: what follows for each schema and each lane that a file spells.
-//! Each is the contract of a function that does nothing; the program doesn't use this crate.
+//! Each is the contract of a function that does nothing.
 #![tactic(auto)]
 
 mod lanes;
