@@ -11,23 +11,26 @@ use std::process::ExitCode;
 /// Runs the words after the program's name on real files and the standard output, and ends with the
 /// number of the status.
 fn main(rt: HostRuntime) -> ExitCode {
-    ExitCode::from(run(&rt).number())
+    let Some(words) = words(&rt) else {
+        return ExitCode::from(Status::NoMemory.number());
+    };
+    let (mut shelf, mut sink) = (FileShelf::new(&rt), OutSink::new(&rt));
+    let status = run_words(&rt, &rt, &words, &mut shelf, &mut sink, &NoGate, &mut None);
+    ExitCode::from(status.number())
 }
 
-fn run(rt: &HostRuntime) -> Status {
+/// The words after the program's name, or `None` where there is no memory for them.
+fn words(rt: &HostRuntime) -> Option<Vec<String>> {
     let mut words = Vec::new(rt.alloc());
     match env::args(rt) {
         Ok(args) => {
             for word in args.skip(1) {
-                if words.push(word).is_err() {
-                    return Status::NoMemory;
-                }
+                words.push(word).ok()?;
             }
         }
         // a word that isn't UTF-8 is none that is accepted
         Err(error) if error.kind() == ErrorKind::InvalidData => {}
-        Err(_) => return Status::NoMemory,
+        Err(_) => return None,
     }
-    let (mut shelf, mut sink) = (FileShelf::new(rt), OutSink::new(rt));
-    run_words(rt, rt, &words, &mut shelf, &mut sink, &NoGate, &mut None)
+    Some(words)
 }
