@@ -1,76 +1,30 @@
 //! Runs on files in memory, byte for byte.
-use crate::{Status, run_words};
-use io_port::{MemoryShelf, MemorySink};
-use lanes::NoGate;
-use std::alloc::Global;
+use crate::Status;
+use crate::tests::setup::{PLAIN, Setup, run, run_given};
 use std::test::Fail;
 
+mod drawn;
 mod generated;
 mod judged;
-mod lanes;
 mod legality;
+mod limit;
+mod meeting;
+mod setup;
+mod together;
+mod trail;
 
-const SCHEMA: &str = "index t 1\n";
-
-pub(crate) const WORDS: [&str; 3] = ["run", "s", "l"];
+pub(crate) const SCHEMA: &str = "index t 1\n";
 
 /// The lane whose run has every kind of line.
-const LANE: &str = "put t a x\nget t a\ndel t a\nget t a\n";
+pub(crate) const LANE: &str = "put t a x\nget t a\ndel t a\nget t a\n";
 
 /// The last two lines of each report on an index `t`.
-const END: &str =
+pub(crate) const END: &str =
     "stats t hit 0 off 0 cold 0 short 0 part-busy 0 no-entry 0 block-busy 0 clock 0 unequal 0 by-clock 0 by-busy 0 by-moved 0 by-last 0 built 0 same 0 arena 0 raced 0 worn 0\nend\n";
 
-/// The load and the put that are to fail, counted from 0.
-#[derive(Clone, Copy, Debug)]
-pub(crate) struct Fails {
-    load: u64,
-    put: u64,
-}
-
-pub(crate) const NONE: Fails = Fails {
-    load: 9,
-    put: u64::MAX,
-};
-
-/// Runs the words on a schema `s` and a lane `l`, with ample room for a short report.
-fn run(
-    alloc: Global,
-    rt: &HostRuntime,
-    words: &[&str],
-    files: [&str; 2],
-    fails: Fails,
-) -> Result<(Status, MemorySink), Fail> {
-    run_within(alloc, rt, words, files, fails, 4096)
-}
-
-/// Runs the words on a schema `s` and a lane `l`, with this room for the report.
-pub(crate) fn run_within(
-    alloc: Global,
-    rt: &HostRuntime,
-    words: &[&str],
-    files: [&str; 2],
-    fails: Fails,
-    room: usize,
-) -> Result<(Status, MemorySink), Fail> {
-    let mut held = Vec::new(alloc);
-    held.push((
-        String::from_str(alloc, "s")?,
-        files[0].as_bytes().to_vec(alloc)?,
-    ))?;
-    held.push((
-        String::from_str(alloc, "l")?,
-        files[1].as_bytes().to_vec(alloc)?,
-    ))?;
-    let mut shelf = MemoryShelf::new(held, [fails.load].to_vec(alloc)?);
-    let mut sink = MemorySink::with_room(alloc, room, [fails.put].to_vec(alloc)?)?;
-    let mut given = Vec::new(alloc);
-    for word in words {
-        given.push(String::from_str(alloc, word)?)?;
-    }
-    let status = run_words(rt, rt, &given, &mut shelf, &mut sink, &NoGate, &mut None);
-    Ok((status, sink))
-}
+/// What is written where the words aren't accepted.
+pub(crate) const USAGE: &str =
+    "usage: ahi run SCHEMA LANE.. | ahi page FILE | ahi gen NUMBER LANES LINES\n";
 
 #[test]
 fn a_lane_is_reported_byte_for_byte(rt: HostRuntime) -> Result<(), Fail> {
@@ -88,7 +42,7 @@ fn a_lane_is_reported_byte_for_byte(rt: HostRuntime) -> Result<(), Fail> {
         ("del t a\n", "1 absent @0 - -\nchanges t 0\n"),
     ];
     for (lane, text) in rows {
-        let (status, sink) = run(alloc, &rt, &WORDS, [SCHEMA, lane], NONE)?;
+        let (status, sink) = run(&rt, SCHEMA, &[lane], PLAIN)?;
         let report = format!(in alloc; "ahi run\nlane 1\n{text}{END}")?;
         assert_eq!(rt; status, Status::Done);
         assert_eq!(rt; sink.written(), report.as_bytes());
@@ -103,7 +57,7 @@ fn keys_of_two_fields_are_put_and_found(rt: HostRuntime) -> Result<(), Fail> {
     let answers =
         "1 ok @1 - -\n2 ok @2 - -\n3 ok @3 - -\n4 found 1 @3 - -\n5 found 2 @3 - -\n6 found 3 @3 - -\n";
     let changes = "changes t 3\n1 1 1 put ab,~ 1\n2 1 2 put a,%00 2\n3 1 3 put a,~ 3\n";
-    let (status, sink) = run(alloc, &rt, &WORDS, ["index t 2\n", lane], NONE)?;
+    let (status, sink) = run(&rt, "index t 2\n", &[lane], PLAIN)?;
     let report = format!(in alloc; "ahi run\nlane 1\n{answers}{changes}{END}")?;
     assert_eq!(rt; status, Status::Done);
     assert_eq!(rt; sink.written(), report.as_bytes());
@@ -126,12 +80,14 @@ fn length_of_lines(text: &[u8], lines: u64) -> usize {
 
 #[test]
 fn a_sink_that_fails_has_the_lines_before(rt: HostRuntime) -> Result<(), Fail> {
-    let alloc = rt.alloc();
-    let (status, whole) = run(alloc, &rt, &WORDS, [SCHEMA, LANE], NONE)?;
+    let (status, whole) = run(&rt, SCHEMA, &[LANE], PLAIN)?;
     assert_eq!(rt; status, Status::Done);
     for put in 0..11 {
-        let fails = Fails { load: 9, put };
-        let (status, sink) = run(alloc, &rt, &WORDS, [SCHEMA, LANE], fails)?;
+        let setup = Setup {
+            failing_put: Some(put),
+            ..PLAIN
+        };
+        let (status, sink) = run(&rt, SCHEMA, &[LANE], setup)?;
         assert_eq!(rt; status, Status::SinkFault);
         let before = length_of_lines(whole.written(), put);
         assert_eq!(rt;
@@ -144,34 +100,35 @@ fn a_sink_that_fails_has_the_lines_before(rt: HostRuntime) -> Result<(), Fail> {
 
 #[test]
 fn each_refusal_is_told(rt: HostRuntime) -> Result<(), Fail> {
-    let alloc = rt.alloc();
     let rows = [
         // the lane, the load and the put that are to fail, the status, what is written
+        (LANE, None, Some(1), Status::SinkFault, "ahi run\n"),
+        (LANE, None, Some(0), Status::SinkFault, ""),
+        (LANE, Some(0), None, Status::ShelfFault, "shelf 0\n"),
+        (LANE, Some(1), None, Status::ShelfFault, "shelf 1\n"),
+        (LANE, Some(1), Some(0), Status::SinkFault, ""),
         (
-            LANE,
-            Fails { load: 9, put: 1 },
-            Status::SinkFault,
-            "ahi run\n",
-        ),
-        (LANE, Fails { load: 9, put: 0 }, Status::SinkFault, ""),
-        (
-            LANE,
-            Fails { load: 0, put: 9 },
-            Status::ShelfFault,
-            "shelf 0\n",
+            "get t a\nget u a\n",
+            None,
+            None,
+            Status::Script,
+            "script 1 2 2\n",
         ),
         (
-            LANE,
-            Fails { load: 1, put: 9 },
-            Status::ShelfFault,
-            "shelf 1\n",
+            "\n# a\nget t\n",
+            None,
+            None,
+            Status::Script,
+            "script 1 3 1\n",
         ),
-        (LANE, Fails { load: 1, put: 0 }, Status::SinkFault, ""),
-        ("get t a\nget u a\n", NONE, Status::Script, "script 1 2 2\n"),
-        ("\n# a\nget t\n", NONE, Status::Script, "script 1 3 1\n"),
     ];
-    for (lane, fails, wanted, text) in rows {
-        let (status, sink) = run(alloc, &rt, &WORDS, [SCHEMA, lane], fails)?;
+    for (lane, failing_load, failing_put, wanted, text) in rows {
+        let setup = Setup {
+            failing_load,
+            failing_put,
+            ..PLAIN
+        };
+        let (status, sink) = run(&rt, SCHEMA, &[lane], setup)?;
         assert_eq!(rt; status, wanted);
         assert_eq!(rt; sink.written(), text.as_bytes());
     }
@@ -180,18 +137,16 @@ fn each_refusal_is_told(rt: HostRuntime) -> Result<(), Fail> {
 
 #[test]
 fn words_are_judged_first(rt: HostRuntime) -> Result<(), Fail> {
-    let alloc = rt.alloc();
-    let usage = "usage: ahi run SCHEMA LANE.. | ahi page FILE | ahi gen NUMBER LANES LINES\n";
     let rows: [(&[&str], Status, &str); 6] = [
         (&["run", "s", "none"], Status::ShelfFault, "shelf 1\n"),
-        (&["run", "s"], Status::Usage, usage),
-        (&["run", "s", "l", "-l"], Status::Usage, usage),
-        (&["run", "s", ""], Status::Usage, usage),
-        (&["run", "-s", "l"], Status::Usage, usage),
-        (&["Run", "s", "l"], Status::Usage, usage),
+        (&["run", "s"], Status::Usage, USAGE),
+        (&["run", "s", "l1", "-l"], Status::Usage, USAGE),
+        (&["run", "s", ""], Status::Usage, USAGE),
+        (&["run", "-s", "l1"], Status::Usage, USAGE),
+        (&["Run", "s", "l1"], Status::Usage, USAGE),
     ];
     for (words, wanted, text) in rows {
-        let (status, sink) = run(alloc, &rt, words, [SCHEMA, LANE], NONE)?;
+        let (status, sink) = run_given(&rt, words, SCHEMA, LANE)?;
         assert_eq!(rt; status, wanted);
         assert_eq!(rt; sink.written(), text.as_bytes());
     }

@@ -1,7 +1,7 @@
 //! A generated lane against a naive reading, which knows nothing of the crates' maps, parsers or printing.
 use crate::Status;
-use crate::tests::lanes::draw;
-use crate::tests::{NONE, WORDS, run_within};
+use crate::tests::drawn::draw;
+use crate::tests::setup::{PLAIN, Setup, run};
 use std::alloc::{AllocError, Global};
 use std::test::Fail;
 
@@ -272,8 +272,11 @@ fn a_generated_lane_is_answered_as_a_naive_reading(rt: HostRuntime) -> Result<()
     let (lane, reading) = generate(alloc)?;
     assert!(rt; reading.changes.len() > 500);
     let report = reading.report(alloc)?;
-    let files = [SCHEMA, lane.as_str()];
-    let (status, sink) = run_within(alloc, &rt, &WORDS, files, NONE, 1_000_000)?;
+    let setup = Setup {
+        room: 1_000_000,
+        ..PLAIN
+    };
+    let (status, sink) = run(&rt, SCHEMA, &[lane.as_str()], setup)?;
     assert_eq!(rt; status, Status::Done);
     assert_eq!(rt; sink.written(), report.as_bytes());
     Ok(())

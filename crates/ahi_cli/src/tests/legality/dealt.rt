@@ -1,5 +1,5 @@
 //! Lanes dealt by chance to plain maps, a line at a time: such a run's report is legal.
-use crate::tests::lanes::{draw, lane_texts, schema_text};
+use crate::tests::drawn::{draw, lane_texts, schema_text};
 use crate::tests::legality::asked::{Act, Index, Line, read_schema};
 use crate::tests::legality::told::COUNTS;
 use crate::tests::legality::{Lie, judge, read_lanes};
