@@ -15,7 +15,7 @@ use script::Line;
 use std::alloc::Global;
 use std::test::Fail;
 
-const LINES: u32 = 20_000;
+const LINES: u32 = 200_000;
 
 const SIZES: Sizes = Sizes {
     blocks: 256,
@@ -24,7 +24,7 @@ const SIZES: Sizes = Sizes {
     cells: 4096,
     nodes: 16384,
     fold_bits: 64,
-    max_changes: 1_500,
+    max_changes: 15_000,
 };
 
 /// The bytes that fields and values are made of.
