@@ -3,44 +3,34 @@ use crate::Status;
 use crate::tests::drawn::{lane_texts, schema_text};
 use crate::tests::legality::judge;
 use crate::tests::setup::{PLAIN, Setup, run, slices_of};
-use std::alloc::Global;
-use std::sync::Wait;
+use lanes::NoGate;
 use std::test::Fail;
-use std::thread::Threads;
 
 /// How often the eight lanes are run.
-const RUNS: usize = 20;
+const RUNS: u32 = 20;
 
-/// Runs the lanes, and gives their report, which is to be legal.
-fn judged_report<R: AllocGlobal + Threads + Wait + Sync>(
-    rt: &R,
-    schema: &str,
-    lanes: &[String],
-) -> Result<Vec<u8>, Fail> {
-    let alloc: Global = rt.alloc();
-    let setup = Setup {
-        room: 16_000_000,
-        ..PLAIN
-    };
-    let (status, sink) = run(rt, schema, &slices_of(alloc, lanes)?, setup)?;
-    if status != Status::Done {
-        return Err("not done".into());
-    }
-    if judge(alloc, schema, lanes, sink.written()) != Ok(()) {
-        return Err("not legal".into());
-    }
-    Ok(sink.written().to_vec(alloc)?)
-}
+/// There is room for a long report.
+const ROOMY: Setup<'static, NoGate> = Setup {
+    room: 16_000_000,
+    ..PLAIN
+};
 
 #[test]
 fn eight_lanes_are_reported_legally_in_any_order(rt: HostRuntime) -> Result<(), Fail> {
     let alloc = rt.alloc();
     let schema = schema_text(alloc, 2)?;
     let lanes = lane_texts(alloc, 1, 8, 2_500, 2, 6)?;
-    let first = judged_report(&rt, schema.as_str(), &lanes)?;
-    let mut others: usize = 0;
-    for _ in 1..RUNS {
-        if judged_report(&rt, schema.as_str(), &lanes)? != first {
+    let texts = slices_of(alloc, &lanes)?;
+    let mut first = Vec::new(alloc);
+    let mut others: u32 = 0;
+    for number in 0..RUNS {
+        let (status, sink) = run(&rt, schema.as_str(), &texts, ROOMY)?;
+        assert_eq!(rt; status, Status::Done);
+        let judged = judge(alloc, schema.as_str(), &lanes, sink.written());
+        assert_eq!(rt; judged, Ok(()), "{number}");
+        if number == 0 {
+            first = sink.written().to_vec(alloc)?;
+        } else if sink.written() != first.as_slice() {
             others = others.wrapping_add(1);
         }
     }
@@ -53,6 +43,10 @@ fn a_long_lane_is_reported_legally(rt: HostRuntime) -> Result<(), Fail> {
     let alloc = rt.alloc();
     let schema = schema_text(alloc, 3)?;
     let lanes = lane_texts(alloc, 2, 1, 200_000, 3, 2_000)?;
-    judged_report(&rt, schema.as_str(), &lanes)?;
+    let texts = slices_of(alloc, &lanes)?;
+    let (status, sink) = run(&rt, schema.as_str(), &texts, ROOMY)?;
+    assert_eq!(rt; status, Status::Done);
+    let judged = judge(alloc, schema.as_str(), &lanes, sink.written());
+    assert_eq!(rt; judged, Ok(()));
     Ok(())
 }

@@ -7,18 +7,24 @@ use std::test::Fail;
 
 const GET: &str = "get t a\n";
 
+/// A lane whose lines 2 and 3 are gets.
+const TWO_GETS: &str = "# says nothing\nget t a\nget t b\n";
+
+/// The lanes meet at this gate.
+fn meet_at(gate: &Meeting) -> Setup<'_, Meeting> {
+    Setup {
+        failing_load: None,
+        failing_put: None,
+        room: PLAIN.room,
+        gate,
+    }
+}
+
 #[test]
 fn two_lanes_meet_before_each_line(rt: HostRuntime) -> Result<(), Fail> {
     let alloc = rt.alloc();
     let gate = Meeting::new();
-    let setup = Setup {
-        failing_load: None,
-        failing_put: None,
-        room: 8192,
-        gate: &gate,
-    };
-    let lanes = ["# says nothing\nget t a\nget t b\n"; 2];
-    let (status, sink) = run(&rt, SCHEMA, &lanes, setup)?;
+    let (status, sink) = run(&rt, SCHEMA, &[TWO_GETS; 2], meet_at(&gate))?;
     assert_eq!(rt; status, Status::Done);
     assert!(rt; !gate.gave_up());
     assert_eq!(rt; gate.counts(), [1, 1, 1, 1, 0]);
@@ -27,6 +33,16 @@ fn two_lanes_meet_before_each_line(rt: HostRuntime) -> Result<(), Fail> {
         "ahi run\nlane 1\n{answers}lane 2\n{answers}changes t 0\n{END}"
     )?;
     assert_eq!(rt; sink.written(), report.as_bytes());
+    Ok(())
+}
+
+#[test]
+fn a_lane_alone_meets_none(rt: HostRuntime) -> Result<(), Fail> {
+    let gate = Meeting::new();
+    let (status, _) = run(&rt, SCHEMA, &[TWO_GETS], meet_at(&gate))?;
+    assert_eq!(rt; status, Status::Done);
+    assert!(rt; gate.gave_up());
+    assert_eq!(rt; gate.counts(), [1, 1, 0, 0, 0]);
     Ok(())
 }
 
