@@ -1,15 +1,7 @@
 -- How a call ends, from what its parts did.
-use Rattle.std.proofs.Common.{◌≡◌, ◌≢◌, ℕ, suc, ◌≤◌, Option, Some, None, Result, Ok, Err, List, [], ◌∷◌, length, map, refl, ap, ◌∙◌, sym, subst, ◌⊎◌, inl, inr}
-use Rattle.std.specs.List.{AllByRecursion, slice_get, zip}
-use Rattle.std.specs.Option.{ForSome, IsSomeAnd, option_map}
+use Rattle.std.proofs.Common.{◌≡◌, ◌≢◌, ℕ, ◌≤◌, Option, Some, None, Result, Ok, Err, List, refl, ap, ◌∙◌, sym, subst, ◌⊎◌, inl, inr}
 use Rattle.io_port.specs.Faults.{ShowsFault}
 use Rattle.io_port.specs.Sink.{Puts}
-use Rattle.map_history.specs.LegalReport.{Line}
-use Rattle.script.specs.Schema.{SchemaText}
-use Rattle.index_engine.specs.declared.setting.Setting.{Setting}
-use Rattle.index_engine.specs.declared.error.EngineError.{EngineError}
-use Rattle.index_engine.specs.declared.error.EngineError.TheVariants as EngineError
-use Rattle.index_engine.specs.Settings.{first_broken}
 use Rattle.report_print.specs.declared.halt.Halt.{Halt}
 use Rattle.report_print.specs.declared.halt.Halt.TheVariants as halt
 use Rattle.ahi_cli.specs.declared.status.Status.{Status}
@@ -17,8 +9,8 @@ use Rattle.ahi_cli.specs.declared.status.Status.TheVariants.{Done, Script, Usage
 use Rattle.ahi_cli.specs.declared.stop.Stop.{Stop}
 use Rattle.ahi_cli.specs.declared.stop.Stop.TheVariants as stop
 use Rattle.ahi_cli.specs.Ends.{Output, IsWritten, IsRefused, IsCutOff, Ends}
-use Rattle.ahi_cli.specs.Files.{Spells, StopsReading}
-use Rattle.ahi_cli.specs.FirstRefusal.{named_stop, sizes_stop}
+use Rattle.ahi_cli.specs.Files.{StopsReading}
+use Rattle.ahi_cli.specs.FirstRefusal.{named_stop}
 use Rattle.report_print.specs.Prints.{Prints}
 use Rattle.ahi_cli.specs.Prints.{EndsWith, EndsRefused, halted, ended}
 use Rattle.ahi_cli.specs.Trail.{LeavesTrail}
@@ -26,7 +18,6 @@ use Rattle.index_engine.specs.declared.engine.EnginePass.{EnginePass}
 use Rattle.ahi_cli.specs.Run.{Asked, Stops}
 use Rattle.ahi_cli.specs.Stops.{status_of, stop_text}
 use Rattle.ahi_cli.specs.Words.{accepted, file_names}
-use Rattle.ahi_cli.proofs.FirstLemmas.{unrefused}
 
 whole_ends : (old new : Option (List ℕ)) (f f' : ℕ) (text : List ℕ) (whole : Status) → whole ≢ SinkFault → whole ≢ NoMemory → Puts old new text → f ≤ f' → EndsWith old new f f' text whole whole
 whole_ends old new f f' text Done s n p le = (refl, p, le)

@@ -5,7 +5,6 @@ use Rattle.std.specs.List.{AllByRecursion}
 use Rattle.std.specs.String.{string_bytes}
 use Rattle.std.specs.declared.alloc.Global.{Global}
 use Rattle.io_port.specs.Shelf.{Files}
-use Rattle.map_history.specs.LegalReport.{Line}
 use Rattle.script.specs.declared.lane.Line as script
 use Rattle.script.specs.Schema.{SchemaText}
 use Rattle.script.specs.Views.{line_texts}

@@ -1,5 +1,5 @@
 -- What is put of lanes that were run is a legal report, and their pass did what it tells.
-use Rattle.std.proofs.Common.{◌≡◌, ℕ, ◌<◌, List, [], ◌∷◌, length, map, refl, ap, ◌∙◌, sym, subst, arith, Vec}
+use Rattle.std.proofs.Common.{◌≡◌, ℕ, List, [], ◌∷◌, length, map, refl, ap, ◌∙◌, sym, subst, arith, Vec}
 use Rattle.std.proofs.lemmas.List.{length-map}
 use Rattle.std.specs.List.{AllByRecursion, AllZip, zip}
 use Rattle.std.specs.String.{string_bytes}
@@ -23,7 +23,7 @@ use Rattle.lane_law.proofs.MergeLemmas.{are_lists}
 use Rattle.lane_law.proofs.TrailLemmas.{trail}
 use Rattle.change_lines.specs.declared.made.MadeLine.{MadeLine}
 use Rattle.change_lines.specs.Made.{lane_texts, HaveLines, AreAllMade}
-use Rattle.change_lines.specs.Printed.{AsksChange, AreCounted, entry_in}
+use Rattle.change_lines.specs.Printed.{entry_in}
 use Rattle.change_lines.specs.Laws.{AllAreNumbered}
 use Rattle.change_lines.proofs.AllLemmas.{all_printed, all_looked_up}
 use Rattle.change_lines.proofs.NotedLemmas.{have_lines}
@@ -33,7 +33,7 @@ use Rattle.lane_law.specs.Reports.{part_with, report_of}
 use Rattle.report_print.specs.Texts.{report_text_of, AskChanges}
 use Rattle.report_print.proofs.SpellLemmas.{report_spelled, has_parts}
 use Rattle.ahi_cli.specs.declared.files.Script.{Script}
-use Rattle.ahi_cli.specs.Run.{run_of, IsReportOf, IsReportBy}
+use Rattle.ahi_cli.specs.Run.{run_of, IsReportBy}
 use Rattle.ahi_cli.specs.Scripts.{IsScript}
 
 -- the answers of lanes that are in order have the forms of their lines

@@ -5,7 +5,6 @@ use Rattle.map_history.specs.LegalReport.{Line}
 use Rattle.script.specs.Schema.{SchemaText}
 use Rattle.script.specs.Views.{schema_text}
 use Rattle.index_engine.specs.declared.error.EngineError.{EngineError}
-use Rattle.index_engine.specs.declared.error.EngineError.TheVariants as EngineError
 use Rattle.index_engine.specs.declared.setting.Setting.{Setting}
 use Rattle.index_engine.specs.Settings.{first_broken}
 use Rattle.change_lines.specs.Made.{lane_texts}

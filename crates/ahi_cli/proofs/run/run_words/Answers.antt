@@ -1,4 +1,4 @@
-use Rattle.std.proofs.Common.{◌≡◌, ◌∙◌, sym, ap, subst, map, length, arith, Some}
+use Rattle.std.proofs.Common.{◌≡◌, ◌∙◌, sym, ap, map, length, arith, Some}
 use Rattle.std.proofs.lemmas.List.{length-map}
 use Rattle.std.specs.Option.{option_map}
 use Rattle.std.specs.String.{string_bytes}
@@ -6,7 +6,6 @@ use Rattle.ahi_cli.specs.Ends.{output_of}
 use Rattle.ahi_cli.specs.Run.{Asked, asked_of, IsReportOf, IsReportBy, Reports, ReportsBy, Stops}
 use Rattle.ahi_cli.specs.Scripts.{TellsScript, RefusesSizes}
 use Rattle.ahi_cli.specs.Words.{accepted, names_of}
-use Rattle.ahi_cli.specs.declared.stop.Stop.TheVariants as stop
 use Rattle.ahi_cli.proofs.ScriptLemmas.{tells, refuses_sizes}
 use Rattle.ahi_cli.proofs.EndsLemmas.{refused_ends, reading_stops, ends_as, leaves_as}
 use Rattle.ahi_cli.proofs.run.run_words.Goals as goal

@@ -1,7 +1,7 @@
-use Rattle.std.proofs.Common.{◌≡◌, length, map, ap, sym, ◌∙◌, refl, subst, arith, Ok, Err}
+use Rattle.std.proofs.Common.{◌≡◌, length, map, sym, refl, subst, arith, Ok, Err}
 use Rattle.std.specs.String.{string_bytes}
 use Rattle.script.specs.Views.{schema_text}
-use Rattle.change_lines.specs.Made.{lane_texts, made_lists, AreAllMade}
+use Rattle.change_lines.specs.Made.{made_lists}
 use Rattle.report_print.specs.Prints.{PrintsTo}
 use Rattle.report_print.specs.Texts.{report_text_of}
 use Rattle.ahi_cli.specs.declared.status.Status.TheVariants.{Done}
