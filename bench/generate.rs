@@ -1,7 +1,7 @@
 //! Writes the files of a measurement: `generate KIND LANES LINES SEED FOLDER`.
 //!
-//! FOLDER gets `bench.schema` and, for each lane from 1, `bench-LANE.lane` with a comment and LINES
-//! lines that ask. The same words write the same bytes.
+//! FOLDER gets `bench.schema` and, for each lane from 1, `bench-LANE.lane` with a comment and its
+//! part of LINES lines that ask. The same words write the same bytes.
 
 use std::env;
 use std::fs::{self, File};
@@ -15,19 +15,29 @@ const SCHEMA: &str =
 
 #[derive(Clone, Copy)]
 enum Kind {
-    /// A fifth of the lines put keys in no order, the others get these with skew.
+    /// A fifth of the lines put keys in no order, the others get these with skew. Each lane has
+    /// keys of its own.
     Gets,
     /// Each key is above those that the lane put before.
     Puts,
-    /// Two gets for a put and a del, with skew, over an eighth as many keys as lines.
+    /// Two gets for a put and a del, with skew, over an eighth as many keys as lines. All lanes ask
+    /// for the same keys.
     Mix,
 }
 
 struct Plan {
     kind: Kind,
     lanes: u64,
+    /// Of all lanes together.
     lines: u64,
     seed: u64,
+}
+
+impl Plan {
+    /// How many lines that lane has, from 0. The first lanes have what can't be shared out.
+    fn lines_of(&self, lane: u64) -> u64 {
+        self.lines / self.lanes + u64::from(lane < self.lines % self.lanes)
+    }
 }
 
 /// Numbers that look random: a counter with a large odd stride, scattered.
@@ -85,7 +95,7 @@ fn text_of(plan: &Plan, lane: u64, line: u64, numbers: &mut Numbers) -> String {
             put(2 * pair + line % 2, numbers.next())
         }
         Kind::Gets => {
-            let rows = plan.lines.div_ceil(5);
+            let rows = plan.lines_of(lane).div_ceil(5);
             let own = |row| scatter(lane << 40 | row);
             if line < rows {
                 put(own(line), numbers.next())
@@ -114,7 +124,7 @@ fn write_lane(plan: &Plan, lane: u64, file: File) -> io::Result<()> {
         plan.lanes,
         plan.seed
     )?;
-    for line in 0..plan.lines {
+    for line in 0..plan.lines_of(lane) {
         writeln!(out, "{}", text_of(plan, lane, line, &mut numbers))?;
     }
     out.flush()
@@ -140,11 +150,10 @@ fn read_words(words: &[String]) -> Option<(Plan, &Path)> {
         "mix" => Kind::Mix,
         _ => return None,
     };
-    let (lanes, lines) = (lanes.parse().ok()?, lines.parse().ok()?);
     let plan = Plan {
         kind,
-        lanes,
-        lines,
+        lanes: lanes.parse().ok().filter(|&lanes| lanes > 0)?,
+        lines: lines.parse().ok()?,
         seed: seed.parse().ok()?,
     };
     Some((plan, Path::new(folder)))

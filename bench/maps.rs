@@ -1,10 +1,9 @@
-//! The maps of some indexes, and the lanes that ask them.
+//! The maps of some indexes, and what they are asked.
 
-use crate::script::{Field, Key, Line, Operation};
+use crate::script::{Field, Key, Line, Operation, Script};
 use std::collections::BTreeMap;
 use std::collections::btree_map::Entry;
 use std::sync::Mutex;
-use std::thread;
 
 /// How many changes an index takes.
 const MAX_CHANGES: usize = 1_000_000;
@@ -36,7 +35,8 @@ pub struct Index<'a> {
 }
 
 impl<'a> Index<'a> {
-    fn work(&mut self, lane: usize, line: &'a Line) -> Answer {
+    /// Answers a line, and notes what it changes. Lanes are numbered from 1.
+    pub fn work(&mut self, lane: usize, line: &'a Line) -> Answer {
         let has_room = self.changes.len() < MAX_CHANGES;
         let said = match &line.operation {
             Operation::Get(key) => match self.rows.get(key) {
@@ -68,20 +68,7 @@ impl<'a> Index<'a> {
     }
 }
 
-/// Works each lane on a thread of its own and gives its answers. Lanes are numbered from 1.
-pub fn work_all<'a>(indexes: &[Mutex<Index<'a>>], lanes: &'a [Vec<Line>]) -> Vec<Vec<Answer>> {
-    let work_line = |lane, line: &'a Line| indexes[line.index].lock().unwrap().work(lane, line);
-    let work_lane =
-        |lane, lines: &'a [Line]| lines.iter().map(|line| work_line(lane, line)).collect();
-    thread::scope(|scope| {
-        let start = |(lane, lines)| scope.spawn(move || work_lane(lane, lines));
-        let threads: Vec<_> = (1..)
-            .zip(lanes.iter().map(Vec::as_slice))
-            .map(start)
-            .collect();
-        threads
-            .into_iter()
-            .map(|thread| thread.join().unwrap())
-            .collect()
-    })
+/// An empty index for each of the schema.
+pub fn new_indexes<'a>(script: &Script) -> Vec<Mutex<Index<'a>>> {
+    script.shapes.iter().map(|_| Mutex::default()).collect()
 }

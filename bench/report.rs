@@ -1,7 +1,7 @@
 //! The report, in the form that docs/FORMATS.md gives.
 
 use crate::maps::{Answer, Change, Index, Said};
-use crate::script::{Key, Line, Operation, Shape};
+use crate::script::{Key, Line, Operation, Script, Shape};
 use std::io::{self, Write};
 use std::sync::Mutex;
 
@@ -11,19 +11,18 @@ const STATISTICS: &str = "hit 0 off 0 cold 0 short 0 part-busy 0 no-entry 0 bloc
 /// Writes the whole report of lanes that are done.
 pub fn write_report(
     out: &mut impl Write,
-    shapes: &[Shape],
-    lanes: &[Vec<Line>],
+    script: &Script,
     answers: &[Vec<Answer>],
     indexes: &[Mutex<Index>],
 ) -> io::Result<()> {
     writeln!(out, "ahi run")?;
-    for (lane, (lines, answers)) in (1..).zip(lanes.iter().zip(answers)) {
+    for (lane, (lines, answers)) in (1..).zip(script.lanes.iter().zip(answers)) {
         write_lane(out, lane, lines, answers)?;
     }
-    for (shape, index) in shapes.iter().zip(indexes) {
+    for (shape, index) in script.shapes.iter().zip(indexes) {
         write_changes(out, shape, &index.lock().unwrap().changes)?;
     }
-    for shape in shapes {
+    for shape in &script.shapes {
         writeln!(
             out,
             "stats {} {STATISTICS}",

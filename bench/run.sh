@@ -1,13 +1,15 @@
 #!/usr/bin/env bash
 # Measures `ahi run` beside the peer and the limit, and prints a table: docs/BENCH.md says how.
 # Settings: AHI, the program's file (else ./ahi builds it, and the first build proves everything and
-# takes minutes), LANES=1, LINES=200000 of each lane, SEED=7, ROUNDS=5.
+# takes minutes), KINDS="gets puts mix", LANES="1 2 4 8", LINES=200000 of all lanes together, SEED=7,
+# ROUNDS=5.
 set -euo pipefail
 export LC_ALL=C TIMEFORMAT='%R %U %S'
 top=$(cd "$(dirname "$(readlink -f "${BASH_SOURCE[0]}")")/.." && pwd)
 target=$top/bench/target
-lanes=${LANES:-1} lines=${LINES:-200000} seed=${SEED:-7} rounds=${ROUNDS:-5}
+lines=${LINES:-200000} seed=${SEED:-7} rounds=${ROUNDS:-5}
 program=${AHI:-}
+programs=(ahi peer limit)
 
 fail() {
     echo "bench: $*" >&2
@@ -16,7 +18,7 @@ fail() {
 
 build() {
     mkdir -p "$target"
-    for name in generate peer limit; do
+    for name in generate peer limit replay; do
         rustc -O --edition 2024 -o "$target/$name" "$top/bench/$name.rs"
     done
     if [ -z "$program" ]; then
@@ -26,13 +28,17 @@ build() {
     fi
 }
 
-print_machine() {
-    local memory load
+load() {
+    cut -d ' ' -f 1 /proc/loadavg
+}
+
+print_head() {
+    local memory
     memory=$(awk '/^MemTotal/ { printf "%.0f", $2 / 1024 / 1024 }' /proc/meminfo)
-    load=$(cut -d ' ' -f 1 /proc/loadavg)
-    echo "$(date +%F), $(uname -m), $(nproc) processors, $memory GiB, load $load, median of $rounds"
-    printf '%-5s %5s %8s  %-7s %7s %7s %7s %10s %9s\n' \
-        kind lanes lines program 'wall s' 'user s' 'sys s' 'wall/peer' 'cpu/peer'
+    echo "$(date +%F), $(uname -m), $(nproc) processors, $memory GiB, load $(load)"
+    echo "$lines lines, seed $seed, median of $rounds"
+    printf '%-5s %5s  %-7s %7s %7s %7s %10s %9s\n' \
+        kind lanes program 'wall s' 'user s' 'sys s' 'wall/peer' 'cpu/peer'
 }
 
 run_once() {
@@ -43,34 +49,34 @@ run_once() {
     esac >"$folder/$1.report"
 }
 
-# Sets folder and files.
+# Writes the files of a kind for so many lanes. Sets folder and files.
 generate() {
     folder=$target/$1
     rm -rf "$folder"
-    "$target/generate" "$1" "$lanes" "$lines" "$seed" "$folder"
+    "$target/generate" "$1" "$2" "$lines" "$seed" "$folder"
     files=("$folder/bench.schema")
-    for ((lane = 1; lane <= lanes; lane++)); do
+    for ((lane = 1; lane <= $2; lane++)); do
         files+=("$folder/bench-$lane.lane")
     done
 }
 
-# Runs each program once and compares. Sets changes, and the programs that take so many lanes.
+# A legal report has the bytes of the one that its own order gives.
+check_report() {
+    local report=$folder/$1.report replayed=$folder/replayed.report
+    "$target/replay" "$report" "${files[@]}" >"$replayed" || fail "$kind: $1 printed no report"
+    cmp "$report" "$replayed" || fail "$kind, $lanes lanes: the report of $1 isn't legal"
+}
+
+# Runs each program once and judges its report. Sets changes.
 try_all() {
-    local status=0
-    programs=(ahi peer limit)
-    run_once peer
+    run_once peer || fail "peer failed"
+    check_report peer
     changes=$(awk '/^changes / { sum += $3 } END { print sum }' "$folder/peer.report")
-    run_once limit
+    run_once limit || fail "limit failed"
     [ "$(wc -l <"$folder/limit.report")" = "$(wc -l <"$folder/peer.report")" ] ||
-        fail "$1: limit and peer have different numbers of lines"
-    run_once ahi || status=$?
-    if [ "$status" -eq 2 ] && [ "$lanes" -gt 1 ]; then
-        programs=(peer limit)
-    elif [ "$status" -ne 0 ]; then
-        fail "$1: ahi ended with $status"
-    elif [ "$lanes" -eq 1 ]; then
-        cmp "$folder/ahi.report" "$folder/peer.report" || fail "$1: ahi and peer differ"
-    fi
+        fail "$kind: limit and peer have different numbers of lines"
+    run_once ahi || fail "$kind: ahi ended with $?: $(tail -n 1 "$folder/ahi.report")"
+    check_report ahi
 }
 
 # The programs take turns, so that a busy moment meets all of them.
@@ -97,19 +103,21 @@ ratio() {
 
 print_rows() {
     for name in "${programs[@]}"; do
-        printf '%-5s %5d %8d  %-7s %7.3f %7.3f %7.3f %10s %9s\n' "$1" "$lanes" "$lines" "$name" \
+        printf '%-5s %5d  %-7s %7.3f %7.3f %7.3f %10s %9s\n' "$kind" "$lanes" "$name" \
             "$(median "$name" wall)" "$(median "$name" user)" "$(median "$name" sys)" \
             "$(ratio "$(median "$name" wall)" "$(median peer wall)")" \
             "$(ratio "$(median "$name" cpu)" "$(median peer cpu)")"
     done
-    [ "${programs[0]}" = ahi ] || echo "$1: ahi doesn't take $lanes lanes and is left out"
 }
 
 build
-print_machine
-for kind in gets puts mix; do
-    generate "$kind"
-    try_all "$kind"
-    measure
-    print_rows "$kind"
+print_head
+for kind in ${KINDS:-gets puts mix}; do
+    for lanes in ${LANES:-1 2 4 8}; do
+        generate "$kind" "$lanes"
+        try_all
+        measure
+        print_rows
+    done
 done
+echo "load $(load) at the end"

@@ -2,6 +2,8 @@
 //!
 //! A bad line is refused by its number alone. That two indexes have one name isn't looked for.
 
+use crate::files::{load, speaking_lines};
+
 pub type Field = Vec<u8>;
 pub type Key = Vec<Field>;
 
@@ -24,27 +26,41 @@ pub struct Line {
     pub operation: Operation,
 }
 
+/// What the files of a run say.
+pub struct Script {
+    pub shapes: Vec<Shape>,
+    pub lanes: Vec<Vec<Line>>,
+}
+
+impl Script {
+    pub fn load(schema: &str, lanes: &[String]) -> Result<Script, String> {
+        let shapes = read_file(schema, read_schema)?;
+        let read = |lane: &String| read_file(lane, |text| read_lane(text, &shapes));
+        let lanes = lanes.iter().map(read).collect::<Result<_, _>>()?;
+        Ok(Script { shapes, lanes })
+    }
+}
+
 /// The number of the first line that isn't in the grammar.
-pub struct BadLine(pub usize);
+struct BadLine(usize);
 
 const KEY_BYTES: usize = 767;
 const VALUE_BYTES: usize = 2048;
 
-pub fn read_schema(text: &[u8]) -> Result<Vec<Shape>, BadLine> {
+fn read_file<T>(file: &str, read: impl FnOnce(&[u8]) -> Result<T, BadLine>) -> Result<T, String> {
+    let read = read(&load(file)?);
+    read.map_err(|BadLine(number)| format!("{file}: line {number} isn't in the grammar"))
+}
+
+fn read_schema(text: &[u8]) -> Result<Vec<Shape>, BadLine> {
     speaking_lines(text)
         .map(|(number, line)| read_shape(line).ok_or(BadLine(number)))
         .collect()
 }
 
-pub fn read_lane(text: &[u8], shapes: &[Shape]) -> Result<Vec<Line>, BadLine> {
+fn read_lane(text: &[u8], shapes: &[Shape]) -> Result<Vec<Line>, BadLine> {
     let read = |(number, line)| read_line(number, line, shapes).ok_or(BadLine(number));
     speaking_lines(text).map(read).collect()
-}
-
-/// The lines that say something, with their numbers from 1.
-fn speaking_lines(text: &[u8]) -> impl Iterator<Item = (usize, &[u8])> {
-    let numbered = (1..).zip(text.split(|&byte| byte == b'\n'));
-    numbered.filter(|(_, line)| !line.is_empty() && line[0] != b'#')
 }
 
 fn read_shape(line: &[u8]) -> Option<Shape> {
