@@ -12,7 +12,7 @@ use Rattle.latch_law.specs.Views.{holding, learnt}
 use Rattle.latch_law.proofs.Lists.{inside, there, same_some, empty_list, none_is_not, learnt_at, learnt_some}
 use Rattle.latch_space.specs.declared.pass.PassOf.{PassOf}
 use Rattle.latch_space.specs.Passes.{view, values, count, Lacks, Shows, IsWhole}
-use Rattle.latch_space.specs.Has.{Has, SameBut, SameHands, Took, Gave, Learnt, IsKnownBut, IsKnown, Swapped, DidSettle}
+use Rattle.latch_space.specs.Has.{Has, SameBut, SameHands, Took, Gave, Learnt, Foreknows, IsKnownBut, IsKnown, Swapped, DidSettle}
 use Rattle.latch_space.specs.Hands.{spread}
 use Rattle.latch_space.specs.declared.pass.Place.{Place}
 use Rattle.latch_space.proofs.InHand.{length-spread, nothing_held}
@@ -68,16 +68,24 @@ module _ {Sh O C A : Type 0} where
     count = less;
   }
 
-  pub learnt_of : (p q : PassOf Sh O C A) → (view q).held ≡ learnt (values p) (view p).held → values q ≡ values p → count q ≡ count p → Learnt p q
-  learnt_of p q is vals same = record {
-    has = λ k m x h. record {
-      held = (h.held.0, ap (λ (z : List (Option (Holding O))). get_elem? z k) is ∙ learnt_some (values p) (view p).held k (holding h.held.0 m) x h.held.1 h.value);
+  -- once some values are known, what it holds is known to be these
+  pub foreknows_of : (vs : List (Option O)) (p q : PassOf Sh O C A) → (view q).held ≡ learnt vs (view p).held → values q ≡ values p → count q ≡ count p → Foreknows vs p q
+  foreknows_of vs p q is vals same = record {
+    has = λ k m x y h at. record {
+      held = (h.held.0, ap (λ (z : List (Option (Holding O))). get_elem? z k) is ∙ learnt_some vs (view p).held k (holding h.held.0 m) y h.held.1 at);
       value = ap (λ (z : List (Option O)). get_elem? z k) vals ∙ h.value;
     };
-    lacks = λ k e. ap (λ (z : List (Option (Holding O))). get_elem? z k) is ∙ learnt_none (values p) (view p).held k e;
+    lacks = λ k e. ap (λ (z : List (Option (Holding O))). get_elem? z k) is ∙ learnt_none vs (view p).held k e;
     values = vals;
     count = same;
   }
+
+  -- and where they are those in hand, what it holds is known to be what it is
+  pub learns_of : (p q : PassOf Sh O C A) → Foreknows (values p) p q → Learnt p q
+  learns_of p q f = record { has = λ k m x h. f.has k m x x h h.value; lacks = f.lacks; values = f.values; count = f.count }
+
+  pub learnt_of : (p q : PassOf Sh O C A) → (view q).held ≡ learnt (values p) (view p).held → values q ≡ values p → count q ≡ count p → Learnt p q
+  learnt_of p q is vals same = learns_of p q (foreknows_of (values p) p q is vals same)
 
   -- once the values of a whole hand are known, all that it holds is known
   pub learnt_known : (p q : PassOf Sh O C A) → IsWhole p → (view q).held ≡ learnt (values p) (view p).held → values q ≡ values p → IsKnown q

@@ -1,9 +1,9 @@
 //! The calls of a pass on a space. Each leaves a pass that some lawful state fits.
 ghost use Rattle.std.specs.Prelude.{◌≡◌, ◌<◌, Some, None};
 ghost use Rattle.latch_law.specs.declared.knows.Holding.{Holding};
-ghost use Rattle.latch_law.specs.Fitting.{IsFitted, MayAnswer, MayRelease, DidRead};
+ghost use Rattle.latch_law.specs.Fitting.{AreValuesOf, IsFitted, MayAnswer, MayRelease, DidRead};
 ghost use Rattle.latch_law.specs.Rule.{Holds};
-ghost use Rattle.latch_space.specs.Commits.{Ends, Changes};
+ghost use Rattle.latch_space.specs.Commits.{Ends, Changes, Foretells};
 ghost use Rattle.latch_space.specs.Has.{SameHands, DidSettle, DidRelease};
 ghost use Rattle.latch_space.specs.Passes.{view, values, count, known_values, IsSamePass, IsWhole, Lacks, Shows};
 ghost use Rattle.latch_space.specs.Spaces.{IsPassOf};
@@ -11,6 +11,7 @@ ghost use Rattle.latch_space.specs.Takes.{Tells, DidTakeAfter};
 
 use crate::committing::LogFull;
 use crate::fitted::Pass;
+use crate::plays::Values;
 use crate::space::Space;
 use crate::taking::Take;
 use latch_law::{Means, World};
@@ -92,6 +93,32 @@ impl<W: World> Space<W> {
         ensures fits { IsFitted W.lawful W.answers W.refers (view pass.new) }
     {
         self.commit_of(&mut pass.parts, index, change, wait)
+    }
+
+    /// Adds the change to the index's list before it is made: what the pass holds becomes known as
+    /// what it is to become, which is `X.values`, and the caller then makes it that. It has to, since
+    /// an object is released only as what it is known to be. After `LogFull` there is nothing to
+    /// bring back. Apart from that it is `commit`.
+    pub fn commit_ahead<X: Values<W::Object>, N: Means<W::Change>, R: Wait>(
+        &self,
+        pass: &mut Pass<W>,
+        index: u32,
+        change: &N,
+        wait: &R,
+    ) -> Result<u64, LogFull>
+        requires own { IsPassOf self.now pass.old }
+        requires index { index < self.now.terms.indexes }
+        requires whole { AreValuesOf (view pass.old) X.values }
+        requires rule { W.follows (view pass.old).terms (known_values pass.old) X.values
+            (Some (index, N.meaning change.now)) }
+        ensures own { IsSamePass pass.old pass.new × IsPassOf self.now pass.new }
+        ensures told { Ends W.lawful W.answers W.refers (view pass.old) index X.values
+            (N.meaning change.now) result (view pass.new) }
+        ensures hands { Foretells X.values pass.old result pass.new }
+        ensures kept { (values pass.new ≡ values pass.old) × (count pass.new ≡ count pass.old) }
+        ensures fits { IsFitted W.lawful W.answers W.refers (view pass.new) }
+    {
+        self.commit_ahead_of::<X, N, R>(&mut pass.parts, index, change, wait)
     }
 
     /// What the pass holds, as it now is, becomes what it is known to hold. No list changes.

@@ -5,13 +5,12 @@ ghost use lib.ListN.{get_elem?};
 ghost use Rattle.latch_law.specs.declared.knows.Entry.{Entry};
 ghost use Rattle.latch_law.specs.Fitting.{AreValuesOf, Extends, IsFitted, StandsIn};
 ghost use Rattle.latch_law.specs.Views.{knowns, with_seen, entry_of, committing};
-ghost use Rattle.latch_space.specs.Commits.{Ends, Changes};
-ghost use Rattle.latch_space.specs.Hands.{spread};
+ghost use Rattle.latch_space.specs.Commits.{Ends, Changes, Foretells};
 ghost use Rattle.latch_space.specs.Passes.{view, values, count, known_values, IsSamePass, IsWhole};
 ghost use Rattle.latch_space.specs.Spaces.{IsPassOf};
 
-use crate::pass::{Parts, Place, SeatOf};
-use crate::plays::{Commits, Looks, Makes};
+use crate::pass::{Parts, SeatOf};
+use crate::plays::{Commits, Looks, Makes, Values};
 use crate::space::Space;
 use crossbeam_utils::Backoff;
 use latch_law::{Means, World};
@@ -42,20 +41,18 @@ impl<W: World> Space<W> {
     fn commit_at<X: Makes<W::Object, W::Change>, N: Means<W::Change>>(
         &self,
         seat: &mut SeatOf<W>,
-        hand: &[Place<W::Object>],
         index: usize,
         change: &N,
         at: u64,
     ) -> u64
         requires own { (seat.old.table_id ≡ self.now.table.shared.table_id)
             × (seat.old.me.0.terms ≡ self.now.terms) }
-        requires picked { (X.news ≡ spread (length seat.old.me.0.held) hand.now)
-            × (X.change ≡ Some (N.meaning change.now)) }
+        requires picked { X.change ≡ Some (N.meaning change.now) }
         requires live { seat.old.me.0.low < seat.old.me.0.end }
         requires index { (index < length seat.old.me.0.seen) × (index < self.now.terms.indexes) }
-        requires whole { AreValuesOf seat.old.me.0 (spread (length seat.old.me.0.held) hand.now) }
-        requires rule { W.follows seat.old.me.0.terms (knowns seat.old.me.0.held)
-            (spread (length seat.old.me.0.held) hand.now) (Some (index, N.meaning change.now)) }
+        requires whole { AreValuesOf seat.old.me.0 X.news }
+        requires rule { W.follows seat.old.me.0.terms (knowns seat.old.me.0.held) X.news
+            (Some (index, N.meaning change.now)) }
         requires seen { (xs : List (Entry W.Change))
             × (get_elem? seat.old.me.0.seen index ≡ some xs) × (length xs ≡ at) }
         requires room { at < self.now.terms.max_changes }
@@ -63,8 +60,7 @@ impl<W: World> Space<W> {
         ensures told { (xs : List (Entry W.Change)) → get_elem? seat.old.me.0.seen index ≡ some xs
             → result ≡ at
             → (seat.new.me ≡ (
-              committing seat.old.me.0 index xs
-                  (spread (length seat.old.me.0.held) hand.now) (N.meaning change.now),
+              committing seat.old.me.0 index xs X.news (N.meaning change.now),
               seat.old.me.1,
             ))
             × StandsIn W.lawful W.answers W.refers seat.new.me.0 index
@@ -76,10 +72,10 @@ impl<W: World> Space<W> {
             .compare_exchange::<Commits<W, X>>(seat, self.terms.objects + index, at, at + 1)
     }
 
-    fn commit_in<N: Means<W::Change>, R: Wait>(
+    // The held objects become known as `X.values`.
+    fn commit_in<X: Values<W::Object>, N: Means<W::Change>, R: Wait>(
         &self,
         seat: &mut SeatOf<W>,
-        hand: &[Place<W::Object>],
         index: usize,
         change: &N,
         wait: &R,
@@ -88,13 +84,12 @@ impl<W: World> Space<W> {
             × (seat.old.me.0.terms ≡ self.now.terms) }
         requires live { seat.old.me.0.low < seat.old.me.0.end }
         requires index { (index < length seat.old.me.0.seen) × (index < self.now.terms.indexes) }
-        requires whole { AreValuesOf seat.old.me.0 (spread (length seat.old.me.0.held) hand.now) }
-        requires rule { W.follows seat.old.me.0.terms (knowns seat.old.me.0.held)
-            (spread (length seat.old.me.0.held) hand.now) (Some (index, N.meaning change.now)) }
+        requires whole { AreValuesOf seat.old.me.0 X.values }
+        requires rule { W.follows seat.old.me.0.terms (knowns seat.old.me.0.held) X.values
+            (Some (index, N.meaning change.now)) }
         ensures own { (seat.new.table_id ≡ seat.old.table_id) × (seat.new.id ≡ seat.old.id) }
-        ensures told { Ends W.lawful W.answers W.refers seat.old.me.0 index
-            (spread (length seat.old.me.0.held) hand.now) (N.meaning change.now) result
-            seat.new.me.0 }
+        ensures told { Ends W.lawful W.answers W.refers seat.old.me.0 index X.values
+            (N.meaning change.now) result seat.new.me.0 }
         ensures slots { seat.new.me.1 ≡ seat.old.me.1 }
     {
         let backoff = Backoff::new();
@@ -103,7 +98,7 @@ impl<W: World> Space<W> {
             if at >= self.terms.max_changes {
                 return Err(LogFull(at));
             }
-            let found = self.commit_at::<Brand, N>(seat, hand, index, change, at);
+            let found = self.commit_at::<Brand, N>(seat, index, change, at);
             if found == at {
                 return Ok(at + 1);
             }
@@ -132,12 +127,29 @@ impl<W: World> Space<W> {
         ensures kept { (values pass.new ≡ values pass.old) × (count pass.new ≡ count pass.old) }
         ensures fits { IsFitted W.lawful W.answers W.refers (view pass.new) }
     {
-        self.commit_in(
-            &mut pass.seat,
-            pass.hand.as_slice(),
-            index as usize,
-            change,
-            wait,
-        )
+        self.commit_ahead_of::<Brand, N, R>(pass, index, change, wait)
+    }
+
+    // `commit_ahead`, on a pass without its state.
+    pub(crate) fn commit_ahead_of<X: Values<W::Object>, N: Means<W::Change>, R: Wait>(
+        &self,
+        pass: &mut Parts<W>,
+        index: u32,
+        change: &N,
+        wait: &R,
+    ) -> Result<u64, LogFull>
+        requires own { IsPassOf self.now pass.old }
+        requires index { index < self.now.terms.indexes }
+        requires whole { AreValuesOf (view pass.old) X.values }
+        requires rule { W.follows (view pass.old).terms (known_values pass.old) X.values
+            (Some (index, N.meaning change.now)) }
+        ensures own { IsSamePass pass.old pass.new × IsPassOf self.now pass.new }
+        ensures told { Ends W.lawful W.answers W.refers (view pass.old) index X.values
+            (N.meaning change.now) result (view pass.new) }
+        ensures hands { Foretells X.values pass.old result pass.new }
+        ensures kept { (values pass.new ≡ values pass.old) × (count pass.new ≡ count pass.old) }
+        ensures fits { IsFitted W.lawful W.answers W.refers (view pass.new) }
+    {
+        self.commit_in::<X, N, R>(&mut pass.seat, index as usize, change, wait)
     }
 }

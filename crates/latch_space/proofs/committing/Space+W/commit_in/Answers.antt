@@ -1,11 +1,10 @@
-use Rattle.std.proofs.Common.{arith, ◌≡◌, ◌+◌, ◌++◌, ◌∷◌, [], ℕ, Some, ap, ◌∙◌, sym, refl, subst, length}
+use Rattle.std.proofs.Common.{arith, ◌≡◌, ◌+◌, ◌++◌, ◌∷◌, [], ℕ, Some, ap, ◌∙◌, sym, refl, subst}
 use lib.ListN.{get_elem?}
 use Rattle.atomic_table.proofs.Lists.{set_here}
 use Rattle.latch_law.specs.declared.knows.Knows.{Knows}
 use Rattle.latch_law.specs.Fitting.{AreValuesOf, StandsIn}
 use Rattle.latch_law.specs.Views.{committing, entry_of, knowns}
 use Rattle.latch_law.proofs.Chains.{first_seen, commits_again, looked_more}
-use Rattle.latch_space.specs.Hands.{spread}
 use Rattle.latch_space.proofs.committing.Space+W.commit_in.Goals as goal
 
 pub loop-init : goal.loop-init
@@ -21,12 +20,12 @@ returns-then-at-self-clause-told g c = let v = c.args.seat.now.me.0 in let i = c
 pub commit_at-found-requires-clause-whole : goal.commit_at-found-requires-clause-whole
 commit_at-found-requires-clause-whole g c = let v = c.args.seat.now.me.0 in let i = c.args.index in let xs = c.loop.invariant.3 in let t = c.look_at-at.ensures.told in
     let m = looked_more v _ _ i xs.0 t.0 c.requires.index.0 xs.1 xs.2 t.2 (ap (λ z. z.0) t.4) in let are = c.requires.whole in
-    subst (λ (z : Knows g.row.W-Shape.Denot g.row.W-Object.Denot g.row.W-Change.Denot g.row.W-Answer.Denot). AreValuesOf z (spread (length z.held) c.args.hand.now)) (sym m.1) record { counted = are.counted; each = are.each; only = are.only }
+    subst (λ (z : Knows g.row.W-Shape.Denot g.row.W-Object.Denot g.row.W-Change.Denot g.row.W-Answer.Denot). AreValuesOf z g.X.Values.values) (sym m.1) record { counted = are.counted; each = are.each; only = are.only }
 
 pub commit_at-found-requires-clause-rule : goal.commit_at-found-requires-clause-rule
 commit_at-found-requires-clause-rule g c = let v = c.args.seat.now.me.0 in let i = c.args.index in let xs = c.loop.invariant.3 in let t = c.look_at-at.ensures.told in
     let m = looked_more v _ _ i xs.0 t.0 c.requires.index.0 xs.1 xs.2 t.2 (ap (λ z. z.0) t.4) in
-    subst (λ (z : Knows g.row.W-Shape.Denot g.row.W-Object.Denot g.row.W-Change.Denot g.row.W-Answer.Denot). g.W.World.follows z.terms (knowns z.held) (spread (length z.held) c.args.hand.now) (Some (i, g.N.Means.meaning c.args.change.now))) (sym m.1) c.requires.rule
+    subst (λ (z : Knows g.row.W-Shape.Denot g.row.W-Object.Denot g.row.W-Change.Denot g.row.W-Answer.Denot). g.W.World.follows z.terms (knowns z.held) g.X.Values.values (Some (i, g.N.Means.meaning c.args.change.now))) (sym m.1) c.requires.rule
 
 pub commit_at-found-requires-clause-seen : goal.commit_at-found-requires-clause-seen
 commit_at-found-requires-clause-seen g c = let v = c.args.seat.now.me.0 in let i = c.args.index in let xs = c.loop.invariant.3 in let t = c.look_at-at.ensures.told in
@@ -41,7 +40,7 @@ returns-then-found-at-clause-told g c = let v = c.args.seat.now.me.0 in let i = 
       extends = m.0;
       room = omega (arith, t.1, most, c.if-at-self.false);
       point = ap (λ (z : ℕ). z + 1) t.1;
-      view = ap (λ z. z.0) d.0 ∙ (ap (λ z. committing z i t.0 (spread (length z.held) c.args.hand.now) a) m.1 ∙ commits_again v i t.0 t.0 (spread (length v.held) c.args.hand.now) a);
+      view = ap (λ z. z.0) d.0 ∙ (ap (λ z. committing z i t.0 g.X.Values.values a) m.1 ∙ commits_again v i t.0 t.0 g.X.Values.values a);
       stands = subst (λ (z : Knows g.row.W-Shape.Denot g.row.W-Object.Denot g.row.W-Change.Denot g.row.W-Answer.Denot). StandsIn g.W.World.lawful g.W.World.answers g.W.World.refers c.commit_at-found.new.seat.me.0 i (t.0 ++ entry_of z a ∷ [])) m.1 d.1;
     }
 
