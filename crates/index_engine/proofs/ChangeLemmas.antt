@@ -1,6 +1,7 @@
 -- A leaf that is taken out of the hand, changed and put back is held still, and now is what it was changed to.
 use Rattle.std.proofs.Common.{◌≡◌, ℕ, List, set, sym, ap, subst, ◌∙◌, Option, Some, None, Result, Ok, Err, IfOk, OnErr}
-use mathlib.Core.Option.{some}
+use mathlib.Core.Option.{some, none}
+use mathlib.Core.Option as maybe
 use lib.ListN.{get_elem?}
 use Rattle.atomic_table.proofs.Lists.{set_here}
 use Rattle.key_tuple.specs.Order.{FieldList}
@@ -8,19 +9,31 @@ use Rattle.key_tuple.specs.declared.error.NoMemory.{NoMemory}
 use Rattle.latch_law.proofs.Lists.{inside, one_value, same_some}
 use Rattle.latch_space.specs.Passes.{values, count, Shows}
 use Rattle.latch_space.proofs.Pointwise.{swapped_of}
-use Rattle.index_page.specs.Page.{PageRows}
 use Rattle.index_world.specs.declared.frame.Frame.{Frame}
 use Rattle.index_world.specs.declared.frame.Object.{Object}
 use Rattle.index_world.specs.declared.frame.Object.TheVariants as object
 use Rattle.index_world.specs.Law.{IsRootLeaf}
 use Rattle.index_world.specs.Spoken.{View}
-use Rattle.index_engine.specs.Changes.{PutIn, TookOut, IsPutBack, IsRestored}
-use Rattle.index_engine.specs.Frames.{SameRange, PutsRow, TakesRow}
+use Rattle.index_engine.specs.Changes.{PutIn, HoldsRowAt, TookOut}
+use Rattle.index_engine.specs.Frames.{PutsRow, StandsOn, frame_without}
 use Rattle.index_engine.specs.Passes.{Caller, HoldsLeaf}
 
 -- the frame that an object is, read back
 abbrev frame_in : Object → Frame
 frame_in (object.Frame f) = f
+
+-- the frame that stands in a hand, if one does
+abbrev frame_at : maybe.Option (Option Object) → Frame
+frame_at (some (Some (object.Frame f))) = f
+frame_at (some None) = record { page = None; low = None; high = None; clock = 0 }
+frame_at none = record { page = None; low = None; high = None; clock = 0 }
+
+-- the leaf of the index as it now is
+abbrev pub leaf_in : Caller → ℕ → Frame
+leaf_in p i = frame_at (get_elem? (values p) i)
+
+pub leaf_is : (p : Caller) (i : ℕ) (f g : Frame) → HoldsLeaf p i f g → leaf_in p i ≡ g
+leaf_is p i f g holds = ap frame_at holds.has.value
 
 -- an object that was taken out has left its place
 pub left_out : (p q : Caller) (i : ℕ) (x : Object) → Shows p i x → values q ≡ set (values p) i None → get_elem? (values q) i ≡ some None
@@ -50,14 +63,9 @@ module _ (p q r : Caller) (i : ℕ) (x : Object) (f0 g' : Frame) (is : x ≡ obj
   put_in_err (Ok place) same = tt
   put_in_err (Err e) same = λ f holds. subst (HoldsLeaf r i f) (same ∙ sym (taken_is f f holds)) (put_leaf f f holds)
 
-  pub put_back_ok : (place : ℕ) → ((f : Frame) (key : FieldList) (value : List ℕ) → PutsRow f f0 place key value → g' ≡ f) → IsPutBack p r i place
-  put_back_ok place back f g key value holds puts = subst (HoldsLeaf r i f) (back f key value (subst (λ z. PutsRow f z place key value) (taken_is f g holds) puts)) (put_leaf f g holds)
+  pub take_out_ok : (place : ℕ) → g' ≡ frame_without place f0 → TookOut p r i place
+  take_out_ok place is_less f g holds = subst (HoldsLeaf r i f) (is_less ∙ ap (frame_without place) (sym (taken_is f g holds))) (put_leaf f g holds)
 
-  pub take_out_ok : (key : FieldList) → TakesRow f0 g' key → TookOut p r i key
-  take_out_ok key takes f holds = (g', put_leaf f f holds, subst (λ z. TakesRow z g' key) (sym (taken_is f f holds)) takes)
-
-  pub restore_ok : (copy : Option PageRows) → g'.page ≡ copy → SameRange f0 g' → IsRestored p r i copy
-  restore_ok copy page range f g key holds takes saved =
-      let was = taken_is f g holds in
-      let again : g' ≡ f = λ k. record { page = (page ∙ saved) k; low = (range.low ∙ (ap (λ (z : Frame). z.low) (sym was) ∙ takes.range.low)) k; high = (range.high ∙ (ap (λ (z : Frame). z.high) (sym was) ∙ takes.range.high)) k; clock = (range.clock ∙ (ap (λ (z : Frame). z.clock) (sym was) ∙ takes.range.clock)) k } in
-      subst (HoldsLeaf r i f) again (put_leaf f g holds)
+  -- the row stands on what was taken out
+  pub stands_ok : (place : ℕ) → HoldsRowAt p i place → StandsOn f0 place
+  stands_ok place held = subst (λ z. StandsOn z place) (taken_is held.known held.now held.holds) held.stands

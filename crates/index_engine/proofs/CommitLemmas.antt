@@ -1,18 +1,20 @@
 -- A change that is committed while the leaf is held follows, is right, and is the one that is told.
-use Rattle.std.proofs.Common.{◌≡◌, ℕ, ◌+◌, ◌-◌, ◌<◌, true, [], ◌∷◌, ◌++◌, append_assoc, length, length-append, take, set, sym, ap, subst, ◌∙◌, arith, refl, Result, Ok, Err, Contains, cond}
+use Rattle.std.proofs.Common.{◌≡◌, ℕ, ◌+◌, ◌-◌, ◌<◌, true, [], ◌∷◌, ◌++◌, append_assoc, length, length-append, take, set, sym, ap, subst, ◌∙◌, arith, refl, List, Option, Some, Result, Ok, Err, Contains, cond}
 use Rattle.std.proofs.lemmas.List.{length-map, take_all, take-append-le}
 use mathlib.Core.List.{map-append}
+use mathlib.Core.Option.{some}
 use lib.ListN.{get_elem?}
 use Rattle.atomic_table.proofs.Lists.{set_here}
 use Rattle.latch_law.specs.declared.knows.Entry.{Entry}
 use Rattle.latch_law.specs.declared.knows.Saying.TheVariants as what
-use Rattle.latch_law.specs.Fitting.{Extends, DidCommit, WasFull}
+use Rattle.latch_law.specs.Fitting.{AreValuesOf, Extends, DidCommit, WasFull}
 use Rattle.latch_law.specs.Views.{holding, learnt, entry_of}
-use Rattle.latch_law.proofs.Lists.{learnt_at, known_at, known_back}
+use Rattle.latch_law.proofs.Lists.{inside, learnt_at, known_at, known_back}
 use Rattle.latch_space.specs.declared.committing.LogFull.{LogFull}
-use Rattle.latch_space.specs.Has.{Learnt, SameHands}
-use Rattle.latch_space.specs.Commits.{Ends, Changes}
-use Rattle.latch_space.specs.Passes.{view, values, known_values, IsWhole}
+use Rattle.latch_space.specs.Has.{Has, Learnt, Foreknows, SameHands}
+use Rattle.latch_space.specs.Commits.{Ends, Changes, Foretells}
+use Rattle.latch_space.specs.Passes.{view, values, count, known_values, IsWhole}
+use Rattle.latch_space.proofs.Pointwise.{whole_values, values_set}
 use Rattle.map_history.specs.Map.{MapChange, map_after, is_allowed, AreLawful}
 use Rattle.map_history.specs.Operation.{Ask, Make}
 use Rattle.map_history.specs.Reply.{Done, reply_of, refusal}
@@ -20,6 +22,7 @@ use Rattle.map_history.specs.Report.{Replied}
 use Rattle.map_history.specs.LegalReport.{Mark, marks_of, has_form}
 use Rattle.map_history.proofs.HistoryLemmas.{lawful-last}
 use Rattle.index_world.specs.declared.frame.Frame.{Frame}
+use Rattle.index_world.specs.declared.frame.Object.{Object}
 use Rattle.index_world.specs.declared.frame.Object.TheVariants as object
 use Rattle.index_world.specs.Answers.{Deed}
 use Rattle.index_world.specs.Following.{change_keeps, root_stays}
@@ -31,7 +34,7 @@ use Rattle.index_world.specs.Rightness.{IsRight, map_at}
 use Rattle.index_world.specs.Spoken.{View, spoken}
 use Rattle.index_world.specs.State.{Entries, changes}
 use Rattle.index_engine.specs.Passes.{Caller, HoldsLeaf}
-use Rattle.index_engine.specs.Says.{dashes, DidMake, IsFullThen, Commits}
+use Rattle.index_engine.specs.Says.{dashes, DidMake, IsFullThen, Commits, DidForetell, CommitsAhead}
 use Rattle.index_engine.proofs.ViewLemmas.{spoken-push, one_mark, more_seen, extends_length, now_seen}
 
 module _ (p : Caller) (i : ℕ) where
@@ -39,25 +42,35 @@ module _ (p : Caller) (i : ℕ) where
   pub leaf_whole : (f g : Frame) → HoldsLeaf p i f g → IsWhole p
   leaf_whole f g holds k h held = let same = holds.alone k h held in (object.Frame g, ap (get_elem? (values p)) same ∙ holds.has.value)
 
+  -- the values in hand, but for the leaf, which is to be the next one
+  abbrev pub next_values : Frame → List (Option Object)
+  next_values next = set (values p) i (Some (object.Frame next))
+
+  pub next_at : (f g next : Frame) → HoldsLeaf p i f g → get_elem? (next_values next) i ≡ some (Some (object.Frame next))
+  next_at f g next holds = set_here (values p) i (Some (object.Frame next)) (inside (values p) i (Some (object.Frame g)) holds.has.value)
+
+  pub next_suits : (f g next : Frame) → HoldsLeaf p i f g → AreValuesOf (view p) (next_values next)
+  next_suits f g next holds = let held = holds.has.held in values_set (view p) (values p) i (holding held.0 (object.Frame f)) (object.Frame next) (whole_values p (leaf_whole f g holds)) held.1
+
   -- the change may be made of what is held
-  pub leaf_follows : (f g : Frame) (c : MapChange) → HoldsLeaf p i f g → MakesChange i c f g → IsMade (known_values p) (values p) i c
-  leaf_follows f g c holds makes = record {
+  pub leaf_follows : (vs : List (Option Object)) (f g x : Frame) (c : MapChange) → get_elem? vs i ≡ some (Some (object.Frame g)) → HoldsLeaf p i f x → MakesChange i c f g → IsMade (known_values p) vs i c
+  leaf_follows vs f g x c at holds makes = record {
     leaf = i;
     old = f;
     new = g;
-    becomes = (let held = holds.has.held in known_at (view p).held i (holding held.0 (object.Frame f)) held.1, holds.has.value);
+    becomes = (let held = holds.has.held in known_at (view p).held i (holding held.0 (object.Frame f)) held.1, at);
     made = makes;
     others = λ k x y differs becomes. (let held = known_back (view p).held k (object.Frame x) becomes.0 in absurd (differs (holds.alone k held.0 held.1)));
   }
 
   -- a leaf that keeps its page stays the root
   module _ (q : Caller) (ask : Ask) where
-    -- what is known of the leaf once its value is
-    learnt_leaf : (f g : Frame) (c : MapChange) → (view q).held ≡ learnt (values p) (view p).held → (view q).terms ≡ (view p).terms → Learnt p q → HoldsLeaf p i f g → MakesChange i c f g → HoldsLeaf q i g g
-    learnt_leaf f g c held terms learns holds makes = record {
-      has = learns.has i (object.Frame f) (object.Frame g) holds.has;
-      alone = λ k h at. (let before = learnt_at (values p) (view p).held k h (ap (λ z. get_elem? z k) (sym held) ∙ at) in holds.alone k before.0 before.1);
-      one = learns.count ∙ holds.one;
+    -- what is known of the leaf once these values are
+    learnt_leaf : (vs : List (Option Object)) (f g x : Frame) (c : MapChange) → (view q).held ≡ learnt vs (view p).held → (view q).terms ≡ (view p).terms → count q ≡ count p → Has q i (object.Frame g) (object.Frame x) → HoldsLeaf p i f x → MakesChange i c f g → HoldsLeaf q i g x
+    learnt_leaf vs f g x c held terms counts has holds makes = record {
+      has = has;
+      alone = λ k h at. (let before = learnt_at vs (view p).held k h (ap (λ z. get_elem? z k) (sym held) ∙ at) in holds.alone k before.0 before.1);
+      one = counts ∙ holds.one;
       root = subst (λ t. IsRootLeaf t.shape i g) (sym terms) (root_stays (view p).terms.shape i f g (change_keeps i c f g makes) holds.root);
     }
 
@@ -70,7 +83,7 @@ module _ (p : Caller) (i : ℕ) where
       root = subst (λ t. IsRootLeaf t.shape i f) (sym terms) holds.root;
     }
 
-    module _ (deed : Deed) (deed_is : deed ≡ record { change = change_in ask; columns = dashes }) (asked : ask ≡ Make (change_in ask)) (point : ℕ) (did : DidCommit IsLawful IsRight IsReference (view p) i (values p) deed point (view q)) where
+    module _ (deed : Deed) (deed_is : deed ≡ record { change = change_in ask; columns = dashes }) (asked : ask ≡ Make (change_in ask)) (vs : List (Option Object)) (point : ℕ) (did : DidCommit IsLawful IsRight IsReference (view p) i vs deed point (view q)) where
       abbrev longer : Entries
       longer = did.list ++ entry_of (view p) deed ∷ []
 
@@ -118,10 +131,23 @@ module _ (p : Caller) (i : ℕ) where
           columns_are : deed.columns ≡ dashes
           columns_are = ap (λ (d : Deed). d.columns) deed_is
 
+      held_is : (view q).held ≡ learnt vs (view p).held
+      held_is = ap (λ (z : View). z.held) did.view
+
+      terms_are : (view q).terms ≡ (view p).terms
+      terms_are = ap (λ (z : View). z.terms) did.view
+
       -- the change was made once
       pub did_make : Learnt p q → DidMake p q i ask point
       did_make learns = record {
-        leaf = λ f g holds makes. learnt_leaf f g (change_in ask) (ap (λ (z : View). z.held) did.view) (ap (λ (z : View). z.terms) did.view) learns holds makes;
+        leaf = λ f g holds makes. learnt_leaf vs f g g (change_in ask) held_is terms_are learns.count (learns.has i (object.Frame f) (object.Frame g) holds.has) holds makes;
+        once = once;
+      }
+
+      -- and is still to be made on the leaf
+      pub did_foretell : (next : Frame) → get_elem? vs i ≡ some (Some (object.Frame next)) → Foreknows vs p q → DidForetell p q i ask next point
+      did_foretell next at knows = record {
+        leaf = λ f g holds makes. learnt_leaf vs f next g (change_in ask) held_is terms_are knows.count (knows.has i (object.Frame f) (object.Frame g) (object.Frame next) holds.has at) holds makes;
         once = once;
       }
 
@@ -140,5 +166,11 @@ module _ (p : Caller) (i : ℕ) where
 
     -- how the commit ended
     pub commit_ends : (deed : Deed) → i < length (view p).seen → deed ≡ record { change = change_in ask; columns = dashes } → ask ≡ Make (change_in ask) → (result : Result ℕ LogFull) → Ends IsLawful IsRight IsReference (view p) i (values p) deed result (view q) → Changes p result q → Commits p i ask result q
-    commit_ends deed room deed_is asked (Ok point) did learns = did_make deed deed_is asked point did learns
+    commit_ends deed room deed_is asked (Ok point) did learns = did_make deed deed_is asked (values p) point did learns
     commit_ends deed room deed_is asked (Err full) was same = full_then full.0 room was same
+
+    -- and one that went ahead of its change
+    pub ahead_ends : (deed : Deed) → i < length (view p).seen → deed ≡ record { change = change_in ask; columns = dashes } → ask ≡ Make (change_in ask) → (next : Frame) (vs : List (Option Object)) → get_elem? vs i ≡ some (Some (object.Frame next))
+        → (result : Result ℕ LogFull) → Ends IsLawful IsRight IsReference (view p) i vs deed result (view q) → Foretells vs p result q → CommitsAhead p i ask next result q
+    ahead_ends deed room deed_is asked next vs at (Ok point) did knows = did_foretell deed deed_is asked vs point did next at knows
+    ahead_ends deed room deed_is asked next vs at (Err full) was same = full_then full.0 room was same

@@ -1,11 +1,13 @@
--- Rows at places that differ.
-use Rattle.std.proofs.Common.{◌≡◌, ◌≢◌, ℕ, not, ◌==◌, Some, List, [], ◌∷◌, ◌++◌, refl, sym, ap, ◌∙◌, subst, eq-eqb}
-use Rattle.std.proofs.lemmas.Bool.{ne_eqb}
+-- Rows at places that differ, and pages without one of them.
+use Rattle.std.proofs.Common.{◌≡◌, ◌≢◌, ℕ, Bool, true, false, cond, not, ◌==◌, Some, None, List, [], ◌∷◌, ◌++◌, refl, sym, ap, ◌∙◌, subst, eq-eqb}
+use Rattle.std.proofs.lemmas.Bool.{both_ways, ne_eqb}
 use Rattle.std.specs.List.{filter, AllByRecursion}
 use Rattle.map_history.proofs.EachLemmas.{filter_each, each_weaker}
 use Rattle.index_page.specs.Page.{PageRows, PlacesDiffer}
 use Rattle.index_page.specs.Rows.{Row, find_row}
 use Rattle.index_page.specs.Changes.{Inserts, Deletes}
+use Rattle.index_page.proofs.RowLemmas.{find_stands}
+use Rattle.index_engine.specs.Leaf.{page_without}
 
 -- what holds of each element holds of one in the middle
 pub each_middle : {A : Type 0} (P : A → Type 0) (xs : List A) (x : A) (ys : List A) → AllByRecursion P (xs ++ x ∷ ys) → P x
@@ -20,26 +22,55 @@ find_row-split (x ∷ left) row right differ =
     rw (ne_eqb x.place row.place (λ e. apart (sym e))) (find_row-split left row right differ.1)
 
 -- the rows but for one at this place
-abbrev pub without : ℕ → List Row → List Row
+abbrev without : ℕ → List Row → List Row
 without place rows = filter (λ (x : Row). not (x.place == place)) rows
 
-pub without-split : (left : List Row) (row : Row) (right : List Row) → PlacesDiffer (left ++ row ∷ right) → without row.place (left ++ row ∷ right) ≡ left ++ right
-without-split [] row right differ =
-    rw (eq-eqb row.place row.place refl)
-    (filter_each (λ (x : Row). not (x.place == row.place)) right (each_weaker _ _ (λ (x : Row) apart. ap not (ne_eqb x.place row.place apart)) right differ.0))
-without-split (x ∷ left) row right differ =
-    let apart = each_middle (λ (y : Row). y.place ≢ x.place) left row right differ.0 in
-    rw (ne_eqb x.place row.place (λ e. apart (sym e))) (ap (λ rows. x ∷ rows) (without-split left row right differ.1))
+-- no row stands there
+abbrev AreElsewhere : ℕ → List Row → Type 0
+AreElsewhere place rows = AllByRecursion (λ (x : Row). x.place ≢ place) rows
 
--- a row that was put in and taken out again leaves the page as it was
-pub put_and_taken : (before page after : PageRows) (row : Row) (place : ℕ) → PlacesDiffer page.rows → Inserts before page row → row.place ≡ place → Deletes page after place → after ≡ before
-put_and_taken before page after row place differ put at taken = same (taken.head ∙ put.head) (taken.is ∙ sym now ∙ was ∙ sym put.was)
+elsewhere_kept : (place : ℕ) (rows : List Row) → AreElsewhere place rows → without place rows ≡ rows
+elsewhere_kept place rows apart = filter_each (λ (x : Row). not (x.place == place)) rows (each_weaker _ _ (λ (x : Row) a. ap not (ne_eqb x.place place a)) rows apart)
+
+-- without the row in the middle the others are left
+without-split : (place : ℕ) (left : List Row) (row : Row) (right : List Row) → row.place ≡ place → AreElsewhere place (left ++ right) → without place (left ++ row ∷ right) ≡ left ++ right
+without-split place [] row right at apart = rw (eq-eqb row.place place at) (elsewhere_kept place right apart)
+without-split place (x ∷ left) row right at apart = rw (ne_eqb x.place place apart.0) (ap (λ rows. x ∷ rows) (without-split place left row right at apart.1))
+
+differ_elsewhere : (left : List Row) (row : Row) (right : List Row) → PlacesDiffer (left ++ row ∷ right) → AreElsewhere row.place (left ++ right)
+differ_elsewhere [] row right differ = differ.0
+differ_elsewhere (x ∷ left) row right differ = let apart = each_middle (λ (y : Row). y.place ≢ x.place) left row right differ.0 in (λ e. apart (sym e), differ_elsewhere left row right differ.1)
+
+vacant_elsewhere : (place : ℕ) (rows : List Row) → find_row place rows ≡ None → AreElsewhere place rows
+vacant_elsewhere place [] vacant = tt
+vacant_elsewhere place (x ∷ rows) vacant = go (x.place == place) refl vacant (vacant_elsewhere place rows)
   where
-    same : after.head ≡ before.head → after.rows ≡ before.rows → after ≡ before
-    same h r = λ i. record { head = h i; rows = r i }
+    go : (b : Bool) → (x.place == place) ≡ b → cond b (Some x) (find_row place rows) ≡ None → (find_row place rows ≡ None → AreElsewhere place rows) → AreElsewhere place (x ∷ rows)
+    go true is none more = absurd cc
+    go false is none more = (λ e. absurd (both_ways (x.place == place) is (eq-eqb x.place place e)), more none)
 
-    now : without place page.rows ≡ taken.left ++ taken.right
-    now = rw (taken.was, sym taken.place_is) (without-split taken.left taken.row taken.right (subst PlacesDiffer taken.was differ))
+same_page : {p q : PageRows} → p.head ≡ q.head → p.rows ≡ q.rows → p ≡ q
+same_page head rows = λ i. record { head = head i; rows = rows i }
 
-    was : without place page.rows ≡ put.below ++ put.above
-    was = rw (put.is, sym at) (without-split put.below row put.above (subst PlacesDiffer put.is differ))
+-- a page from which the row at a place was deleted is the page without it
+pub deleted_is : (page after : PageRows) (place : ℕ) → PlacesDiffer page.rows → Deletes page after place → after ≡ page_without place page
+deleted_is page after place differ taken =
+    same_page taken.head (taken.is ∙ sym (ap (without place) taken.was
+    ∙ without-split place taken.left taken.row taken.right taken.place_is (subst (λ p. AreElsewhere p (taken.left ++ taken.right)) taken.place_is (differ_elsewhere taken.left taken.row taken.right (subst PlacesDiffer taken.was differ)))))
+
+-- and a page with a row at a place deletes it to become that
+pub without_deletes : (page : PageRows) (place : ℕ) (row : Row) → PlacesDiffer page.rows → find_row place page.rows ≡ Some row → Deletes page (page_without place page) place
+without_deletes page place row differ there = let s = find_stands page.rows place row there in record {
+  left = s.left;
+  row = row;
+  right = s.right;
+  was = s.split;
+  place_is = s.place_is;
+  is = ap (without place) s.split ∙ without-split place s.left row s.right s.place_is (subst (λ p. AreElsewhere p (s.left ++ s.right)) s.place_is (differ_elsewhere s.left row s.right (subst PlacesDiffer s.split differ)));
+  head = refl;
+}
+
+-- a page into which a row was put is, without it, what it was
+pub put_without : (before after : PageRows) (row : Row) → Inserts before after row → page_without row.place after ≡ before
+put_without before after row put =
+    same_page put.head (ap (without row.place) put.is ∙ (without-split row.place put.below row put.above refl (subst (AreElsewhere row.place) put.was (vacant_elsewhere row.place before.rows put.vacant)) ∙ sym put.was))

@@ -1,5 +1,6 @@
 -- A row that is put into a held leaf, or taken out of it, makes a change that may be committed.
-use Rattle.std.proofs.Common.{◌≡◌, ℕ, true, false, List, sym, ap, subst, ◌∙◌, refl, Option, Some, None, Result, Ok, Err, IfOk, is_none, is_some}
+use Rattle.std.proofs.Common.{◌≡◌, ℕ, true, false, List, sym, ap, subst, ◌∙◌, refl, Option, Some, None, IsSome, rules, Result, Ok, Err, IfOk, is_none, is_some}
+use Rattle.std.specs.Option.{option_map}
 use Rattle.key_tuple.specs.Order.{FieldList}
 use Rattle.key_tuple.specs.Place.{At, before, within}
 use Rattle.key_tuple.specs.declared.error.NoMemory.{NoMemory}
@@ -8,17 +9,20 @@ use Rattle.map_history.specs.declared.reply.Told.{Told}
 use Rattle.map_history.specs.Map.{Pair, MapChange, Put, Del, value_at}
 use Rattle.map_history.specs.Operation.{Ask, Make}
 use Rattle.map_history.specs.Reply.{Done}
-use Rattle.map_history.specs.Report.{Answer, Replied}
-use Rattle.index_page.specs.Page.{PageRows}
+use Rattle.map_history.specs.Report.{Replied}
+use Rattle.index_page.specs.Page.{PageRows, IsInOrder}
+use Rattle.index_page.specs.Rows.{Bytes, row_of}
 use Rattle.index_world.specs.declared.frame.Frame.{Frame}
 use Rattle.index_world.specs.Law.{IsRootLeaf, MakesChange}
 use Rattle.index_world.specs.Once.{IsQuiet, IsStill, AnswersOnce}
 use Rattle.index_world.specs.Shape.{Shape}
 use Rattle.index_world.specs.Spoken.{View}
 use Rattle.index_world.specs.State.{low_in, high_in, low_of, high_of, rows_of}
-use Rattle.index_engine.specs.Frames.{PutsRow, TakesRow}
-use Rattle.index_engine.specs.Leaf.{IsFoundAt}
+use Rattle.index_engine.specs.Frames.{PutsRow, StandsOn, frame_without}
+use Rattle.index_engine.specs.Leaf.{HasRow, IsFoundAt, page_without}
 use Rattle.index_engine.specs.Says.{dashes, SeesFull, TellsOnce, told_made}
+use Rattle.index_engine.proofs.LeafChangeLemmas.{del-rows}
+use Rattle.index_engine.proofs.LeafPlaceLemmas.{without_deletes, put_without}
 use Rattle.index_engine.proofs.OnceLemmas.{quiet_then_tells, tells_then_still}
 
 -- each key is within the bounds of a root
@@ -43,22 +47,31 @@ put_makes shape i f g place key value root puts absent = let same = same_some ro
   made = puts.map;
 }
 
--- and so is a row that was taken out
-pub del_makes : (shape : Shape) (i : ℕ) (f g : Frame) (key : FieldList) (value : List ℕ) (page : PageRows) → IsRootLeaf shape i f → TakesRow f g key → f.page ≡ Some page → value_at key (rows_of page) ≡ Some value → MakesChange i (Del key) f g
-del_makes shape i f g key value page root takes paged there = let same = same_some root.page takes.before (sym root.paged ∙ takes.paged_before) in let page_is = same_some page takes.before (sym paged ∙ takes.paged_before) in record {
-  before = takes.before;
-  paged_before = takes.paged_before;
-  after = takes.after;
-  paged_after = takes.paged_after;
-  head = takes.head;
-  low = takes.range.low;
-  high = takes.range.high;
+-- and so is a row less
+pub del_makes : (shape : Shape) (i : ℕ) (f : Frame) (place : ℕ) (key : FieldList) (page : PageRows) → IsRootLeaf shape i f → f.page ≡ Some page → IsInOrder page → HasRow page place key → MakesChange i (Del key) f (frame_without place f)
+del_makes shape i f place key page root paged order has = let same = same_some root.page page (sym root.paged ∙ paged) in record {
+  before = page;
+  paged_before = paged;
+  after = page_without place page;
+  paged_after = ap (option_map (page_without place)) paged;
+  head = refl;
+  low = refl;
+  high = refl;
   index = ap (λ (p : PageRows). p.head.index) (sym same) ∙ root.index;
   level = ap (λ (p : PageRows). p.head.level) (sym same) ∙ root.level;
   inside = root_range shape i f key root;
-  allowed = ap (λ (p : PageRows). is_some (value_at key (rows_of p))) (sym page_is) ∙ ap is_some there;
-  made = takes.map;
+  allowed = ap is_some has.value;
+  made = del-rows page (page_without place page) place key order.ascend order.places has (without_deletes page place has.row order.places has.there);
 }
+
+-- a row that was put in stands on the leaf, which without it is what it was
+pub put_stands : (f g : Frame) (place : ℕ) (key : FieldList) (value : List ℕ) → PutsRow f g place key value → StandsOn g place
+put_stands f g place key value puts = record { page = puts.after; paged = puts.paged_after; there = subst IsSome (sym puts.inserts.stands) (search rules) }
+
+pub put_leaves : (f g : Frame) (place : ℕ) (key : FieldList) (value : List ℕ) → PutsRow f g place key value → frame_without place g ≡ f
+put_leaves f g place key value puts =
+    let page = ap (option_map (page_without place)) puts.paged_after ∙ (ap Some (put_without puts.before puts.after (row_of place key (Bytes value)) puts.inserts) ∙ sym puts.paged_before) in
+    λ i. record { page = page i; low = puts.range.low i; high = puts.range.high i; clock = puts.range.clock i }
 
 -- a row that was found has a value
 pub found_some : (page : PageRows) (key : FieldList) (o : Option ℕ) → IsFoundAt page key o → is_some o ≡ true → (value : List ℕ) × (value_at key (rows_of page) ≡ Some value)
@@ -91,9 +104,6 @@ pub quiet_then_result : (i : ℕ) (ask : Ask) (row : Pair) (v v0 v1 : View) (res
 quiet_then_result i ask row v v0 v1 (Ok told) quiet tells = quiet_then_tells i ask told row v v0 v1 quiet tells
 quiet_then_result i ask row v v0 v1 (Err e) quiet tells = tt
 
--- what was known before a change of the hand is what is known after it
-pub quiet_before_same : (v v0 v1 : View) → v0 ≡ v → IsQuiet v0 v1 → IsQuiet v v1
-quiet_before_same v v0 v1 same quiet = subst (λ (z : View). IsQuiet z v1) same quiet
-
-pub once_before_same : (i : ℕ) (ask : Ask) (answer : Answer) (v v0 v1 : View) → v0 ≡ v → AnswersOnce v0 v1 i ask answer → AnswersOnce v v1 i ask answer
-once_before_same i ask answer v v0 v1 same once = subst (λ (z : View). AnswersOnce z v1 i ask answer) same once
+-- a change of the hand is no step
+pub still_same : (v v0 v1 : View) → v0 ≡ v → IsStill v0 v1 → IsStill v v1
+still_same v v0 v1 same still = subst (λ (z : View). IsStill z v1) same still

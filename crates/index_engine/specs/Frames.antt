@@ -1,14 +1,15 @@
 -- Changes of the page of a frame.
-use Rattle.std.specs.Prelude.{ℕ, ◌≡◌, ◌≤◌, Some, None, List, length}
+use Rattle.std.specs.Prelude.{ℕ, ◌≡◌, ◌≤◌, Some, None, IsSome, List, length}
+use Rattle.std.specs.Option.{option_map}
 use Rattle.key_tuple.specs.Order.{FieldList}
-use Rattle.map_history.specs.Map.{Put, Del, value_at, after_change}
+use Rattle.map_history.specs.Map.{Put, value_at, after_change}
 use Rattle.index_page.specs.declared.TheConstants.{MAX_ROWS}
 use Rattle.index_page.specs.Changes.{Inserts}
 use Rattle.index_page.specs.Page.{PageRows}
-use Rattle.index_page.specs.Rows.{Bytes, row_of}
+use Rattle.index_page.specs.Rows.{Bytes, row_of, find_row}
 use Rattle.index_world.specs.declared.frame.Frame.{Frame}
 use Rattle.index_world.specs.State.{rows_of}
-use Rattle.index_engine.specs.Leaf.{HasRow}
+use Rattle.index_engine.specs.Leaf.{page_without}
 
 -- the frame has a leaf for keys of as many fields
 pub record HasLeaf (f : Frame) (key : FieldList) : Type 0 where
@@ -39,18 +40,12 @@ pub record PutsRow (f g : Frame) (place : ℕ) (key : FieldList) (value : List �
   pub map : rows_of after ≡ after_change (rows_of before) (Put key value)
   pub range : SameRange f g
 
--- the row of the key was taken out
-pub record TakesRow (f g : Frame) (key : FieldList) : Type 0 where
-  pub before : PageRows
-  pub paged_before : f.page ≡ Some before
-  pub after : PageRows
-  pub paged_after : g.page ≡ Some after
-  pub head : after.head ≡ before.head
-  pub map : rows_of after ≡ after_change (rows_of before) (Del key)
-  pub range : SameRange f g
-
--- the row of the key stands at the place of the frame's page
-pub record HasRowAt (f : Frame) (place : ℕ) (key : FieldList) : Type 0 where
+-- a row stands at the place of the frame's page
+pub record StandsOn (f : Frame) (place : ℕ) : Type 0 where
   pub page : PageRows
   pub paged : f.page ≡ Some page
-  pub row : HasRow page place key
+  pub there : IsSome (find_row place page.rows)
+
+-- the frame without the row at a place
+abbrev pub frame_without : ℕ → Frame → Frame
+frame_without place f = record f { page = option_map (page_without place) f.page }

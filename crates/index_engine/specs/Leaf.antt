@@ -1,5 +1,6 @@
 -- Rows found on a leaf, and changes of its rows.
-use Rattle.std.specs.Prelude.{ℕ, ◌≡◌, Option, Some, None, List}
+use Rattle.std.specs.Prelude.{ℕ, ◌≡◌, ◌==◌, not, Option, Some, None, List}
+use Rattle.std.specs.List.{filter}
 use Rattle.key_tuple.specs.Order.{FieldList}
 use Rattle.map_history.specs.Map.{MapChange, value_at, after_change}
 use Rattle.index_page.specs.Changes.{Inserts}
@@ -23,10 +24,10 @@ IsFoundAt page key (Some place) = HasRow page place key
 abbrev pub IsMadeBy : PageRows → PageRows → MapChange → Type 0
 IsMadeBy before after change = rows_of after ≡ after_change (rows_of before) change
 
+-- the page without the row at a place
+abbrev pub page_without : ℕ → PageRows → PageRows
+page_without place page = record page { rows = filter (λ (x : Row). not (x.place == place)) page.rows }
+
 -- the row of the key and the value was put in at the place
 abbrev pub InsertsAt : PageRows → PageRows → ℕ → FieldList → List ℕ → Type 0
 InsertsAt before after place key value = Inserts before after (row_of place key (Bytes value))
-
--- the row was put in, at the place
-abbrev pub IsPutInAt : PageRows → PageRows → Row → ℕ → Type 0
-IsPutInAt before after row place = Inserts before after row × (row.place ≡ place)

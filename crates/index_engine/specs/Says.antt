@@ -74,6 +74,14 @@ pub record CanCommit (p : Caller) (i : ℕ) (ask : Ask) : Type 0 where
   pub asked : ask ≡ Make change
   pub makes : MakesChange i change known made
 
+-- the pass holds the leaf, which is what it is known to be, and of which the change that is asked for makes the next one
+pub record CanForetell (p : Caller) (i : ℕ) (ask : Ask) (next : Frame) : Type 0 where
+  pub known : Frame
+  pub holds : HoldsLeaf p i known known
+  pub change : MapChange
+  pub asked : ask ≡ Make change
+  pub makes : MakesChange i change known next
+
 -- the change was made at the point, and the leaf is known to be what it is
 pub record DidMake (p q : Caller) (i : ℕ) (ask : Ask) (point : ℕ) : Type 0 where
   pub leaf : (f g : Frame) → HoldsLeaf p i f g → MakesChange i (change_in ask) f g → HoldsLeaf q i g g
@@ -90,6 +98,16 @@ pub record IsFullThen (p q : Caller) (i n : ℕ) : Type 0 where
 abbrev pub Commits : Caller → ℕ → Ask → Result ℕ LogFull → Caller → Type 0
 Commits p i ask (Ok point) q = DidMake p q i ask point
 Commits p i ask (Err full) q = IsFullThen p q i full.0
+
+-- the change was made at the point, and the leaf is known to be the next one, which it isn't yet
+pub record DidForetell (p q : Caller) (i : ℕ) (ask : Ask) (next : Frame) (point : ℕ) : Type 0 where
+  pub leaf : (f g : Frame) → HoldsLeaf p i f g → MakesChange i (change_in ask) f next → HoldsLeaf q i next g
+  pub once : AnswersOnce (view p) (view q) i ask (Replied Done point dashes)
+
+-- how a commit ends that goes ahead of its change
+abbrev pub CommitsAhead : Caller → ℕ → Ask → Frame → Result ℕ LogFull → Caller → Type 0
+CommitsAhead p i ask next (Ok point) q = DidForetell p q i ask next point
+CommitsAhead p i ask next (Err full) q = IsFullThen p q i full.0
 
 -- what is told of a change that was made at the point
 abbrev pub told_made : ℕ → Told

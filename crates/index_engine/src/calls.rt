@@ -82,15 +82,6 @@ impl Engine {
         ensures room { IfOk result (λ told. told.reply ≢ Reply.SpaceFull) }
         ensures err { OnErr result (IsQuiet (known pass.old) (known pass.new)) }
     {
-        let most = u64::from(pass.sizes.max_changes);
-        deleting::del(
-            &self.space,
-            &mut pass.world,
-            index,
-            most,
-            key,
-            &mut pass.copy,
-            wait,
-        )
+        Ok(deleting::del(&self.space, &mut pass.world, index, key, wait))
     }
 }

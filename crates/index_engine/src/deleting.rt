@@ -1,83 +1,70 @@
 //! A row taken out.
-ghost use Rattle.std.specs.Prelude.{◌≡◌, ◌≢◌, ◌<◌, IfOk, OnErr, None};
+ghost use Rattle.std.specs.Prelude.{◌≡◌, ◌≢◌, ◌<◌, None};
 ghost use Rattle.latch_space.specs.Passes.{view, count, IsSamePass};
 ghost use Rattle.latch_space.specs.Spaces.{IsPassOf};
 ghost use Rattle.map_history.specs.Map as map;
 ghost use Rattle.map_history.specs.Operation.{Make};
 ghost use Rattle.map_history.specs.Told.{columns_told};
 ghost use Rattle.index_world.specs.Meanings.{row_in};
-ghost use Rattle.index_world.specs.Once.{IsQuiet};
-ghost use Rattle.index_engine.specs.Changes.{HoldsWith, HoldsOldRow};
-ghost use Rattle.index_engine.specs.Frames.{HasRowAt};
+ghost use Rattle.index_engine.specs.Changes.{HoldsOldRow};
 ghost use Rattle.index_engine.specs.Passes.{IsWorld, FitsIndex};
 ghost use Rattle.index_engine.specs.Says.{dashes, TellsOnce};
 
-use crate::answering::{answer, is_full, made};
-use crate::changing::{restore, save, take_out};
-use crate::committing::commit;
+use crate::answering::{answer, made};
+use crate::changing::take_out;
+use crate::committing::{Becomes, commit_ahead};
 use crate::holding::{held_page, hold, let_go};
 use crate::leaf::find;
-use index_page::{PageCopy, Place};
+use index_page::Place;
 use index_world::{WorldPass, WorldSpace};
-use key_tuple::{Key, NoMemory};
+use key_tuple::Key;
 use latch_space::LogFull;
 use map_history::{OpRef, Reply, Told};
+use std::marker::Brand;
 use std::sync::Wait;
 
-/// Takes the row of the key out, if the index has it and its list has room. The page is kept in
-/// `copy` meanwhile.
+/// Takes the row of the key out, if the index has it and its list has room.
 pub(crate) fn del<R: Wait>(
     space: &WorldSpace,
     pass: &mut WorldPass,
     index: u32,
-    most: u64,
     key: &Key,
-    copy: &mut PageCopy,
     wait: &R,
-) -> Result<Told, NoMemory>
+) -> Told
     requires own { IsWorld space.now × IsPassOf space.now pass.old }
-    requires index { (index < space.now.terms.indexes) × (most ≡ space.now.terms.max_changes) }
+    requires index { index < space.now.terms.indexes }
     requires key { FitsIndex space.now index key.now.tuple }
     requires nothing { count pass.old ≡ 0 }
     ensures own { IsSamePass pass.old pass.new × IsPassOf space.now pass.new }
     ensures nothing { count pass.new ≡ 0 }
-    ensures ok { IfOk result (λ told. TellsOnce (view pass.old) (view pass.new) index
-        (Make (map.Del key.now.tuple)) told (row_in None)) }
-    ensures dashed { IfOk result (λ told. columns_told told ≡ dashes) }
-    ensures room { IfOk result (λ told. told.reply ≢ Reply.SpaceFull) }
-    ensures err { OnErr result (IsQuiet (view pass.old) (view pass.new)) }
+    ensures once { TellsOnce (view pass.old) (view pass.new) index
+        (Make (map.Del key.now.tuple)) result (row_in None) }
+    ensures dashed { columns_told result ≡ dashes }
+    ensures room { result.reply ≢ Reply.SpaceFull }
 {
     hold(space, pass, index, wait);
-    let op = OpRef::Del { index, key };
-    let Some(place) = find(held_page(pass, index), key) else {
-        return Ok(answer(space, pass, index, op, Reply::Absent, None));
-    };
-    if is_full(space, pass, index, most) {
-        let full = Reply::LogFull(most);
-        return Ok(answer(space, pass, index, op, full, None));
-    }
-    match save(pass, index, copy) {
-        Ok(()) => Ok(del_row(space, pass, index, place, key, copy, wait)),
-        Err(e) => {
-            let_go(space, pass, index);
-            Err(e)
+    match find(held_page(pass, index), key) {
+        Some(place) => del_row::<Brand, R>(space, pass, index, place, key, wait),
+        None => {
+            let op = OpRef::Del { index, key };
+            answer(space, pass, index, op, Reply::Absent, None)
         }
     }
 }
 
-/// Takes the row at the place out and commits that, or restores the page where the list is full.
-fn del_row<R: Wait>(
+/// Commits that the row at the place goes, and takes it out then. Nobody else can look at the leaf
+/// in between. At a full list the row stays.
+fn del_row<X: Becomes, R: Wait>(
     space: &WorldSpace,
     pass: &mut WorldPass,
     index: u32,
     place: Place,
     key: &Key,
-    copy: &mut PageCopy,
     wait: &R,
 ) -> Told
     requires own { IsPassOf space.now pass.old }
     requires index { index < space.now.terms.indexes }
-    requires held { HoldsOldRow pass.old index place key.now.tuple copy.old }
+    requires held { HoldsOldRow pass.old index place key.now.tuple X.leaf }
     ensures own { IsSamePass pass.old pass.new × IsPassOf space.now pass.new }
     ensures nothing { count pass.new ≡ 0 }
     ensures once { TellsOnce (view pass.old) (view pass.new) index
@@ -86,14 +73,13 @@ fn del_row<R: Wait>(
     ensures room { result.reply ≢ Reply.SpaceFull }
 {
     let op = OpRef::Del { index, key };
-    take_out(pass, index, place, key);
-    match commit(space, pass, index, op, wait) {
+    match commit_ahead::<X, R>(space, pass, index, op, wait) {
         Ok(point) => {
+            take_out(pass, index, place);
             let_go(space, pass, index);
             made(point)
         }
         Err(LogFull(count)) => {
-            restore(pass, index, copy);
             let full = Reply::LogFull(count);
             answer(space, pass, index, op, full, None)
         }

@@ -8,7 +8,6 @@ ghost use Rattle.index_world.specs.Rightness.{IsRight};
 ghost use Rattle.index_engine.specs.Engines.{known, IsOf, IsSame};
 
 use crate::engine::{Engine, EnginePass};
-use index_page::PageCopy;
 use key_tuple::NoMemory;
 use map_history::Sizes;
 use std::alloc::Global;
@@ -25,7 +24,6 @@ impl Engine {
             × (known other ≡ right_part (known pass.old))) }
         ensures err { OnErr result (known pass.new ≡ known pass.old) }
     {
-        let copy = PageCopy::new(alloc)?;
         let world = self
             .space
             .split(alloc, &mut pass.world)
@@ -33,7 +31,6 @@ impl Engine {
         Ok(EnginePass {
             world,
             sizes: pass.sizes,
-            copy,
         })
     }
 
@@ -45,11 +42,7 @@ impl Engine {
         ensures own { IsSame pass.old pass.new × IsOf self.now pass.new }
         ensures joined { known pass.new ≡ both_parts (known pass.old) (known other) }
     {
-        let EnginePass {
-            world,
-            sizes: _,
-            copy: _,
-        } = other;
+        let EnginePass { world, sizes: _ } = other;
         self.space.join(&mut pass.world, world);
     }
 }

@@ -3,7 +3,6 @@ ghost use Rattle.std.specs.Prelude.{◌≡◌};
 ghost use Rattle.latch_space.specs.Passes.{view, count};
 ghost use Rattle.index_engine.specs.Passes.{IsWorld};
 
-use index_page::PageCopy;
 use index_world::{WorldPass, WorldSpace};
 use map_history::Sizes;
 
@@ -19,7 +18,6 @@ pub struct Engine {
 pub struct EnginePass {
     pub(crate) world: WorldPass,
     pub(crate) sizes: Sizes,
-    pub(crate) copy: PageCopy,
     ghost nothing: { count world ≡ 0 },
     ghost most: { sizes.max_changes ≡ (view world).terms.max_changes },
 }

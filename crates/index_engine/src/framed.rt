@@ -1,13 +1,9 @@
-//! The page of a frame is changed, and the change taken back.
-ghost use Rattle.std.specs.Prelude.{◌≡◌, ℕ, List, Some, IfOk, OnErr, OnOk, Option};
-ghost use Rattle.key_tuple.specs.Order.{FieldList};
-ghost use Rattle.index_page.specs.Page.{PageRows};
-ghost use Rattle.index_world.specs.declared.frame.Frame.{Frame};
-ghost use Rattle.index_engine.specs.Frames.{HasLeaf, LacksRow, SameRange};
-ghost use Rattle.index_engine.specs.Frames.{PutsRow, TakesRow, HasRowAt};
+//! The page of a frame is changed.
+ghost use Rattle.std.specs.Prelude.{◌≡◌, IfOk, OnErr};
+ghost use Rattle.index_engine.specs.Frames.{LacksRow, PutsRow, StandsOn, frame_without};
 
 use crate::leaf;
-use index_page::{PageCopy, Place};
+use index_page::Place;
 use index_world::Frame;
 use key_tuple::{Key, NoMemory, Value};
 
@@ -23,39 +19,13 @@ pub(crate) fn put_in(frame: &mut Frame, key: &Key, value: &Value) -> Result<Plac
     }
 }
 
-/// Takes a row out that was just put in: the frame is as before that.
-pub(crate) fn take_back(frame: &mut Frame, place: Place)
-    requires { (f : Frame) × (key : FieldList) × (value : List ℕ)
-        × PutsRow f frame.old place key value }
-    ensures { (f : Frame) (key : FieldList) (value : List ℕ) → PutsRow f frame.old place key value
-        → frame.new ≡ f }
+/// Takes the row at a place out.
+pub(crate) fn take_out(frame: &mut Frame, place: Place)
+    requires { StandsOn frame.old place }
+    ensures { frame.new ≡ frame_without place frame.old }
 {
     match &mut frame.page {
-        Some(page) => leaf::take_back(page, place),
-        None => unreachable!(),
-    }
-}
-
-/// Takes the row of a key out, by its place.
-pub(crate) fn remove(frame: &mut Frame, place: Place, key: &Key)
-    requires { HasRowAt frame.old place key.now.tuple }
-    ensures { TakesRow frame.old frame.new key.now.tuple }
-{
-    match &mut frame.page {
-        Some(page) => leaf::remove(page, place, key),
-        None => unreachable!(),
-    }
-}
-
-/// Makes the frame's page what was saved.
-pub(crate) fn restore(frame: &mut Frame, copy: &mut PageCopy)
-    requires page { (page : PageRows) × (frame.old.page ≡ Some page) }
-    requires copy { (page : PageRows) × (copy.old ≡ Some page) }
-    ensures page { frame.new.page ≡ copy.old }
-    ensures range { SameRange frame.old frame.new }
-{
-    match &mut frame.page {
-        Some(page) => page.restore(copy),
+        Some(page) => leaf::take_out(page, place),
         None => unreachable!(),
     }
 }

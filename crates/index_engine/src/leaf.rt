@@ -1,11 +1,11 @@
 //! The rows of a leaf as a map: find, put in, take out.
-ghost use Rattle.std.specs.Prelude.{◌≡◌, ◌≤◌, length, Some, None, IfOk, OnErr};
-ghost use Rattle.map_history.specs.Map.{Put, Del, value_at};
+ghost use Rattle.std.specs.Prelude.{◌≡◌, ◌≤◌, length, None, IsSome, IfOk, OnErr};
+ghost use Rattle.map_history.specs.Map.{Put, value_at};
 ghost use Rattle.index_page.specs.declared.TheConstants.{MAX_ROWS};
-ghost use Rattle.index_page.specs.Page.{PageRows};
-ghost use Rattle.index_page.specs.Rows.{Row};
+ghost use Rattle.index_page.specs.Page.{IsInOrder};
+ghost use Rattle.index_page.specs.Rows.{find_row};
 ghost use Rattle.index_world.specs.State.{rows_of};
-ghost use Rattle.index_engine.specs.Leaf.{IsFoundAt, HasRow, IsMadeBy, InsertsAt, IsPutInAt};
+ghost use Rattle.index_engine.specs.Leaf.{IsFoundAt, IsMadeBy, InsertsAt, page_without};
 
 use index_page::{Body, Page, Place};
 use key_tuple::{Fields, Key, Mode, NoMemory, Value};
@@ -13,7 +13,8 @@ use key_tuple::{Fields, Key, Mode, NoMemory, Value};
 /// The place of the key's row on the leaf, if it has one.
 pub(crate) fn find(page: &Page, key: &Key) -> Option<Place>
     requires fields { length key.now.tuple ≡ page.now.head.fields }
-    ensures { IsFoundAt page.now key.now.tuple result }
+    ensures found { IsFoundAt page.now key.now.tuple result }
+    ensures order { IsInOrder page.now }
 {
     page.is_in_order();
     let spot = page.search(key, Mode::Ge);
@@ -40,21 +41,10 @@ pub(crate) fn insert(page: &mut Page, key: &Key, value: &Value) -> Result<Place,
     inserted
 }
 
-/// Takes a row out that was just put in: the leaf is as before that.
-pub(crate) fn take_back(page: &mut Page, place: Place)
-    requires { (before : PageRows) × (row : Row) × IsPutInAt before page.old row place }
-    ensures { (before : PageRows) (row : Row) → IsPutInAt before page.old row place
-        → page.new ≡ before }
-{
-    page.is_in_order();
-    page.delete(place);
-}
-
-/// Takes the row of a key out, by its place.
-pub(crate) fn remove(page: &mut Page, place: Place, key: &Key)
-    requires { HasRow page.old place key.now.tuple }
-    ensures head { page.new.head ≡ page.old.head }
-    ensures map { IsMadeBy page.old page.new (Del key.now.tuple) }
+/// Takes the row at a place out.
+pub(crate) fn take_out(page: &mut Page, place: Place)
+    requires { IsSome (find_row place page.old.rows) }
+    ensures { page.new ≡ page_without place page.old }
 {
     page.is_in_order();
     page.delete(place);

@@ -10,7 +10,6 @@ ghost use Rattle.index_engine.specs.Settings.{first_broken};
 use crate::engine::{Engine, EnginePass};
 use crate::error::EngineError;
 use crate::setting::broken_setting;
-use index_page::PageCopy;
 use index_world::{Layout, WorldPass, WorldSpace, first_objects, opens_lawfully};
 use key_tuple::NoMemory;
 use map_history::Sizes;
@@ -40,11 +39,9 @@ impl Engine {
             return Err(EngineError::BadSize(setting));
         }
         let (space, world) = open_space(alloc, sizes, fields, lanes)?;
-        let copy = PageCopy::new(alloc)?;
         let pass = EnginePass {
             world,
             sizes: *sizes,
-            copy,
         };
         Ok((Engine { space }, pass))
     }

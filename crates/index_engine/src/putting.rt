@@ -13,7 +13,7 @@ ghost use Rattle.index_engine.specs.Passes.{IsWorld, FitsIndex};
 ghost use Rattle.index_engine.specs.Says.{dashes, TellsOnce};
 
 use crate::answering::{answer, is_full, made};
-use crate::changing::{put_in, take_back};
+use crate::changing::{put_in, take_out};
 use crate::committing::commit;
 use crate::holding::{held_page, hold, let_go};
 use crate::leaf::find;
@@ -88,7 +88,7 @@ fn put_row<R: Wait>(
     }
 }
 
-/// Commits the row that was put in at the place, or takes it back where the list is full.
+/// Commits the row that was put in at the place, or takes it out again where the list is full.
 fn commit_put<R: Wait>(
     space: &WorldSpace,
     pass: &mut WorldPass,
@@ -115,7 +115,7 @@ fn commit_put<R: Wait>(
             made(point)
         }
         Err(LogFull(count)) => {
-            take_back(pass, index, place);
+            take_out(pass, index, place);
             let full = Reply::LogFull(count);
             answer(space, pass, index, op, full, None)
         }

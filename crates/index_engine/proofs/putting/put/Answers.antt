@@ -16,7 +16,7 @@ find-requires g c = let held = c.hold.ensures.held in record {
 }
 
 pub answer-requires-clause-held : goal.answer-requires-clause-held
-answer-requires-clause-held g c = let held = c.hold.ensures.held in let there = found_some c.held_page.result.now c.args.key.now.tuple c.find.result c.find.ensures (sym c.is_some.ensures ∙ c.if-is_some.true) in
+answer-requires-clause-held g c = let held = c.hold.ensures.held in let there = found_some c.held_page.result.now c.args.key.now.tuple c.find.result c.find.ensures.found (sym c.is_some.ensures ∙ c.if-is_some.true) in
     can_duplicate c.hold.new.pass c.args.index held.0 held.1 c.held_page.result.now (c.held_page.ensures held.0 held.1) c.args.key.now.tuple c.args.value.now there.0 (row_in None) there.1
 
 pub returns-then-is_some-clause-ok : goal.returns-then-is_some-clause-ok
@@ -24,7 +24,7 @@ returns-then-is_some-clause-ok g c = quiet_then_tells c.args.index (Make (map.Pu
     (still_quiet (view c.args.pass.now) (view c.hold.new.pass) c.hold.ensures.still) c.answer.ensures.once
 
 pub answer-requires-then-is_full-clause-held : goal.answer-requires-then-is_full-clause-held
-answer-requires-then-is_full-clause-held g c = let held = c.hold.ensures.held in let none = found_none c.held_page.result.now c.args.key.now.tuple c.find.result c.find.ensures (sym c.is_some.ensures ∙ c.if-is_some.false) in
+answer-requires-then-is_full-clause-held g c = let held = c.hold.ensures.held in let none = found_none c.held_page.result.now c.args.key.now.tuple c.find.result c.find.ensures.found (sym c.is_some.ensures ∙ c.if-is_some.false) in
     can_refuse c.is_full.new.pass c.args.index held.0 (c.is_full.ensures.held held.0 held.1) c.held_page.result.now (c.held_page.ensures held.0 held.1) (map.Put c.args.key.now.tuple c.args.value.now) c.args.most (row_in None)
     (ap is_none none) (c.is_full.ensures.full c.if-is_full.true) (c.requires.index.1 ∙ ap (λ t. t.max_changes) (sym c.is_full.ensures.own.1.1))
 
@@ -43,7 +43,7 @@ put_row-requires-clause-held g c = let held = c.hold.ensures.held in let page = 
       level = root_level (view c.hold.new.pass).terms.shape c.args.index held.0 page held.1.root paged;
       fields = root_fields (view c.hold.new.pass).terms.shape c.args.index held.0 page c.args.key.now.tuple held.1.root paged (ap (λ t. get_elem? t.shape.fields c.args.index) c.hold.ensures.own.1.1 ∙ c.requires.key);
     };
-    absent = found_none page c.args.key.now.tuple c.find.result c.find.ensures (sym c.is_some.ensures ∙ c.if-is_some.false);
+    absent = found_none page c.args.key.now.tuple c.find.result c.find.ensures.found (sym c.is_some.ensures ∙ c.if-is_some.false);
     room = omega (arith, few, most);
   };
 }

@@ -1,9 +1,0 @@
-use Rattle.index_engine.proofs.ChangeLemmas.{left_out, restore_ok}
-use Rattle.index_engine.proofs.changing.restore.Goals as goal
-
-pub put_back-requires-clause-out : goal.put_back-requires-clause-out
-put_back-requires-clause-out c = left_out c.args.pass.now c.take_out.new.self c.args.index c.take_out.result c.take_out.ensures.value c.take_out.ensures.values
-
-pub returns-clause-back : goal.returns-clause-back
-returns-clause-back c = restore_ok c.args.pass.now c.take_out.new.self c.put_back.new.self c.args.index c.take_out.result c.frame_of-frame.result c.restore.new.frame c.frame_of-frame.ensures c.take_out.ensures.value c.take_out.ensures.seat c.take_out.ensures.values c.put_back.ensures.seat c.put_back.ensures.values
-    c.args.copy.now c.restore.ensures.page c.restore.ensures.range
