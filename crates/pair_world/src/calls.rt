@@ -7,6 +7,7 @@ ghost use Rattle.pair_world.specs.Held.{IsPair, HoldsNone, HoldsFirst, HoldsBoth
 use crate::pair::{One, PairPass, PairSpace, Total};
 use latch_space::{LogFull, NoMemory};
 use std::alloc::Global;
+use std::marker::Brand;
 use std::sync::Wait;
 
 /// A pair of zeros with an empty list.
@@ -68,6 +69,28 @@ pub fn raise<R: Wait>(space: &PairSpace, pass: &mut PairPass, wait: &R) -> Resul
             Err(full)
         }
     }
+}
+
+/// What `raise` does, with the change added first and the number raised after it. At a full list
+/// there is nothing to bring back.
+pub fn raise_ahead<R: Wait>(
+    space: &PairSpace,
+    pass: &mut PairPass,
+    wait: &R,
+) -> Result<u64, LogFull>
+    requires own { IsPair space.now × IsPassOf space.now pass.old }
+    requires first { (a : ℕ) × HoldsFirst pass.old a }
+    ensures own { IsSamePass pass.old pass.new × IsPassOf space.now pass.new }
+    ensures first { (a : ℕ) × HoldsFirst pass.new a }
+    ensures raised { (a : ℕ) → HoldsFirst pass.old a
+        → MatchResult result (λ _. HoldsFirst pass.new (a + 1)) (λ _. HoldsFirst pass.new a) }
+    ensures full { MatchResult result (λ _. Unit {0}) (λ e. e.0 ≡ space.now.terms.max_changes) }
+{
+    let point = space.commit_ahead::<Brand, One, R>(pass, 0, &One, wait)?;
+    // It is known to be one more already, which is at most the length of the list.
+    let number = pass.take_out(0);
+    pass.put_back(0, number + 1);
+    Ok(point)
 }
 
 /// Moves one from the first number to the second, and says whether there was one.
