@@ -142,10 +142,6 @@ ends_as Writes Writes' Refuses Refuses' out status more causes e = record {
   no_memory = λ is. elim (e.no_memory is) [ inl same ↦ inl same | inr part ↦ inr (cut_as Writes Writes' Refuses Refuses' out more causes part) ];
 }
 
--- a call that isn't done leaves no pass
-pub leaves_none : (DidBy : EnginePass → List ℕ → Type 0) (out : Output) (trail : Option EnginePass) (status : Status) → status ≢ Done → trail ≡ None → LeavesTrail DidBy out trail status
-leaves_none DidBy out trail status other none = record { done = λ is. absurd (other is); other = λ _. none }
-
 -- a text that was put leaves the pass that did what it tells
 pub leaves_pass : (DidBy : EnginePass → List ℕ → Type 0) (out : Output) (pass : EnginePass) (text : List ℕ) → DidBy pass text → Puts out.old out.new text → out.faults ≤ out.faults' → LeavesTrail DidBy out (Some pass) Done
 leaves_pass DidBy out pass text did whole faults = record { done = λ is. record { text = text; writes = did; put = record { whole = whole; faults = faults } }; other = λ other. absurd (other refl) }

@@ -19,12 +19,6 @@ EndsWith old new faults faults' text whole NoMemory = (new ≡ old) ⊎ PutsSome
 EndsWith old new faults faults' text whole status =
     (status ≡ whole) × Puts old new text × (faults ≤ faults')
 
--- the same of this sink
-abbrev pub EndsWithAt : {K : Type 0} → Ghosts K → K → K → List ℕ → Status → Status → Type 0
-EndsWithAt sink old new text whole status =
-    EndsWith (sink.written old) (sink.written new) (sink.faults old) (sink.faults new)
-    text whole status
-
 -- a refusal, put: its line with its status, and nothing where there is no memory
 abbrev pub EndsRefused : Option (List ℕ) → Option (List ℕ) → ℕ → ℕ → Stop → Status → Type 0
 EndsRefused old new faults faults' stop.NoMemory status = (status ≡ NoMemory) × (new ≡ old)

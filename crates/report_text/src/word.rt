@@ -1,7 +1,7 @@
 //! The words that a line is made of.
 ghost use Rattle.std.specs.Prelude.{◌≡◌, ◌++◌, OnOk, OnErr, decimal};
 ghost use Rattle.report_text.specs.Line.{Extends};
-ghost use Rattle.report_text.specs.Words.{text_of};
+ghost use Rattle.report_text.specs.Words.{count_text, text_of};
 
 use crate::field::{put_field, put_key};
 use itoa::Buffer;
@@ -21,6 +21,8 @@ pub enum Word<'a, K> {
     Value(&'a [u8]),
     /// The fields of a key.
     Key(&'a K),
+    /// A text and a number in decimal digits, with a space between.
+    Count(&'a str, u64),
 }
 
 /// Appends a number in decimal digits.
@@ -30,6 +32,16 @@ fn put_number(out: &mut Vec<u8>, number: u64) -> Result<(), AllocError>
 {
     let mut digits = Buffer::new();
     out.extend_from_slice(digits.format(number).as_bytes())
+}
+
+/// Appends a text, a space and a number.
+fn put_count(out: &mut Vec<u8>, text: &str, number: u64) -> Result<(), AllocError>
+    ensures ok { OnOk result (out.new.items ≡ out.old.items ++ count_text text.now number) }
+    ensures err { OnErr result (Extends out.old.items out.new.items) }
+{
+    out.extend_from_slice(text.as_bytes())?;
+    out.push(b' ')?;
+    put_number(out, number)
 }
 
 pub(crate) fn put_word<K: Fields>(out: &mut Vec<u8>, word: &Word<'_, K>) -> Result<(), AllocError>
@@ -45,5 +57,6 @@ pub(crate) fn put_word<K: Fields>(out: &mut Vec<u8>, word: &Word<'_, K>) -> Resu
         }
         Word::Value(bytes) => put_field(out, bytes),
         Word::Key(key) => put_key(out, *key),
+        Word::Count(text, number) => put_count(out, text, *number),
     }
 }

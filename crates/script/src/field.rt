@@ -23,13 +23,13 @@ pub fn field(alloc: Global, text: &[u8]) -> Result<Vec<u8>, Refusal>
 fn decode(alloc: Global, text: &[u8]) -> Result<Vec<u8>, Refusal>
     ensures { Gives (λ v. v.items) result (or_bad (bytes_of text.now)) }
 {
-    let mut bytes = Vec::new(alloc);
+    let mut bytes = Vec::with_capacity(alloc, text.len())?;
     let mut rest = text;
     'text: while !rest.is_empty() {
         let Some((byte, after)) = first_byte(rest) else {
             return Err(Refusal::Flawed(Flaw::BadLine));
         };
-        bytes.push(byte)?;
+        bytes.push_reserved(byte);
         rest = after;
     }
     Ok(bytes)

@@ -10,6 +10,30 @@ const GET: &str = "get t a\n";
 /// A lane whose lines 2 and 3 are gets.
 const TWO_GETS: &str = "# says nothing\nget t a\nget t b\n";
 
+/// Lanes that are refused: the load that is to fail, the status, and what is written.
+const REFUSED: [(&[&str], Option<u64>, Status, &str); 5] = [
+    (&[GET, "get t\n"], None, Status::Script, "script 2 1 1\n"),
+    (
+        &[GET, GET, "\n\nput u a x\n"],
+        None,
+        Status::Script,
+        "script 3 3 2\n",
+    ),
+    (
+        &["get u a\n", "get t\n"],
+        None,
+        Status::Script,
+        "script 1 1 2\n",
+    ),
+    (&[GET, GET], Some(2), Status::ShelfFault, "shelf 2\n"),
+    (
+        &[GET, "get t\n", GET],
+        Some(3),
+        Status::Script,
+        "script 2 1 1\n",
+    ),
+];
+
 /// The lanes meet at this gate.
 fn meet_at(gate: &Meeting) -> Setup<'_, Meeting> {
     Setup {
@@ -75,30 +99,7 @@ fn lanes_are_counted(rt: HostRuntime) -> Result<(), Fail> {
 
 #[test]
 fn a_later_lane_is_refused_by_its_number(rt: HostRuntime) -> Result<(), Fail> {
-    let rows: [(&[&str], Option<u64>, Status, &str); 5] = [
-        // the lanes, the load that is to fail, the status, what is written
-        (&[GET, "get t\n"], None, Status::Script, "script 2 1 1\n"),
-        (
-            &[GET, GET, "\n\nput u a x\n"],
-            None,
-            Status::Script,
-            "script 3 3 2\n",
-        ),
-        (
-            &["get u a\n", "get t\n"],
-            None,
-            Status::Script,
-            "script 1 1 2\n",
-        ),
-        (&[GET, GET], Some(2), Status::ShelfFault, "shelf 2\n"),
-        (
-            &[GET, "get t\n", GET],
-            Some(3),
-            Status::Script,
-            "script 2 1 1\n",
-        ),
-    ];
-    for (lanes, failing_load, wanted, text) in rows {
+    for (lanes, failing_load, wanted, text) in REFUSED {
         let setup = Setup {
             failing_load,
             ..PLAIN
