@@ -19,21 +19,24 @@ use Rattle.index_world.specs.declared.frame.Object.{Object}
 use Rattle.index_world.specs.declared.frame.Object.TheVariants as object
 use Rattle.index_world.specs.Answers.{Deed}
 use Rattle.index_world.specs.State.{State, Entries, changes, low_in, high_in, low_of, high_of, rows_of}
-use Rattle.index_world.specs.Law.{IsFrameAt, AreCounted, IsRootLeaf, AreRooted, AreLawfulLists, HoldsRange, AreContents, IsLawful, KeepsRows, BecomesAt, IsMade, Follows}
+use Rattle.latch_law.specs.Views.{knowns}
+use Rattle.index_world.specs.Rightness.{IsRight}
+use Rattle.index_world.specs.References.{IsReference}
+use Rattle.index_world.specs.Law.{IsFrameAt, AreCounted, IsRootLeaf, AreRooted, AreLawfulLists, HoldsRange, AreContents, IsLawful, KeepsRows, BecomesAt, IsMade, Follows, MayFollow}
 use Rattle.index_world.specs.Following.{KeepsPage, allowed_in_range, same_frame, rows_keep, change_keeps, root_stays, objects_after, shape_after}
 
-module _ (name : ℕ) (w w' : State) (law : IsLawful w) (moves : Moves Follows name w w') where
+module _ (name : ℕ) (w w' : State) (law : IsLawful w) (moves : Moves IsRight IsReference MayFollow name w w') where
   -- a frame after the step is as it was, or it was held
-  came : (k : ℕ) (z : Frame) → IsFrameAt w'.objects k z → IsFrameAt w.objects k z ⊎ ((x : Frame) × BecomesAt moves.before moves.news k x z × IsFrameAt w.objects k x)
+  came : (k : ℕ) (z : Frame) → IsFrameAt w'.objects k z → IsFrameAt w.objects k z ⊎ ((x : Frame) × BecomesAt (knowns moves.view.held) moves.news k x z × IsFrameAt w.objects k x)
   came k z at = pick (get_elem? moves.news k) refl
     where
       laid : get_elem? (overlay moves.news w.objects) k ≡ some (object.Frame z)
       laid = ap (λ s. get_elem? s k) (sym (objects_after name w w' moves.news moves.change moves.is_changed)) ∙ at
 
-      old : (x : Object) → get_elem? moves.before k ≡ some (Some x) → get_elem? moves.news k ≡ some (Some (object.Frame z)) → (x : Frame) × BecomesAt moves.before moves.news k x z × IsFrameAt w.objects k x
+      old : (x : Object) → get_elem? (knowns moves.view.held) k ≡ some (Some x) → get_elem? moves.news k ≡ some (Some (object.Frame z)) → (x : Frame) × BecomesAt (knowns moves.view.held) moves.news k x z × IsFrameAt w.objects k x
       old (object.Frame x) before news = (x, (before, news), (moves.held.each k (object.Frame x) before).1)
 
-      pick : (o : maybe.Option (Option Object)) → get_elem? moves.news k ≡ o → IsFrameAt w.objects k z ⊎ ((x : Frame) × BecomesAt moves.before moves.news k x z × IsFrameAt w.objects k x)
+      pick : (o : maybe.Option (Option Object)) → get_elem? moves.news k ≡ o → IsFrameAt w.objects k z ⊎ ((x : Frame) × BecomesAt (knowns moves.view.held) moves.news k x z × IsFrameAt w.objects k x)
       pick (maybe.some (Some y)) e =
           let room : k < length w.objects = (let within = inside (overlay moves.news w.objects) k (object.Frame z) laid in omega (arith, within, length-overlay moves.news w.objects)) in
           let same : y ≡ object.Frame z = some-injective y (object.Frame z) (sym (overlay_some moves.news w.objects k y e room) ∙ laid) in
@@ -43,10 +46,10 @@ module _ (name : ℕ) (w w' : State) (law : IsLawful w) (moves : Moves Follows n
       pick maybe.none e = inl (sym (overlay_none moves.news w.objects k (λ x q. some-ne-none (Some x) (sym q ∙ e))) ∙ laid)
 
   -- each frame after the step has the page of a frame before it, at its number
-  place_kept : (change : Option (ℕ × Deed)) → Follows moves.terms moves.before moves.news change → (k : ℕ) (x y : Frame) → BecomesAt moves.before moves.news k x y → KeepsPage x y
+  place_kept : (change : Option (ℕ × Deed)) → Follows moves.view.terms (knowns moves.view.held) moves.news change → (k : ℕ) (x y : Frame) → BecomesAt (knowns moves.view.held) moves.news k x y → KeepsPage x y
   place_kept None follow k x y at = rows_keep x y (follow k x y at)
   place_kept (Some d) made k x y at = dite (ℕ_discrete k made.leaf)
-      (λ is. let old : made.old ≡ x = same_frame made.old x (same_some (object.Frame made.old) (object.Frame x) (some-injective (Some (object.Frame made.old)) (Some (object.Frame x)) (sym made.becomes.0 ∙ (ap (get_elem? moves.before) (sym is) ∙ at.0)))) in
+      (λ is. let old : made.old ≡ x = same_frame made.old x (same_some (object.Frame made.old) (object.Frame x) (some-injective (Some (object.Frame made.old)) (Some (object.Frame x)) (sym made.becomes.0 ∙ (ap (get_elem? (knowns moves.view.held)) (sym is) ∙ at.0)))) in
       let new : made.new ≡ y = same_frame made.new y (same_some (object.Frame made.new) (object.Frame y) (some-injective (Some (object.Frame made.new)) (Some (object.Frame y)) (sym made.becomes.1 ∙ (ap (get_elem? moves.news) (sym is) ∙ at.1)))) in
       subst (λ z. KeepsPage x z) new (subst (λ z. KeepsPage z made.new) old (change_keeps d.0 d.1.change made.old made.new made.made)))
       (λ isnt. rows_keep x y (made.others k x y isnt at))
@@ -55,7 +58,7 @@ module _ (name : ℕ) (w w' : State) (law : IsLawful w) (moves : Moves Follows n
   rooted_after : AreRooted w'.shape w'.objects
   rooted_after i z at = subst (λ s. IsRootLeaf s i z) (sym (shape_after name w w' moves.news moves.change moves.is_changed)) (pick (came i z at))
     where
-      pick : IsFrameAt w.objects i z ⊎ ((x : Frame) × BecomesAt moves.before moves.news i x z × IsFrameAt w.objects i x) → IsRootLeaf w.shape i z
+      pick : IsFrameAt w.objects i z ⊎ ((x : Frame) × BecomesAt (knowns moves.view.held) moves.news i x z × IsFrameAt w.objects i x) → IsRootLeaf w.shape i z
       pick (inl before) = law.rooted i z before
       pick (inr held) = root_stays w.shape i held.0 z (place_kept moves.change moves.follow i held.0 z held.1) (law.rooted i held.0 held.2)
 
@@ -70,10 +73,10 @@ module _ (name : ℕ) (w w' : State) (law : IsLawful w) (moves : Moves Follows n
       ap rows_of (sym same) ∙ (kept.3 ∙ (holds ∙ (λ i. slice (low_in (sym keeps.low i)) (high_in (sym keeps.high i)) (map_after (changes xs)))))
 
   -- a leaf whose frame keeps its rows holds what it held
-  contents_kept : (k : ℕ) → ((x y : Frame) → BecomesAt moves.before moves.news k x y → KeepsRows x y) → (z : Frame) (q : PageRows) (xs : Entries) → IsFrameAt w'.objects k z → z.page ≡ Some q → q.head.level ≡ 0 → get_elem? w.lists q.head.index ≡ some xs → HoldsRange z q xs
+  contents_kept : (k : ℕ) → ((x y : Frame) → BecomesAt (knowns moves.view.held) moves.news k x y → KeepsRows x y) → (z : Frame) (q : PageRows) (xs : Entries) → IsFrameAt w'.objects k z → z.page ≡ Some q → q.head.level ≡ 0 → get_elem? w.lists q.head.index ≡ some xs → HoldsRange z q xs
   contents_kept k keep z q xs at paged level there = pick (came k z at)
     where
-      pick : IsFrameAt w.objects k z ⊎ ((x : Frame) × BecomesAt moves.before moves.news k x z × IsFrameAt w.objects k x) → HoldsRange z q xs
+      pick : IsFrameAt w.objects k z ⊎ ((x : Frame) × BecomesAt (knowns moves.view.held) moves.news k x z × IsFrameAt w.objects k x) → HoldsRange z q xs
       pick (inl before) = law.contents k z q xs before paged level there
       pick (inr held) = range_kept held.0 z q xs k (keep held.0 z held.1) held.2 paged level there
 
@@ -86,7 +89,7 @@ module _ (name : ℕ) (w w' : State) (law : IsLawful w) (moves : Moves Follows n
   }
 
   -- a step without a change leads to a lawful state
-  kept_quiet : Follows moves.terms moves.before moves.news None → IsChanged name w moves.news None w' → IsLawful w'
+  kept_quiet : Follows moves.view.terms (knowns moves.view.held) moves.news None → IsChanged name w moves.news None w' → IsLawful w'
   kept_quiet keep is = let same : w'.lists ≡ w.lists = ap (λ (z : State). z.lists) is in record {
     counted = counted_after (ap length same);
     rooted = rooted_after;
@@ -94,7 +97,7 @@ module _ (name : ℕ) (w w' : State) (law : IsLawful w) (moves : Moves Follows n
     contents = λ k z q xs at paged level there. contents_kept k (keep k) z q xs at paged level (ap (λ z. get_elem? z q.head.index) (sym same) ∙ there);
   }
 
-  module _ (i : ℕ) (d : Deed) (made : IsMade moves.before moves.news i d.change) (xs : Entries) (there : get_elem? w.lists i ≡ some xs) (lists : w'.lists ≡ set w.lists i (xs ++ record { change = d; by = name } ∷ [])) where
+  module _ (i : ℕ) (d : Deed) (made : IsMade (knowns moves.view.held) moves.news i d.change) (xs : Entries) (there : get_elem? w.lists i ≡ some xs) (lists : w'.lists ≡ set w.lists i (xs ++ record { change = d; by = name } ∷ [])) where
     -- the new entry of the list
     abbrev entry : Entry Deed
     entry = record { change = d; by = name }
@@ -164,9 +167,9 @@ module _ (name : ℕ) (w w' : State) (law : IsLawful w) (moves : Moves Follows n
     }
 
 -- a step that follows leads from a lawful state to a lawful one
-pub follow_lemma : (name : ℕ) (w w' : State) → IsLawful w → name < w.passes → Moves Follows name w w' → IsLawful w'
+pub follow_lemma : (name : ℕ) (w w' : State) → IsLawful w → name < w.passes → Moves IsRight IsReference MayFollow name w w' → IsLawful w'
 follow_lemma name w w' law below moves = pick moves.change moves.follow moves.is_changed
   where
-    pick : (change : Option (ℕ × Deed)) → Follows moves.terms moves.before moves.news change → IsChanged name w moves.news change w' → IsLawful w'
+    pick : (change : Option (ℕ × Deed)) → Follows moves.view.terms (knowns moves.view.held) moves.news change → IsChanged name w moves.news change w' → IsLawful w'
     pick None keep is = kept_quiet name w w' law moves keep is
     pick (Some d) made is = kept_changed name w w' law moves d.0 d.1 made is.0 is.1 (ap (λ (z : State). z.lists) is.3)

@@ -3,13 +3,15 @@ use Rattle.std.specs.Prelude.{ℕ, ◌≡◌, ◌≢◌, true, Option, Some, Non
 use mathlib.Core.Option.{some}
 use lib.ListN.{get_elem?}
 use Rattle.key_tuple.specs.Place.{At, within}
+use Rattle.latch_law.specs.declared.knows.Knows.{Knows}
 use Rattle.latch_law.specs.declared.knows.Terms.{Terms}
+use Rattle.latch_law.specs.Views.{knowns}
 use Rattle.map_history.specs.Map.{MapChange, is_allowed, key_of, after_change, map_after, AreLawful, slice}
 use Rattle.index_page.specs.Page.{PageRows}
 use Rattle.index_world.specs.declared.frame.Frame.{Frame}
 use Rattle.index_world.specs.declared.frame.Object.{Object}
 use Rattle.index_world.specs.declared.frame.Object.TheVariants as object
-use Rattle.index_world.specs.Answers.{Deed}
+use Rattle.index_world.specs.Answers.{Deed, Saying}
 use Rattle.index_world.specs.Shape.{Shape}
 use Rattle.index_world.specs.State.{State, Entries, changes, low_of, high_of, rows_of}
 
@@ -95,3 +97,7 @@ pub record IsMade (before news : List (Option Object)) (i : ℕ) (c : MapChange)
 abbrev pub Follows : Terms Shape → List (Option Object) → List (Option Object) → Option (ℕ × Deed) → Type 0
 Follows terms before news None = (k : ℕ) (x y : Frame) → BecomesAt before news k x y → KeepsRows x y
 Follows terms before news (Some d) = IsMade before news d.0 d.1.change
+
+-- what a pass may do by what it knows
+abbrev pub MayFollow : Knows Shape Object Deed Saying → List (Option Object) → Option (ℕ × Deed) → Type 0
+MayFollow v news change = Follows v.terms (knowns v.held) news change

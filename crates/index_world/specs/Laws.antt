@@ -8,7 +8,7 @@ use Rattle.latch_law.specs.Moves.{Moves, Next}
 use Rattle.index_world.specs.declared.frame.Object.{Object}
 use Rattle.index_world.specs.Answers.{Saying}
 use Rattle.index_world.specs.State.{State}
-use Rattle.index_world.specs.Law.{IsLawful, Follows}
+use Rattle.index_world.specs.Law.{IsLawful, MayFollow}
 use Rattle.index_world.specs.Rightness.{IsRight}
 use Rattle.index_world.specs.References.{IsReference}
 use Rattle.index_world.specs.Keeping.{follow_lemma}
@@ -19,15 +19,15 @@ pub taken : (w : State) (k name : ℕ) → IsLawful w → IsFree w k → name < 
 taken w k name law free below = record { counted = law.counted; rooted = law.rooted; lists = law.lists; contents = law.contents }
 
 -- a lawful state stays lawful when a pass makes a step that follows
-pub follows_keeps : (name : ℕ) (w w' : State) → IsLawful w → name < w.passes → Moves Follows name w w' → IsLawful w'
+pub follows_keeps : (name : ℕ) (w w' : State) → IsLawful w → name < w.passes → Moves IsRight IsReference MayFollow name w w' → IsLawful w'
 follows_keeps = follow_lemma
 
 -- what is right at a point stays right there in each next state
-pub answers_stay : (name : ℕ) (w w' : State) → IsLawful w → IsLawful w' → Next Follows name w w' → (i p : ℕ) (a : Saying) → IsRight w i p a → IsRight w' i p a
+pub answers_stay : (name : ℕ) (w w' : State) → IsLawful w → IsLawful w' → Next IsRight IsReference MayFollow name w w' → (i p : ℕ) (a : Saying) → IsRight w i p a → IsRight w' i p a
 answers_stay = stay_lemma
 
 -- what is known of a reference stays so in each next state
-pub refers_stay : (name : ℕ) (w w' : State) → IsLawful w → IsLawful w' → Next Follows name w w' → (q : Reference Object) → IsReference w q → IsReference w' q
+pub refers_stay : (name : ℕ) (w w' : State) → IsLawful w → IsLawful w' → Next IsRight IsReference MayFollow name w w' → (q : Reference Object) → IsReference w q → IsReference w' q
 refers_stay name w w' law law' next q so = tt
 
 -- it holds right after a take
@@ -35,5 +35,5 @@ pub refers_new : (w : State) (k name : ℕ) (x : Object) → IsLawful w → IsFr
 refers_new w k name x law free at = tt
 
 -- and goes on to hold while the holder changes the object
-pub refers_held : (name : ℕ) (w w' : State) → IsLawful w → IsLawful w' → Next Follows name w w' → (k : ℕ) (t x y : Object) → IsHeldBy w k name → get_elem? w.objects k ≡ some x → get_elem? w'.objects k ≡ some y → IsReference w (reference k t x) → IsReference w' (reference k t y)
+pub refers_held : (name : ℕ) (w w' : State) → IsLawful w → IsLawful w' → Next IsRight IsReference MayFollow name w w' → (k : ℕ) (t x y : Object) → IsHeldBy w k name → get_elem? w.objects k ≡ some x → get_elem? w'.objects k ≡ some y → IsReference w (reference k t x) → IsReference w' (reference k t y)
 refers_held name w w' law law' next k t x y held at at' so = tt
