@@ -15,10 +15,10 @@ use Rattle.map_history.specs.declared.op.Op.TheVariants as op
 use Rattle.map_history.specs.Operation.{operation_of}
 use Rattle.map_history.specs.LegalReport.{Line}
 use Rattle.script.specs.declared.TheConstants.{MAX_FILE_BYTES}
-use Rattle.script.specs.declared.lane.Line as script
+use Rattle.map_history.specs.declared.line.Line as script
 use Rattle.script.specs.Schema.{SchemaText, schema_of}
 use Rattle.script.specs.Lane.{lane_of, AreLaneLines, HasKey}
-use Rattle.script.specs.Views.{line_texts}
+use Rattle.map_history.specs.Lines.{line_texts}
 use Rattle.lane_work.specs.Workable.{IsOpOf, AreLinesOf}
 use Rattle.ahi_cli.specs.declared.stop.Stop.{Stop}
 use Rattle.ahi_cli.specs.declared.stop.Stop.TheVariants.{Usage, Script, Shelf, TooLarge, Sizes, NoMemory}

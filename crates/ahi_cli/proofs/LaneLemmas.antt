@@ -5,9 +5,9 @@ use Rattle.std.specs.List.{AllByRecursion}
 use Rattle.std.specs.String.{string_bytes}
 use Rattle.std.specs.declared.alloc.Global.{Global}
 use Rattle.io_port.specs.Shelf.{Files}
-use Rattle.script.specs.declared.lane.Line as script
+use Rattle.map_history.specs.declared.line.Line as script
 use Rattle.script.specs.Schema.{SchemaText}
-use Rattle.script.specs.Views.{line_texts}
+use Rattle.map_history.specs.Lines.{line_texts}
 use Rattle.change_lines.specs.Made.{lane_texts, Ascends, AllAscend}
 use Rattle.ahi_cli.specs.Files.{SpellsLane}
 use Rattle.ahi_cli.proofs.FirstLemmas.{SpellsUpTo, one_lane_more}

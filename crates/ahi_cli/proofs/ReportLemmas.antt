@@ -3,14 +3,14 @@ use Rattle.std.proofs.Common.{◌≡◌, ℕ, List, [], ◌∷◌, length, map, 
 use Rattle.std.proofs.lemmas.List.{length-map}
 use Rattle.std.specs.List.{AllByRecursion, AllZip, zip}
 use Rattle.std.specs.String.{string_bytes}
-use Rattle.latch_law.proofs.Lists.{there}
+use Rattle.list_facts.proofs.Places.{there}
 use Rattle.change_log.specs.Log.{Log}
 use Rattle.map_history.specs.LegalReport.{Line, Run, Answers}
 use Rattle.map_history.specs.Report.{AnswerLine, ChangeLine, IndexPart, Report}
 use Rattle.map_history.specs.Spelling.{spell}
 use Rattle.map_history.specs.Statistics.{counts_of}
 use Rattle.script.specs.Schema.{SchemaText}
-use Rattle.script.specs.declared.lane.Line as script
+use Rattle.map_history.specs.declared.line.Line as script
 use Rattle.script.specs.Views.{schema_text}
 use Rattle.std.specs.declared.alloc.Global.{Global}
 use Rattle.index_engine.specs.declared.engine.EnginePass.{EnginePass}

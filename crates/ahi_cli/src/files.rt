@@ -3,7 +3,8 @@ ghost use Rattle.std.specs.Prelude.{◌≡◌, ◌+◌, ◌≤◌, length, map, 
 ghost use Rattle.std.specs.Option.{ForSome};
 ghost use Rattle.io_port.specs.Shelf.{IsFileOf};
 ghost use Rattle.script.specs.declared.TheConstants.{MAX_FILE_BYTES};
-ghost use Rattle.script.specs.Views.{schema_text, line_texts};
+ghost use Rattle.script.specs.Views.{schema_text};
+ghost use Rattle.map_history.specs.Lines.{line_texts};
 ghost use Rattle.lane_work.specs.Workable.{AreLinesOf};
 ghost use Rattle.lane_threads.specs.Together.{AllAreLinesOf};
 ghost use Rattle.change_lines.specs.Made.{lane_texts, Ascends, AllAscend};

@@ -3,7 +3,8 @@ use Rattle.std.proofs.Common.{◌≡◌, ◌⊎◌, ℕ, zero, suc, ◌+◌, Som
 use Rattle.std.specs.List.{slice_get, AllByRecursion, AllZip}
 use Rattle.std.specs.declared.alloc.Global.{Global}
 use Rattle.std.proofs.lemmas.List.{map-append}
-use Rattle.lane_law.proofs.Lists.{map_get, map_get_from, get_inside, get_there, get_contains, all_zip_at, all_zip_length}
+use Rattle.list_facts.proofs.Elements.{map_get, map_get_from, get_contains, all_zip_at, all_zip_length}
+use Rattle.list_facts.proofs.Places.{get_inside, get_there}
 use Rattle.change_log.specs.declared.entry.Entry.{Entry}
 use Rattle.change_log.specs.Log.{Log}
 use Rattle.map_history.specs.Report.{ChangeLine, IndexPart, Report}

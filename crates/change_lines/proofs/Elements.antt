@@ -1,7 +1,7 @@
 -- What holds of all elements of a list.
 use Rattle.std.proofs.Common.{ℕ, zero, suc, ◌<◌, List, [], ◌∷◌, length, get_or, arith}
 use Rattle.std.specs.List.{AllByRecursion, Contains}
-use Rattle.lane_law.proofs.Lists.{contains_head, contains_tail, get_contains, all_at}
+use Rattle.list_facts.proofs.Elements.{contains_head, contains_tail, get_contains, all_at}
 
 module _ {X : Type 0} (P : X → Type 0) where
   pub all_from : (xs : List X) → ((x : X) → Contains xs x → P x) → AllByRecursion P xs

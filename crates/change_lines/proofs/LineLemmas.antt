@@ -4,15 +4,15 @@ use Rattle.std.proofs.lemmas.List.Sorted.{Contains-permutation, IsPermutation-sy
 use Rattle.std.proofs.lemmas.Option.{get_or_from_slice_get}
 use Rattle.std.specs.List.{slice_get, AllByRecursion, filter}
 use Rattle.std.specs.declared.alloc.Global.{Global}
-use Rattle.lane_law.proofs.Lists.{all_at, map_get_from, flat_from}
+use Rattle.list_facts.proofs.Elements.{all_at, map_get_from, flat_from}
 use Rattle.lane_law.proofs.PairLemmas.{ascending_once}
 use Rattle.change_log.specs.declared.entry.Entry.{Entry}
 use Rattle.change_log.specs.declared.entry.Noted.{Noted}
 use Rattle.change_log.specs.Log.{Log}
 use Rattle.change_log.specs.Merge.{entries_of, entries_in, IsMerge}
 use Rattle.map_history.specs.LegalReport.{Line}
-use Rattle.script.specs.declared.lane.Line as script
-use Rattle.script.specs.Views.{line_texts}
+use Rattle.map_history.specs.declared.line.Line as script
+use Rattle.map_history.specs.Lines.{line_texts}
 use Rattle.change_lines.specs.Made.{lane_texts, Ascends, AllAscend, IsNumbered, HasNumber, IsLineOf, HasLine, HaveLines}
 use Rattle.change_lines.proofs.Elements.{all_from, all_contains}
 

@@ -1,7 +1,7 @@
 -- What lanes noted of answered lines has its lines.
 use Rattle.std.proofs.Common.{◌≡◌, ℕ, ◌+◌, true, Some, List, refl, ap, sym, ◌∙◌, arith}
 use Rattle.std.specs.List.{slice_get, AllZip, Contains, zip}
-use Rattle.lane_law.proofs.Lists.{contains_none, contains_one, get_contains, flat_from, zip_from, all_zip_at, map_get}
+use Rattle.list_facts.proofs.Elements.{contains_none, contains_one, get_contains, flat_from, zip_from, all_zip_at, map_get}
 use Rattle.lane_law.proofs.NoteLemmas.{notes_from}
 use Rattle.change_log.specs.declared.entry.Noted.{Noted}
 use Rattle.change_log.specs.Log.{Log}

@@ -9,7 +9,7 @@ use Rattle.map_history.specs.Spelling.{change_text}
 use Rattle.map_history.specs.LegalReport.{Line, Run}
 use Rattle.lane_law.specs.Merged.{IsLookedUp, AreLookedUp}
 use Rattle.report_text.specs.Printed.{change_asked}
-use Rattle.script.specs.Views.{line_text}
+use Rattle.map_history.specs.Lines.{line_text}
 use Rattle.change_lines.specs.declared.made.MadeLine.{MadeLine}
 use Rattle.change_lines.specs.Made.{IsMadeBy}
 use Rattle.change_lines.specs.Printed.{AsksChange, change_in, entry_in, made_text}

@@ -8,10 +8,11 @@ use Rattle.std.proofs.lemmas.Bool.Decides.{nat_tests}
 use Rattle.std.proofs.lemmas.Option.{get_or_from_slice_get, slice_get_read}
 use Rattle.std.specs.List.Sorted.{IsBinarySearchResult, IsNonDecreasingBy}
 use Rattle.std.specs.Ordering.{nat_cmp, ordering_index}
-use Rattle.lane_law.proofs.Lists.{map_get, map_get_from, get_inside}
+use Rattle.list_facts.proofs.Elements.{map_get, map_get_from}
+use Rattle.list_facts.proofs.Places.{get_inside}
 use Rattle.map_history.specs.LegalReport as legal
-use Rattle.script.specs.declared.lane.Line.{Line}
-use Rattle.script.specs.Views.{line_text, line_texts}
+use Rattle.map_history.specs.declared.line.Line.{Line}
+use Rattle.map_history.specs.Lines.{line_text, line_texts}
 use Rattle.change_lines.specs.Made.{Ascends, IsNumbered, HasNumber}
 
 -- the line at a place that is read

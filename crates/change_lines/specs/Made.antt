@@ -9,8 +9,8 @@ use Rattle.change_log.specs.Merge.{IsMerge}
 use Rattle.map_history.specs.Map.{MapChange}
 use Rattle.map_history.specs.Operation.{Make}
 use Rattle.map_history.specs.LegalReport.{Line}
-use Rattle.script.specs.declared.lane.Line as script
-use Rattle.script.specs.Views.{line_text, line_texts}
+use Rattle.map_history.specs.declared.line.Line as script
+use Rattle.map_history.specs.Lines.{line_text, line_texts}
 use Rattle.change_lines.specs.declared.made.MadeLine.{MadeLine}
 
 -- the lines of each lane

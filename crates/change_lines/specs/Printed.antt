@@ -5,7 +5,7 @@ use Rattle.map_history.specs.Map.{MapChange, Del}
 use Rattle.map_history.specs.Operation.{Ask, Make}
 use Rattle.map_history.specs.Report.{ChangeLine}
 use Rattle.map_history.specs.Spelling.{change_text}
-use Rattle.script.specs.Views.{line_text}
+use Rattle.map_history.specs.Lines.{line_text}
 use Rattle.report_text.specs.Printed.{change_made}
 use Rattle.change_lines.specs.declared.made.MadeLine.{MadeLine}
 

@@ -1,7 +1,7 @@
 //! Lines are found by their lanes and their numbers.
 ghost use Rattle.std.specs.Prelude.{◌≡◌, ◌<◌, IfOk, AllPairs};
 ghost use Rattle.std.specs.List.{AllByRecursion, AllZip};
-ghost use Rattle.script.specs.Views.{line_text, line_texts};
+ghost use Rattle.map_history.specs.Lines.{line_text, line_texts};
 ghost use Rattle.change_lines.specs.Made.{Ascends, AllAscend, lane_texts, IsNumbered, HasNumber};
 ghost use Rattle.change_lines.specs.Made.{IsLineOf, HasLine, HaveLines, IsMadeBy, AreMade, made_lists, AreAllMade};
 

@@ -3,7 +3,7 @@ use Rattle.std.proofs.Common.{◌≡◌, ◌≢◌, ℕ, true, List, length, sym
 use mathlib.Core.Option.{some, some-injective}
 use lib.ListN.{get_elem?}
 use Rattle.key_tuple.specs.Order.{FieldList}
-use Rattle.latch_law.proofs.Lists.{same_some}
+use Rattle.list_facts.proofs.Places.{same_some}
 use Rattle.latch_space.specs.Passes.{view}
 use Rattle.map_history.specs.declared.reply.Reply.{Reply}
 use Rattle.map_history.specs.declared.reply.Reply.TheVariants as words
@@ -13,12 +13,12 @@ use Rattle.map_history.specs.Reply.{Done, Absent, Duplicate, value_reply, reply_
 use Rattle.map_history.specs.LegalReport.{may_reply}
 use Rattle.map_history.specs.Told.{Says}
 use Rattle.index_page.specs.Page.{PageRows}
-use Rattle.index_world.specs.declared.frame.Frame.{Frame}
-use Rattle.index_world.specs.Answers.{Gives, LogFull}
-use Rattle.index_world.specs.Law.{IsRootLeaf}
-use Rattle.index_world.specs.Meanings.{word_of, gives}
-use Rattle.index_world.specs.Shape.{Shape}
-use Rattle.index_world.specs.State.{rows_of}
+use Rattle.index_law.specs.declared.frame.Frame.{Frame}
+use Rattle.index_law.specs.Answers.{Gives, LogFull}
+use Rattle.index_law.specs.Law.{IsRootLeaf}
+use Rattle.index_law.specs.Meanings.{word_of, gives}
+use Rattle.index_law.specs.Shape.{Shape}
+use Rattle.index_law.specs.State.{rows_of}
 use Rattle.index_engine.specs.Passes.{Caller, HoldsLeaf}
 use Rattle.index_engine.specs.Says.{SeesFull, TellsMost, CanSay}
 

@@ -6,14 +6,14 @@ use lib.ListN.{get_elem?}
 use Rattle.atomic_table.proofs.Lists.{set_here}
 use Rattle.key_tuple.specs.Order.{FieldList}
 use Rattle.key_tuple.specs.declared.error.NoMemory.{NoMemory}
-use Rattle.latch_law.proofs.Lists.{inside, one_value, same_some}
+use Rattle.list_facts.proofs.Places.{inside, one_value, same_some}
 use Rattle.latch_space.specs.Passes.{values, count, Shows}
 use Rattle.latch_space.proofs.Pointwise.{swapped_of}
-use Rattle.index_world.specs.declared.frame.Frame.{Frame}
-use Rattle.index_world.specs.declared.frame.Object.{Object}
-use Rattle.index_world.specs.declared.frame.Object.TheVariants as object
-use Rattle.index_world.specs.Law.{IsRootLeaf}
-use Rattle.index_world.specs.Spoken.{View}
+use Rattle.index_law.specs.declared.frame.Frame.{Frame}
+use Rattle.index_law.specs.declared.frame.Object.{Object}
+use Rattle.index_law.specs.declared.frame.Object.TheVariants as object
+use Rattle.index_law.specs.Law.{IsRootLeaf}
+use Rattle.index_law.specs.Spoken.{View}
 use Rattle.index_engine.specs.Changes.{PutIn, HoldsRowAt, TookOut}
 use Rattle.index_engine.specs.Frames.{PutsRow, StandsOn, frame_without}
 use Rattle.index_engine.specs.Passes.{Caller, HoldsLeaf}

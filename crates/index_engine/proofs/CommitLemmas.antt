@@ -6,10 +6,11 @@ use mathlib.Core.Option.{some}
 use lib.ListN.{get_elem?}
 use Rattle.atomic_table.proofs.Lists.{set_here}
 use Rattle.latch_law.specs.declared.knows.Entry.{Entry}
-use Rattle.latch_law.specs.declared.knows.Saying.TheVariants as what
+use Rattle.latch_law.specs.declared.knows.Statement.TheVariants as what
 use Rattle.latch_law.specs.Fitting.{AreValuesOf, Extends, DidCommit, WasFull}
 use Rattle.latch_law.specs.Views.{holding, learnt, entry_of}
-use Rattle.latch_law.proofs.Lists.{inside, learnt_at, known_at, known_back}
+use Rattle.latch_law.proofs.Lists.{learnt_at, known_at, known_back}
+use Rattle.list_facts.proofs.Places.{inside}
 use Rattle.latch_space.specs.declared.committing.LogFull.{LogFull}
 use Rattle.latch_space.specs.Has.{Has, Learnt, Foreknows, SameHands}
 use Rattle.latch_space.specs.Commits.{Ends, Changes, Foretells}
@@ -18,23 +19,23 @@ use Rattle.latch_space.proofs.Pointwise.{whole_values, values_set}
 use Rattle.map_history.specs.Map.{MapChange, map_after, is_allowed, AreLawful}
 use Rattle.map_history.specs.Operation.{Ask, Make}
 use Rattle.map_history.specs.Reply.{Done, reply_of, refusal}
-use Rattle.map_history.specs.Report.{Replied}
+use Rattle.map_history.specs.Report.{Replied, dashes}
 use Rattle.map_history.specs.LegalReport.{Mark, marks_of, has_form}
 use Rattle.map_history.proofs.HistoryLemmas.{lawful-last}
-use Rattle.index_world.specs.declared.frame.Frame.{Frame}
-use Rattle.index_world.specs.declared.frame.Object.{Object}
-use Rattle.index_world.specs.declared.frame.Object.TheVariants as object
-use Rattle.index_world.specs.Answers.{Deed}
-use Rattle.index_world.specs.Following.{change_keeps, root_stays}
-use Rattle.index_world.specs.Law.{IsLawful, MakesChange, IsMade, IsRootLeaf}
-use Rattle.index_world.specs.Meanings.{change_in}
-use Rattle.index_world.specs.Once.{IsRightBy, AnswersOnce}
-use Rattle.index_world.specs.References.{IsReference}
-use Rattle.index_world.specs.Rightness.{IsRight, map_at}
-use Rattle.index_world.specs.Spoken.{View, spoken}
-use Rattle.index_world.specs.State.{Entries, changes}
+use Rattle.index_law.specs.declared.frame.Frame.{Frame}
+use Rattle.index_law.specs.declared.frame.Object.{Object}
+use Rattle.index_law.specs.declared.frame.Object.TheVariants as object
+use Rattle.index_law.specs.Answers.{MadeChange}
+use Rattle.index_law.proofs.FollowingLemmas.{change_keeps, root_stays}
+use Rattle.index_law.specs.Law.{IsLawful, MakesChange, IsMade, IsRootLeaf}
+use Rattle.index_law.specs.Meanings.{change_in}
+use Rattle.index_law.specs.Once.{IsRightBy, AnswersOnce}
+use Rattle.index_law.specs.References.{IsReference}
+use Rattle.index_law.specs.Rightness.{IsRight, map_at}
+use Rattle.index_law.specs.Spoken.{View, spoken}
+use Rattle.index_law.specs.State.{Entries, changes}
 use Rattle.index_engine.specs.Passes.{Caller, HoldsLeaf}
-use Rattle.index_engine.specs.Says.{dashes, DidMake, IsFullThen, Commits, DidForetell, CommitsAhead}
+use Rattle.index_engine.specs.Says.{DidMake, IsFullThen, Commits, DidForetell, CommitsAhead}
 use Rattle.index_engine.proofs.ViewLemmas.{spoken-push, one_mark, more_seen, extends_length, now_seen}
 
 module _ (p : Caller) (i : ℕ) where
@@ -83,7 +84,7 @@ module _ (p : Caller) (i : ℕ) where
       root = subst (λ t. IsRootLeaf t.shape i f) (sym terms) holds.root;
     }
 
-    module _ (deed : Deed) (deed_is : deed ≡ record { change = change_in ask; columns = dashes }) (asked : ask ≡ Make (change_in ask)) (vs : List (Option Object)) (point : ℕ) (did : DidCommit IsLawful IsRight IsReference (view p) i vs deed point (view q)) where
+    module _ (deed : MadeChange) (deed_is : deed ≡ record { change = change_in ask; columns = dashes }) (asked : ask ≡ Make (change_in ask)) (vs : List (Option Object)) (point : ℕ) (did : DidCommit IsLawful IsRight IsReference (view p) i vs deed point (view q)) where
       abbrev longer : Entries
       longer = did.list ++ entry_of (view p) deed ∷ []
 
@@ -97,18 +98,18 @@ module _ (p : Caller) (i : ℕ) where
       seen_is = ap (λ (z : View). z.seen) did.view
 
       changes_are : changes longer ≡ changes did.list ++ deed.change ∷ []
-      changes_are = map-append (λ (e : Entry Deed). e.change.change) did.list (entry_of (view p) deed ∷ [])
+      changes_are = map-append (λ (e : Entry MadeChange). e.change.change) did.list (entry_of (view p) deed ∷ [])
 
       allowed : is_allowed (map_after (changes did.list)) deed.change ≡ true
       allowed = lawful-last (changes did.list) deed.change (subst AreLawful changes_are (did.stands.is_lawful.lists i longer did.stands.list))
 
       map_before : map_at longer (point - 1) ≡ map_after (changes did.list)
-      map_before = let at = did.point in let few : length (changes did.list) ≡ length did.list = length-map did.list (λ (e : Entry Deed). e.change.change) in
+      map_before = let at = did.point in let few : length (changes did.list) ≡ length did.list = length-map did.list (λ (e : Entry MadeChange). e.change.change) in
           ap (λ n. map_at longer n) (omega (arith, at)) ∙ (ap (λ cs. map_after (take (length did.list) cs)) changes_are
           ∙ (ap map_after (take-append-le (length did.list) (changes did.list) (deed.change ∷ []) (omega (arith, few))) ∙ ap map_after (take_all (length did.list) (changes did.list) (omega (arith, few)))))
 
       right_by : IsRightBy (view p).terms.max_changes longer ask (Replied Done point dashes)
-      right_by = ap (λ m. reply_of m ask) map_before ∙ (ap (reply_of (map_after (changes did.list))) asked ∙ ap (λ b. cond b Done (refusal (change_in ask))) (ap (λ (d : Deed). is_allowed (map_after (changes did.list)) d.change) (sym deed_is) ∙ allowed))
+      right_by = ap (λ m. reply_of m ask) map_before ∙ (ap (reply_of (map_after (changes did.list))) asked ∙ ap (λ b. cond b Done (refusal (change_in ask))) (ap (λ (d : MadeChange). is_allowed (map_after (changes did.list)) d.change) (sym deed_is) ∙ allowed))
 
       mark_is : (m : Mark) → Contains (marks_of (Replied Done point dashes)) m → (m.point ≡ point) × (m.grows ≡ 1)
       mark_is m among = let same = one_mark (record { point = point; grows = 1 }) m among in (ap (λ (z : Mark). z.point) (sym same), ap (λ (z : Mark). z.grows) (sym same))
@@ -126,10 +127,10 @@ module _ (p : Caller) (i : ℕ) where
       }
         where
           ask_is : Make deed.change ≡ ask
-          ask_is = ap (λ (d : Deed). Make d.change) deed_is ∙ sym asked
+          ask_is = ap (λ (d : MadeChange). Make d.change) deed_is ∙ sym asked
 
           columns_are : deed.columns ≡ dashes
-          columns_are = ap (λ (d : Deed). d.columns) deed_is
+          columns_are = ap (λ (d : MadeChange). d.columns) deed_is
 
       held_is : (view q).held ≡ learnt vs (view p).held
       held_is = ap (λ (z : View). z.held) did.view
@@ -165,12 +166,12 @@ module _ (p : Caller) (i : ℕ) where
     }
 
     -- how the commit ended
-    pub commit_ends : (deed : Deed) → i < length (view p).seen → deed ≡ record { change = change_in ask; columns = dashes } → ask ≡ Make (change_in ask) → (result : Result ℕ LogFull) → Ends IsLawful IsRight IsReference (view p) i (values p) deed result (view q) → Changes p result q → Commits p i ask result q
+    pub commit_ends : (deed : MadeChange) → i < length (view p).seen → deed ≡ record { change = change_in ask; columns = dashes } → ask ≡ Make (change_in ask) → (result : Result ℕ LogFull) → Ends IsLawful IsRight IsReference (view p) i (values p) deed result (view q) → Changes p result q → Commits p i ask result q
     commit_ends deed room deed_is asked (Ok point) did learns = did_make deed deed_is asked (values p) point did learns
     commit_ends deed room deed_is asked (Err full) was same = full_then full.0 room was same
 
     -- and one that went ahead of its change
-    pub ahead_ends : (deed : Deed) → i < length (view p).seen → deed ≡ record { change = change_in ask; columns = dashes } → ask ≡ Make (change_in ask) → (next : Frame) (vs : List (Option Object)) → get_elem? vs i ≡ some (Some (object.Frame next))
+    pub ahead_ends : (deed : MadeChange) → i < length (view p).seen → deed ≡ record { change = change_in ask; columns = dashes } → ask ≡ Make (change_in ask) → (next : Frame) (vs : List (Option Object)) → get_elem? vs i ≡ some (Some (object.Frame next))
         → (result : Result ℕ LogFull) → Ends IsLawful IsRight IsReference (view p) i vs deed result (view q) → Foretells vs p result q → CommitsAhead p i ask next result q
     ahead_ends deed room deed_is asked next vs at (Ok point) did knows = did_foretell deed deed_is asked vs point did next at knows
     ahead_ends deed room deed_is asked next vs at (Err full) was same = full_then full.0 room was same

@@ -9,22 +9,22 @@ use Rattle.latch_law.specs.declared.knows.Entry.{Entry}
 use Rattle.latch_law.specs.declared.knows.Holding.{Holding}
 use Rattle.latch_law.specs.Rule.{Holds, Fits}
 use Rattle.latch_law.specs.Views.{with_refused}
-use Rattle.latch_law.proofs.Lists.{inside, there, same_some, none_is_not}
+use Rattle.list_facts.proofs.Places.{inside, there, same_some, none_is_not}
 use Rattle.latch_space.specs.Has.{Has}
 use Rattle.latch_space.specs.Passes.{view, count}
 use Rattle.latch_space.specs.Takes.{DidTakeAfter}
 use Rattle.latch_space.proofs.Pointwise.{lacks_each}
 use Rattle.map_history.specs.Map.{slice, map_after}
 use Rattle.index_page.specs.Page.{PageRows}
-use Rattle.index_world.specs.declared.frame.Frame.{Frame}
-use Rattle.index_world.specs.declared.frame.Object.{Object}
-use Rattle.index_world.specs.declared.frame.Object.TheVariants as object
-use Rattle.index_world.specs.Answers.{Deed}
-use Rattle.index_world.specs.Law.{IsRootLeaf, IsLawful}
-use Rattle.index_world.specs.References.{IsReference}
-use Rattle.index_world.specs.Rightness.{IsRight}
-use Rattle.index_world.specs.Spoken.{View}
-use Rattle.index_world.specs.State.{State, Entries, changes, frame_of, low_in, high_in, pair_of, rows_of}
+use Rattle.index_law.specs.declared.frame.Frame.{Frame}
+use Rattle.index_law.specs.declared.frame.Object.{Object}
+use Rattle.index_law.specs.declared.frame.Object.TheVariants as object
+use Rattle.index_law.specs.Answers.{MadeChange}
+use Rattle.index_law.specs.Law.{IsRootLeaf, IsLawful}
+use Rattle.index_law.specs.References.{IsReference}
+use Rattle.index_law.specs.Rightness.{IsRight}
+use Rattle.index_law.specs.Spoken.{View}
+use Rattle.index_law.specs.State.{State, Entries, changes, frame_of, low_in, high_in, pair_of, rows_of}
 use Rattle.index_engine.specs.Passes.{Caller, HoldsLeaf, HasAtMost}
 use Rattle.index_engine.proofs.MapLemmas.{slice_all, map_fits}
 
@@ -46,7 +46,7 @@ root_fits w v i f law fits at page paged =
     let xs = there w.lists i below in
     let same : length (rows_of page) ≡ length page.rows = length-map page.rows pair_of in
     let rows : length (rows_of page) ≡ length (map_after (changes xs.0)) = ap length (root_map w i f page xs.0 law at paged xs.1) in
-    let few : length (changes xs.0) ≡ length xs.0 = length-map xs.0 (λ (e : Entry Deed). e.change.change) in
+    let few : length (changes xs.0) ≡ length xs.0 = length-map xs.0 (λ (e : Entry MadeChange). e.change.change) in
     let most = fits.bounded i xs.0 xs.1 in
     let terms = fits.max_changes in
     omega (arith, same, rows, map_fits (changes xs.0), few, most, terms)

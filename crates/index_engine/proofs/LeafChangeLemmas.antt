@@ -4,15 +4,15 @@ use Rattle.std.proofs.lemmas.List.{map-append}
 use Rattle.std.proofs.lemmas.List.Elements.{filter-append}
 use Rattle.std.specs.List.{filter, AllByRecursion}
 use Rattle.key_tuple.specs.Order.{FieldList}
-use Rattle.key_tuple.specs.Place.{At, before}
+use Rattle.key_tuple.specs.KeyPlace.{At, before}
 use Rattle.key_tuple.proofs.PlaceLemmas.{before-itself, before_not_after}
 use Rattle.map_history.specs.Map.{Pair, Put, Del, value_at, write, row_of, after_change}
 use Rattle.map_history.proofs.ApplyLemmas.{after-allowed}
-use Rattle.map_history.proofs.EachLemmas.{filter_each, filter_none, each_weaker}
+use Rattle.list_facts.proofs.Each.{filter_each, filter_none, each_weaker}
 use Rattle.index_page.specs.Page.{PageRows, Ascends, PlacesDiffer}
 use Rattle.index_page.specs.Rows.{Row, Bytes, row_of as row_at, find_row}
 use Rattle.index_page.specs.Changes.{Inserts, Deletes}
-use Rattle.index_world.specs.State.{pair_of, rows_of}
+use Rattle.index_law.specs.State.{pair_of, rows_of}
 use Rattle.index_engine.specs.Leaf.{HasRow}
 use Rattle.index_engine.proofs.LeafPlaceLemmas.{each_middle, find_row-split}
 

@@ -6,19 +6,19 @@ use Rattle.std.specs.Cmp.Lexicographic.{pointwise, same_text, other_text}
 use Rattle.std.specs.List.{AllByRecursion}
 use Rattle.std.specs.Ordering.{ordering_reverse}
 use Rattle.key_tuple.specs.Order.{FieldList, key_cmp}
-use Rattle.key_tuple.specs.Place.{At, before, not_below}
+use Rattle.key_tuple.specs.KeyPlace.{At, before, not_below}
 use Rattle.key_tuple.specs.Figures.{equal_fields}
 use Rattle.key_tuple.specs.declared.mode.Match.{Match}
 use Rattle.key_tuple.specs.declared.mode.Mode.TheVariants.{Ge}
 use Rattle.key_tuple.proofs.PlaceLemmas.{total}
 use Rattle.key_tuple.proofs.TupleLemmas.{tuple_cmp-whole}
 use Rattle.map_history.specs.Map.{value_at}
-use Rattle.map_history.proofs.EachLemmas.{each_weaker}
+use Rattle.list_facts.proofs.Each.{each_weaker}
 use Rattle.index_page.specs.declared.spot.Spot.{Spot}
 use Rattle.index_page.specs.Page.{PageRows, Ascends, IsRowOf, IsInOrder}
 use Rattle.index_page.specs.Rows.{Row, first_row, IsAt, LacksKey}
 use Rattle.index_page.specs.Search.{AllOut, agreement, Finds}
-use Rattle.index_world.specs.State.{pair_of, rows_of}
+use Rattle.index_law.specs.State.{pair_of, rows_of}
 use Rattle.index_engine.specs.Leaf.{IsFoundAt}
 use Rattle.index_engine.proofs.LeafPlaceLemmas.{each_middle}
 use Rattle.index_engine.proofs.LeafKeyLemmas.{value-past, value-none, value-first}

@@ -6,7 +6,7 @@ use Rattle.key_tuple.specs.Order.{FieldList, key_cmp}
 use Rattle.key_tuple.proofs.PlaceLemmas.{total, key_exact}
 use Rattle.map_history.specs.Map.{value_at}
 use Rattle.index_page.specs.Rows.{Row, LacksKey}
-use Rattle.index_world.specs.State.{pair_of, value_in}
+use Rattle.index_law.specs.State.{pair_of, value_in}
 
 equal_is : (o : Ordering) → is_eq o ≡ true → o ≡ Equal
 equal_is Less e = absurd cc

@@ -2,7 +2,7 @@
 use Rattle.std.proofs.Common.{◌≡◌, ◌≢◌, ℕ, Bool, true, false, cond, not, ◌==◌, Some, None, List, [], ◌∷◌, ◌++◌, refl, sym, ap, ◌∙◌, subst, eq-eqb}
 use Rattle.std.proofs.lemmas.Bool.{both_ways, ne_eqb}
 use Rattle.std.specs.List.{filter, AllByRecursion}
-use Rattle.map_history.proofs.EachLemmas.{filter_each, each_weaker}
+use Rattle.list_facts.proofs.Each.{filter_each, each_weaker}
 use Rattle.index_page.specs.Page.{PageRows, PlacesDiffer}
 use Rattle.index_page.specs.Rows.{Row, find_row}
 use Rattle.index_page.specs.Changes.{Inserts, Deletes}

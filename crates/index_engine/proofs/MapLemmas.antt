@@ -2,10 +2,10 @@
 use Rattle.std.proofs.Common.{◌≡◌, ℕ, ◌+◌, ◌≤◌, Bool, true, false, cond, List, [], ◌∷◌, ◌++◌, length, length-append, sym, ◌∙◌, arith, refl, Option, Some, None}
 use Rattle.std.specs.List.{filter, AllByRecursion}
 use Rattle.key_tuple.specs.Order.{FieldList}
-use Rattle.key_tuple.specs.Place.{Start, At, End, before, within}
+use Rattle.key_tuple.specs.KeyPlace.{Start, At, End, before, within}
 use Rattle.key_tuple.proofs.PlaceLemmas.{before-itself, before-trans}
 use Rattle.map_history.specs.Map.{Pair, Map, MapChange, slice, row_of, write, key_of, value_of, is_allowed, after_change, after_changes, map_after}
-use Rattle.map_history.proofs.EachLemmas.{filter_each}
+use Rattle.list_facts.proofs.Each.{filter_each}
 
 all_within : (m : Map) → AllByRecursion (λ (x : Pair). within Start End (At x.key) ≡ true) m
 unfolding before

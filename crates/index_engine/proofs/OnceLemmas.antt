@@ -5,19 +5,19 @@ use mathlib.Core.Option.{some}
 use lib.Dec.{leb}
 use lib.ListN.{get_elem?}
 use Rattle.atomic_table.proofs.Lists.{set_here}
-use Rattle.latch_law.specs.declared.knows.Saying.TheVariants as what
+use Rattle.latch_law.specs.declared.knows.Statement.TheVariants as what
 use Rattle.latch_law.specs.Fitting.{DidRead}
 use Rattle.latch_space.specs.Passes.{view}
 use Rattle.map_history.specs.declared.reply.Told.{Told}
 use Rattle.map_history.specs.Map.{Pair}
 use Rattle.map_history.specs.Operation.{Ask}
 use Rattle.map_history.specs.Report.{Answer}
-use Rattle.index_world.specs.Answers.{Look}
-use Rattle.index_world.specs.Law.{IsLawful}
-use Rattle.index_world.specs.Once.{SameNumbers, IsQuiet, IsStill, IsRightBy, AnswersOnce}
-use Rattle.index_world.specs.References.{IsReference}
-use Rattle.index_world.specs.Rightness.{IsRight}
-use Rattle.index_world.specs.Spoken.{View, spoken, sayings}
+use Rattle.index_law.specs.Answers.{Look}
+use Rattle.index_law.specs.Law.{IsLawful}
+use Rattle.index_law.specs.Once.{SameNumbers, IsQuiet, IsStill, IsRightBy, AnswersOnce}
+use Rattle.index_law.specs.References.{IsReference}
+use Rattle.index_law.specs.Rightness.{IsRight}
+use Rattle.index_law.specs.Spoken.{View, spoken, sayings}
 use Rattle.index_engine.specs.Passes.{Caller}
 use Rattle.index_engine.specs.Says.{SeesFull, TellsOnce}
 use Rattle.index_engine.proofs.ViewLemmas.{spoken-push, more_seen}

@@ -2,25 +2,25 @@
 use Rattle.std.proofs.Common.{◌≡◌, ℕ, true, false, List, sym, ap, subst, ◌∙◌, refl, Option, Some, None, IsSome, rules, Result, Ok, Err, IfOk, is_none, is_some}
 use Rattle.std.specs.Option.{option_map}
 use Rattle.key_tuple.specs.Order.{FieldList}
-use Rattle.key_tuple.specs.Place.{At, before, within}
+use Rattle.key_tuple.specs.KeyPlace.{At, before, within}
 use Rattle.key_tuple.specs.declared.error.NoMemory.{NoMemory}
-use Rattle.latch_law.proofs.Lists.{same_some}
+use Rattle.list_facts.proofs.Places.{same_some}
 use Rattle.map_history.specs.declared.reply.Told.{Told}
 use Rattle.map_history.specs.Map.{Pair, MapChange, Put, Del, value_at}
 use Rattle.map_history.specs.Operation.{Ask, Make}
 use Rattle.map_history.specs.Reply.{Done}
-use Rattle.map_history.specs.Report.{Replied}
+use Rattle.map_history.specs.Report.{Replied, dashes}
 use Rattle.index_page.specs.Page.{PageRows, IsInOrder}
 use Rattle.index_page.specs.Rows.{Bytes, row_of}
-use Rattle.index_world.specs.declared.frame.Frame.{Frame}
-use Rattle.index_world.specs.Law.{IsRootLeaf, MakesChange}
-use Rattle.index_world.specs.Once.{IsQuiet, IsStill, AnswersOnce}
-use Rattle.index_world.specs.Shape.{Shape}
-use Rattle.index_world.specs.Spoken.{View}
-use Rattle.index_world.specs.State.{low_in, high_in, low_of, high_of, rows_of}
+use Rattle.index_law.specs.declared.frame.Frame.{Frame}
+use Rattle.index_law.specs.Law.{IsRootLeaf, MakesChange}
+use Rattle.index_law.specs.Once.{IsQuiet, IsStill, AnswersOnce}
+use Rattle.index_law.specs.Shape.{Shape}
+use Rattle.index_law.specs.Spoken.{View}
+use Rattle.index_law.specs.State.{low_in, high_in, low_of, high_of, rows_of}
 use Rattle.index_engine.specs.Frames.{PutsRow, StandsOn, frame_without}
 use Rattle.index_engine.specs.Leaf.{HasRow, IsFoundAt, page_without}
-use Rattle.index_engine.specs.Says.{dashes, SeesFull, TellsOnce, told_made}
+use Rattle.index_engine.specs.Says.{SeesFull, TellsOnce, told_made}
 use Rattle.index_engine.proofs.LeafChangeLemmas.{del-rows}
 use Rattle.index_engine.proofs.LeafPlaceLemmas.{without_deletes, put_without}
 use Rattle.index_engine.proofs.OnceLemmas.{quiet_then_tells, tells_then_still}

@@ -4,11 +4,11 @@ use Rattle.std.proofs.lemmas.List.{length-map, take_all}
 use mathlib.Core.Option.{some, some-injective}
 use lib.ListN.{get_elem?}
 use Rattle.latch_law.specs.declared.knows.Entry.{Entry}
-use Rattle.latch_law.specs.declared.knows.Saying.TheVariants as what
+use Rattle.latch_law.specs.declared.knows.Statement.TheVariants as what
 use Rattle.latch_law.specs.Fitting.{DidRead, MayAnswer}
 use Rattle.latch_law.specs.Rule.{Fits}
 use Rattle.latch_law.specs.Views.{holding, reading}
-use Rattle.latch_law.proofs.Lists.{same_some}
+use Rattle.list_facts.proofs.Places.{same_some}
 use Rattle.latch_space.specs.Passes.{view}
 use Rattle.map_history.specs.declared.reply.Reply.{Reply}
 use Rattle.map_history.specs.declared.reply.Reply.TheVariants as words
@@ -17,27 +17,27 @@ use Rattle.map_history.specs.declared.columns.Note.TheVariants as note
 use Rattle.map_history.specs.Map.{Pair, map_after}
 use Rattle.map_history.specs.Operation.{Ask}
 use Rattle.map_history.specs.Reply.{MapReply, Value, Row, Done, Absent, Duplicate, reply_of}
-use Rattle.map_history.specs.Report.{Columns, Answer, Replied}
+use Rattle.map_history.specs.Report.{Columns, Answer, Replied, dashes}
 use Rattle.map_history.specs.Report as answers
 use Rattle.map_history.specs.LegalReport.{Mark, marks_of, is_done, has_form}
 use Rattle.map_history.specs.Told as tells
-use Rattle.index_world.specs.declared.frame.Object.TheVariants as object
-use Rattle.index_world.specs.Answers.{Deed, Word, Gives, LogFull, SpaceFull, Replies}
-use Rattle.index_world.specs.Law.{IsLawful}
-use Rattle.index_world.specs.Meanings.{word_of, gives, said_word}
-use Rattle.index_world.specs.Once.{IsRightBy, AnswersOnce}
-use Rattle.index_world.specs.References.{IsReference}
-use Rattle.index_world.specs.Rightness.{IsRight, IsWord, IsAllowed, map_at}
-use Rattle.index_world.specs.Spoken.{View, printed_word, spoken, sayings}
-use Rattle.index_world.specs.State.{State, Entries, changes, rows_of}
+use Rattle.index_law.specs.declared.frame.Object.TheVariants as object
+use Rattle.index_law.specs.Answers.{MadeChange, Word, Gives, LogFull, SpaceFull, Replies}
+use Rattle.index_law.specs.Law.{IsLawful}
+use Rattle.index_law.specs.Meanings.{word_of, gives, said_word}
+use Rattle.index_law.specs.Once.{IsRightBy, AnswersOnce}
+use Rattle.index_law.specs.References.{IsReference}
+use Rattle.index_law.specs.Rightness.{IsRight, IsWord, IsAllowed, map_at}
+use Rattle.index_law.specs.Spoken.{View, printed_word, spoken, sayings}
+use Rattle.index_law.specs.State.{State, Entries, changes, rows_of}
 use Rattle.index_engine.specs.Passes.{Caller}
-use Rattle.index_engine.specs.Says.{dashes, SeesFull, MaySay, TellsMost, CanSay, TellsOnce}
+use Rattle.index_engine.specs.Says.{SeesFull, MaySay, TellsMost, CanSay, TellsOnce}
 use Rattle.index_engine.proofs.HoldLemmas.{root_map}
 use Rattle.index_engine.proofs.ViewLemmas.{spoken-push, one_mark, more_seen, extends_length, now_seen}
 
 -- a list is what it is after all of its changes
 map_at_end : (xs : Entries) → map_at xs (length xs) ≡ map_after (changes xs)
-map_at_end xs = let same : length (changes xs) ≡ length xs = length-map xs (λ (e : Entry Deed). e.change.change) in ap map_after (take_all (length xs) (changes xs) (omega (arith, same)))
+map_at_end xs = let same : length (changes xs) ≡ length xs = length-map xs (λ (e : Entry MadeChange). e.change.change) in ap map_after (take_all (length xs) (changes xs) (omega (arith, same)))
 
 -- a reply that changes nothing
 no_change : (r : MapReply) → r ≢ Done → is_done r ≡ 0

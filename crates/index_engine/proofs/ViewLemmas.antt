@@ -6,10 +6,10 @@ use native.Mathlib.Decide.{ℕ_discrete}
 use lib.ListN.{get_elem?}
 use Rattle.atomic_table.proofs.Lists.{set_here, set_else, at_set}
 use Rattle.latch_law.specs.Fitting.{Extends}
-use Rattle.latch_law.proofs.Lists.{inside}
+use Rattle.list_facts.proofs.Places.{inside}
 use Rattle.map_history.specs.LegalReport.{Mark}
-use Rattle.index_world.specs.Spoken.{View, OwnAnswer, spoken_at, spoken}
-use Rattle.index_world.specs.State.{Entries}
+use Rattle.index_law.specs.Spoken.{View, OwnAnswer, spoken_at, spoken}
+use Rattle.index_law.specs.State.{Entries}
 
 -- the last answer is printed behind the others
 pub spoken-push : (qs : List OwnAnswer) (q : OwnAnswer) → spoken (qs ++ q ∷ []) ≡ spoken qs ++ spoken_at q

@@ -3,9 +3,9 @@ use Rattle.std.specs.Prelude.{ℕ, ◌≡◌, None, List}
 use Rattle.key_tuple.specs.Order.{FieldList}
 use Rattle.latch_space.specs.Passes.{view, IsSamePass}
 use Rattle.map_history.specs.Map.{Del, value_at}
-use Rattle.index_world.specs.declared.frame.Frame.{Frame}
-use Rattle.index_world.specs.Law.{MakesChange}
-use Rattle.index_world.specs.State.{rows_of}
+use Rattle.index_law.specs.declared.frame.Frame.{Frame}
+use Rattle.index_law.specs.Law.{MakesChange}
+use Rattle.index_law.specs.State.{rows_of}
 use Rattle.index_engine.specs.Frames.{PutsRow, StandsOn, frame_without}
 use Rattle.index_engine.specs.Passes.{Caller, HoldsLeaf}
 

@@ -7,8 +7,8 @@ use Rattle.latch_law.specs.declared.knows.Terms.{Terms}
 use Rattle.latch_space.specs.Passes.{view, IsSamePass}
 use Rattle.latch_space.specs.Spaces.{IsPassOf}
 use Rattle.map_history.specs.declared.sizes.Sizes.{Sizes}
-use Rattle.index_world.specs.Shape.{Shape, shape_for}
-use Rattle.index_world.specs.Spoken.{View}
+use Rattle.index_law.specs.Shape.{Shape, shape_for}
+use Rattle.index_law.specs.Spoken.{View}
 use Rattle.index_engine.specs.declared.engine.Engine.{Engine}
 use Rattle.index_engine.specs.declared.engine.EnginePass.{EnginePass}
 

@@ -7,8 +7,8 @@ use Rattle.index_page.specs.declared.TheConstants.{MAX_ROWS}
 use Rattle.index_page.specs.Changes.{Inserts}
 use Rattle.index_page.specs.Page.{PageRows}
 use Rattle.index_page.specs.Rows.{Bytes, row_of, find_row}
-use Rattle.index_world.specs.declared.frame.Frame.{Frame}
-use Rattle.index_world.specs.State.{rows_of}
+use Rattle.index_law.specs.declared.frame.Frame.{Frame}
+use Rattle.index_law.specs.State.{rows_of}
 use Rattle.index_engine.specs.Leaf.{page_without}
 
 -- the frame has a leaf for keys of as many fields

@@ -6,7 +6,7 @@ use Rattle.map_history.specs.Map.{MapChange, value_at, after_change}
 use Rattle.index_page.specs.Changes.{Inserts}
 use Rattle.index_page.specs.Page.{PageRows}
 use Rattle.index_page.specs.Rows.{Row, Bytes, row_of, find_row}
-use Rattle.index_world.specs.State.{rows_of, value_in}
+use Rattle.index_law.specs.State.{rows_of, value_in}
 
 -- the row of the key stands at the place
 pub record HasRow (page : PageRows) (place : ℕ) (key : FieldList) : Type 0 where

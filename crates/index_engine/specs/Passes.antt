@@ -11,19 +11,19 @@ use Rattle.latch_space.specs.Has.{Has}
 use Rattle.latch_space.specs.Passes.{view, count}
 use Rattle.index_page.specs.declared.TheConstants.{MAX_ROWS}
 use Rattle.index_page.specs.Page.{PageRows}
-use Rattle.index_world.specs.declared.frame.Frame.{Frame}
-use Rattle.index_world.specs.declared.frame.Object.{Object}
-use Rattle.index_world.specs.declared.frame.Object.TheVariants as object
-use Rattle.index_world.specs.Answers.{Deed, Saying}
-use Rattle.index_world.specs.Law.{IsRootLeaf}
-use Rattle.index_world.specs.Shape.{Shape}
+use Rattle.index_law.specs.declared.frame.Frame.{Frame}
+use Rattle.index_law.specs.declared.frame.Object.{Object}
+use Rattle.index_law.specs.declared.frame.Object.TheVariants as object
+use Rattle.index_law.specs.Answers.{MadeChange, Saying}
+use Rattle.index_law.specs.Law.{IsRootLeaf}
+use Rattle.index_law.specs.Shape.{Shape}
 
 -- a pass of the world
 abbrev pub Caller : Type 0
-Caller = PassOf Shape Object Deed Saying
+Caller = PassOf Shape Object MadeChange Saying
 
 -- there is a frame for each index, and no list has more changes than a page may have rows
-pub record IsWorld {Q : Type 0} (space : SpaceOf Shape Object Deed Saying Q) : Type 0 where
+pub record IsWorld {Q : Type 0} (space : SpaceOf Shape Object MadeChange Saying Q) : Type 0 where
   pub frames : space.terms.objects ≡ space.terms.indexes
   pub most : space.terms.max_changes ≤ MAX_ROWS
 
@@ -39,5 +39,5 @@ abbrev pub HasAtMost : ℕ → Frame → Type 0
 HasAtMost most f = (page : PageRows) → f.page ≡ Some page → length page.rows ≤ most
 
 -- the key has as many fields as those of the index
-abbrev pub FitsIndex : {Q : Type 0} → SpaceOf Shape Object Deed Saying Q → ℕ → FieldList → Type 0
+abbrev pub FitsIndex : {Q : Type 0} → SpaceOf Shape Object MadeChange Saying Q → ℕ → FieldList → Type 0
 FitsIndex space i key = get_elem? space.terms.shape.fields i ≡ some (length key)

@@ -9,27 +9,23 @@ use Rattle.map_history.specs.declared.reply.Told.{Told}
 use Rattle.map_history.specs.Map.{Pair, Map, MapChange}
 use Rattle.map_history.specs.Operation.{Ask, Make}
 use Rattle.map_history.specs.Reply.{Done, reply_of}
-use Rattle.map_history.specs.Report.{Columns, Answer, Replied}
+use Rattle.map_history.specs.Report.{Columns, Answer, Replied, dashes}
 use Rattle.map_history.specs.LegalReport.{may_reply}
 use Rattle.map_history.specs.Told.{answer_of}
 use Rattle.latch_space.specs.declared.committing.LogFull.{LogFull}
 use Rattle.map_history.specs.declared.columns.How.TheVariants as how
 use Rattle.map_history.specs.declared.columns.Note.TheVariants as note
-use Rattle.index_world.specs.Answers.{Word, Gives, SpaceFull}
-use Rattle.index_world.specs.Answers as answers
-use Rattle.index_world.specs.Once.{IsQuiet, AnswersOnce}
-use Rattle.index_world.specs.Law.{MakesChange}
-use Rattle.index_world.specs.Rightness.{IsAllowed}
-use Rattle.index_world.specs.Spoken.{View}
-use Rattle.index_world.specs.State.{Entries, rows_of}
-use Rattle.index_world.specs.Meanings.{change_in, word_of}
-use Rattle.index_world.specs.declared.frame.Frame.{Frame}
+use Rattle.index_law.specs.Answers.{Word, Gives, SpaceFull}
+use Rattle.index_law.specs.Answers as answers
+use Rattle.index_law.specs.Once.{IsQuiet, AnswersOnce}
+use Rattle.index_law.specs.Law.{MakesChange}
+use Rattle.index_law.specs.Rightness.{IsAllowed}
+use Rattle.index_law.specs.Spoken.{View}
+use Rattle.index_law.specs.State.{Entries, rows_of}
+use Rattle.index_law.specs.Meanings.{change_in, word_of}
+use Rattle.index_law.specs.declared.frame.Frame.{Frame}
 use Rattle.index_page.specs.Page.{PageRows}
 use Rattle.index_engine.specs.Passes.{Caller, HoldsLeaf}
-
--- the columns of an answer without a hash
-abbrev pub dashes : Columns
-dashes = record { how = how.Dash; note = note.Dash }
 
 -- the list of the index was seen with as many changes as it may have
 pub record SeesFull (v : View) (i : ℕ) : Type 0 where

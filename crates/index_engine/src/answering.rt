@@ -4,10 +4,11 @@ ghost use Rattle.latch_space.specs.Passes.{view, count, IsSamePass};
 ghost use Rattle.latch_space.specs.Spaces.{IsPassOf};
 ghost use Rattle.map_history.specs.Operation.{operation_by};
 ghost use Rattle.map_history.specs.Told.{columns_told};
-ghost use Rattle.index_world.specs.Meanings.{row_in};
-ghost use Rattle.index_world.specs.Once.{IsQuiet};
+ghost use Rattle.index_law.specs.Meanings.{row_in};
+ghost use Rattle.index_law.specs.Once.{IsQuiet};
 ghost use Rattle.index_engine.specs.Changes.{HoldsAsBefore};
-ghost use Rattle.index_engine.specs.Says.{dashes, CanSay, SeesFull, TellsOnce, told_made};
+ghost use Rattle.index_engine.specs.Says.{CanSay, SeesFull, TellsOnce, told_made};
+ghost use Rattle.map_history.specs.Report.{dashes};
 
 use crate::holding::let_go;
 use crate::saying::say;

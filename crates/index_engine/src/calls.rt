@@ -3,10 +3,11 @@ ghost use Rattle.std.specs.Prelude.{◌≡◌, ◌≢◌, ◌<◌, None, IfOk, O
 ghost use Rattle.map_history.specs.Map as map;
 ghost use Rattle.map_history.specs.Operation as asked;
 ghost use Rattle.map_history.specs.Told.{columns_told};
-ghost use Rattle.index_world.specs.Meanings.{row_in};
-ghost use Rattle.index_world.specs.Once.{IsQuiet};
+ghost use Rattle.index_law.specs.Meanings.{row_in};
+ghost use Rattle.index_law.specs.Once.{IsQuiet};
 ghost use Rattle.index_engine.specs.Engines.{known, IsOf, IsSame, indexes_of, FitsKey};
-ghost use Rattle.index_engine.specs.Says.{dashes, TellsOnce};
+ghost use Rattle.index_engine.specs.Says.{TellsOnce};
+ghost use Rattle.map_history.specs.Report.{dashes};
 
 use crate::engine::{Engine, EnginePass};
 use crate::{deleting, getting, putting};

@@ -3,9 +3,10 @@ ghost use Rattle.std.specs.Prelude.{◌≡◌, ◌<◌, None};
 ghost use Rattle.latch_space.specs.Passes.{view, IsSamePass};
 ghost use Rattle.latch_space.specs.Spaces.{IsPassOf};
 ghost use Rattle.map_history.specs.Operation.{operation_by};
-ghost use Rattle.index_world.specs.declared.frame.Frame.{Frame};
-ghost use Rattle.index_world.specs.Meanings.{change_in, deed_by};
-ghost use Rattle.index_engine.specs.Says.{dashes, CanCommit, Commits, CanForetell, CommitsAhead};
+ghost use Rattle.index_law.specs.declared.frame.Frame.{Frame};
+ghost use Rattle.index_law.specs.Meanings.{change_in, change_by};
+ghost use Rattle.index_engine.specs.Says.{CanCommit, Commits, CanForetell, CommitsAhead};
+ghost use Rattle.map_history.specs.Report.{dashes};
 
 use index_world::{Deed, WorldPass, WorldSpace};
 use latch_space::LogFull;
@@ -25,7 +26,7 @@ pub(crate) fn commit<R: Wait>(
     requires index { index < space.now.terms.indexes }
     requires held { CanCommit pass.old index (operation_by op).ask }
     ensures own { IsSamePass pass.old pass.new × IsPassOf space.now pass.new }
-    ensures told { Commits pass.old index (operation_by op.entry).ask result pass.new }
+    ensures did { Commits pass.old index (operation_by op.entry).ask result pass.new }
 {
     space.commit(pass, index, &deed(op), wait)
 }
@@ -52,14 +53,14 @@ pub(crate) fn commit_ahead<X: Becomes, R: Wait>(
     requires index { index < space.now.terms.indexes }
     requires held { CanForetell pass.old index (operation_by op).ask X.leaf }
     ensures own { IsSamePass pass.old pass.new × IsPassOf space.now pass.new }
-    ensures told { CommitsAhead pass.old index (operation_by op.entry).ask X.leaf result pass.new }
+    ensures did { CommitsAhead pass.old index (operation_by op.entry).ask X.leaf result pass.new }
 {
     space.commit_ahead::<Brand, Deed<'_>, R>(pass, index, &deed(op), wait)
 }
 
 /// The operation's change, with no columns yet.
 fn deed(op: OpRef<'_>) -> Deed<'_>
-    ensures { deed_by result ≡ record { change = change_in (operation_by op.entry).ask; columns = dashes } }
+    ensures { change_by result ≡ record { change = change_in (operation_by op.entry).ask; columns = dashes } }
 {
     Deed {
         op,

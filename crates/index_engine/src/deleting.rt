@@ -5,10 +5,11 @@ ghost use Rattle.latch_space.specs.Spaces.{IsPassOf};
 ghost use Rattle.map_history.specs.Map as map;
 ghost use Rattle.map_history.specs.Operation.{Make};
 ghost use Rattle.map_history.specs.Told.{columns_told};
-ghost use Rattle.index_world.specs.Meanings.{row_in};
+ghost use Rattle.index_law.specs.Meanings.{row_in};
 ghost use Rattle.index_engine.specs.Changes.{HoldsOldRow};
 ghost use Rattle.index_engine.specs.Passes.{IsWorld, FitsIndex};
-ghost use Rattle.index_engine.specs.Says.{dashes, TellsOnce};
+ghost use Rattle.index_engine.specs.Says.{TellsOnce};
+ghost use Rattle.map_history.specs.Report.{dashes};
 
 use crate::answering::{answer, made};
 use crate::changing::take_out;

@@ -4,9 +4,10 @@ ghost use Rattle.latch_space.specs.Passes.{view, count, IsSamePass};
 ghost use Rattle.latch_space.specs.Spaces.{IsPassOf};
 ghost use Rattle.map_history.specs.Operation as asked;
 ghost use Rattle.map_history.specs.Told.{Says, columns_told};
-ghost use Rattle.index_world.specs.State.{rows_of};
+ghost use Rattle.index_law.specs.State.{rows_of};
 ghost use Rattle.index_engine.specs.Passes.{IsWorld, FitsIndex};
-ghost use Rattle.index_engine.specs.Says.{dashes, TellsOnce};
+ghost use Rattle.index_engine.specs.Says.{TellsOnce};
+ghost use Rattle.map_history.specs.Report.{dashes};
 
 use crate::answering::answer;
 use crate::holding::{held_page, hold};

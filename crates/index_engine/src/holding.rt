@@ -2,8 +2,8 @@
 ghost use Rattle.std.specs.Prelude.{◌≡◌, ◌<◌, Some};
 ghost use Rattle.latch_space.specs.Passes.{view, count, IsSamePass};
 ghost use Rattle.latch_space.specs.Spaces.{IsPassOf};
-ghost use Rattle.index_world.specs.declared.frame.Frame.{Frame};
-ghost use Rattle.index_world.specs.Once.{IsStill};
+ghost use Rattle.index_law.specs.declared.frame.Frame.{Frame};
+ghost use Rattle.index_law.specs.Once.{IsStill};
 ghost use Rattle.index_engine.specs.Passes.{IsWorld, HoldsLeaf, HasAtMost};
 
 use index_page::Page;

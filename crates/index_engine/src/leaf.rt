@@ -4,7 +4,7 @@ ghost use Rattle.map_history.specs.Map.{Put, value_at};
 ghost use Rattle.index_page.specs.declared.TheConstants.{MAX_ROWS};
 ghost use Rattle.index_page.specs.Page.{IsInOrder};
 ghost use Rattle.index_page.specs.Rows.{find_row};
-ghost use Rattle.index_world.specs.State.{rows_of};
+ghost use Rattle.index_law.specs.State.{rows_of};
 ghost use Rattle.index_engine.specs.Leaf.{IsFoundAt, IsMadeBy, InsertsAt, page_without};
 
 use index_page::{Body, Page, Place};

@@ -5,12 +5,13 @@ ghost use Rattle.latch_space.specs.Spaces.{IsPassOf};
 ghost use Rattle.map_history.specs.Map as map;
 ghost use Rattle.map_history.specs.Operation.{Make};
 ghost use Rattle.map_history.specs.Told.{columns_told};
-ghost use Rattle.index_world.specs.Meanings.{row_in};
-ghost use Rattle.index_world.specs.Once.{IsQuiet};
+ghost use Rattle.index_law.specs.Meanings.{row_in};
+ghost use Rattle.index_law.specs.Once.{IsQuiet};
 ghost use Rattle.index_engine.specs.Changes.{HoldsWith, HoldsNewRow};
 ghost use Rattle.index_engine.specs.Frames.{LacksRow};
 ghost use Rattle.index_engine.specs.Passes.{IsWorld, FitsIndex};
-ghost use Rattle.index_engine.specs.Says.{dashes, TellsOnce};
+ghost use Rattle.index_engine.specs.Says.{TellsOnce};
+ghost use Rattle.map_history.specs.Report.{dashes};
 
 use crate::answering::{answer, is_full, made};
 use crate::changing::{put_in, take_out};

@@ -4,9 +4,10 @@ ghost use Rattle.latch_space.specs.Passes.{view, IsSamePass};
 ghost use Rattle.latch_space.specs.Spaces.{IsPassOf};
 ghost use Rattle.map_history.specs.Operation.{operation_by};
 ghost use Rattle.map_history.specs.Told.{columns_told};
-ghost use Rattle.index_world.specs.Meanings.{row_in};
+ghost use Rattle.index_law.specs.Meanings.{row_in};
 ghost use Rattle.index_engine.specs.Changes.{HoldsAsBefore};
-ghost use Rattle.index_engine.specs.Says.{dashes, CanSay, TellsOnce};
+ghost use Rattle.index_engine.specs.Says.{CanSay, TellsOnce};
+ghost use Rattle.map_history.specs.Report.{dashes};
 
 use index_world::{Say, WorldPass, WorldSpace};
 use map_history::{How, Note, OpRef, Reply, RowBuf, Told};

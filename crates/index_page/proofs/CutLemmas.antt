@@ -4,7 +4,7 @@ use Rattle.std.proofs.lemmas.Bool.{both_ways, not-true, not-false}
 use Rattle.std.specs.List.{AllByRecursion, slice_get}
 use Rattle.std.specs.Ordering.{ordering_reverse}
 use Rattle.key_tuple.specs.Order.{FieldList, key_cmp}
-use Rattle.key_tuple.specs.Place.{Place, At, before, IsCut, not_below, cut_of}
+use Rattle.key_tuple.specs.KeyPlace.{KeyPlace, At, before, IsCut, not_below, cut_of}
 use Rattle.key_tuple.specs.declared.mode.Mode.{Mode}
 use Rattle.key_tuple.specs.declared.mode.Mode.TheVariants.{Ge, G, Le, L}
 use Rattle.key_tuple.proofs.PlaceLemmas.{total, before-tied, before-itself}
@@ -12,7 +12,7 @@ use Rattle.key_tuple.proofs.TupleLemmas.{not_below_cut, above_cut, tuple_cmp-who
 use Rattle.index_page.specs.Rows.{Row, first_row}
 use Rattle.index_page.specs.Page.{Ascends}
 use Rattle.index_page.specs.Search.{AllOut, AllIn}
-use Rattle.index_page.proofs.EachLemmas.{each_weaker, each_get, each_right}
+use Rattle.list_facts.proofs.Each.{each_weaker, each_get, each_right}
 
 pub mode_cuts : (mode : Mode) (t : FieldList) → IsCut (cut_of mode t)
 mode_cuts Ge t = not_below_cut t
@@ -28,7 +28,7 @@ not_true false f = refl
 same_key : (j k : FieldList) → At j ≡ At k → j ≡ k
 same_key j k e = cc
 
-module _ (p : Place → Bool) (cut : IsCut p) where
+module _ (p : KeyPlace → Bool) (cut : IsCut p) where
   -- what is above an admitted row is admitted
   pub in_from : (rows : List Row) (i : ℕ) (x : Row) → Ascends rows → slice_get rows i ≡ Some x → p (At x.key) ≡ true → AllIn p (drop i rows)
   in_from [] i x asc e t = absurd cc

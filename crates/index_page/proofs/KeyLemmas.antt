@@ -5,7 +5,7 @@ use Rattle.std.proofs.lemmas.List.{take-append-drop}
 use Rattle.std.specs.List.{AllByRecursion}
 use Rattle.std.specs.Cmp.Lexicographic.{pointwise, same_text}
 use Rattle.key_tuple.specs.Order.{FieldList}
-use Rattle.key_tuple.specs.Place.{not_below}
+use Rattle.key_tuple.specs.KeyPlace.{not_below}
 use Rattle.key_tuple.specs.Figures.{equal_fields}
 use Rattle.key_tuple.specs.declared.mode.Match.{Match}
 use Rattle.key_tuple.specs.declared.mode.Mode.TheVariants.{Ge}
@@ -14,7 +14,7 @@ use Rattle.index_page.specs.Rows.{Row, find_row, first_row, IsAt}
 use Rattle.index_page.specs.Page.{PageRows, Ascends, IsRowOf, IsInOrder}
 use Rattle.index_page.specs.Search.{AllOut, AllIn, agreement, Finds, IsPosition}
 use Rattle.index_page.specs.Laws.{HasKeyAfter, TellsKey}
-use Rattle.index_page.proofs.EachLemmas.{each_weaker, each_right}
+use Rattle.list_facts.proofs.Each.{each_weaker, each_right}
 use Rattle.index_page.proofs.RowLemmas.{ascends_right, find_stands, each_found, first_row-drop}
 use Rattle.index_page.proofs.CutLemmas.{first_with_key}
 

@@ -1,4 +1,3 @@
-pub mod EachLemmas
 pub mod RowLemmas
 pub mod CutLemmas
 pub mod KeyLemmas

@@ -2,13 +2,13 @@
 use Rattle.std.proofs.Common.{◌≡◌, ◌≢◌, ℕ, suc, ◌+◌, ◌≤◌, true, false, Some, None, List, [], ◌∷◌, ◌++◌, sym, ap, ◌∙◌, subst, arith, length, length-append, take, drop}
 use Rattle.std.proofs.lemmas.List.{take-append-drop}
 use Rattle.std.specs.List.{AllByRecursion, insert, remove}
-use Rattle.key_tuple.specs.Place.{At, before, not_below}
+use Rattle.key_tuple.specs.KeyPlace.{At, before, not_below}
 use Rattle.index_page.specs.declared.TheConstants.{MAX_ROWS}
 use Rattle.index_page.specs.Rows.{Row, find_row, LacksKey}
 use Rattle.index_page.specs.Page.{PageRows, Ascends, PlacesDiffer, IsRowOf, IsInOrder}
 use Rattle.index_page.specs.Search.{AllOut, AllIn, IsPosition}
 use Rattle.index_page.specs.Changes.{Inserts, Deletes}
-use Rattle.index_page.proofs.EachLemmas.{each_left, each_right, each_append, each_both}
+use Rattle.list_facts.proofs.Each.{each_left, each_right, each_append, each_both}
 use Rattle.index_page.proofs.RowLemmas.{get_split, find_among}
 use Rattle.index_page.proofs.CutLemmas.{before_key, after_key}
 

@@ -6,7 +6,7 @@ use Rattle.std.specs.List.{AllByRecursion, slice_get}
 use Rattle.index_page.specs.Rows.{Row, find_row, first_row, last_after, last_row, IsAt}
 use Rattle.index_page.specs.Page.{PlacesDiffer, Ascends}
 use Rattle.index_page.specs.Laws.{StandsAt}
-use Rattle.index_page.proofs.EachLemmas.{each_right}
+use Rattle.list_facts.proofs.Each.{each_right}
 
 -- a list around the element with a number
 pub get_split : {A : Type 0} (xs : List A) (i : ℕ) (x : A) → slice_get xs i ≡ Some x → xs ≡ take i xs ++ x ∷ drop (suc i) xs

@@ -7,7 +7,7 @@ use Rattle.std.specs.List.{AllByRecursion, slice_get, insert, remove}
 use Rattle.index_page.specs.Rows.{Row, Bytes, row_of, find_row}
 use Rattle.index_page.specs.Page.{PlacesDiffer}
 use Rattle.index_page.specs.Store.{PlaceLists, Content, row_in, rows_in, AllDiffer, IsStore, IsSpare}
-use Rattle.index_page.proofs.EachLemmas.{each_left, each_right, each_append, each_weaker}
+use Rattle.list_facts.proofs.Each.{each_left, each_right, each_append, each_weaker}
 use Rattle.index_page.proofs.RowLemmas.{find_none, get_split, get_below}
 
 -- a place that is found is one of those listed, and its row is the one stored there

@@ -1,7 +1,7 @@
 -- A page as its head and its rows, and what holds of each page.
 use Rattle.std.specs.Prelude.{ℕ, ◌≡◌, ◌≢◌, ◌≤◌, ◌+◌, true, Option, Some, None, List, [], ◌∷◌, length}
 use Rattle.std.specs.List.{AllByRecursion}
-use Rattle.key_tuple.specs.Place.{At, before}
+use Rattle.key_tuple.specs.KeyPlace.{At, before}
 use Rattle.key_tuple.specs.Limits.{IsWithinLimits}
 use Rattle.key_tuple.specs.declared.TheConstants.{MAX_VALUE_BYTES}
 use Rattle.index_page.specs.declared.TheConstants.{NO_PAGE, MAX_ROWS}

@@ -2,7 +2,7 @@
 use Rattle.std.specs.Prelude.{ℕ, ◌≡◌, Bool, true, false, Option, Some, None, List, ◌++◌, slice_get}
 use Rattle.std.specs.List.{AllByRecursion}
 use Rattle.key_tuple.specs.Order.{FieldList}
-use Rattle.key_tuple.specs.Place.{Place, At, cut_of}
+use Rattle.key_tuple.specs.KeyPlace.{KeyPlace, At, cut_of}
 use Rattle.key_tuple.specs.Figures.{matching}
 use Rattle.key_tuple.specs.declared.mode.Mode.{Mode}
 use Rattle.key_tuple.specs.declared.mode.Match.{Match}
@@ -10,11 +10,11 @@ use Rattle.index_page.specs.declared.spot.Spot.{Spot}
 use Rattle.index_page.specs.Rows.{Row, first_row, last_row, IsAt}
 
 -- the cut leaves out each of the rows
-abbrev pub AllOut : (Place → Bool) → List Row → Type 0
+abbrev pub AllOut : (KeyPlace → Bool) → List Row → Type 0
 AllOut p rows = AllByRecursion (λ (x : Row). p (At x.key) ≡ false) rows
 
 -- the cut admits each of the rows
-abbrev pub AllIn : (Place → Bool) → List Row → Type 0
+abbrev pub AllIn : (KeyPlace → Bool) → List Row → Type 0
 AllIn p rows = AllByRecursion (λ (x : Row). p (At x.key) ≡ true) rows
 
 -- how far a tuple agrees with a row, and nothing where there is none

@@ -1,6 +1,6 @@
 //! Searches in a page, and the rows beside a row.
 ghost use Rattle.std.specs.Prelude.{◌≡◌, ◌≤◌, ◌<◌, length, take, drop, IfSome, IsSome};
-ghost use Rattle.key_tuple.specs.Place.{At, cut_of};
+ghost use Rattle.key_tuple.specs.KeyPlace.{At, cut_of};
 ghost use Rattle.index_page.specs.Rows.{find_row, IsAt};
 ghost use Rattle.index_page.specs.Search.{AllOut, AllIn, agreement, Finds, IsPosition, nth_row};
 ghost use Rattle.index_page.specs.Changes.{NextIs, PrevIs};

@@ -5,14 +5,14 @@ use lib.ListN.{get_elem?}
 use Rattle.latch_law.specs.declared.knows.Reference.{Reference}
 use Rattle.latch_law.specs.Whole.{IsFree, IsHeldBy, latched, reference}
 use Rattle.latch_law.specs.Moves.{Moves, Next}
-use Rattle.index_world.specs.declared.frame.Object.{Object}
-use Rattle.index_world.specs.Answers.{Saying}
-use Rattle.index_world.specs.State.{State}
-use Rattle.index_world.specs.Law.{IsLawful, MayFollow}
-use Rattle.index_world.specs.Rightness.{IsRight}
-use Rattle.index_world.specs.References.{IsReference}
-use Rattle.index_world.specs.Keeping.{follow_lemma}
-use Rattle.index_world.specs.Staying.{stay_lemma}
+use Rattle.index_law.specs.declared.frame.Object.{Object}
+use Rattle.index_law.specs.Answers.{Saying}
+use Rattle.index_law.specs.State.{State}
+use Rattle.index_law.specs.Law.{IsLawful, MayFollow}
+use Rattle.index_law.specs.Rightness.{IsRight}
+use Rattle.index_law.specs.References.{IsReference}
+use Rattle.index_law.proofs.KeepingLemmas.{follow_lemma}
+use Rattle.index_law.proofs.StayingLemmas.{stay_lemma}
 
 -- a lawful state stays lawful when a free object is taken
 pub taken : (w : State) (k name : ℕ) → IsLawful w → IsFree w k → name < w.passes → IsLawful (latched w k (name + 1))

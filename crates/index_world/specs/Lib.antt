@@ -1,15 +1,1 @@
-pub mod Shape
-pub mod Answers
-pub mod State
-pub mod Law
-pub mod Rightness
-pub mod References
-pub mod Meanings
-pub mod Spoken
-pub mod Once
-pub mod Opening
-pub mod OneRow
-pub mod Following
-pub mod Keeping
-pub mod Staying
 pub mod Laws

@@ -1,21 +1,11 @@
-//! The world of some indexes: their pages, their lists of changes, and the law that ties the two.
+//! The world of the indexes: the latched space of their pages, under the law of `index_law`.
 //! Nothing here searches, and nothing waits.
 #![tactic(auto)]
 
-mod answer;
-mod deed;
-mod frame;
-mod law;
-mod layout;
-mod opening;
-#[cfg(test)]
-mod tests;
 mod world;
 
-pub use answer::{Answer, Made};
-pub use deed::{Deed, Say};
-pub use frame::{Frame, Object};
-pub use law::{one_row_is_lawful, opens_lawfully};
-pub use layout::Layout;
-pub use opening::first_objects;
+pub use index_law::{
+    AsMadeChange, AsSaying, Deed, Frame, Layout, Object, Say, first_objects, one_row_is_lawful,
+    opens_lawfully,
+};
 pub use world::{IndexWorld, WorldPass, WorldSpace};

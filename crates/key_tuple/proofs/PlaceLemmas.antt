@@ -7,7 +7,7 @@ use Rattle.std.specs.Cmp.{IsTotalOrder}
 use Rattle.std.specs.Ordering.{nat_cmp, ordering_then, ordering_reverse}
 use Rattle.std.specs.Cmp.Lexicographic.{slice_cmp}
 use Rattle.key_tuple.specs.Order.{FieldList, key_cmp}
-use Rattle.key_tuple.specs.Place.{Place, Start, At, End, before, IsCut}
+use Rattle.key_tuple.specs.KeyPlace.{KeyPlace, Start, At, End, before, IsCut}
 
 pub total : IsTotalOrder key_cmp
 total = lists_total nat_list_cmp_total
@@ -35,13 +35,13 @@ less Less e = refl
 less Equal e = absurd cc
 less Greater e = absurd cc
 
-pub before-itself : (x : Place) → before x x ≡ false
+pub before-itself : (x : KeyPlace) → before x x ≡ false
 unfolding before
 before-itself Start = refl
 before-itself (At k) = ap is_lt (tied_itself total k)
 before-itself End = refl
 
-pub before-trans : (x y z : Place) → before x y ≡ true → before y z ≡ true → before x z ≡ true
+pub before-trans : (x y z : KeyPlace) → before x y ≡ true → before y z ≡ true → before x z ≡ true
 unfolding before
 before-trans (At j) (At k) (At l) p q = ap is_lt (total.trans j k l (less _ p) (less _ q))
 before-trans Start (At k) (At l) p q = refl
@@ -54,7 +54,7 @@ before-trans (At j) End z p q = absurd cc
 before-trans End y z p q = absurd cc
 before-trans x (At k) Start p q = absurd cc
 
-pub before-tied : (x y : Place) → before x y ≡ false → before y x ≡ false → x ≡ y
+pub before-tied : (x y : KeyPlace) → before x y ≡ false → before y x ≡ false → x ≡ y
 unfolding before
 before-tied Start Start p q = refl
 before-tied Start (At k) p q = absurd cc
@@ -72,23 +72,23 @@ before-tied End (At k) p q = absurd cc
 before-tied End End p q = refl
 
 -- what follows from these
-pub before_upto : (x y z : Place) → before x y ≡ true → before z y ≡ false → before x z ≡ true
+pub before_upto : (x y z : KeyPlace) → before x y ≡ true → before z y ≡ false → before x z ≡ true
 before_upto x y z p q = grind (arith, before-itself x, before-trans z x y, before-trans x z y, before-tied x z)
 
-pub upto_before : (x y z : Place) → before y x ≡ false → before y z ≡ true → before x z ≡ true
+pub upto_before : (x y z : KeyPlace) → before y x ≡ false → before y z ≡ true → before x z ≡ true
 upto_before x y z p q = grind (arith, before-trans y z x, before-trans y x z, before-tied x z, before-tied x y)
 
-pub before_not_after : (x y : Place) → before x y ≡ true → before y x ≡ false
+pub before_not_after : (x y : KeyPlace) → before x y ≡ true → before y x ≡ false
 before_not_after x y p = grind (arith, before-itself x, before-trans x y x)
 
 -- the cut just after a place
-pub before-Start : (x : Place) → before x Start ≡ false
+pub before-Start : (x : KeyPlace) → before x Start ≡ false
 unfolding before
 before-Start Start = refl
 before-Start (At k) = refl
 before-Start End = refl
 
-pub cut_after : (x : Place) → before x End ≡ true → IsCut (before x)
+pub cut_after : (x : KeyPlace) → before x End ≡ true → IsCut (before x)
 cut_after x e = record { begins = before-Start x; ends = e; rises = λ y z b t. before-trans x y z t b }
 
 pub before-End : (k : FieldList) → before (At k) End ≡ true
@@ -99,27 +99,27 @@ before-End k = refl
 pub key_cut : (k : FieldList) → IsCut (before (At k))
 key_cut k = cut_after (At k) (before-End k)
 
-pub before_some : (x y : Place) → before x y ≡ true → before x End ≡ true
+pub before_some : (x y : KeyPlace) → before x y ≡ true → before x End ≡ true
 unfolding before
 before_some Start y e = refl
 before_some (At k) y e = refl
 before_some End y e = absurd cc
 
-pub some_before : (x y : Place) → before x y ≡ true → before Start y ≡ true
+pub some_before : (x y : KeyPlace) → before x y ≡ true → before Start y ≡ true
 unfolding before
 some_before x Start e = absurd (cc (before-Start x))
 some_before x (At k) e = refl
 some_before x End e = refl
 
-pub End-before : (x : Place) → before End x ≡ false
+pub End-before : (x : KeyPlace) → before End x ≡ false
 unfolding before
 End-before x = refl
 
 -- the cut at the end of a range
-pub cut_before : (x : Place) → before Start x ≡ true → IsCut (λ y. not (before y x))
+pub cut_before : (x : KeyPlace) → before Start x ≡ true → IsCut (λ y. not (before y x))
 cut_before x e = record { begins = ap not e; ends = ap not (End-before x); rises = λ y z b t. ap not (not_before_after y z b (not-true (before y x) t)) }
   where
-    not_before_after : (y z : Place) → before y z ≡ true → before y x ≡ false → before z x ≡ false
+    not_before_after : (y z : KeyPlace) → before y z ≡ true → before y x ≡ false → before z x ≡ false
     not_before_after y z b f = grind (arith, before-trans y z x)
 
 pub Start-End : before Start End ≡ true

@@ -6,7 +6,7 @@ use Rattle.std.specs.Cmp.{IsTotalOrder}
 use Rattle.std.specs.Ordering.{nat_cmp, ordering_then}
 use Rattle.std.specs.Cmp.Lexicographic.{slice_cmp}
 use Rattle.key_tuple.specs.Order.{FieldList, key_cmp, tuple_cmp}
-use Rattle.key_tuple.specs.Place.{Place, Start, At, End, before, IsCut, not_below, above}
+use Rattle.key_tuple.specs.KeyPlace.{KeyPlace, Start, At, End, before, IsCut, not_below, above}
 
 -- where a tuple is below a key, or meets it, it is so for each greater key
 abbrev Rises : Ordering → Ordering → Type 0
@@ -44,7 +44,7 @@ pub not_below_cut : (t : FieldList) → IsCut (not_below t)
 unfolding not_below before
 not_below_cut t = record { begins = refl; ends = refl; rises = rise }
   where
-    rise : (x y : Place) → before x y ≡ true → not_below t x ≡ true → not_below t y ≡ true
+    rise : (x y : KeyPlace) → before x y ≡ true → not_below t x ≡ true → not_below t y ≡ true
     rise Start y b e = absurd cc
     rise (At j) Start b e = absurd cc
     rise (At j) (At k) b e = not_gt _ _ (tuple_rises t j k b).1 e
@@ -55,7 +55,7 @@ pub above_cut : (t : FieldList) → IsCut (above t)
 unfolding above before
 above_cut t = record { begins = refl; ends = refl; rises = rise }
   where
-    rise : (x y : Place) → before x y ≡ true → above t x ≡ true → above t y ≡ true
+    rise : (x y : KeyPlace) → before x y ≡ true → above t x ≡ true → above t y ≡ true
     rise Start y b e = absurd cc
     rise (At j) Start b e = absurd cc
     rise (At j) (At k) b e = (tuple_rises t j k b).0 e

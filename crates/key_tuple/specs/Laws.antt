@@ -3,7 +3,7 @@ use Rattle.std.specs.Prelude.{◌≡◌, ◌≢◌, true, false, length}
 use Rattle.std.specs.Cmp.{IsTotalOrder}
 use Rattle.std.specs.declared.cmp.Ordering.TheVariants.{Less, Equal, Greater}
 use Rattle.key_tuple.specs.Order.{FieldList, key_cmp, tuple_cmp}
-use Rattle.key_tuple.specs.Place.{Place, before, IsCut, not_below, above}
+use Rattle.key_tuple.specs.KeyPlace.{KeyPlace, before, IsCut, not_below, above}
 
 -- the order of keys is total, and keys that compare as equal are equal
 pub record KeysAreOrdered : Type 0 where
@@ -12,9 +12,9 @@ pub record KeysAreOrdered : Type 0 where
 
 -- places stand in one line
 pub record PlacesAreOrdered : Type 0 where
-  pub itself : (x : Place) → before x x ≡ false
-  pub trans : (x y z : Place) → before x y ≡ true → before y z ≡ true → before x z ≡ true
-  pub tied : (x y : Place) → before x y ≡ false → before y x ≡ false → x ≡ y
+  pub itself : (x : KeyPlace) → before x x ≡ false
+  pub trans : (x y z : KeyPlace) → before x y ≡ true → before y z ≡ true → before x z ≡ true
+  pub tied : (x y : KeyPlace) → before x y ≡ false → before y x ≡ false → x ≡ y
 
 -- a tuple's place among rising keys: what is above it stays above, what is below it was below, and the
 -- keys that begin with it stand together; against a key of as many fields it is compared as a key

@@ -1,7 +1,7 @@
 pub mod Order
 pub mod Total
 pub mod Hashed
-pub mod Place
+pub mod KeyPlace
 pub mod Figures
 pub mod Limits
 pub mod Parts

@@ -7,16 +7,16 @@ use mathlib.Core.Logic.{dite}
 use native.Mathlib.Decide.{dec_lt}
 use lib.ListN.{get_elem?}
 use Rattle.latch_law.specs.declared.knows.Entry.{Entry}
-use Rattle.latch_law.proofs.Lists.{one_value}
-use Rattle.index_world.specs.Answers.{Deed}
+use Rattle.list_facts.proofs.Places.{one_value, one_at}
+use Rattle.index_law.specs.Answers.{MadeChange}
 use Rattle.map_history.specs.Reply.{Done}
 use Rattle.map_history.specs.Report.{Columns, ScanPiece, Answer, Replied, LogFull, SpaceFull, Scanned, AnswerLine, IndexPart, Report}
 use Rattle.map_history.specs.LegalReport.{Line, Answers, Run, IsAnswered, Mark, marks_of, Precedes}
-use Rattle.index_world.specs.State.{State}
-use Rattle.index_world.specs.Spoken.{View, Spoken}
+use Rattle.index_law.specs.State.{State}
+use Rattle.index_law.specs.Spoken.{View, Spoken}
 use Rattle.lane_law.specs.Worked.{AreInOrder}
 use Rattle.lane_law.specs.Runs.{RunsAll}
-use Rattle.lane_law.proofs.Lists.{one_at, contains_head, zip_get, all_zip_at}
+use Rattle.list_facts.proofs.Elements.{contains_head, zip_get, all_zip_at}
 use Rattle.lane_law.proofs.PairLemmas.{flat_pairs}
 use Rattle.lane_law.proofs.SaidLemmas.{IsMadeAt, IsAnswerSo, spoken_so, spoken_from, all_contains, lane_said}
 
@@ -81,11 +81,11 @@ module _ (run : Run) (report : Report) (w : State) (v : View) (all : RunsAll run
   ok_lane j k a b x y p q c d index point first second =
       let mine = ok_made run report w v all j a x p c first in
       let theirs = ok_made run report w v all k b y q d second in
-      let e : Entry Deed = record { change = mine.deed; by = j } in
-      let f : Entry Deed = record { change = theirs.deed; by = k } in
+      let e : Entry MadeChange = record { change = mine.deed; by = j } in
+      let f : Entry MadeChange = record { change = theirs.deed; by = k } in
       let list : mine.entry.0 ≡ theirs.entry.0 = one_value w.lists y.op.index mine.entry.0 theirs.entry.0 (ap (get_elem? w.lists) (sym index) ∙ mine.entry.1) theirs.entry.1 in
       let same : e ≡ f = one_value theirs.entry.0 (q - 1) e f ((λ i. get_elem? (sym list i) (sym point i - 1)) ∙ mine.entry.2) theirs.entry.2 in
-      ap (λ (z : Entry Deed). z.by) same
+      ap (λ (z : Entry MadeChange). z.by) same
 
   -- an answer stands with the number of its line
   pub answered_at : (lane : ℕ) (lines : List Line) (answers : List AnswerLine) (place : ℕ) (line : Line) (told : AnswerLine) (answer : Answer) → slice_get run.lanes lane ≡ Some lines → slice_get report.lanes lane ≡ Some answers → slice_get lines place ≡ Some line → slice_get answers place ≡ Some told → told.answer ≡ answer → IsAnswered run report lane place line answer

@@ -7,8 +7,8 @@ use Rattle.std.specs.List.{slice_get, AllPairs, Contains, count_by}
 use Rattle.std.specs.List.Sorted.{IsPermutation, IsNonDecreasingBy}
 use mathlib.Core.Logic.{dite}
 use native.Mathlib.Decide.{dec_lt}
-use Rattle.latch_law.proofs.Lists.{same_some}
-use Rattle.lane_law.proofs.Lists.{one_at, get_inside, get_there, contains_head, contains_tail}
+use Rattle.list_facts.proofs.Places.{same_some, one_at, get_inside, get_there}
+use Rattle.list_facts.proofs.Elements.{contains_head, contains_tail}
 use Rattle.lane_law.proofs.PairLemmas.{all_pairs_head, all_pairs_tail}
 
 module _ {X : Type 0} (number : X → ℕ) where

@@ -5,18 +5,18 @@ use Rattle.std.specs.List.{slice_get, Contains, zip}
 use mathlib.Core.Option.{some}
 use lib.ListN.{get_elem?}
 use Rattle.latch_law.specs.declared.knows.Entry.{Entry}
-use Rattle.latch_law.specs.declared.knows.Saying.TheVariants as what
+use Rattle.latch_law.specs.declared.knows.Statement.TheVariants as what
 use Rattle.map_history.specs.Map.{MapChange}
 use Rattle.map_history.specs.Operation.{Ask, Make}
 use Rattle.map_history.specs.Reply.{MapReply, Done}
 use Rattle.map_history.specs.Report.{Columns, ScanPiece, Answer, Replied, LogFull, SpaceFull, Scanned, AnswerLine, Report}
 use Rattle.map_history.specs.LegalReport.{Line, Run, IsAnswered}
-use Rattle.index_world.specs.Answers.{Deed}
-use Rattle.index_world.specs.State.{State, Entries}
-use Rattle.index_world.specs.Spoken.{View, OwnAnswer, Spoken, sayings}
+use Rattle.index_law.specs.Answers.{MadeChange}
+use Rattle.index_law.specs.State.{State, Entries}
+use Rattle.index_law.specs.Spoken.{View, OwnAnswer, Spoken, sayings}
 use Rattle.lane_law.specs.Worked.{lane_sayings}
 use Rattle.lane_law.specs.Runs.{all_sayings, RunsAll}
-use Rattle.lane_law.proofs.Lists.{contains_none, contains_one, contains_head, get_contains, map_get_from, flat_from, zip_from}
+use Rattle.list_facts.proofs.Elements.{contains_none, contains_one, contains_head, get_contains, map_get_from, flat_from, zip_from}
 use Rattle.lane_law.proofs.SaidLemmas.{spoken_contains}
 use Rattle.lane_law.proofs.AnswerLemmas.{answered_at}
 
@@ -52,7 +52,7 @@ pub record IsToldOk (run : Run) (report : Report) (i point : ℕ) (c : MapChange
   pub asked : line.op.ask ≡ Make c
 
 -- an entry of a list has such a line
-pub entry_told : (run : Run) (report : Report) (w : State) (v : View) → RunsAll run report w v → (i n : ℕ) (xs : Entries) (d : Entry Deed) → get_elem? w.lists i ≡ some xs → get_elem? xs n ≡ some d → IsToldOk run report i (n + 1) d.change.change
+pub entry_told : (run : Run) (report : Report) (w : State) (v : View) → RunsAll run report w v → (i n : ℕ) (xs : Entries) (d : Entry MadeChange) → get_elem? w.lists i ≡ some xs → get_elem? xs n ≡ some d → IsToldOk run report i (n + 1) d.change.change
 entry_told run report w v all i n xs d at at_n =
     let made = all.fits.makers i n d (xs, at, at_n) in
     let low : v.low ≤ d.by = omega (arith, all.low) in

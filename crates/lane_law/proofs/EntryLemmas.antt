@@ -8,17 +8,17 @@ use native.Mathlib.Decide.{dec_lt}
 use lib.ListN.{get_elem?}
 use Rattle.latch_law.specs.declared.knows.Entry.{Entry}
 use Rattle.latch_law.specs.Whole.{IsEntry}
-use Rattle.latch_law.proofs.Lists.{inside, there, one_value}
+use Rattle.list_facts.proofs.Places.{inside, there, one_value, get_from_elem, get_there}
 use Rattle.map_history.specs.Map.{MapChange, AreLawful}
 use Rattle.map_history.specs.Operation.{Operation, Make}
 use Rattle.map_history.specs.Reply.{Done}
 use Rattle.map_history.specs.Report.{Columns, Replied, ChangeLine, Report, entries_in, entries_at, changes_at}
 use Rattle.map_history.specs.LegalReport.{Line, Run, IsAnswered, NamesLine, IsNamed}
-use Rattle.index_world.specs.Answers.{Deed}
-use Rattle.index_world.specs.State.{State, Entries, changes}
-use Rattle.index_world.specs.Spoken.{View}
+use Rattle.index_law.specs.Answers.{MadeChange}
+use Rattle.index_law.specs.State.{State, Entries, changes}
+use Rattle.index_law.specs.Spoken.{View}
 use Rattle.lane_law.specs.Runs.{RunsAll, AreEntries}
-use Rattle.lane_law.proofs.Lists.{get_from_elem, get_there, get_past, map_get, map_get_from, same_places}
+use Rattle.list_facts.proofs.Elements.{get_past, map_get, map_get_from, same_places}
 use Rattle.lane_law.proofs.AnswerLemmas.{ok_made, ok_once, parts_counted}
 
 -- one change is asked for
@@ -27,7 +27,7 @@ same_asked c d e = cc
 
 -- an entry of the report is the entry of the list, made by its lane
 pub record IsListed (w : State) (i n by : ℕ) (c : MapChange) : Type 0 where
-  pub deed : Deed
+  pub deed : MadeChange
   pub change : deed.change ≡ c
   pub entry : IsEntry w i n (record { change = deed; by = by })
 
@@ -46,17 +46,17 @@ module _ (run : Run) (report : Report) (w : State) (v : View) (all : RunsAll run
 
   -- the changes of an index are those of its list
   pub changes_same : (i : ℕ) (xs : Entries) → get_elem? w.lists i ≡ some xs → changes_at report i ≡ changes xs
-  changes_same i xs at = same_places (changes_at report i) (changes xs) (length-map (entries_at report i) (λ (e : ChangeLine). e.change) ∙ (entries.long i xs at ∙ sym (length-map xs (λ (e : Entry Deed). e.change.change)))) each
+  changes_same i xs at = same_places (changes_at report i) (changes xs) (length-map (entries_at report i) (λ (e : ChangeLine). e.change) ∙ (entries.long i xs at ∙ sym (length-map xs (λ (e : Entry MadeChange). e.change.change)))) each
     where
       each : (n : ℕ) (c : MapChange) → slice_get (changes_at report i) n ≡ Some c → slice_get (changes xs) n ≡ Some c
       each n c e =
           let x = map_get_from (λ (e : ChangeLine). e.change) (entries_at report i) n c e in
           let named = entries.named i n x.0 x.1 in
           let is = listed i n x.0 named in
-          let entry : Entry Deed = record { change = is.deed; by = named.lane } in
+          let entry : Entry MadeChange = record { change = is.deed; by = named.lane } in
           let same : is.entry.0 ≡ xs = one_value w.lists i is.entry.0 xs is.entry.1 at in
           let in_list : slice_get xs n ≡ Some entry = get_from_elem xs n entry (ap (λ z. get_elem? z n) (sym same) ∙ is.entry.2) in
-          map_get (λ (e : Entry Deed). e.change.change) xs n entry in_list ∙ ap (λ z. Some z) (is.change ∙ x.2)
+          map_get (λ (e : Entry MadeChange). e.change.change) xs n entry in_list ∙ ap (λ z. Some z) (is.change ∙ x.2)
 
   -- the changes of each index are lawful
   pub changes_lawful : (i : ℕ) → AreLawful (changes_at report i)
@@ -73,15 +73,15 @@ module _ (run : Run) (report : Report) (w : State) (v : View) (all : RunsAll run
       let n : ℕ = point - 1 in
       let above = made.above in
       let is_point : point ≡ n + 1 = omega arith in
-      let mine : Entry Deed = record { change = made.deed; by = lane } in
+      let mine : Entry MadeChange = record { change = made.deed; by = lane } in
       let within : n < length made.entry.0 = inside made.entry.0 n mine made.entry.2 in
       let entry = get_there (entries_at report i) n (omega (arith, within, entries.long i made.entry.0 made.entry.1)) in
       let named = entries.named i n entry.0 entry.1 in
       let is = listed i n entry.0 named in
-      let theirs : Entry Deed = record { change = is.deed; by = named.lane } in
+      let theirs : Entry MadeChange = record { change = is.deed; by = named.lane } in
       let list : is.entry.0 ≡ made.entry.0 = one_value w.lists i is.entry.0 made.entry.0 is.entry.1 made.entry.1 in
       let same : theirs ≡ mine = one_value made.entry.0 n theirs mine (ap (λ z. get_elem? z n) (sym list) ∙ is.entry.2) made.entry.2 in
-      let lane_same : named.lane ≡ lane = ap (λ (e : Entry Deed). e.by) same in
+      let lane_same : named.lane ≡ lane = ap (λ (e : Entry MadeChange). e.by) same in
       let told = subst (λ z. IsAnswered run report z named.place named.line (Replied Done (n + 1) named.columns)) lane_same named.answered in
       let once = ok_once run report w v all lane named.place place named.line line (n + 1) point named.columns columns (ap (λ (o : Operation). o.index) named.same_op) (sym is_point) told a in
       record {

@@ -7,26 +7,26 @@ use mathlib.Core.Option.{some, some-injective, some-ne-none}
 use lib.ListN.{get_elem?}
 use Rattle.latch_law.specs.declared.knows.Entry.{Entry}
 use Rattle.latch_law.specs.declared.knows.Holding.{Holding}
-use Rattle.latch_law.specs.declared.knows.Saying as what
+use Rattle.latch_law.specs.declared.knows.Statement as what
 use Rattle.latch_law.specs.Rule.{IsSo, Fits, Holds}
 use Rattle.latch_law.proofs.Begins.{replicate_is}
-use Rattle.latch_law.proofs.Lists.{none_is_not, same_some}
+use Rattle.list_facts.proofs.Places.{none_is_not, same_some}
 use Rattle.change_log.specs.declared.entry.Entry as log
 use Rattle.map_history.specs.declared.sizes.Sizes.{Sizes}
 use Rattle.map_history.specs.Operation.{Get}
 use Rattle.map_history.specs.Reply.{Value}
-use Rattle.map_history.specs.Report.{IndexPart}
+use Rattle.map_history.specs.Report.{IndexPart, dashes}
 use Rattle.map_history.specs.Statistics.{counts_of}
 use Rattle.map_history.specs.LegalReport.{Line, Mark, Precedes, columns_at}
-use Rattle.index_world.specs.declared.frame.Object.{Object}
-use Rattle.index_world.specs.Answers.{Deed, Saying, Gives, Replies}
-use Rattle.index_world.specs.State.{State, Entries}
-use Rattle.index_world.specs.Rightness.{IsRight}
-use Rattle.index_world.specs.References.{IsReference}
-use Rattle.index_world.specs.Spoken.{OwnAnswer}
+use Rattle.index_law.specs.declared.frame.Object.{Object}
+use Rattle.index_law.specs.Answers.{MadeChange, Saying, Gives, Replies}
+use Rattle.index_law.specs.State.{State, Entries}
+use Rattle.index_law.specs.Rightness.{IsRight}
+use Rattle.index_law.specs.References.{IsReference}
+use Rattle.index_law.specs.Spoken.{OwnAnswer}
 use Rattle.lane_law.specs.Runs.{HasNoScan, RunsAll, AreEntries}
 use Rattle.lane_law.specs.Merged.{entry_of, LinesAscend, IsLookedUp, AreLookedUp}
-use Rattle.lane_law.specs.Example.{row_made, key, value, put_line, get_line, dashes, example_run, example_report, example_logs, example_view, IsExample, IsMet}
+use Rattle.lane_law.specs.Example.{row_made, key, value, put_line, get_line, example_run, example_report, example_logs, example_view, IsExample, IsMet}
 use Rattle.lane_law.proofs.PairLemmas.{all_pairs_none, all_pairs_one}
 use Rattle.lane_law.proofs.LegalLemmas.{legal}
 use Rattle.lane_law.proofs.TrailLemmas.{trail}
@@ -42,11 +42,11 @@ one_mark true m = all_pairs_one Precedes m
 one_mark false m = all_pairs_none Precedes
 
 -- what the get found, as it is said
-abbrev found : what.Saying Deed Saying
+abbrev found : what.Statement MadeChange Saying
 found = what.TheVariants.Answer (Replies (Get key) (Gives (Value value)) None dashes)
 
 -- the entry of the list
-abbrev made : Entry Deed
+abbrev made : Entry MadeChange
 made = record { change = row_made; by = 0 }
 
 module _ (sizes : Sizes) (w : State) (is : IsExample sizes w) where
@@ -56,7 +56,7 @@ module _ (sizes : Sizes) (w : State) (is : IsExample sizes w) where
   list_at : get_elem? w.lists 0 ≡ some (made ∷ [])
   list_at = ap (λ z. get_elem? z 0) is.lists
 
-  entry_is : (i n : ℕ) (e : Entry Deed) (xs : Entries) → get_elem? w.lists i ≡ some xs → get_elem? xs n ≡ some e → (i ≡ 0) × (n ≡ 0) × (made ≡ e)
+  entry_is : (i n : ℕ) (e : Entry MadeChange) (xs : Entries) → get_elem? w.lists i ≡ some xs → get_elem? xs n ≡ some e → (i ≡ 0) × (n ≡ 0) × (made ≡ e)
   entry_is i n e xs at at_n =
       let list = list_is i xs at in
       let one = one_place made e n (ap (λ z. get_elem? z n) list.1 ∙ at_n) in
@@ -78,7 +78,7 @@ module _ (sizes : Sizes) (w : State) (is : IsExample sizes w) where
     passes = is.passes;
     counted = (refl, ap length is.latches ∙ length-replicate (length w.objects) 0, ap length is.lists, length-replicate (length w.objects) None, refl);
     bounded = λ i xs at. subst (λ (z : Entries). length z ≤ w.max_changes) (list_is i xs at).1 is.room;
-    makers = λ i n e h. subst (λ (z : Entry Deed). z.by < w.passes) (entry_is i n e h.0 h.1 h.2).2 (omega (arith, is.passes));
+    makers = λ i n e h. subst (λ (z : Entry MadeChange). z.by < w.passes) (entry_is i n e h.0 h.1 h.2).2 (omega (arith, is.passes));
     numbers = omega arith;
     named = λ k h at. absurd (nothing_held k h at);
     latched = λ k h at. absurd (nothing_held k h at);

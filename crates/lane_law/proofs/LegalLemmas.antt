@@ -7,14 +7,14 @@ use Rattle.map_history.specs.Map.{MapChange, is_allowed, map_after}
 use Rattle.map_history.specs.Operation.{Ask, Get, Make, Seek, Scan, is_scan}
 use Rattle.map_history.specs.Report.{ScanPiece, Replied, LogFull, SpaceFull, AnswerLine, ChangeLine, Report, entries_in, changes_at}
 use Rattle.map_history.specs.LegalReport.{Line, Run, Answers, HasReplies, RepliesAt, IsInOrder, HasScans, ScansFor, HasLogFull, IsLogFull, HasSpaceFull, IsLegalReport, rows_written}
-use Rattle.index_world.specs.Answers.{Deed}
-use Rattle.index_world.specs.State.{State, changes}
-use Rattle.index_world.specs.Rightness as world
-use Rattle.index_world.specs.Rightness.{IsAllowed}
-use Rattle.index_world.specs.Spoken.{View}
+use Rattle.index_law.specs.Answers.{MadeChange}
+use Rattle.index_law.specs.State.{State, changes}
+use Rattle.index_law.specs.Rightness as world
+use Rattle.index_law.specs.Rightness.{IsAllowed}
+use Rattle.index_law.specs.Spoken.{View}
 use Rattle.lane_law.specs.Worked.{AreInOrder}
 use Rattle.lane_law.specs.Runs.{HasNoScan, RunsAll, AreEntries}
-use Rattle.lane_law.proofs.Lists.{all_at, all_zip_at}
+use Rattle.list_facts.proofs.Elements.{all_at, all_zip_at}
 use Rattle.lane_law.proofs.SaidLemmas.{IsRepliedAt, IsFullAt}
 use Rattle.lane_law.proofs.AnswerLemmas.{answer_so, parts_counted}
 use Rattle.lane_law.proofs.EntryLemmas.{changes_same, changes_lawful, ok_named}
@@ -39,7 +39,7 @@ module _ (run : Run) (report : Report) (w : State) (v : View) (plain : HasNoScan
     where
       at : IsRepliedAt w line.op.index point line.op.ask reply → RepliesAt (changes_at report line.op.index) line.op.ask point reply
       at is = let within = is.within in subst (λ cs. RepliesAt cs line.op.ask point reply) (sym (changes_same run report w v all entries line.op.index is.list is.there))
-          (record { within = omega (arith, length-map is.list (λ (e : Entry Deed). e.change.change)); reply_is = is.reply_is })
+          (record { within = omega (arith, length-map is.list (λ (e : Entry MadeChange). e.change.change)); reply_is = is.reply_is })
 
   in_order : IsInOrder run report
   in_order lane i lines answers at at' = (all_zip_at AreInOrder run.lanes report.lanes lane lines answers all.lanes at at').order i
@@ -56,7 +56,7 @@ module _ (run : Run) (report : Report) (w : State) (v : View) (plain : HasNoScan
           let within = is.within in
           let most = is.is_most in
           let bound = all.fits.bounded line.op.index is.list is.there in
-          let counted : length (changes is.list) ≡ length is.list = length-map is.list (λ (e : Entry Deed). e.change.change) in
+          let counted : length (changes is.list) ≡ length is.list = length-map is.list (λ (e : Entry MadeChange). e.change.change) in
           let whole : take n (changes is.list) ≡ changes is.list = take_all n (changes is.list) (omega arith) in
           subst (λ cs. IsLogFull run.sizes.max_changes cs line.op.ask n) (sym (changes_same run report w v all entries line.op.index is.list is.there)) (record {
             is_most = is.is_most ∙ all.max_changes;

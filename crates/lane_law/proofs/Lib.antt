@@ -1,4 +1,3 @@
-pub mod Lists
 pub mod PairLemmas
 pub mod WorkLemmas
 pub mod SaidLemmas

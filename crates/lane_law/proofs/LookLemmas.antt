@@ -3,18 +3,18 @@ use Rattle.std.proofs.Common.{◌≡◌, ℕ, ◌+◌, ◌<◌, Some, List, [], 
 use Rattle.std.specs.List.{slice_get, AllPairs}
 use mathlib.Core.Option.{some}
 use lib.ListN.{get_elem?}
-use Rattle.latch_law.proofs.Lists.{inside, there}
+use Rattle.list_facts.proofs.Places.{inside, there, one_at, get_inside, get_there}
 use Rattle.change_log.specs.declared.entry.Entry.{Entry}
 use Rattle.change_log.specs.Log.{Log}
 use Rattle.map_history.specs.Operation.{Operation}
 use Rattle.map_history.specs.Reply.{Done}
 use Rattle.map_history.specs.Report.{Replied, ChangeLine, IndexPart, Report, entries_in}
 use Rattle.map_history.specs.LegalReport.{Line, Run, IsAnswered, NamesLine}
-use Rattle.index_world.specs.State.{State, Entries}
-use Rattle.index_world.specs.Spoken.{View}
+use Rattle.index_law.specs.State.{State, Entries}
+use Rattle.index_law.specs.Spoken.{View}
 use Rattle.lane_law.specs.Runs.{RunsAll, AreEntries}
 use Rattle.lane_law.specs.Merged.{HasNotes, LinesAscend, IsNoted, IsNumbered, IsLookedUp, AreLookedUp}
-use Rattle.lane_law.proofs.Lists.{one_at, get_inside, get_there, all_at, all_zip_at, all_zip_length}
+use Rattle.list_facts.proofs.Elements.{all_at, all_zip_at, all_zip_length}
 use Rattle.lane_law.proofs.PairLemmas.{ascending_once}
 use Rattle.lane_law.proofs.AnswerLemmas.{parts_counted}
 use Rattle.lane_law.proofs.MergeLemmas.{are_lists}

@@ -4,7 +4,7 @@ use Rattle.std.proofs.lemmas.List.Sorted.{Contains-permutation, IsPermutation-sy
 use Rattle.std.specs.List.{slice_get, Contains, flat_map, zip}
 use mathlib.Core.Option.{some}
 use lib.ListN.{get_elem?}
-use Rattle.latch_law.proofs.Lists.{inside, there, one_value}
+use Rattle.list_facts.proofs.Places.{inside, there, one_value}
 use Rattle.change_log.specs.declared.entry.Entry.{Entry}
 use Rattle.change_log.specs.declared.entry.Noted.{Noted}
 use Rattle.change_log.specs.Log.{Log}
@@ -12,11 +12,11 @@ use Rattle.change_log.specs.Merge.{entries_of, entries_in, IsMerge}
 use Rattle.map_history.specs.Reply.{Done}
 use Rattle.map_history.specs.Report.{Columns, Replied, AnswerLine, Report}
 use Rattle.map_history.specs.LegalReport.{Line, Run, IsAnswered}
-use Rattle.index_world.specs.State.{State, Entries}
-use Rattle.index_world.specs.Spoken.{View}
+use Rattle.index_law.specs.State.{State, Entries}
+use Rattle.index_law.specs.Spoken.{View}
 use Rattle.lane_law.specs.Runs.{RunsAll}
 use Rattle.lane_law.specs.Merged.{entry_of, lane_notes, all_notes, HasNotes, IsNoted, IsNumbered}
-use Rattle.lane_law.proofs.Lists.{contains_get, get_contains, flat_contains, flat_from, zip_get, zip_from}
+use Rattle.list_facts.proofs.Elements.{contains_get, get_contains, flat_contains, flat_from, zip_get, zip_from}
 use Rattle.lane_law.proofs.PairLemmas.{flat_all_pairs}
 use Rattle.lane_law.proofs.AnswerLemmas.{ok_made, ok_once, ok_lane, answered_at}
 use Rattle.lane_law.proofs.CountLemmas.{AreApart, rises, numbered, as_many}

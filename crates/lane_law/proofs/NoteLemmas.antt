@@ -4,7 +4,7 @@ use Rattle.std.proofs.lemmas.Bool.Decides.{nat_tests}
 use Rattle.std.proofs.lemmas.List.{map-append}
 use Rattle.std.proofs.lemmas.List.Elements.{filter-append}
 use Rattle.std.specs.List.{slice_get, AllPairs, Contains, flat_map, filter}
-use Rattle.latch_law.proofs.Lists.{same_some}
+use Rattle.list_facts.proofs.Places.{same_some}
 use Rattle.change_log.specs.declared.entry.Entry.{Entry}
 use Rattle.change_log.specs.declared.entry.Noted.{Noted}
 use Rattle.change_log.specs.Log.{Log}
@@ -13,7 +13,7 @@ use Rattle.map_history.specs.Reply.{Value, Row, Done, Absent, Duplicate}
 use Rattle.map_history.specs.Report.{Columns, Answer, Replied, LogFull, SpaceFull, Scanned, AnswerLine}
 use Rattle.map_history.specs.LegalReport.{Line}
 use Rattle.lane_law.specs.Merged.{entry_of, notes_of, lane_notes, all_notes}
-use Rattle.lane_law.proofs.Lists.{contains_none, contains_one, contains_head}
+use Rattle.list_facts.proofs.Elements.{contains_none, contains_one, contains_head}
 use Rattle.lane_law.proofs.PairLemmas.{all_pairs_none, all_pairs_one}
 
 -- the entries of the index i that a line leaves

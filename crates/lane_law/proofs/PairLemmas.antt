@@ -2,8 +2,8 @@
 use Rattle.std.proofs.Common.{◌≡◌, ℕ, zero, suc, ◌<◌, Some, List, [], ◌∷◌, ◌++◌, length, get_or, refl, ap, sym, ◌∙◌, subst, ⊎_elim, arith}
 use Rattle.std.proofs.lemmas.List.Elements.{Contains-append_right, Contains-append_cases, Contains-get_or}
 use Rattle.std.specs.List.{slice_get, AllPairs, Contains, flat_map}
-use Rattle.latch_law.proofs.Lists.{same_some}
-use Rattle.lane_law.proofs.Lists.{contains_none, contains_head, contains_tail, contains_cases, contains_get, flat_contains, flat_from}
+use Rattle.list_facts.proofs.Places.{same_some}
+use Rattle.list_facts.proofs.Elements.{contains_none, contains_head, contains_tail, contains_cases, contains_get, flat_contains, flat_from}
 
 module _ {X : Type 0} where
   -- pairs of a list with one element more in front, and of two lists joined

@@ -8,9 +8,9 @@ use Rattle.latch_law.specs.declared.knows.Entry.{Entry}
 use Rattle.map_history.specs.Map.{MapChange, Put, Set, Del}
 use Rattle.map_history.specs.Report.{ChangeLine, IndexPart}
 use Rattle.map_history.specs.LegalReport.{writes_row}
-use Rattle.index_world.specs.Answers.{Deed}
-use Rattle.index_world.specs.State.{Entries, changes}
-use Rattle.index_world.specs.Rightness.{writes, rows_written}
+use Rattle.index_law.specs.Answers.{MadeChange}
+use Rattle.index_law.specs.State.{Entries, changes}
+use Rattle.index_law.specs.Rightness.{writes, rows_written}
 
 -- a test of what a function gives, and one that agrees with it
 count_map : {A B : Type 0} (f : A → B) (p : B → Bool) (q : A → Bool) → ((x : A) → q x ≡ p (f x)) → (xs : List A) → count_by q xs ≡ count_by p (map f xs)
@@ -29,8 +29,8 @@ writes_same e = by_change e.change
     by_change (Set k v) = refl
     by_change (Del k) = refl
 
-rows_in_same : (entries : List ChangeLine) (xs : Entries) → map (λ (e : ChangeLine). e.change) entries ≡ changes xs → count_by writes_row entries ≡ count_by (λ (e : Entry Deed). writes e.change.change) xs
-rows_in_same entries xs same = count_map (λ (e : ChangeLine). e.change) writes writes_row writes_same entries ∙ (ap (λ cs. count_by writes cs) same ∙ sym (count_map (λ (e : Entry Deed). e.change.change) writes (λ (e : Entry Deed). writes e.change.change) (λ e. refl) xs))
+rows_in_same : (entries : List ChangeLine) (xs : Entries) → map (λ (e : ChangeLine). e.change) entries ≡ changes xs → count_by writes_row entries ≡ count_by (λ (e : Entry MadeChange). writes e.change.change) xs
+rows_in_same entries xs same = count_map (λ (e : ChangeLine). e.change) writes writes_row writes_same entries ∙ (ap (λ cs. count_by writes cs) same ∙ sym (count_map (λ (e : Entry MadeChange). e.change.change) writes (λ (e : Entry MadeChange). writes e.change.change) (λ e. refl) xs))
 
 -- parts with the changes of lists have as many rows written
 pub rows_same : (parts : List IndexPart) (lists : List Entries) → length parts ≡ length lists
@@ -42,4 +42,4 @@ rows_same (part ∷ parts) [] long same = absurd (omega (arith, long))
 rows_same (part ∷ parts) (xs ∷ lists) long same =
     sum_by-cons (λ (part : IndexPart). count_by writes_row part.entries) part parts
     ∙ ((λ k. rows_in_same part.entries xs (same 0 part xs refl refl) k + rows_same parts lists (omega (arith, long)) (λ i. same (suc i)) k)
-    ∙ sym (sum_by-cons (λ (xs : Entries). count_by (λ (e : Entry Deed). writes e.change.change) xs) xs lists))
+    ∙ sym (sum_by-cons (λ (xs : Entries). count_by (λ (e : Entry MadeChange). writes e.change.change) xs) xs lists))

@@ -4,26 +4,26 @@ use Rattle.std.proofs.lemmas.List.Elements.{Contains-append_left, Contains-appen
 use Rattle.std.specs.List.{slice_get, Contains, zip}
 use mathlib.Core.Option.{some, some-injective, some-ne-none}
 use lib.ListN.{get_elem?}
-use Rattle.latch_law.specs.declared.knows.Saying as what
+use Rattle.latch_law.specs.declared.knows.Statement as what
 use Rattle.latch_law.specs.Rule.{IsSo}
 use Rattle.latch_law.specs.Whole.{IsEntry}
-use Rattle.latch_law.proofs.Lists.{same_some}
+use Rattle.list_facts.proofs.Places.{same_some}
 use Rattle.map_history.specs.Operation.{Ask, Make}
 use Rattle.map_history.specs.Reply.{MapReply, Done, reply_of}
 use Rattle.map_history.specs.Report.{Columns, ScanPiece, Answer, Replied, LogFull, SpaceFull, Scanned, AnswerLine}
 use Rattle.map_history.specs.LegalReport.{Line}
-use Rattle.index_world.specs.Answers.{Deed, Word, Gives, Saying, Replies, Piece, Full, Look, speaks_at}
-use Rattle.index_world.specs.Answers as word
-use Rattle.index_world.specs.State.{State, Entries}
-use Rattle.index_world.specs.Rightness.{map_at, IsShort, IsAllowed, IsRight}
-use Rattle.index_world.specs.Spoken.{OwnAnswer, Spoken, spoken, spoken_at, spoken_saying, printed_word, sayings}
+use Rattle.index_law.specs.Answers.{MadeChange, Word, Gives, Saying, Replies, Piece, Full, Look, speaks_at}
+use Rattle.index_law.specs.Answers as word
+use Rattle.index_law.specs.State.{State, Entries}
+use Rattle.index_law.specs.Rightness.{map_at, IsShort, IsAllowed, IsRight}
+use Rattle.index_law.specs.Spoken.{OwnAnswer, Spoken, spoken, spoken_at, spoken_saying, printed_word, sayings}
 use Rattle.lane_law.specs.Worked.{lane_sayings}
 use Rattle.lane_law.specs.Runs.{all_sayings}
-use Rattle.lane_law.proofs.Lists.{contains_none, contains_one, contains_head, flat_contains, zip_get}
+use Rattle.list_facts.proofs.Elements.{contains_none, contains_one, contains_head, flat_contains, zip_get}
 
 -- a change that is asked for is the entry before the point of its list, made by the number
 pub record IsMadeAt (w : State) (i point by : ℕ) (ask : Ask) : Type 0 where
-  pub deed : Deed
+  pub deed : MadeChange
   pub asked : ask ≡ Make deed.change
   pub above : 0 < point
   pub entry : IsEntry w i (point - 1) (record { change = deed; by = by })
@@ -73,7 +73,7 @@ saying_so w i p n Look s right c = absurd (contains_none s c)
 pub spoken_so : (w : State) (q : OwnAnswer) (s : Spoken) → IsSo IsRight w q.index q.point q.by q.what → Contains (spoken_at q) s → IsSpokenSo w s
 spoken_so w q s so c = by_kind q.what so c
   where
-    by_kind : (kind : what.Saying Deed Saying) → IsSo IsRight w q.index q.point q.by kind → Contains (spoken_at (record { index = q.index; point = q.point; by = q.by; what = kind })) s → IsSpokenSo w s
+    by_kind : (kind : what.Statement MadeChange Saying) → IsSo IsRight w q.index q.point q.by kind → Contains (spoken_at (record { index = q.index; point = q.point; by = q.by; what = kind })) s → IsSpokenSo w s
     by_kind (what.TheVariants.Change deed) so c = subst (IsSpokenSo w) (contains_one (record { index = q.index; by = q.by; ask = Make deed.change; answer = Replied Done q.point deed.columns }) s c) (inl (refl, record { deed = deed; asked = refl; above = so.0; entry = so.1 }))
     by_kind (what.TheVariants.Answer a) so c = saying_so w q.index q.point q.by a s so c
 

@@ -5,18 +5,17 @@ use Rattle.std.proofs.lemmas.List.Concat.{flat_map-cons}
 use Rattle.std.proofs.lemmas.List.Elements.{filter-append}
 use lib.ListN.{get_elem?}
 use Rattle.latch_law.specs.declared.knows.Entry.{Entry}
-use Rattle.latch_law.specs.declared.knows.Saying as what
-use Rattle.latch_law.proofs.Lists.{inside, one_value}
+use Rattle.latch_law.specs.declared.knows.Statement as what
+use Rattle.list_facts.proofs.Places.{inside, one_value, get_there, get_inside}
 use Rattle.map_history.specs.Operation.{Ask}
 use Rattle.map_history.specs.Report.{ScanPiece, Answer, Replied, LogFull, SpaceFull, Scanned, AnswerLine, ChangeLine, Report, entries_at}
 use Rattle.map_history.specs.LegalReport.{Line, Run}
-use Rattle.index_world.specs.Answers.{Deed}
-use Rattle.index_world.specs.State.{State}
-use Rattle.index_world.specs.Spoken.{View, OwnAnswer, Spoken, sayings}
+use Rattle.index_law.specs.Answers.{MadeChange}
+use Rattle.index_law.specs.State.{State}
+use Rattle.index_law.specs.Spoken.{View, OwnAnswer, Spoken, sayings}
 use Rattle.lane_law.specs.Worked.{lane_sayings}
 use Rattle.lane_law.specs.Runs.{all_sayings, RunsAll, AreEntries}
 use Rattle.lane_law.specs.Trail.{Changed, IsOwnChange, IsEntered, IsTrail}
-use Rattle.lane_law.proofs.Lists.{get_there, get_inside}
 use Rattle.lane_law.proofs.EntryLemmas.{listed}
 
 -- all of these are said by the number
@@ -101,18 +100,18 @@ module _ (run : Run) (report : Report) (w : State) (v : View) (all : RunsAll run
       }
 
   -- and the changes that it made are printed
-  entered : (i point by : ℕ) (deed : Deed) → Changed v i point by deed → IsEntered report i point by deed
+  entered : (i point by : ℕ) (deed : MadeChange) → Changed v i point by deed → IsEntered report i point by deed
   entered i point by deed made =
       let q : OwnAnswer = record { index = i; point = point; by = by; what = what.TheVariants.Change deed } in
       let so = all.fits.so made.place q made.there in
       let n : ℕ = point - 1 in
-      let mine : Entry Deed = record { change = deed; by = by } in
+      let mine : Entry MadeChange = record { change = deed; by = by } in
       let above = so.0 in
       let within : n < length so.1.0 = inside so.1.0 n mine so.1.2 in
       let entry = get_there (entries_at report i) n (omega (arith, within, entries.long i so.1.0 so.1.1)) in
       let named = entries.named i n entry.0 entry.1 in
       let is = listed run report w v all entries i n entry.0 named in
-      let theirs : Entry Deed = record { change = is.deed; by = named.lane } in
+      let theirs : Entry MadeChange = record { change = is.deed; by = named.lane } in
       let list : is.entry.0 ≡ so.1.0 = one_value w.lists i is.entry.0 so.1.0 is.entry.1 so.1.1 in
       let same : theirs ≡ mine = one_value so.1.0 n theirs mine (ap (λ z. get_elem? z n) (sym list) ∙ is.entry.2) so.1.2 in
       record {
@@ -120,8 +119,8 @@ module _ (run : Run) (report : Report) (w : State) (v : View) (all : RunsAll run
         entry = entry.0;
         is_point = omega arith;
         there = entry.1;
-        same_change = sym is.change ∙ ap (λ (e : Entry Deed). e.change.change) same;
-        same_lane = named.same_lane ∙ ap (λ (e : Entry Deed). e.by + 1) same;
+        same_change = sym is.change ∙ ap (λ (e : Entry MadeChange). e.change.change) same;
+        same_lane = named.same_lane ∙ ap (λ (e : Entry MadeChange). e.by + 1) same;
       }
 
   pub trail : IsTrail run report v

@@ -7,16 +7,16 @@ use Rattle.std.proofs.lemmas.List.Elements.{All-append, All-weaker, All-nil, All
 use Rattle.std.specs.List.{All, AllPairs, Contains, zip, flat_map}
 use mathlib.Core.Option.{some}
 use lib.ListN.{get_elem?}
-use Rattle.latch_law.proofs.Lists.{there}
+use Rattle.list_facts.proofs.Places.{there}
 use Rattle.map_history.specs.Map.{Put, Set, Del}
 use Rattle.map_history.specs.Operation.{Ask, Get, Make, Seek, Scan, is_scan}
 use Rattle.map_history.specs.Report.{Answer, Replied, LogFull, SpaceFull, Scanned, AnswerLine}
 use Rattle.map_history.specs.LegalReport.{Line, Answers, Mark, marks_of, marks_in, Precedes, has_form, is_done}
-use Rattle.index_world.specs.State.{Entries}
-use Rattle.index_world.specs.Spoken.{View, Spoken, spoken, sayings}
-use Rattle.index_world.specs.Once.{SeesMore, AnswersOnce}
+use Rattle.index_law.specs.State.{Entries}
+use Rattle.index_law.specs.Spoken.{View, Spoken, spoken, sayings}
+use Rattle.index_law.specs.Once.{SeesMore, AnswersOnce}
 use Rattle.lane_law.specs.Worked.{answered, lane_sayings, IsSeenTo, Worked}
-use Rattle.lane_law.proofs.Lists.{zip_push, all_zip_push, all_zip_length}
+use Rattle.list_facts.proofs.Elements.{zip_push, all_zip_push, all_zip_length}
 use Rattle.lane_law.proofs.PairLemmas.{all_pairs_none, all_pairs_one, all_pairs_append}
 
 pub worked_none : (v : View) → Worked v v [] []

@@ -1,22 +1,20 @@
 -- A worked example: line 2 of a lane puts a row, and line 1 of another lane finds it.
 use Rattle.std.specs.Prelude.{ℕ, ◌≡◌, ◌≤◌, None, List, [], ◌∷◌, length, replicate}
 use Rattle.key_tuple.specs.Order.{FieldList}
-use Rattle.latch_law.specs.declared.knows.Saying.TheVariants as what
+use Rattle.latch_law.specs.declared.knows.Statement.TheVariants as what
 use Rattle.change_log.specs.Log.{Log}
-use Rattle.map_history.specs.declared.columns.How.TheVariants as how
-use Rattle.map_history.specs.declared.columns.Note.TheVariants as note
 use Rattle.map_history.specs.declared.sizes.Sizes.{Sizes}
 use Rattle.map_history.specs.Map.{MapChange, Put}
 use Rattle.map_history.specs.Operation.{Get, Make}
 use Rattle.map_history.specs.Reply.{Value, Done}
-use Rattle.map_history.specs.Report.{Columns, AnswerLine, Replied, Report}
+use Rattle.map_history.specs.Report.{Columns, AnswerLine, Replied, Report, dashes}
 use Rattle.map_history.specs.Statistics.{counts_of}
 use Rattle.map_history.specs.LegalReport.{Line, Run, IsLegalReport}
-use Rattle.index_world.specs.Answers.{Deed, Gives, Replies}
-use Rattle.index_world.specs.State.{State}
-use Rattle.index_world.specs.Law.{IsLawful}
-use Rattle.index_world.specs.Spoken.{View}
-use Rattle.index_world.specs.OneRow.{state_with}
+use Rattle.index_law.specs.Answers.{MadeChange, Gives, Replies}
+use Rattle.index_law.specs.State.{State}
+use Rattle.index_law.specs.Law.{IsLawful}
+use Rattle.index_law.specs.Spoken.{View}
+use Rattle.index_law.specs.OneRow.{state_with}
 use Rattle.lane_law.specs.Worked.{answered}
 use Rattle.lane_law.specs.Trail.{IsTrail}
 use Rattle.lane_law.specs.Runs.{HasNoScan, RunsAll}
@@ -30,16 +28,12 @@ key = (97 ∷ []) ∷ []
 abbrev pub value : List ℕ
 value = 98 ∷ []
 
--- the columns of answers that no hash was asked for
-abbrev pub dashes : Columns
-dashes = record { how = how.Dash; note = note.Dash }
-
 -- the row that is put
 abbrev pub row : MapChange
 row = Put key value
 
 -- the same, as an entry of the list has it
-abbrev pub row_made : Deed
+abbrev pub row_made : MadeChange
 row_made = record { change = row; columns = dashes }
 
 -- the first lane's line

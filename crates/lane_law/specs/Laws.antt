@@ -10,9 +10,9 @@ use Rattle.change_log.specs.Merge.{IsMerge}
 use Rattle.map_history.specs.Operation.{is_scan}
 use Rattle.map_history.specs.Report.{Answer, AnswerLine, Report}
 use Rattle.map_history.specs.LegalReport.{Line, Run, Precedes, marks_of, IsLegalReport}
-use Rattle.index_world.specs.State.{State, Entries}
-use Rattle.index_world.specs.Spoken.{View, spoken}
-use Rattle.index_world.specs.Once.{AnswersOnce}
+use Rattle.index_law.specs.State.{State, Entries}
+use Rattle.index_law.specs.Spoken.{View, spoken}
+use Rattle.index_law.specs.Once.{AnswersOnce}
 use Rattle.lane_law.specs.Worked.{answered, AreInOrder, Worked}
 use Rattle.lane_law.specs.Runs.{all_sayings, HasNoScan, RunsAll, AreEntries}
 use Rattle.lane_law.specs.Trail.{IsTrail}

@@ -10,7 +10,7 @@ use Rattle.map_history.specs.Operation.{Make}
 use Rattle.map_history.specs.Reply.{Done}
 use Rattle.map_history.specs.Report.{Columns, Answer, Replied, AnswerLine, ChangeLine, IndexPart, Report}
 use Rattle.map_history.specs.LegalReport.{Line, Run, IsAnswered}
-use Rattle.index_world.specs.State.{Entries}
+use Rattle.index_law.specs.State.{Entries}
 
 -- the entry of a change at a point, which a line of the lane k made: lanes are counted from 0 here, and from 1 in entries
 abbrev pub entry_of : ℕ → Line → ℕ → Entry

@@ -8,11 +8,11 @@ use Rattle.map_history.specs.Operation.{is_scan}
 use Rattle.map_history.specs.Report.{AnswerLine, ChangeLine, IndexPart, Report, entries_at}
 use Rattle.map_history.specs.Statistics.{counts_of}
 use Rattle.map_history.specs.LegalReport.{Line, Run, NamesLine, columns_at}
-use Rattle.index_world.specs.State.{State, Entries}
-use Rattle.index_world.specs.Law.{IsLawful}
-use Rattle.index_world.specs.Rightness.{IsRight}
-use Rattle.index_world.specs.References.{IsReference}
-use Rattle.index_world.specs.Spoken.{View, Spoken, spoken}
+use Rattle.index_law.specs.State.{State, Entries}
+use Rattle.index_law.specs.Law.{IsLawful}
+use Rattle.index_law.specs.Rightness.{IsRight}
+use Rattle.index_law.specs.References.{IsReference}
+use Rattle.index_law.specs.Spoken.{View, Spoken, spoken}
 use Rattle.lane_law.specs.Worked.{lane_sayings, AreInOrder}
 
 -- no line asks for the rows of a range

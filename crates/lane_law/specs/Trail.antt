@@ -3,11 +3,11 @@ use Rattle.std.specs.Prelude.{ℕ, ◌≡◌, ◌+◌, ◌==◌, Some, List, len
 use Rattle.std.specs.List.{slice_get}
 use mathlib.Core.Option.{some}
 use lib.ListN.{get_elem?}
-use Rattle.latch_law.specs.declared.knows.Saying as what
+use Rattle.latch_law.specs.declared.knows.Statement as what
 use Rattle.map_history.specs.Report.{AnswerLine, ChangeLine, Report, entries_at}
 use Rattle.map_history.specs.LegalReport.{Line, Run}
-use Rattle.index_world.specs.Answers.{Deed}
-use Rattle.index_world.specs.Spoken.{View, Spoken, spoken}
+use Rattle.index_law.specs.Answers.{MadeChange}
+use Rattle.index_law.specs.Spoken.{View, Spoken, spoken}
 use Rattle.lane_law.specs.Worked.{lane_sayings}
 
 -- what the pass said under one of its numbers, no looks and no fulls
@@ -15,20 +15,20 @@ abbrev pub spoken_by : ℕ → View → List Spoken
 spoken_by n v = filter (λ (s : Spoken). s.by == n) (spoken v.said)
 
 -- an own answer of the pass is a change at a point of an index, under a number
-pub record Changed (v : View) (index point by : ℕ) (deed : Deed) : Type 0 where
+pub record Changed (v : View) (index point by : ℕ) (deed : MadeChange) : Type 0 where
   pub place : ℕ
   pub there : get_elem? v.said place ≡ some (record { index = index; point = point; by = by; what = what.TheVariants.Change deed })
 
 -- the entry n of an index, counted from 0, is a change that the pass made
 pub record IsOwnChange (v : View) (index n : ℕ) (entry : ChangeLine) : Type 0 where
   pub lane : ℕ
-  pub deed : Deed
+  pub deed : MadeChange
   pub made : Changed v index (n + 1) lane deed
   pub same_change : entry.change ≡ deed.change
   pub same_lane : entry.lane ≡ lane + 1
 
 -- a change that the pass made is an entry of the report
-pub record IsEntered (report : Report) (index point by : ℕ) (deed : Deed) : Type 0 where
+pub record IsEntered (report : Report) (index point by : ℕ) (deed : MadeChange) : Type 0 where
   pub n : ℕ
   pub entry : ChangeLine
   pub is_point : point ≡ n + 1
@@ -42,4 +42,4 @@ pub record IsTrail (run : Run) (report : Report) (v : View) : Type 0 where
   pub end : v.end ≡ length run.lanes
   pub answers : (lane : ℕ) (lines : List Line) (told : List AnswerLine) → slice_get run.lanes lane ≡ Some lines → slice_get report.lanes lane ≡ Some told → spoken_by lane v ≡ lane_sayings lane lines told
   pub changes : (i n : ℕ) (entry : ChangeLine) → slice_get (entries_at report i) n ≡ Some entry → IsOwnChange v i n entry
-  pub entered : (i point by : ℕ) (deed : Deed) → Changed v i point by deed → IsEntered report i point by deed
+  pub entered : (i point by : ℕ) (deed : MadeChange) → Changed v i point by deed → IsEntered report i point by deed

@@ -5,9 +5,9 @@ use mathlib.Core.Option.{some}
 use lib.ListN.{get_elem?}
 use Rattle.map_history.specs.Report.{Answer, AnswerLine}
 use Rattle.map_history.specs.LegalReport.{Line, Answers, Mark, marks_in, Precedes}
-use Rattle.index_world.specs.State.{Entries}
-use Rattle.index_world.specs.Spoken.{View, Spoken, spoken, sayings}
-use Rattle.index_world.specs.Once.{SameNumbers, SeesMore}
+use Rattle.index_law.specs.State.{Entries}
+use Rattle.index_law.specs.Spoken.{View, Spoken, spoken, sayings}
+use Rattle.index_law.specs.Once.{SameNumbers, SeesMore}
 
 -- the answer with the number of its line
 abbrev pub answered : Line → Answer → AnswerLine

@@ -5,7 +5,7 @@ use Rattle.std.specs.Prelude.{Vec}
 use Rattle.std.specs.declared.alloc.Global.{Global}
 use mathlib.Core.Option.{some}
 use lib.ListN.{get_elem?}
-use Rattle.script.specs.declared.lane.Line.{Line}
+use Rattle.map_history.specs.declared.line.Line.{Line}
 use Rattle.index_engine.specs.declared.engine.Engine.{Engine}
 use Rattle.index_engine.specs.declared.engine.EnginePass.{EnginePass}
 use Rattle.lane_threads.specs.declared.doer.LaneDoer.{LaneDoer}

@@ -4,7 +4,7 @@ use Rattle.std.specs.List.{AllByRecursion, slice_get, zip}
 use Rattle.std.specs.Prelude.{Vec}
 use Rattle.std.specs.declared.alloc.Global.{Global}
 use Rattle.change_log.specs.Log.{Log}
-use Rattle.latch_law.proofs.Lists.{same_some}
+use Rattle.list_facts.proofs.Places.{same_some}
 use Rattle.latch_law.specs.declared.knows.Terms.{Terms}
 use Rattle.map_history.specs.declared.op.Op.{Op}
 use Rattle.map_history.specs.declared.op.Op.TheVariants as op
@@ -14,9 +14,9 @@ use Rattle.map_history.specs.LegalReport as legal
 use Rattle.map_history.specs.Operation.{is_scan, operation_of}
 use Rattle.map_history.specs.Report.{ChangeLine, IndexPart, Report}
 use Rattle.map_history.specs.Statistics.{counts_of}
-use Rattle.script.specs.declared.lane.Line.{Line}
-use Rattle.script.specs.Views.{line_texts}
-use Rattle.index_world.specs.Shape.{Shape}
+use Rattle.map_history.specs.declared.line.Line.{Line}
+use Rattle.map_history.specs.Lines.{line_texts}
+use Rattle.index_law.specs.Shape.{Shape}
 use Rattle.index_engine.specs.declared.engine.EnginePass.{EnginePass}
 use Rattle.index_engine.specs.Engines.{known}
 use Rattle.lane_law.proofs.LegalLemmas as proved

@@ -8,13 +8,13 @@ use lib.ListN.{get_elem?}
 use Rattle.map_history.specs.declared.sizes.Sizes.{Sizes}
 use Rattle.map_history.specs.LegalReport as legal
 use Rattle.map_history.specs.Report.{AnswerLine}
-use Rattle.script.specs.declared.lane.Line.{Line}
-use Rattle.script.specs.Views.{line_texts}
-use Rattle.index_world.specs.Spoken.{View, Spoken, OwnAnswer, spoken}
+use Rattle.map_history.specs.declared.line.Line.{Line}
+use Rattle.map_history.specs.Lines.{line_texts}
+use Rattle.index_law.specs.Spoken.{View, Spoken, OwnAnswer, spoken}
 use Rattle.index_engine.specs.declared.engine.Engine.{Engine}
 use Rattle.index_engine.specs.declared.engine.EnginePass.{EnginePass}
 use Rattle.index_engine.specs.Engines.{known, IsOf}
-use Rattle.one_lane.specs.Lane.{answer_line_text}
+use Rattle.report_text.specs.Texts.{answer_line_text}
 use Rattle.lane_law.specs.Merged.{lane_notes, all_notes}
 use Rattle.lane_law.specs.Worked.{AreInOrder, lane_sayings}
 use Rattle.lane_work.specs.Works.{HasDashes, Works}

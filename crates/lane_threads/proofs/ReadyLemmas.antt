@@ -8,13 +8,13 @@ use mathlib.Core.Logic.{∥∥₁_elim}
 use mathlib.Core.Option.{is_set}
 use lib.ListN.{get_elem?}
 use Rattle.atomic_table.specs.Seated.{table_id_coded}
-use Rattle.latch_law.proofs.Lists.{inside}
+use Rattle.list_facts.proofs.Places.{inside}
 use Rattle.latch_law.specs.declared.knows.Terms.{Terms}
 use Rattle.map_history.specs.declared.op.Op.{Op}
 use Rattle.map_history.specs.declared.op.Op.TheVariants as op
 use Rattle.map_history.specs.declared.sizes.Sizes.{Sizes}
-use Rattle.script.specs.declared.lane.Line.{Line}
-use Rattle.index_world.specs.Shape.{Shape}
+use Rattle.map_history.specs.declared.line.Line.{Line}
+use Rattle.index_law.specs.Shape.{Shape}
 use Rattle.index_engine.specs.declared.engine.Engine.{Engine}
 use Rattle.index_engine.specs.declared.engine.EnginePass.{EnginePass}
 use Rattle.index_engine.specs.Engines.{known, IsOf, terms_for}

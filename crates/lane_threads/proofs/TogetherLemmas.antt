@@ -11,12 +11,12 @@ use Rattle.latch_law.specs.Fitting.{IsFitted}
 use Rattle.latch_law.specs.Rule.{first_view}
 use Rattle.map_history.specs.declared.sizes.Sizes.{Sizes}
 use Rattle.map_history.specs.LegalReport as legal
-use Rattle.script.specs.declared.lane.Line.{Line}
-use Rattle.script.specs.Views.{line_texts}
-use Rattle.index_world.specs.Law.{IsLawful}
-use Rattle.index_world.specs.References.{IsReference}
-use Rattle.index_world.specs.Rightness.{IsRight}
-use Rattle.index_world.specs.Spoken.{View}
+use Rattle.map_history.specs.declared.line.Line.{Line}
+use Rattle.map_history.specs.Lines.{line_texts}
+use Rattle.index_law.specs.Law.{IsLawful}
+use Rattle.index_law.specs.References.{IsReference}
+use Rattle.index_law.specs.Rightness.{IsRight}
+use Rattle.index_law.specs.Spoken.{View}
 use Rattle.index_engine.specs.declared.engine.Engine.{Engine}
 use Rattle.index_engine.specs.declared.engine.EnginePass.{EnginePass}
 use Rattle.index_engine.specs.Engines.{known, IsOf, terms_for}

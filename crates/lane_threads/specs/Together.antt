@@ -8,14 +8,14 @@ use Rattle.map_history.specs.declared.sizes.Sizes.{Sizes}
 use Rattle.map_history.specs.LegalReport.{Run, IsLegalReport}
 use Rattle.map_history.specs.LegalReport as legal
 use Rattle.map_history.specs.Report.{AnswerLine, ChangeLine, IndexPart, Report}
-use Rattle.script.specs.declared.lane.Line.{Line}
-use Rattle.index_world.specs.Law.{IsLawful}
-use Rattle.index_world.specs.References.{IsReference}
-use Rattle.index_world.specs.Rightness.{IsRight}
-use Rattle.index_world.specs.Spoken.{spoken}
+use Rattle.map_history.specs.declared.line.Line.{Line}
+use Rattle.index_law.specs.Law.{IsLawful}
+use Rattle.index_law.specs.References.{IsReference}
+use Rattle.index_law.specs.Rightness.{IsRight}
+use Rattle.index_law.specs.Spoken.{spoken}
 use Rattle.index_engine.specs.declared.engine.EnginePass.{EnginePass}
 use Rattle.index_engine.specs.Engines.{known, terms_for}
-use Rattle.one_lane.specs.Lane.{answer_line_text}
+use Rattle.report_text.specs.Texts.{answer_line_text}
 use Rattle.lane_law.specs.Merged.{all_notes, LinesAscend, AreLookedUp}
 use Rattle.lane_law.specs.Reports.{report_of}
 use Rattle.lane_law.specs.Runs.{all_sayings}

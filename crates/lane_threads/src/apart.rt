@@ -6,7 +6,7 @@ use crate::doer::{DoneLane, LaneDoer};
 use change_log::LaneLog;
 use index_engine::EnginePass;
 use key_tuple::NoMemory;
-use one_lane::Texts;
+use report_text::Texts;
 use std::alloc::Global;
 
 /// What lanes had and were told, in order.

@@ -13,7 +13,7 @@ use change_log::LaneLog;
 use index_engine::{Engine, EngineError, EnginePass};
 use lanes::{Gate, run_lanes};
 use map_history::Sizes;
-use one_lane::Texts;
+use report_text::Texts;
 use pass_dealing::{deal, gather, lanes_are_gathered, lanes_are_in_row};
 use script::Line;
 use std::alloc::Global;

@@ -11,18 +11,18 @@ use Rattle.map_history.specs.declared.reply.Reply.TheVariants as word
 use Rattle.map_history.specs.declared.reply.Told.{Told}
 use Rattle.map_history.specs.Map.{Pair}
 use Rattle.map_history.specs.Operation.{is_scan, operation_of}
-use Rattle.map_history.specs.Report.{AnswerLine}
+use Rattle.map_history.specs.Report.{AnswerLine, dashes}
 use Rattle.map_history.specs.Spelling.{answer_text}
 use Rattle.map_history.specs.Told.{answer_of, columns_told}
 use Rattle.map_history.specs.LegalReport as legal
-use Rattle.script.specs.declared.lane.Line.{Line}
-use Rattle.script.specs.Views.{line_text, line_texts}
-use Rattle.index_world.specs.Spoken.{View}
+use Rattle.map_history.specs.declared.line.Line.{Line}
+use Rattle.map_history.specs.Lines.{line_text, line_texts}
+use Rattle.index_law.specs.Spoken.{View}
 use Rattle.index_engine.specs.declared.engine.Engine.{Engine}
 use Rattle.index_engine.specs.declared.engine.EnginePass.{EnginePass}
 use Rattle.index_engine.specs.Engines.{known, IsOf, IsSame}
-use Rattle.index_engine.specs.Says.{dashes, TellsOnce}
-use Rattle.one_lane.specs.Lane.{answer_line_text}
+use Rattle.index_engine.specs.Says.{TellsOnce}
+use Rattle.report_text.specs.Texts.{answer_line_text}
 use Rattle.lane_law.specs.Merged.{notes_of}
 use Rattle.lane_law.specs.Worked.{answered}
 use Rattle.lane_law.proofs.JoinLemmas.{notes_more}

@@ -1,6 +1,6 @@
 -- What a line notes by the word that it is told is what its answer notes.
 use Rattle.std.proofs.Common.{◌≡◌, ◌≢◌, ℕ, ◌+◌, [], ap, subst, ◌∙◌, refl, Option, Some, None}
-use Rattle.latch_law.proofs.Lists.{same_some}
+use Rattle.list_facts.proofs.Places.{same_some}
 use Rattle.map_history.specs.declared.columns.How.{How}
 use Rattle.map_history.specs.declared.columns.Note.{Note}
 use Rattle.map_history.specs.declared.reply.Reply.{Reply}
@@ -8,10 +8,9 @@ use Rattle.map_history.specs.declared.reply.Reply.TheVariants as word
 use Rattle.map_history.specs.Map.{Pair}
 use Rattle.map_history.specs.Operation.{Ask, Get, Make, Seek, Scan}
 use Rattle.map_history.specs.Reply.{MapReply, Value, Row, Done, Absent, Duplicate}
-use Rattle.map_history.specs.Report.{Columns, Answer, Replied, LogFull, SpaceFull}
+use Rattle.map_history.specs.Report.{Columns, Answer, Replied, LogFull, SpaceFull, dashes}
 use Rattle.map_history.specs.LegalReport.{Line}
 use Rattle.map_history.specs.Told.{said, replied_at, answer_of}
-use Rattle.index_engine.specs.Says.{dashes}
 use Rattle.lane_law.specs.Merged.{notes_of}
 use Rattle.lane_work.specs.Works.{HasDashes, note_of}
 

@@ -6,7 +6,7 @@ use lib.ListN.{get_elem?}
 use Rattle.key_tuple.specs.Order.{FieldList}
 use Rattle.map_history.specs.declared.op.Op.{Op}
 use Rattle.map_history.specs.declared.op.Op.TheVariants as op
-use Rattle.script.specs.declared.lane.Line.{Line}
+use Rattle.map_history.specs.declared.line.Line.{Line}
 use Rattle.index_engine.specs.declared.engine.Engine.{Engine}
 use Rattle.index_engine.specs.Engines.{indexes_of, FitsKey}
 

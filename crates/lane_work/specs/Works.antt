@@ -4,15 +4,14 @@ use Rattle.change_log.specs.declared.entry.Noted.{Noted}
 use Rattle.map_history.specs.declared.reply.Reply.{Reply}
 use Rattle.map_history.specs.declared.reply.Reply.TheVariants as word
 use Rattle.map_history.specs.declared.reply.Told.{Told}
-use Rattle.script.specs.declared.lane.Line.{Line}
-use Rattle.script.specs.Views.{line_text}
+use Rattle.map_history.specs.declared.line.Line.{Line}
+use Rattle.map_history.specs.Lines.{line_text}
 use Rattle.std.specs.List.{AllByRecursion}
 use Rattle.change_log.specs.Log.{Log}
 use Rattle.map_history.specs.LegalReport as legal
-use Rattle.map_history.specs.Report.{Answer, Replied, LogFull, SpaceFull, Scanned, AnswerLine}
-use Rattle.index_world.specs.Spoken.{View}
-use Rattle.one_lane.specs.Lane.{answer_line_text}
-use Rattle.index_engine.specs.Says.{dashes}
+use Rattle.map_history.specs.Report.{Answer, Replied, LogFull, SpaceFull, Scanned, AnswerLine, dashes}
+use Rattle.index_law.specs.Spoken.{View}
+use Rattle.report_text.specs.Texts.{answer_line_text}
 use Rattle.lane_law.specs.Worked.{Worked}
 use Rattle.lane_law.specs.Merged.{lane_notes}
 

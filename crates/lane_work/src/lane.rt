@@ -1,6 +1,6 @@
 //! A whole lane.
 ghost use Rattle.std.specs.Prelude.{◌≡◌, ◌+◌, ◌<◌, length, IfOk};
-ghost use Rattle.script.specs.Views.{line_texts};
+ghost use Rattle.map_history.specs.Lines.{line_texts};
 ghost use Rattle.index_engine.specs.Engines.{known, IsOf, IsSame};
 ghost use Rattle.lane_work.specs.Workable.{AreWorkable};
 ghost use Rattle.lane_work.specs.Works.{Works, NotesLine};
@@ -11,7 +11,7 @@ use index_engine::{Engine, EnginePass};
 use key_tuple::NoMemory;
 use lanes::Gate;
 use map_history::{Reply, RowBuf, Told};
-use one_lane::Texts;
+use report_text::Texts;
 use script::Line;
 use std::alloc::Global;
 use std::sync::Wait;

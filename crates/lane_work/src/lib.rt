@@ -2,8 +2,6 @@
 //! the changes. Nothing here opens files or starts threads.
 #![tactic(auto)]
 
-#[cfg(test)]
-mod generated;
 mod lane;
 mod line;
 #[cfg(test)]

@@ -1,10 +1,11 @@
 //! One line, asked of an engine.
 ghost use Rattle.std.specs.Prelude.{◌≡◌, ◌≢◌, ◌<◌, IfOk, OnErr};
 ghost use Rattle.map_history.specs.Told.{columns_told};
-ghost use Rattle.script.specs.Views.{line_text};
-ghost use Rattle.index_world.specs.Once.{IsQuiet};
+ghost use Rattle.map_history.specs.Lines.{line_text};
+ghost use Rattle.index_law.specs.Once.{IsQuiet};
 ghost use Rattle.index_engine.specs.Engines.{known, IsOf, IsSame};
-ghost use Rattle.index_engine.specs.Says.{dashes, TellsOnce};
+ghost use Rattle.index_engine.specs.Says.{TellsOnce};
+ghost use Rattle.map_history.specs.Report.{dashes};
 ghost use Rattle.lane_work.specs.Workable.{IsWorkable};
 
 use index_engine::{Engine, EnginePass};

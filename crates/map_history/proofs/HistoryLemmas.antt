@@ -6,7 +6,7 @@ use Rattle.std.proofs.lemmas.Option.{slice_get_within}
 use Rattle.std.proofs.Math.Seq.{take-append_seam}
 use Rattle.std.specs.List.{slice_get}
 use Rattle.key_tuple.specs.Order.{FieldList, key_cmp}
-use Rattle.key_tuple.specs.Place.{Place, At, within}
+use Rattle.key_tuple.specs.KeyPlace.{KeyPlace, At, within}
 use Rattle.key_tuple.proofs.PlaceLemmas.{key_exact}
 use Rattle.map_history.specs.Map.{Map, MapChange, Put, Set, Del, Ascends, slice, value_at, write, key_of, value_of, is_allowed, after_change, after_changes, map_after, AreLawful}
 use Rattle.map_history.specs.Operation.{Ask}
@@ -52,14 +52,14 @@ allowed-by_value m n (Put k v) e = ap is_none e
 allowed-by_value m n (Set k v) e = ap is_some e
 allowed-by_value m n (Del k) e = ap is_some e
 
-pub slice-after_change_in : (low high : Place) (m : Map) (c : MapChange) → within low high (At (key_of c)) ≡ true → slice low high (after_change m c) ≡ after_change (slice low high m) c
+pub slice-after_change_in : (low high : KeyPlace) (m : Map) (c : MapChange) → within low high (At (key_of c)) ≡ true → slice low high (after_change m c) ≡ after_change (slice low high m) c
 slice-after_change_in low high m c h = go (is_allowed m c) ∙ ap (λ b. cond b (write (key_of c) (value_of c) (slice low high m)) (slice low high m)) (allowed-by_value m (slice low high m) c (sym (value_at-slice low high (key_of c) m h)))
   where
     go : (b : Bool) → slice low high (cond b (write (key_of c) (value_of c) m) m) ≡ cond b (write (key_of c) (value_of c) (slice low high m)) (slice low high m)
     go true = slice-write_in low high (key_of c) (value_of c) m h
     go false = refl
 
-pub slice-after_change_out : (low high : Place) (m : Map) (c : MapChange) → within low high (At (key_of c)) ≡ false → slice low high (after_change m c) ≡ slice low high m
+pub slice-after_change_out : (low high : KeyPlace) (m : Map) (c : MapChange) → within low high (At (key_of c)) ≡ false → slice low high (after_change m c) ≡ slice low high m
 slice-after_change_out low high m c h = go (is_allowed m c)
   where
     go : (b : Bool) → slice low high (cond b (write (key_of c) (value_of c) m) m) ≡ slice low high m

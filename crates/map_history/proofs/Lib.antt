@@ -1,4 +1,3 @@
-pub mod EachLemmas
 pub mod PairsLemmas
 pub mod ApplyLemmas
 pub mod CutLemmas
@@ -7,3 +6,4 @@ pub mod AnswerLemmas
 pub mod WriteLemmas
 pub mod HistoryLemmas
 pub mod SearchLemmas
+pub mod DashLemmas

@@ -6,12 +6,12 @@ use Rattle.std.specs.Map.{lookup, remove_entry, set_value, keys_of}
 use Rattle.std.specs.Ordering.{on, match_ordering, ordering_reverse}
 use Rattle.std.specs.BTreeMap.{insert_entry, is_at}
 use Rattle.key_tuple.specs.Order.{FieldList, key_cmp}
-use Rattle.key_tuple.specs.Place.{At, before}
+use Rattle.key_tuple.specs.KeyPlace.{At, before}
 use Rattle.key_tuple.specs.declared.key.Key.{Key}
 use Rattle.key_tuple.proofs.PlaceLemmas.{total, key_exact, before-itself, before-trans, before_not_after}
 use Rattle.map_history.specs.Map.{Pair, Map, Ascends, value_at, row_of, write}
 use Rattle.map_history.specs.Pairs.{pair_of}
-use Rattle.map_history.proofs.EachLemmas.{filter_each, filter_none, each_weaker}
+use Rattle.list_facts.proofs.Each.{filter_each, filter_none, each_weaker}
 
 -- the order of the entries' keys
 abbrev pub entry_cmp : Key → Key → Ordering

@@ -2,7 +2,7 @@
 use Rattle.std.proofs.Common.{◌≡◌, ℕ, zero, suc, ◌<◌, Bool, true, false, cond, Option, Some, None, List, [], ◌∷◌, length, refl, sym, ap, ◌∙◌, subst, arith, get_or, ◌⊎◌, inl, inr, ⊎_elim}
 use Rattle.std.proofs.lemmas.Bool.{both_ways}
 use Rattle.std.specs.List.{AllByRecursion, Contains}
-use Rattle.key_tuple.specs.Place.{Place, At, before}
+use Rattle.key_tuple.specs.KeyPlace.{KeyPlace, At, before}
 use Rattle.key_tuple.proofs.PlaceLemmas.{before-itself, before_not_after}
 use Rattle.map_history.specs.Map.{Pair, Map, Ascends}
 use Rattle.map_history.specs.Reply.{first_after, last_before, or_else}
@@ -32,7 +32,7 @@ one_row [] x y asc a b p q = absurd (omega (arith, a.1))
 one_row (z ∷ m) x y asc a b p q = ⊎_elim (λ e. ⊎_elim (λ f. sym e ∙ f) (λ d. absurd (both_ways _ p (subst (λ (w : Pair). before (At w.key) (At y.key) ≡ true) e (each_member _ m y asc.0 d)))) (member_cases z m y b))
     (λ d. ⊎_elim (λ f. absurd (both_ways _ q (subst (λ (w : Pair). before (At w.key) (At x.key) ≡ true) f (each_member _ m x asc.0 d)))) (λ g. one_row m x y asc.1 d g p q) (member_cases z m y b)) (member_cases z m x a)
 
-module _ (p : Place → Bool) where
+module _ (p : KeyPlace → Bool) where
   pub none_passes : (m : Map) → first_after p m ≡ None → AllByRecursion (λ (y : Pair). p (At y.key) ≡ false) m
   none_passes [] e = tt
   none_passes (x ∷ m) e = go (p (At x.key)) refl e (none_passes m)

@@ -6,10 +6,10 @@ use Rattle.std.proofs.lemmas.List.Elements.{filter-append, filter_agree}
 use Rattle.std.proofs.lemmas.Cmp.{tied_itself}
 use Rattle.std.specs.Ordering.{ordering_reverse}
 use Rattle.key_tuple.specs.Order.{FieldList, key_cmp}
-use Rattle.key_tuple.specs.Place.{Place, At, before, within}
+use Rattle.key_tuple.specs.KeyPlace.{KeyPlace, At, before, within}
 use Rattle.key_tuple.proofs.PlaceLemmas.{total, key_exact, before-itself, before-trans, before_upto, before_not_after}
 use Rattle.map_history.specs.Map.{Pair, Map, Ascends, slice, value_at, row_of, write}
-use Rattle.map_history.proofs.EachLemmas.{filter_each, filter_none, each_weaker, each_all, each_filter}
+use Rattle.list_facts.proofs.Each.{filter_each, filter_none, each_weaker, each_all, each_filter}
 
 -- filters upon filters
 filter-and_step : {A : Type 0} (p q : A → Bool) (x : A) (xs : List A) → filter q (filter p xs) ≡ filter (λ x. p x && q x) xs → filter q (filter p (x ∷ xs)) ≡ filter (λ x. p x && q x) (x ∷ xs)
@@ -85,7 +85,7 @@ same_key : (j k : FieldList) → is_eq (key_cmp j k) ≡ true → j ≡ k
 same_key j k e = key_exact j k (equal_is (key_cmp j k) e)
 
 -- a filter by key keeps a key's value, or loses it
-pub value_at-kept : (t : Place → Bool) (k : FieldList) (m : Map) → t (At k) ≡ true → value_at k (filter (λ (e : Pair). t (At e.key)) m) ≡ value_at k m
+pub value_at-kept : (t : KeyPlace → Bool) (k : FieldList) (m : Map) → t (At k) ≡ true → value_at k (filter (λ (e : Pair). t (At e.key)) m) ≡ value_at k m
 value_at-kept t k [] h = refl
 value_at-kept t k (x ∷ xs) h = go (is_eq (key_cmp k x.key)) (t (At x.key)) refl refl (value_at-kept t k xs h)
   where
@@ -94,7 +94,7 @@ value_at-kept t k (x ∷ xs) h = go (is_eq (key_cmp k x.key)) (t (At x.key)) ref
     go true false e f ih = absurd (both_ways (t (At k)) (subst (λ (j : FieldList). t (At j) ≡ false) (sym (same_key k x.key e)) f) h)
     go false false e f ih = ih
 
-pub value_at-lost : (t : Place → Bool) (k : FieldList) (m : Map) → t (At k) ≡ false → value_at k (filter (λ (e : Pair). t (At e.key)) m) ≡ None
+pub value_at-lost : (t : KeyPlace → Bool) (k : FieldList) (m : Map) → t (At k) ≡ false → value_at k (filter (λ (e : Pair). t (At e.key)) m) ≡ None
 value_at-lost t k [] h = refl
 value_at-lost t k (x ∷ xs) h = go (is_eq (key_cmp k x.key)) (t (At x.key)) refl refl (value_at-lost t k xs h)
   where
@@ -104,7 +104,7 @@ value_at-lost t k (x ∷ xs) h = go (is_eq (key_cmp k x.key)) (t (At x.key)) ref
     go a false e f ih = ih
 
 -- a range that has the key has the map's value
-pub value_at-slice : (low high : Place) (k : FieldList) (m : Map) → within low high (At k) ≡ true → value_at k (slice low high m) ≡ value_at k m
+pub value_at-slice : (low high : KeyPlace) (k : FieldList) (m : Map) → within low high (At k) ≡ true → value_at k (slice low high m) ≡ value_at k m
 value_at-slice low high k m h = value_at-kept (within low high) k m h
 
 -- a key that is neither equal nor below is above
@@ -164,33 +164,33 @@ value_at-write_other k j o m ne =
     go false e = rw (value_at-lost (λ x. before x (At k)) j m e) (value_at-kept (λ x. before (At k) x) j m (above_it j k ne e))
 
 -- the slices
-within_parts : (low high x : Place) → within low high x ≡ true → (before x low ≡ false) × (before x high ≡ true)
+within_parts : (low high x : KeyPlace) → within low high x ≡ true → (before x low ≡ false) × (before x high ≡ true)
 within_parts low high x h = grind arith
 
-slice-row_in : (low high : Place) (k : FieldList) (o : Option (List ℕ)) → within low high (At k) ≡ true → slice low high (row_of k o) ≡ row_of k o
+slice-row_in : (low high : KeyPlace) (k : FieldList) (o : Option (List ℕ)) → within low high (At k) ≡ true → slice low high (row_of k o) ≡ row_of k o
 slice-row_in low high k None h = refl
 slice-row_in low high k (Some v) h = rw h
 
-slice-row_out : (low high : Place) (k : FieldList) (o : Option (List ℕ)) → within low high (At k) ≡ false → slice low high (row_of k o) ≡ []
+slice-row_out : (low high : KeyPlace) (k : FieldList) (o : Option (List ℕ)) → within low high (At k) ≡ false → slice low high (row_of k o) ≡ []
 slice-row_out low high k None h = refl
 slice-row_out low high k (Some v) h = rw h
 
-slice-write : (low high : Place) (k : FieldList) (o : Option (List ℕ)) (m : Map)
+slice-write : (low high : KeyPlace) (k : FieldList) (o : Option (List ℕ)) (m : Map)
     → slice low high (write k o m) ≡ (filter (λ (e : Pair). before (At e.key) (At k)) (slice low high m) ++ slice low high (row_of k o)) ++ filter (λ (e : Pair). before (At k) (At e.key)) (slice low high m)
 slice-write low high k o m = simp (filter-append, filter-swap (λ (e : Pair). within low high (At e.key)))
 
 -- within a range that has the key the write is a write of the range
-pub slice-write_in : (low high : Place) (k : FieldList) (o : Option (List ℕ)) (m : Map) → within low high (At k) ≡ true → slice low high (write k o m) ≡ write k o (slice low high m)
+pub slice-write_in : (low high : KeyPlace) (k : FieldList) (o : Option (List ℕ)) (m : Map) → within low high (At k) ≡ true → slice low high (write k o m) ≡ write k o (slice low high m)
 slice-write_in low high k o m h = slice-write low high k o m ∙ rw (slice-row_in low high k o h)
 
-low_side : (low high x y : Place) → before y low ≡ true → within low high x ≡ true → (before x y ≡ false) × (before y x ≡ true)
+low_side : (low high x y : KeyPlace) → before y low ≡ true → within low high x ≡ true → (before x y ≡ false) × (before y x ≡ true)
 low_side low high x y e h = let a = before_upto y low x e (within_parts low high x h).0 in (before_not_after y x a, a)
 
-high_side : (low high x y : Place) → before y high ≡ false → within low high x ≡ true → (before x y ≡ true) × (before y x ≡ false)
+high_side : (low high x y : KeyPlace) → before y high ≡ false → within low high x ≡ true → (before x y ≡ true) × (before y x ≡ false)
 high_side low high x y e h = let a = before_upto x high y (within_parts low high x h).1 e in (a, before_not_after x y a)
 
 -- any other range stays
-pub slice-write_out : (low high : Place) (k : FieldList) (o : Option (List ℕ)) (m : Map) → within low high (At k) ≡ false → slice low high (write k o m) ≡ slice low high m
+pub slice-write_out : (low high : KeyPlace) (k : FieldList) (o : Option (List ℕ)) (m : Map) → within low high (At k) ≡ false → slice low high (write k o m) ≡ slice low high m
 slice-write_out low high k o m h = slice-write low high k o m ∙ rw (slice-row_out low high k o h) (go (before (At k) low) refl)
   where
     in_slice : AllByRecursion (λ (e : Pair). within low high (At e.key) ≡ true) (slice low high m)

@@ -10,4 +10,5 @@ pub mod Scans
 pub mod Rows
 pub mod Statistics
 pub mod LegalReport
+pub mod Lines
 pub mod Laws

@@ -3,7 +3,7 @@ use Rattle.std.specs.Prelude.{ℕ, ◌≡◌, Bool, true, Option, Some, None, is
 use Rattle.std.specs.List.{filter, AllByRecursion}
 use Rattle.std.specs.Ordering.{is_eq}
 use Rattle.key_tuple.specs.Order.{FieldList, key_cmp}
-use Rattle.key_tuple.specs.Place.{Place, At, before, within}
+use Rattle.key_tuple.specs.KeyPlace.{KeyPlace, At, before, within}
 
 -- a row: a key's fields and a value's bytes
 pub record Pair : Type 0 where
@@ -20,7 +20,7 @@ Ascends [] = Unit {0}
 Ascends (x ∷ xs) = AllByRecursion (λ (y : Pair). before (At x.key) (At y.key) ≡ true) xs × Ascends xs
 
 -- the rows at `low` or after it, and before `high`
-abbrev pub slice : Place → Place → Map → Map
+abbrev pub slice : KeyPlace → KeyPlace → Map → Map
 slice low high m = filter (λ (e : Pair). within low high (At e.key)) m
 
 -- the value of a key

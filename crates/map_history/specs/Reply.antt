@@ -1,7 +1,7 @@
 -- What an ordered map replies.
 use Rattle.std.specs.Prelude.{ℕ, Bool, Option, Some, None, List, [], ◌∷◌, if◌then◌else◌}
 use Rattle.key_tuple.specs.Order.{FieldList}
-use Rattle.key_tuple.specs.Place.{Place, At, cut_of, looks_ahead}
+use Rattle.key_tuple.specs.KeyPlace.{KeyPlace, At, cut_of, looks_ahead}
 use Rattle.key_tuple.specs.declared.mode.Mode.{Mode}
 use Rattle.map_history.specs.Map.{Map, Pair, MapChange, Put, Set, Del, value_at, is_allowed}
 use Rattle.map_history.specs.Operation.{Ask, Get, Make, Seek, Scan}
@@ -15,7 +15,7 @@ pub data MapReply : Type 0 where
   Duplicate : MapReply
 
 -- the first row that the cut lets pass
-abbrev pub first_after : (Place → Bool) → Map → Option Pair
+abbrev pub first_after : (KeyPlace → Bool) → Map → Option Pair
 first_after p [] = None
 first_after p (x ∷ xs) = if p (At x.key) then Some x else first_after p xs
 
@@ -25,7 +25,7 @@ or_else None o = o
 or_else (Some x) o = Some x
 
 -- the last row that the cut doesn't let pass
-abbrev pub last_before : (Place → Bool) → Map → Option Pair
+abbrev pub last_before : (KeyPlace → Bool) → Map → Option Pair
 last_before p [] = None
 last_before p (x ∷ xs) = or_else (last_before p xs) (if p (At x.key) then None else Some x)
 

@@ -2,7 +2,9 @@
 use Rattle.std.specs.Prelude.{ℕ, List, [], map, Option, Some, None}
 use Rattle.std.specs.List.{slice_get}
 use Rattle.map_history.specs.declared.columns.How.{How}
+use Rattle.map_history.specs.declared.columns.How.TheVariants as how
 use Rattle.map_history.specs.declared.columns.Note.{Note}
+use Rattle.map_history.specs.declared.columns.Note.TheVariants as note
 use Rattle.map_history.specs.declared.counts.Counts.{Counts}
 use Rattle.map_history.specs.Map.{Map, MapChange}
 use Rattle.map_history.specs.Reply.{MapReply}
@@ -11,6 +13,10 @@ use Rattle.map_history.specs.Reply.{MapReply}
 pub record Columns : Type 0 where
   pub how : How
   pub note : Note
+
+-- the columns of an answer without a hash
+abbrev pub dashes : Columns
+dashes = record { how = how.Dash; note = note.Dash }
 
 -- a piece of a scan: the rows that it prints, and the point at which they were read
 pub record ScanPiece : Type 0 where

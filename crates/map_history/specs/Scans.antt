@@ -2,22 +2,22 @@
 use Rattle.std.specs.Prelude.{ℕ, ◌≡◌, ◌-◌, ◌<◌, ◌≤◌, Bool, true, not, Option, Some, None, if◌then◌else◌, List, [], ◌∷◌, length, take}
 use Rattle.std.specs.List.{filter, flat_map, list_all}
 use Rattle.key_tuple.specs.Order.{FieldList}
-use Rattle.key_tuple.specs.Place.{Place, Start, At, End, before, not_below}
+use Rattle.key_tuple.specs.KeyPlace.{KeyPlace, Start, At, End, before, not_below}
 use Rattle.map_history.specs.Map.{Pair, Map, MapChange, map_after, slice}
 use Rattle.map_history.specs.Report.{ScanPiece}
 
 -- the place is below TO, which every place is where there is no TO
-abbrev pub is_below : Option FieldList → Place → Bool
+abbrev pub is_below : Option FieldList → KeyPlace → Bool
 is_below None x = true
 is_below (Some to) x = not (not_below to x)
 
 -- the place of the first row, or the end
-abbrev pub first_place : Map → Place
+abbrev pub first_place : Map → KeyPlace
 first_place [] = End
 first_place (row ∷ rows) = At row.key
 
 -- the lower of two places
-abbrev pub lesser : Place → Place → Place
+abbrev pub lesser : KeyPlace → KeyPlace → KeyPlace
 lesser x y = if before y x then y else x
 
 -- the rows from FROM on
@@ -34,16 +34,16 @@ later_rows pieces = flat_map (λ (piece : ScanPiece). piece.rows) pieces
 
 -- where a piece ends that begins at a place: at the map's first row that is asked for and stands after its
 -- rows, or at the first row that a later piece prints, whichever comes first
-abbrev pub cut_after : FieldList → Place → Map → Map → List ScanPiece → Place
+abbrev pub cut_after : FieldList → KeyPlace → Map → Map → List ScanPiece → KeyPlace
 cut_after from begin m rows later =
     lesser (first_place (rows_past rows (slice begin End (rows_from from m)))) (first_place (later_rows later))
 
 -- a scan that has so many rows left is at its end: the limit is reached, or no row is left below TO
-abbrev pub IsAtEnd : Option FieldList → ℕ → Place → Map → Type 0
+abbrev pub IsAtEnd : Option FieldList → ℕ → KeyPlace → Map → Type 0
 IsAtEnd to left cut m = 0 < left → filter (λ (row : Pair). is_below to (At row.key)) (slice cut End m) ≡ []
 
 -- each piece has the rows of its map from where the one before it ends, and the last one is at the end
-abbrev pub ArePieces : FieldList → Option FieldList → List MapChange → ℕ → Place → List ScanPiece → Type 0
+abbrev pub ArePieces : FieldList → Option FieldList → List MapChange → ℕ → KeyPlace → List ScanPiece → Type 0
 ArePieces from to changes left begin [] = ⊥
 ArePieces from to changes left begin (piece ∷ later) =
     let m = map_after (take piece.point changes) in

@@ -2,7 +2,7 @@
 ghost use Rattle.std.specs.Prelude.{◌≡◌, ◌≢◌, false, is_some, if◌then◌else◌};
 ghost use Rattle.std.specs.Option.{option_map};
 ghost use Rattle.key_tuple.specs.Order.{tuple_cmp};
-ghost use Rattle.key_tuple.specs.Place.{At, cut_of};
+ghost use Rattle.key_tuple.specs.KeyPlace.{At, cut_of};
 ghost use Rattle.map_history.specs.Map.{value_at};
 ghost use Rattle.map_history.specs.Operation.{operation_of, is_scan};
 ghost use Rattle.map_history.specs.Operation as asked;

@@ -8,6 +8,7 @@ mod changes;
 mod columns;
 mod counts;
 mod laws;
+mod line;
 mod op;
 mod part_list;
 mod reply;
@@ -25,6 +26,7 @@ pub use counts::Counts;
 pub use laws::{
     changes_are_local, lists_grow, maps_ascend, replies_stay, searches_find, slices_change,
 };
+pub use line::Line;
 pub use op::{Op, OpRef};
 pub use reply::{Piece, Reply, Told};
 pub use row_buf::RowBuf;

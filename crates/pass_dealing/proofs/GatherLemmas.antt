@@ -4,8 +4,8 @@ use Rattle.std.proofs.lemmas.List.{append-nil}
 use mathlib.Core.Option.{some, some-injective, some-ne-none}
 use lib.ListN.{get_elem?}
 use Rattle.latch_law.specs.Views.{longer, both_parts}
-use Rattle.index_world.specs.Spoken.{View, OwnAnswer}
-use Rattle.index_world.specs.State.{Entries}
+use Rattle.index_law.specs.Spoken.{View, OwnAnswer}
+use Rattle.index_law.specs.State.{Entries}
 use Rattle.index_engine.specs.declared.engine.Engine.{Engine}
 use Rattle.index_engine.specs.declared.engine.EnginePass.{EnginePass}
 use Rattle.index_engine.specs.Engines.{known, IsOf}

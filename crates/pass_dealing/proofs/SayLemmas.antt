@@ -2,7 +2,7 @@
 use Rattle.std.proofs.Common.{◌≡◌, ℕ, suc, ◌+◌, List, [], ◌∷◌, ◌++◌, refl, ap, sym, ◌∙◌, subst, arith, append_assoc}
 use Rattle.map_history.specs.Report.{AnswerLine}
 use Rattle.map_history.specs.LegalReport.{Line}
-use Rattle.index_world.specs.Spoken.{OwnAnswer, Spoken, spoken, spoken_at}
+use Rattle.index_law.specs.Spoken.{OwnAnswer, Spoken, spoken, spoken_at}
 use Rattle.index_engine.specs.declared.engine.EnginePass.{EnginePass}
 use Rattle.index_engine.specs.Engines.{known}
 use Rattle.lane_law.specs.Worked.{lane_sayings}

@@ -3,8 +3,8 @@ use Rattle.std.specs.Prelude.{ℕ, ◌≡◌, ◌+◌, List, [], ◌∷◌, leng
 use mathlib.Core.Option.{some}
 use lib.ListN.{get_elem?}
 use Rattle.latch_law.specs.Views.{longer}
-use Rattle.index_world.specs.Spoken.{OwnAnswer}
-use Rattle.index_world.specs.State.{Entries}
+use Rattle.index_law.specs.Spoken.{OwnAnswer}
+use Rattle.index_law.specs.State.{Entries}
 use Rattle.index_engine.specs.declared.engine.Engine.{Engine}
 use Rattle.index_engine.specs.declared.engine.EnginePass.{EnginePass}
 use Rattle.index_engine.specs.Engines.{known, IsOf}

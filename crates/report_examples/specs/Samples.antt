@@ -1,19 +1,13 @@
 -- Small runs of one lane on one index, and what is to be reported of them.
 use Rattle.std.specs.Prelude.{ℕ, List, [], ◌∷◌, codes}
 use Rattle.key_tuple.specs.Order.{FieldList}
-use Rattle.map_history.specs.declared.columns.How.TheVariants as how
-use Rattle.map_history.specs.declared.columns.Note.TheVariants as note
 use Rattle.map_history.specs.declared.counts.Counts.{Counts}
 use Rattle.map_history.specs.declared.sizes.Sizes.{Sizes}
 use Rattle.map_history.specs.Map.{MapChange, Put, Set, Del}
 use Rattle.map_history.specs.Operation.{Ask, Get, Make}
 use Rattle.map_history.specs.Reply.{MapReply, Value, Done, Absent, Duplicate}
-use Rattle.map_history.specs.Report.{Columns, Replied, AnswerLine, ChangeLine, Report}
+use Rattle.map_history.specs.Report.{Columns, Replied, AnswerLine, ChangeLine, Report, dashes}
 use Rattle.map_history.specs.LegalReport.{Line, Run, IsLegalReport}
-
--- columns that say nothing
-abbrev pub dashes : Columns
-dashes = record { how = how.Dash; note = note.Dash }
 
 -- statistics that count nothing
 abbrev pub no_counts : Counts

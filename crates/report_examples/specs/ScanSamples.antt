@@ -4,9 +4,9 @@ use Rattle.key_tuple.specs.Order.{FieldList}
 use Rattle.map_history.specs.Map.{Pair, Map, MapChange, Put}
 use Rattle.map_history.specs.Operation.{Make, Scan}
 use Rattle.map_history.specs.Reply.{Done}
-use Rattle.map_history.specs.Report.{ScanPiece, Scanned, AnswerLine, ChangeLine}
+use Rattle.map_history.specs.Report.{ScanPiece, Scanned, AnswerLine, ChangeLine, dashes}
 use Rattle.map_history.specs.LegalReport.{Line}
-use Rattle.report_examples.specs.Samples.{dashes, line, told, made}
+use Rattle.report_examples.specs.Samples.{line, told, made}
 
 -- the key of the field ab and an empty field
 abbrev pub ab : FieldList

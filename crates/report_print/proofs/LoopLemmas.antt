@@ -4,7 +4,7 @@ use Rattle.std.specs.List.{slice_get, flat_map}
 use Rattle.std.proofs.lemmas.List.{take_more, append-nil, take_all}
 use Rattle.std.proofs.lemmas.Grind.{flat_map-append}
 use Rattle.std.proofs.lemmas.Option.{get_or_from_slice_get}
-use Rattle.lane_law.proofs.Lists.{get_inside, one_at}
+use Rattle.list_facts.proofs.Places.{get_inside, one_at}
 use Rattle.io_port.specs.declared.sink.Sink.{Ghosts}
 use Rattle.report_print.specs.declared.halt.Halt.{Halt}
 use Rattle.report_print.specs.Prints.{PrintsTo}

@@ -4,7 +4,8 @@ use Rattle.std.specs.List.{slice_get, enumerate_from}
 use Rattle.std.specs.String.{string_bytes}
 use Rattle.std.specs.declared.alloc.Global.{Global}
 use Rattle.std.proofs.lemmas.Option.{slice_get_read, slice_get-get_or}
-use Rattle.lane_law.proofs.Lists.{map_get, one_at}
+use Rattle.list_facts.proofs.Elements.{map_get}
+use Rattle.list_facts.proofs.Places.{one_at}
 use Rattle.change_lines.specs.declared.made.MadeLine.{MadeLine}
 use Rattle.change_lines.specs.Made.{made_lists}
 

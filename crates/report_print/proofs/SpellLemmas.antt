@@ -6,7 +6,7 @@ use Rattle.std.proofs.lemmas.List.Folds.{flat_map-map}
 use Rattle.std.specs.List.{slice_get, AllByRecursion, flat_map, enumerate_from, zip}
 use Rattle.map_history.specs.Report.{AnswerLine, ChangeLine, IndexPart}
 use Rattle.map_history.specs.Spelling.{spell, change_text, changes_text, stats_text, lane_text}
-use Rattle.one_lane.specs.Lane.{answer_line_text}
+use Rattle.report_text.specs.Texts.{answer_line_text}
 use Rattle.change_lines.specs.declared.made.MadeLine.{MadeLine}
 use Rattle.change_lines.specs.Printed.{AreCounted, entry_in, made_text}
 use Rattle.report_print.specs.Texts as text

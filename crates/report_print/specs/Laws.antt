@@ -3,7 +3,7 @@ use Rattle.std.specs.Prelude.{ℕ, ◌≡◌, List, length, map}
 use Rattle.std.specs.List.{AllByRecursion}
 use Rattle.map_history.specs.Report.{AnswerLine, ChangeLine, IndexPart, Report}
 use Rattle.map_history.specs.Spelling.{spell}
-use Rattle.one_lane.specs.Lane.{answer_line_text}
+use Rattle.report_text.specs.Texts.{answer_line_text}
 use Rattle.change_lines.specs.declared.made.MadeLine.{MadeLine}
 use Rattle.change_lines.specs.Printed.{AreCounted, entry_in}
 use Rattle.report_print.specs.Texts.{report_text_of}

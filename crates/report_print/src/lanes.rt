@@ -7,7 +7,7 @@ use crate::halt::Halt;
 use crate::line::put_line;
 use io_port::Sink;
 use key_tuple::Blank;
-use one_lane::Texts;
+use report_text::Texts;
 use report_text::Word;
 
 /// Puts the answers of all lanes, which are numbered from 1.

@@ -11,7 +11,7 @@ use crate::line::put_line;
 use crate::statistics::put_statistics;
 use change_lines::MadeLine;
 use io_port::Sink;
-use one_lane::Texts;
+use report_text::Texts;
 use std::alloc::Global;
 
 /// Puts the report of some lanes over indexes of these names, line by line: the answers of each

@@ -2,7 +2,7 @@
 ghost use Rattle.std.specs.Prelude.{◌≡◌, IfOk, IsSome, length};
 ghost use Rattle.std.specs.List.{AllByRecursion};
 ghost use Rattle.report_text.specs.Printed.{change_made};
-ghost use Rattle.script.specs.declared.lane.Line.{Line};
+ghost use Rattle.map_history.specs.declared.line.Line.{Line};
 ghost use Rattle.change_lines.specs.Made.{made_lists};
 ghost use Rattle.change_lines.specs.Printed.{AsksChange};
 ghost use Rattle.report_print.specs.Texts.{AskChanges};
@@ -13,7 +13,7 @@ use change_log::Entry;
 use io_port::MemorySink;
 use key_tuple::{Key, NoMemory, Value};
 use map_history::{How, Note, Op, Reply, RowBuf, Told};
-use one_lane::Texts;
+use report_text::Texts;
 use script::Line;
 use std::alloc::Global;
 use std::test::Fail;

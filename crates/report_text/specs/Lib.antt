@@ -1,3 +1,4 @@
 pub mod Line
 pub mod Words
 pub mod Printed
+pub mod Texts

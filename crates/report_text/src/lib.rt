@@ -11,6 +11,7 @@ mod line;
 mod statistics;
 #[cfg(test)]
 mod tests;
+mod texts;
 mod word;
 
 pub use answers::answer;
@@ -18,4 +19,5 @@ pub use changes::change;
 pub use heads::{changes_head, lane_head, report_end, report_head};
 pub use line::put_line;
 pub use statistics::stats;
+pub use texts::Texts;
 pub use word::Word;

@@ -17,13 +17,6 @@ use crate::words::{has_name_form, is_silent, read_key, read_row};
 use map_history::Op;
 use std::alloc::Global;
 
-/// A line that says something: its number, from 1, and its operation.
-#[derive(Debug, Drop)]
-pub struct Line {
-    pub line: u32,
-    pub op: Op,
-}
-
 /// What a line of a lane says.
 #[tactic(auto, unfolding(crate::specs::Lane::lane_line))]
 pub fn read_line(alloc: Global, line: &[u8], schema: &Schema) -> Result<Option<Op>, Refusal>

@@ -19,7 +19,7 @@ mod verb;
 mod words;
 
 pub use error::ScriptError;
-pub use lane::Line;
+pub use map_history::Line;
 pub use laws::{fields_are_read_again, keys_are_read_again, refusals_are_first};
 use map_history::Sizes;
 pub use reading::{read_lane, read_schema};

@@ -3,11 +3,13 @@ ghost use Rattle.std.specs.Prelude.{◌≡◌, ◌≤◌, length, IfOk, IfErr, O
 ghost use Rattle.script.specs.Lane.{lane_of, lane_line, AreLaneLines, TakesLine};
 ghost use Rattle.script.specs.Schema.{schema_of};
 ghost use Rattle.script.specs.Steps.{GivesWhole, FailsWhole, numbered, IsRefused, HasCause};
-ghost use Rattle.script.specs.Views.{schema_text, draft_text, line_texts};
+ghost use Rattle.script.specs.Views.{schema_text, draft_text};
+ghost use Rattle.map_history.specs.Lines.{line_texts};
 
 use crate::draft::Draft;
 use crate::error::ScriptError;
-use crate::lane::{Line, read_line};
+use crate::lane::read_line;
+use map_history::Line;
 use crate::pieces::Lines;
 use crate::schema::Schema;
 use crate::{DEFAULT_SIZES, MAX_FILE_BYTES};

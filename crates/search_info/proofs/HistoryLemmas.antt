@@ -19,7 +19,7 @@ use Rattle.search_info.specs.declared.knows.Opening.{Opening}
 use Rattle.search_info.specs.declared.knows.Try.{Try}
 use Rattle.search_info.specs.History.{Start, History, known_after, IsEntry, IsBeginning, WasKnown, IsHistory}
 use Rattle.search_info.specs.Rule.{IsSoBy, IsSo}
-use Rattle.search_info.proofs.ListLemmas.{inside, one_value, at_end, empty_list}
+use Rattle.list_facts.proofs.Places.{inside, one_value, at_end, empty_list}
 
 after_snoc : (info : Info) (xs : List Entry) (e : Entry) → info_after info (map (λ (z : Entry). z.event) (xs ++ e ∷ [])) ≡ learn (info_after info (map (λ (z : Entry). z.event) xs)) e.event
 after_snoc info [] e = refl

@@ -1,4 +1,3 @@
-pub mod ListLemmas
 pub mod HistoryLemmas
 pub mod StepLemmas
 pub mod PartLemmas

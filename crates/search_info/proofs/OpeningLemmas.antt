@@ -12,7 +12,7 @@ use Rattle.search_info.specs.declared.knows.Opening.{Opening}
 use Rattle.search_info.specs.declared.law.Settings.{Settings}
 use Rattle.search_info.specs.History.{Start, History, AreStarts, IsEntry, IsHistory, known_after}
 use Rattle.search_info.specs.Rule.{Kept, Fits, opening_of, first_view, first_knows, first_words, times_made}
-use Rattle.search_info.proofs.ListLemmas.{replicate_is, single, there, reads}
+use Rattle.list_facts.proofs.Places.{replicate_is, single, there, reads}
 
 module _ (o : Opening) (starts : AreStarts o.starts) where
   abbrev Empty : History

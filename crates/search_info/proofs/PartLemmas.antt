@@ -16,7 +16,7 @@ use Rattle.search_info.specs.declared.law.Settings.{Settings}
 use Rattle.search_info.specs.History.{History}
 use Rattle.search_info.specs.Rule.{Kept, Fits, IsSo, opening_of, is_counted, times_counted}
 use Rattle.search_info.specs.Parts.{longer, middle, left_part, right_part, both_parts, spent_part}
-use Rattle.search_info.proofs.ListLemmas.{at_end, at_more, at_further, filter_at, at_filter}
+use Rattle.list_facts.proofs.Places.{at_end, at_more, at_further, filter_at, at_filter}
 use Rattle.search_info.proofs.StepLemmas.{is_at}
 
 pub middle_is : (a e : ℕ) → a + 2 ≤ e → (a < a + (e - a) / 2) × (a + (e - a) / 2 < e)

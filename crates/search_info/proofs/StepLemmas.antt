@@ -27,7 +27,7 @@ use Rattle.search_info.specs.declared.law.Settings.{Settings}
 use Rattle.search_info.specs.History.{Start, History, known_after, IsEntry, IsHistory}
 use Rattle.search_info.specs.Rule.{Kept, Fits, IsSo, opening_of, is_counted, times_counted, times_made, counted_try}
 use Rattle.search_info.specs.Steps.{KeepsNumbers, Extends, with_seen, with_try, entry_of, counting, loading, loaded, Hits, Misses, exchanged}
-use Rattle.search_info.proofs.ListLemmas.{inside, there, reads, one_value, same_some}
+use Rattle.list_facts.proofs.Places.{inside, there, reads, one_value, same_some}
 use Rattle.search_info.proofs.HistoryLemmas.{known_snoc, beginning_info, same_word, grown, grown_here, grown_begins, entry_grown, grown_so, grown_history}
 
 pub is_at : (n m : ℕ) → (n == m) ≡ true → n ≡ m
@@ -148,8 +148,8 @@ loading_keeps asked v i s xs v' told = let k = loading_same asked v i s xs in su
 
 pub exchange_keeps : (v : Knows) (i : ℕ) (s : Start) (xs : List Entry) (event : Event) (old found : ℕ) (v' : Knows) → (found ≡ old → Hits v i xs event v') → (found ≢ old → Misses v i s xs event found v') → KeepsNumbers v v'
 exchange_keeps v i s xs event old found v' hit miss = dite (ℕ_discrete found old)
-    (λ is. let h = hit is in subst (KeepsNumbers v) (sym h.told) record { opening = refl; low = refl; end = refl; lists = length-set v.seen i (xs ++ entry_of v event ∷ []) })
-    (λ isnt. let m = miss isnt in subst (KeepsNumbers v) (sym m.told) record { opening = refl; low = refl; end = refl; lists = refl })
+    (λ is. let h = hit is in subst (KeepsNumbers v) (sym h.did) record { opening = refl; low = refl; end = refl; lists = length-set v.seen i (xs ++ entry_of v event ∷ []) })
+    (λ isnt. let m = miss isnt in subst (KeepsNumbers v) (sym m.did) record { opening = refl; low = refl; end = refl; lists = refl })
 
 module _ (t : Settings) where
   -- a step after which the lists are as they were

@@ -18,7 +18,7 @@ impl Learner {
         requires own { IsPassOf self.now pass.old }
         requires index { index < length (opening self.now).starts }
         ensures own { IsSamePass pass.old pass.new × IsPassOf self.now pass.new }
-        ensures told { Recommends (view pass.old) index result (view pass.new) }
+        ensures did { Recommends (view pass.old) index result (view pass.new) }
         ensures all { CountsAll (view pass.new) index result }
     {
         let found = self.load_at::<Brand>(&mut pass.seat, index as usize, &None);
@@ -30,7 +30,7 @@ impl Learner {
         requires own { IsPassOf self.now pass.old }
         requires index { index < length (opening self.now).starts }
         ensures own { IsSamePass pass.old pass.new × IsPassOf self.now pass.new }
-        ensures told { Tells (view pass.old) index kind.Hit result (view pass.new) }
+        ensures did { Tells (view pass.old) index kind.Hit result (view pass.new) }
     {
         self.after(pass, index, &Event::Hit)
     }
@@ -40,7 +40,7 @@ impl Learner {
         requires own { IsPassOf self.now pass.old }
         requires index { index < length (opening self.now).starts }
         ensures own { IsSamePass pass.old pass.new × IsPassOf self.now pass.new }
-        ensures told { Tells (view pass.old) index kind.Miss result (view pass.new) }
+        ensures did { Tells (view pass.old) index kind.Miss result (view pass.new) }
     {
         self.after(pass, index, &Event::Miss)
     }
@@ -61,7 +61,7 @@ impl Learner {
         requires figures { AreFiguresOf unique figures.now }
         requires advice { asked_fields block.old.advice ≤ unique }
         ensures own { IsSamePass pass.old pass.new × IsPassOf self.now pass.new }
-        ensures told { let d = descent_of unique figures.now block.old rows in
+        ensures did { let d = descent_of unique figures.now block.old rows in
             Tells (view pass.old) index (kind.Descent d) result (view pass.new) }
         ensures block { TellsBlock (descent_of unique figures.now block.old rows) result block.new }
     {
@@ -82,7 +82,7 @@ impl Learner {
         requires own { IsPassOf self.now pass.old }
         requires event { IsEventAt self.now index event.now }
         ensures own { IsSamePass pass.old pass.new × IsPassOf self.now pass.new }
-        ensures told { Tells (view pass.old) index event.now result (view pass.new) }
+        ensures did { Tells (view pass.old) index event.now result (view pass.new) }
     {
         let word = self.load_at::<Brand>(&mut pass.seat, index as usize, &Some(*event));
         let before = unpack(word);

@@ -46,7 +46,7 @@ impl Learner {
         requires others { IsPassOf self.now other }
         requires next { (view pass.old).end ≡ (view other).low }
         ensures own { IsSamePass pass.old pass.new × IsPassOf self.now pass.new }
-        ensures told { view pass.new ≡ both_parts (view pass.old) (view other) }
+        ensures did { view pass.new ≡ both_parts (view pass.old) (view other) }
     {
         let end = other.end;
         let seat = other.into_seat();

@@ -26,7 +26,7 @@ impl Learner {
         requires live { seat.old.me.0.low < seat.old.me.0.end }
         requires index { index < length (opening self.now).starts }
         ensures own { IsSameSeat seat.old seat.new }
-        ensures told { Loaded event.now seat.old.me.0 index result seat.new.me.0 }
+        ensures did { Loaded event.now seat.old.me.0 index result seat.new.me.0 }
         ensures same { KeepsNumbers seat.old.me.0 seat.new.me.0 }
         ensures slots { seat.new.me.1 ≡ seat.old.me.1 }
     {
@@ -69,7 +69,7 @@ impl Learner {
         requires own { IsPassOf self.now pass.old }
         requires read { HasRead (view pass.old) index event.now word before.now }
         ensures own { IsSamePass pass.old pass.new × IsPassOf self.now pass.new }
-        ensures told { ExchangeTells (view pass.old) index event.now before.now result (view pass.new) }
+        ensures did { ExchangeTells (view pass.old) index event.now before.now result (view pass.new) }
     {
         let after = learn(before, event);
         let build = should_build(before, event);

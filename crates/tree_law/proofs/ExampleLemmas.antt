@@ -3,9 +3,9 @@ use Rattle.std.proofs.Common.{◌≡◌, ◌≢◌, ℕ, zero, suc, ◌==◌, eq
 use Rattle.std.proofs.lemmas.Bool.{both_ways}
 use Rattle.std.proofs.lemmas.Bool.Decides.{nat_tests}
 use Rattle.key_tuple.specs.Order.{FieldList}
-use Rattle.key_tuple.specs.Place.{before}
+use Rattle.key_tuple.specs.KeyPlace.{before}
 use Rattle.map_history.specs.Map.{Map}
-use Rattle.tree_law.specs.Pages.{Record, Page, Pages, IsOrderly, entries_of, is_own, first_page, first_pages}
+use Rattle.tree_law.specs.Pages.{Record, Page, Pages, IsOrderly, HasFields, entries_of, is_own, first_page, first_pages}
 use Rattle.tree_law.specs.PageMoves.{SplitsPage, halves_changes, TwoStoreys, storeys_changes, WritesPage, write_changes, ChangesOutside, outside_changes, Writes, Splits, Raises, Outside}
 use Rattle.tree_law.specs.MoveLaws.{AreReached, Opens, Moves}
 use Rattle.tree_law.specs.Example.{a, b, c, empty, row, to_page, root, leaf, fresh, table, one_map, one_height, three_rows, two_leaves, three_leaves, WorkedExample}
@@ -47,7 +47,7 @@ abbrev all_rows : List Record
 all_rows = row 0 a ∷ row 1 b ∷ row 2 c ∷ []
 
 rows_in_order : IsOrderly fields_of (root 0 all_rows)
-rows_in_order = record { fields = refl; keys = (refl, (refl, (refl, tt))); bodies = (refl, (refl, (refl, tt))); places = ((not_same 1 0 refl, (not_same 2 0 refl, tt)), ((not_same 2 1 refl, tt), (tt, tt))) }
+rows_in_order = record { fields = refl; keys = (refl, (refl, (refl, tt))); low = tt; high = tt; bodies = (refl, (refl, (refl, tt))); places = ((not_same 1 0 refl, (not_same 2 0 refl, tt)), ((not_same 2 1 refl, tt), (tt, tt))) }
 
 put_a : WritesPage (λ i. []) (one_map (entries_of one_row)) 0
 unfolding before
@@ -74,17 +74,17 @@ unfolding put_a put_b put_c
 with_rows =
     let one = Moves (λ i. 0) (λ i. 0) (λ i. []) (one_map (entries_of one_row)) (first_pages fields_of 1) (table (root 0 one_row ∷ [])) Opens (write_changes (λ i. []) (one_map (entries_of one_row)) 0 put_a)
     (record { each = ((refl, refl), tt); others = λ n ne. opened n ne.0 }) (Writes 0 put_a refl)
-    (leaves (root 0 one_row) (record { fields = refl; keys = (refl, tt); bodies = (refl, tt); places = (tt, tt) }), tt) in
+    (leaves (root 0 one_row) (record { fields = refl; keys = (refl, tt); low = tt; high = tt; bodies = (refl, tt); places = (tt, tt) }), tt) in
     let two = Moves (λ i. 0) (λ i. 0) (one_map (entries_of one_row)) (one_map (entries_of two_rows)) (table (root 0 one_row ∷ [])) (table (root 0 two_rows ∷ [])) one (write_changes (one_map (entries_of one_row)) (one_map (entries_of two_rows)) 0 put_b)
     (record { each = ((refl, refl), tt); others = λ n ne. only_first _ _ [] n ne.0 }) (Writes 0 put_b refl)
-    (leaves (root 0 two_rows) (record { fields = refl; keys = (refl, (refl, tt)); bodies = (refl, (refl, tt)); places = ((not_same 1 0 refl, tt), (tt, tt)) }), tt) in
+    (leaves (root 0 two_rows) (record { fields = refl; keys = (refl, (refl, tt)); low = tt; high = tt; bodies = (refl, (refl, tt)); places = ((not_same 1 0 refl, tt), (tt, tt)) }), tt) in
     Moves (λ i. 0) (λ i. 0) (one_map (entries_of two_rows)) (one_map three_rows) (table (root 0 two_rows ∷ [])) (table (root 0 all_rows ∷ [])) two (write_changes (one_map (entries_of two_rows)) (one_map three_rows) 0 put_c)
     (record { each = ((refl, refl), tt); others = λ n ne. only_first _ _ [] n ne.0 }) (Writes 0 put_c refl)
     (leaves (root 0 all_rows) rows_in_order, tt)
 
 -- a new page comes behind the others
 fresh_in_order : (n : ℕ) → IsOrderly fields_of (fresh n)
-fresh_in_order n = record { fields = refl; keys = tt; bodies = tt; places = tt }
+fresh_in_order n = record { fields = refl; keys = tt; low = tt; high = tt; bodies = tt; places = tt }
 
 bring : (n : ℕ) → ChangesOutside n
 bring n = record { old = None; new = Some (fresh n); was = tt; is = (eq-eqb n n refl, refl) }
@@ -127,7 +127,7 @@ raised =
     Moves (λ i. 0) (one_height 1) (one_map three_rows) (one_map three_rows) (table (root 0 all_rows ∷ fresh 1 ∷ [])) (table (root 1 (to_page 0 empty 1 ∷ []) ∷ one_leaf ∷ [])) come (storeys_changes 0 1 raise_root)
     (record { each = ((refl, refl), ((refl, refl), tt)); others = λ n ne. raised_others _ _ _ _ n ne.0 ne.1.0 })
     (Raises 0 1 raise_root (record { height = refl; heights = above_root }) refl)
-    (leaves (root 1 (to_page 0 empty 1 ∷ [])) (record { fields = refl; keys = (refl, tt); bodies = (not_same 1 0 refl, tt); places = (tt, tt) }), (leaves one_leaf (record { fields = refl; keys = (refl, (refl, (refl, tt))); bodies = (refl, (refl, (refl, tt))); places = rows_in_order.places }), tt))
+    (leaves (root 1 (to_page 0 empty 1 ∷ [])) (record { fields = refl; keys = (refl, tt); low = tt; high = tt; bodies = (not_same 1 0 refl, tt); places = (tt, tt) }), (leaves one_leaf (record { fields = refl; keys = (refl, (refl, (refl, tt))); low = tt; high = tt; bodies = (refl, (refl, (refl, tt))); places = rows_in_order.places }), tt))
 
 -- its leaf is split at `c`, and the first half at `b`
 split_at_c : SplitsPage 1 2 0
@@ -207,8 +207,8 @@ later_others x y z q u v w r (suc (suc zero)) n1 n3 n0 n2 = absurd (n2 refl)
 later_others x y z q u v w r (suc (suc (suc zero))) n1 n3 n0 n2 = absurd (n3 refl)
 later_others x y z q u v w r (suc (suc (suc (suc n)))) n1 n3 n0 n2 = refl
 
-one_in_order : (prev next : Option ℕ) (low high : Option FieldList) (place : ℕ) (key : FieldList) → length key ≡ 1 → IsOrderly fields_of (leaf prev next low high (row place key ∷ []))
-one_in_order prev next low high place key e = record { fields = refl; keys = (e, tt); bodies = (refl, tt); places = (tt, tt) }
+one_in_order : (prev next : Option ℕ) (low high : Option FieldList) (place : ℕ) (key : FieldList) → length key ≡ 1 → HasFields 1 low → HasFields 1 high → IsOrderly fields_of (leaf prev next low high (row place key ∷ []))
+one_in_order prev next low high place key e l h = record { fields = refl; keys = (e, tt); low = l; high = h; bodies = (refl, tt); places = (tt, tt) }
 
 split_first : Reached 1 three_rows two_leaves
 unfolding bring split_at_c
@@ -218,10 +218,10 @@ split_first =
     Moves (one_height 1) (one_height 1) (one_map three_rows) (one_map three_rows) (table (root 1 (to_page 0 empty 1 ∷ []) ∷ one_leaf ∷ fresh 2 ∷ [])) two_leaves come (halves_changes 1 2 0 split_at_c.halves)
     (record { each = ((refl, refl), ((refl, refl), ((refl, refl), tt))); others = λ n ne. split_others _ _ _ _ _ _ n ne.0 ne.1.0 ne.1.1.0 })
     (Splits 1 2 0 split_at_c refl refl) (
-      leaves (leaf None (Some 2) None (Some c) (row 0 a ∷ row 1 b ∷ [])) (record { fields = refl; keys = (refl, (refl, tt)); bodies = (refl, (refl, tt)); places = ((not_same 1 0 refl, tt), (tt, tt)) }),
+      leaves (leaf None (Some 2) None (Some c) (row 0 a ∷ row 1 b ∷ [])) (record { fields = refl; keys = (refl, (refl, tt)); low = tt; high = refl; bodies = (refl, (refl, tt)); places = ((not_same 1 0 refl, tt), (tt, tt)) }),
       (
-        leaves (leaf (Some 1) None (Some c) None (row 7 c ∷ [])) (one_in_order _ _ _ _ 7 c refl),
-        (leaves (root 1 (to_page 0 empty 1 ∷ to_page 1 c 2 ∷ [])) (record { fields = refl; keys = (refl, (refl, tt)); bodies = (not_same 1 0 refl, (not_same 1 0 refl, tt)); places = ((not_same 1 0 refl, tt), (tt, tt)) }), tt),
+        leaves (leaf (Some 1) None (Some c) None (row 7 c ∷ [])) (one_in_order _ _ (Some c) None 7 c refl refl tt),
+        (leaves (root 1 (to_page 0 empty 1 ∷ to_page 1 c 2 ∷ [])) (record { fields = refl; keys = (refl, (refl, tt)); low = tt; high = tt; bodies = (not_same 1 0 refl, (not_same 1 0 refl, tt)); places = ((not_same 1 0 refl, tt), (tt, tt)) }), tt),
       ),
     )
 
@@ -238,12 +238,12 @@ split_second =
     Moves (one_height 1) (one_height 1) (one_map three_rows) (one_map three_rows) here three_leaves come (halves_changes 1 3 0 split_at_b.halves)
     (record { each = ((refl, refl), ((refl, refl), ((refl, refl), ((refl, refl), tt)))); others = λ n ne. later_others _ _ _ _ _ _ _ _ n ne.0 ne.1.0 ne.1.1.0 ne.1.1.1.0 })
     (Splits 1 3 0 split_at_b refl refl) (
-      leaves (leaf None (Some 3) None (Some b) (row 0 a ∷ [])) (one_in_order _ _ _ _ 0 a refl),
+      leaves (leaf None (Some 3) None (Some b) (row 0 a ∷ [])) (one_in_order _ _ None (Some b) 0 a refl tt refl),
       (
-        leaves (leaf (Some 1) (Some 2) (Some b) (Some c) (row 7 b ∷ [])) (one_in_order _ _ _ _ 7 b refl),
+        leaves (leaf (Some 1) (Some 2) (Some b) (Some c) (row 7 b ∷ [])) (one_in_order _ _ (Some b) (Some c) 7 b refl refl refl),
         (
-          leaves (root 1 (to_page 0 empty 1 ∷ to_page 2 b 3 ∷ to_page 1 c 2 ∷ [])) (record { fields = refl; keys = (refl, (refl, (refl, tt))); bodies = (not_same 1 0 refl, (not_same 1 0 refl, (not_same 1 0 refl, tt))); places = ((not_same 2 0 refl, (not_same 1 0 refl, tt)), ((not_same 1 2 refl, tt), (tt, tt))) }),
-          (leaves (leaf (Some 3) None (Some c) None (row 7 c ∷ [])) (one_in_order _ _ _ _ 7 c refl), tt),
+          leaves (root 1 (to_page 0 empty 1 ∷ to_page 2 b 3 ∷ to_page 1 c 2 ∷ [])) (record { fields = refl; keys = (refl, (refl, (refl, tt))); low = tt; high = tt; bodies = (not_same 1 0 refl, (not_same 1 0 refl, (not_same 1 0 refl, tt))); places = ((not_same 2 0 refl, (not_same 1 0 refl, tt)), ((not_same 1 2 refl, tt), (tt, tt))) }),
+          (leaves (leaf (Some 3) None (Some c) None (row 7 c ∷ [])) (one_in_order _ _ (Some c) None 7 c refl refl tt), tt),
         ),
       ),
     )

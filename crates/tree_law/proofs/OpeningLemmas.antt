@@ -1,6 +1,6 @@
 -- The pages of an open space are lawful, and what a descent needs.
 use Rattle.std.proofs.Common.{◌≡◌, ℕ, ◌<◌, Bool, true, false, cond, Some, None, [], refl, sym, ap, ◌∙◌, subst, inl, arith, lt-ltb, ltb-true, ltb}
-use Rattle.key_tuple.specs.Place.{Start, End, before}
+use Rattle.key_tuple.specs.KeyPlace.{Start, End, before}
 use Rattle.tree_law.specs.TreeShape.{Outline, Forest, Tag, tag_of, map_tag, IsSound, NextFits, PrevFits}
 use Rattle.tree_law.specs.Pages.{Page, outline, tree_page, forest, page_entries, AreLawfulPages, IsOrderly, first_page, first_pages}
 use Rattle.tree_law.proofs.OnePageLemmas.{page_at}
@@ -44,5 +44,5 @@ module _ (fields_of : ℕ → ℕ) (indexes : ℕ) where
       go n page false f e = absurd cc
 
       order : (n : ℕ) (page : Page) (b : Bool) → cond b (Some (first_page fields_of n)) None ≡ Some page → IsOrderly fields_of page
-      order n page true f = let same : first_page fields_of n ≡ page = cc in subst (IsOrderly fields_of) same (record { fields = refl; keys = tt; bodies = tt; places = tt })
+      order n page true f = let same : first_page fields_of n ≡ page = cc in subst (IsOrderly fields_of) same (record { fields = refl; keys = tt; low = tt; high = tt; bodies = tt; places = tt })
       order n page false f = absurd cc

@@ -1,22 +1,22 @@
 -- The pages of a state, and the trees that they form.
-use Rattle.std.specs.Prelude.{ℕ, ◌≡◌, ◌≢◌, ◌==◌, nat_lt, Bool, true, false, if◌then◌else◌, Option, Some, None, List, [], ◌∷◌, length}
+use Rattle.std.specs.Prelude.{ℕ, ◌≡◌, ◌==◌, nat_lt, Bool, true, false, if◌then◌else◌, Option, Some, None, List, [], ◌∷◌, length}
 use Rattle.std.specs.List.{AllByRecursion}
 use Rattle.key_tuple.specs.Order.{FieldList}
-use Rattle.key_tuple.specs.Place.{Place, Start, At, End}
+use Rattle.key_tuple.specs.KeyPlace.{KeyPlace, Start, At, End}
 use Rattle.map_history.specs.Map.{Map}
+use Rattle.index_page.specs.Rows.{RowBody, Row}
+pub use Rattle.index_page.specs.Rows.{Bytes, Child}
+pub use Rattle.index_page.specs.Page.{PlacesDiffer, FitsLevel}
 use Rattle.tree_law.specs.TreeShape.{Pointer, Outline, Forest, IsTreeShaped, pointer_to}
 use Rattle.tree_law.specs.Contents.{HoldsMaps}
 
--- what a record carries beside its key: a value on a leaf, a page's number above
-pub data Body : Type 0 where
-  Bytes : List ℕ → Body
-  Child : ℕ → Body
+-- a record of a page is a row of it
+abbrev pub Record : Type 0
+Record = Row
 
--- a record at a place of its page
-pub record Record : Type 0 where
-  pub place : ℕ
-  pub key : FieldList
-  pub body : Body
+-- what it carries beside its key
+abbrev pub Body : Type 0
+Body = RowBody
 
 -- a page with the bounds that its frame keeps for it, and its records by ascending keys
 pub record Page : Type 0 where
@@ -34,12 +34,12 @@ abbrev pub Pages : Type 0
 Pages = ℕ → Option Page
 
 -- a page with no low key begins at the start of all keys
-abbrev pub low_place : Option FieldList → Place
+abbrev pub low_place : Option FieldList → KeyPlace
 low_place None = Start
 low_place (Some k) = At k
 
 -- a page with no high key ends at the end of all keys
-abbrev pub high_place : Option FieldList → Place
+abbrev pub high_place : Option FieldList → KeyPlace
 high_place None = End
 high_place (Some k) = At k
 
@@ -50,7 +50,7 @@ is_empty ([] ∷ fields) = is_empty fields
 is_empty ((b ∷ bs) ∷ fields) = false
 
 -- where a pointer's child begins: a key of empty fields is that of the leftmost pointer of a level
-abbrev pub from_place : FieldList → Place
+abbrev pub from_place : FieldList → KeyPlace
 from_place k = if is_empty k then Start else At k
 
 -- a record's pointer, put before others
@@ -100,21 +100,18 @@ page_entries (Some p) = entries_of p.records
 abbrev pub entries_at : Pages → ℕ → Map
 entries_at pages n = page_entries (pages n)
 
--- no two records stand at one place
-abbrev pub PlacesDiffer : List Record → Type 0
-PlacesDiffer [] = Unit {0}
-PlacesDiffer (x ∷ xs) = AllByRecursion (λ (y : Record). y.place ≢ x.place) xs × PlacesDiffer xs
+-- a bound, if there is one, has so many fields
+abbrev pub HasFields : ℕ → Option FieldList → Type 0
+HasFields n None = Unit {0}
+HasFields n (Some k) = length k ≡ n
 
--- a record carries what its page's level asks for
-abbrev pub FitsLevel : ℕ → Body → Type 0
-FitsLevel level (Bytes v) = level ≡ 0
-FitsLevel level (Child n) = level ≢ 0
-
--- what a page shows by itself: it and its keys have its index's number of fields, each record carries
+-- what a page shows by itself: it, its keys and its bounds have its index's number of fields, each record carries
 -- what the level asks for, and the places differ
 pub record IsOrderly (fields_of : ℕ → ℕ) (page : Page) : Type 0 where
   pub fields : page.fields ≡ fields_of page.index
   pub keys : AllByRecursion (λ (x : Record). length x.key ≡ page.fields) page.records
+  pub low : HasFields page.fields page.low
+  pub high : HasFields page.fields page.high
   pub bodies : AllByRecursion (λ (x : Record). FitsLevel page.level x.body) page.records
   pub places : PlacesDiffer page.records
 

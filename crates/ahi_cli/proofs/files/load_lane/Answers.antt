@@ -2,7 +2,8 @@ use Rattle.std.proofs.Common.{◌≡◌, ◌+◌, ◌-◌, ◌≤◌, Ok, length
 use Rattle.std.proofs.lemmas.Result.{err_from_is_err_and}
 use Rattle.script.specs.declared.TheConstants.{MAX_FILE_BYTES}
 use Rattle.script.specs.Lane.{lane_of}
-use Rattle.script.specs.Views.{schema_text, line_texts}
+use Rattle.script.specs.Views.{schema_text}
+use Rattle.map_history.specs.Lines.{line_texts}
 use Rattle.ahi_cli.specs.Stops.{lane_stop}
 use Rattle.ahi_cli.proofs.FileLemmas.{unloaded, long_lane, lines_ask}
 use Rattle.ahi_cli.proofs.files.load_lane.Goals as goal

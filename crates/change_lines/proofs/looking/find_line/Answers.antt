@@ -1,6 +1,6 @@
 use Rattle.std.proofs.Common.{rules}
 use Rattle.std.proofs.lemmas.List.Sorted.{answers_always}
-use Rattle.script.specs.declared.lane.Line.{Line}
+use Rattle.map_history.specs.declared.line.Line.{Line}
 use Rattle.change_lines.proofs.SearchLemmas.{found, never_lost}
 use Rattle.change_lines.proofs.looking.find_line.Goals as goal
 

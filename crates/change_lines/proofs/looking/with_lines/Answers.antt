@@ -1,6 +1,6 @@
 use Rattle.std.proofs.Common.{get_or, refl, ◌∙◌, take, arith}
 use Rattle.std.proofs.lemmas.List.{take_more}
-use Rattle.lane_law.proofs.Lists.{all_zip_push}
+use Rattle.list_facts.proofs.Elements.{all_zip_push}
 use Rattle.change_log.specs.declared.entry.Entry.{Entry}
 use Rattle.change_lines.specs.Made.{lane_texts, HasLine, IsMadeBy}
 use Rattle.change_lines.proofs.Elements.{all_get}

@@ -3,7 +3,7 @@ use Rattle.std.proofs.lemmas.List.{length-map}
 use Rattle.std.proofs.lemmas.Option.{slice_get_read}
 use Rattle.std.specs.List.{AllByRecursion}
 use Rattle.std.specs.declared.alloc.Global.{Global}
-use Rattle.lane_law.proofs.Lists.{map_get, all_at}
+use Rattle.list_facts.proofs.Elements.{map_get, all_at}
 use Rattle.change_lines.specs.declared.made.MadeLine.{MadeLine}
 use Rattle.change_lines.specs.Made.{lane_texts, made_lists}
 use Rattle.change_lines.specs.Printed.{AsksChange}

@@ -1,15 +1,15 @@
 use Rattle.std.proofs.Common.{◌≡◌, ℕ, ◌+◌, Some, IsSome, List, [], ◌∷◌, Vec, refl, ap, sym, subst}
 use Rattle.std.specs.List.{slice_get, AllByRecursion}
 use Rattle.std.specs.declared.alloc.Global.{Global}
-use Rattle.lane_law.proofs.Lists.{map_get}
+use Rattle.list_facts.proofs.Elements.{map_get}
 use Rattle.change_log.specs.declared.entry.Entry.{Entry}
 use Rattle.change_log.specs.declared.entry.Noted.{Noted}
 use Rattle.change_log.specs.Log.{Log}
 use Rattle.map_history.specs.Map.{MapChange}
 use Rattle.map_history.specs.Operation.{Ask, Get, Make, Seek, Scan, operation_of}
 use Rattle.report_text.specs.Printed.{change_asked, change_made}
-use Rattle.script.specs.declared.lane.Line.{Line}
-use Rattle.script.specs.Views.{line_text, line_texts}
+use Rattle.map_history.specs.declared.line.Line.{Line}
+use Rattle.map_history.specs.Lines.{line_text, line_texts}
 use Rattle.map_history.specs.LegalReport as legal
 use Rattle.change_lines.specs.Made.{lane_texts, HasLine}
 use Rattle.change_lines.proofs.tests.two_lanes.Goals as goal

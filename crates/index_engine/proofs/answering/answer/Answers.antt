@@ -1,6 +1,6 @@
 use Rattle.latch_space.specs.Passes.{view}
 use Rattle.map_history.specs.Operation.{operation_by}
-use Rattle.index_world.specs.Meanings.{row_in}
+use Rattle.index_law.specs.Meanings.{row_in}
 use Rattle.index_engine.proofs.OnceLemmas.{tells_then_still}
 use Rattle.index_engine.proofs.answering.answer.Goals as goal
 

@@ -3,8 +3,8 @@ use lib.ListN.{get_elem?}
 use Rattle.latch_space.specs.Passes.{view}
 use Rattle.map_history.specs.Map as map
 use Rattle.map_history.specs.Operation.{Make}
-use Rattle.index_world.specs.Law.{MakesChange}
-use Rattle.index_world.specs.Meanings.{row_in}
+use Rattle.index_law.specs.Law.{MakesChange}
+use Rattle.index_law.specs.Meanings.{row_in}
 use Rattle.index_engine.specs.Frames.{frame_without}
 use Rattle.index_engine.proofs.CallLemmas.{root_fields, can_miss}
 use Rattle.index_engine.proofs.ChangeLemmas.{leaf_is}

@@ -1,6 +1,6 @@
 use Rattle.std.proofs.Common.{Some, IsSome, ap, sym, subst, ◌∙◌}
 use Rattle.std.specs.Option.{option_map}
-use Rattle.latch_law.proofs.Lists.{same_some}
+use Rattle.list_facts.proofs.Places.{same_some}
 use Rattle.index_page.specs.Page.{PageRows}
 use Rattle.index_page.specs.Rows.{find_row}
 use Rattle.index_engine.specs.Leaf.{page_without}

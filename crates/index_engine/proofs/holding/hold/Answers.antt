@@ -11,6 +11,6 @@ take-requires-clause-lacks g c = let own = c.requires.own in let objects = ap (�
 
 -- src/holding.rt:14:1
 pub returns-clause-held : goal.returns-clause-held
-returns-clause-held g c = let held = took_leaf c.args.pass.now c.take.new.pass c.args.index c.requires.nothing c.take.ensures.told in
+returns-clause-held g c = let held = took_leaf c.args.pass.now c.take.new.pass c.args.index c.requires.nothing c.take.ensures.did in
     let most = ap (λ z. z.max_changes) c.requires.own.1.1 in
     (held.0, held.1, subst (λ n. HasAtMost n held.0) most held.2)

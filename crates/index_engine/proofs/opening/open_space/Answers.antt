@@ -1,7 +1,7 @@
 use Rattle.std.proofs.Common.{length, sym, subst, refl}
 use Rattle.latch_law.specs.Opening.{opened}
-use Rattle.index_world.specs.Law.{IsLawful}
-use Rattle.index_world.specs.Shape.{shape_for}
+use Rattle.index_law.specs.Law.{IsLawful}
+use Rattle.index_law.specs.Shape.{shape_for}
 use Rattle.index_engine.proofs.opening.open_space.Goals as goal
 
 pub open-requires-clause-lawful : goal.open-requires-clause-lawful

@@ -3,7 +3,7 @@ use lib.ListN.{get_elem?}
 use Rattle.latch_space.specs.Passes.{view}
 use Rattle.map_history.specs.Map as map
 use Rattle.map_history.specs.Operation.{Make}
-use Rattle.index_world.specs.Meanings.{row_in}
+use Rattle.index_law.specs.Meanings.{row_in}
 use Rattle.index_engine.proofs.CallLemmas.{root_level, root_fields, can_duplicate, can_refuse}
 use Rattle.index_engine.proofs.OnceLemmas.{still_quiet, quiet_more, quiet_then_tells}
 use Rattle.index_engine.proofs.RowLemmas.{found_some, found_none, quiet_then_result}

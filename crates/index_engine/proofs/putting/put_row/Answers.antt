@@ -1,7 +1,7 @@
 use Rattle.std.proofs.Common.{ap, sym, ◌∙◌}
-use Rattle.latch_law.proofs.Lists.{same_some}
+use Rattle.list_facts.proofs.Places.{same_some}
 use Rattle.map_history.specs.Map.{value_at}
-use Rattle.index_world.specs.State.{rows_of}
+use Rattle.index_law.specs.State.{rows_of}
 use Rattle.index_engine.proofs.putting.put_row.Goals as goal
 
 pub commit_put-requires-clause-held : goal.commit_put-requires-clause-held

@@ -1,4 +1,4 @@
-use Rattle.index_world.specs.Meanings.{row_in}
+use Rattle.index_law.specs.Meanings.{row_in}
 use Rattle.map_history.specs.Operation.{operation_by}
 use Rattle.index_engine.proofs.SayLemmas.{may_answer, tells_once}
 use Rattle.index_engine.proofs.saying.say.Goals as goal
@@ -9,4 +9,4 @@ read_point-point-requires-clause-rule c = may_answer c.args.pass.now c.args.inde
 
 -- src/saying.rt:15:1
 pub returns-clause-once : goal.returns-clause-once
-returns-clause-once c = tells_once c.args.pass.now c.args.index (operation_by c.args.op).ask c.args.reply (row_in c.args.row) c.requires.held c.read_point-point.new.pass c.read_point-point.result c.read_point-point.ensures.told
+returns-clause-once c = tells_once c.args.pass.now c.args.index (operation_by c.args.op).ask c.args.reply (row_in c.args.row) c.requires.held c.read_point-point.new.pass c.read_point-point.result c.read_point-point.ensures.did

@@ -1,6 +1,6 @@
 use Rattle.std.proofs.Common.{◌≡◌, ◌<◌, ◌++◌, ◌∷◌, [], length, ap, ◌∙◌, arith, List, ℕ}
 use Rattle.index_page.specs.Store.{Content}
-use Rattle.index_page.proofs.EachLemmas.{each_left}
+use Rattle.list_facts.proofs.Each.{each_left}
 use Rattle.index_page.proofs.StoreLemmas.{grows, rows_in-append}
 use Rattle.index_page.proofs.heap.vacancy.Goals as goal
 

@@ -1,5 +1,5 @@
 use Rattle.std.proofs.Common.{rules}
-use Rattle.key_tuple.specs.Place.{not_below, above}
+use Rattle.key_tuple.specs.KeyPlace.{not_below, above}
 use Rattle.index_page.proofs.search.is_past.Goals as goal
 
 pub returns-in-Ge : goal.returns-in-Ge

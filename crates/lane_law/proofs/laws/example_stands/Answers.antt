@@ -1,6 +1,7 @@
 use Rattle.std.proofs.Common.{refl}
-use Rattle.index_world.proofs.OneRowLemmas.{one_row_lemma}
-use Rattle.lane_law.specs.Example.{key, value, dashes}
+use Rattle.index_law.proofs.OneRowLemmas.{one_row_lemma}
+use Rattle.lane_law.specs.Example.{key, value}
+use Rattle.map_history.specs.Report.{dashes}
 use Rattle.lane_law.proofs.laws.example_stands.Goals as goal
 
 pub returns : goal.returns

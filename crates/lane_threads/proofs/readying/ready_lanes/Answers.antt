@@ -1,6 +1,6 @@
 use Rattle.std.proofs.Common.{◌≡◌, ◌+◌, List, ◌++◌, length, drop, suc, ap, sym, ◌∙◌, subst, arith, length-drop}
 use Rattle.std.specs.Vec.Iter.{into_iter_items}
-use Rattle.script.specs.declared.lane.Line.{Line}
+use Rattle.map_history.specs.declared.line.Line.{Line}
 use Rattle.lane_threads.specs.declared.doer.LaneDoer.{LaneDoer}
 use Rattle.lane_threads.specs.Doing.{IsReadyFor, AreReadyFor}
 use Rattle.lane_threads.proofs.BuildLemmas.{drop_at, built_more, built_all}

@@ -1,7 +1,7 @@
 use Rattle.std.proofs.Common.{List, [], ◌∷◌, ◌∙◌, arith, subst, sym}
 use Rattle.std.specs.Prelude.{Vec}
 use Rattle.std.specs.declared.alloc.Global.{Global}
-use Rattle.script.specs.declared.lane.Line.{Line}
+use Rattle.map_history.specs.declared.line.Line.{Line}
 use Rattle.lane_work.proofs.LaneLemmas.{all_push}
 use Rattle.lane_work.specs.Workable.{AreLinesOf}
 use Rattle.lane_threads.specs.Together.{AllAreLinesOf}

@@ -1,5 +1,5 @@
 use Rattle.std.proofs.Common.{◌≡◌, ◌∙◌, ◌+◌, ◌∷◌, [], ◌++◌, ap, sym, subst, refl, arith, length, length-append, take}
-use Rattle.script.specs.Views.{line_text, line_texts}
+use Rattle.map_history.specs.Lines.{line_text, line_texts}
 use Rattle.index_engine.specs.Engines.{known}
 use Rattle.lane_work.specs.Workable.{IsWorkable}
 use Rattle.lane_work.specs.Works.{Works, note_of}

@@ -1,5 +1,5 @@
 use Rattle.std.proofs.Common.{◌≡◌, ◌≤◌, length, take}
-use Rattle.script.specs.Views.{line_texts}
+use Rattle.map_history.specs.Lines.{line_texts}
 use Rattle.index_engine.specs.Engines.{known, IsOf, IsSame}
 use Rattle.lane_work.specs.Works.{Works}
 use Rattle.lane_work.proofs.lane.work_lane.Given as goal

@@ -1,6 +1,6 @@
 use Rattle.std.proofs.Common.{sym, ap, ◌∙◌, map, [], ◌∷◌}
 use Rattle.std.proofs.lemmas.List.{map-append}
-use Rattle.key_tuple.specs.Place.{cut_of}
+use Rattle.key_tuple.specs.KeyPlace.{cut_of}
 use Rattle.map_history.specs.Pairs.{pair_of, pair_by}
 use Rattle.map_history.specs.Reply.{last_before}
 use Rattle.map_history.proofs.AnswerLemmas.{last_before-in, last_before-out}

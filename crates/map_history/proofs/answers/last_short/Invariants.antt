@@ -1,5 +1,5 @@
 use Rattle.std.proofs.Common.{◌≡◌, map, length}
-use Rattle.key_tuple.specs.Place.{cut_of}
+use Rattle.key_tuple.specs.KeyPlace.{cut_of}
 use Rattle.map_history.specs.Pairs.{pairs, pair_of}
 use Rattle.map_history.specs.Reply.{last_before}
 use Rattle.map_history.proofs.answers.last_short.Given as goal

@@ -1,5 +1,5 @@
 use Rattle.std.proofs.Common.{ap, ◌∙◌}
-use Rattle.index_world.specs.Spoken.{spoken}
+use Rattle.index_law.specs.Spoken.{spoken}
 use Rattle.pass_dealing.proofs.SayLemmas.{said_all}
 use Rattle.pass_dealing.proofs.laws.lanes_are_gathered.Goals as goal
 

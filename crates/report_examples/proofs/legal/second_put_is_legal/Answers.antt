@@ -1,8 +1,9 @@
 use Rattle.std.proofs.Common.{refl, arith}
-use Rattle.key_tuple.specs.Place.{before}
+use Rattle.key_tuple.specs.KeyPlace.{before}
 use Rattle.map_history.specs.Map.{Put}
 use Rattle.map_history.specs.Operation.{Make}
-use Rattle.report_examples.specs.Samples.{second_put, second_put_told, second_put_made, dashes, line, made, a, x}
+use Rattle.report_examples.specs.Samples.{second_put, second_put_told, second_put_made, line, made, a, x}
+use Rattle.map_history.specs.Report.{dashes}
 use Rattle.report_examples.proofs.OneLane.{is_legal}
 use Rattle.report_examples.proofs.legal.second_put_is_legal.Goals as goal
 

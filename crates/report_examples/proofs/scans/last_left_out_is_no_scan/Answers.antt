@@ -1,5 +1,5 @@
 use Rattle.std.proofs.Common.{arith}
-use Rattle.key_tuple.specs.Place.{before, not_below}
+use Rattle.key_tuple.specs.KeyPlace.{before, not_below}
 use Rattle.report_examples.proofs.scans.last_left_out_is_no_scan.Goals as goal
 
 pub returns : goal.returns

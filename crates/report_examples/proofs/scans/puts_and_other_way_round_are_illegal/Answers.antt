@@ -1,5 +1,5 @@
 use Rattle.std.proofs.Common.{None, [], refl}
-use Rattle.key_tuple.specs.Place.{before, not_below}
+use Rattle.key_tuple.specs.KeyPlace.{before, not_below}
 use Rattle.map_history.specs.Operation.{Scan}
 use Rattle.report_examples.specs.Samples.{line}
 use Rattle.report_examples.specs.ScanSamples.{puts_and_scan, puts_and_scan_told, other_way_round}

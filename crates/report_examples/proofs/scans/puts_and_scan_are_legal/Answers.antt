@@ -1,8 +1,9 @@
 use Rattle.std.proofs.Common.{refl, arith, codes}
-use Rattle.key_tuple.specs.Place.{before, not_below}
+use Rattle.key_tuple.specs.KeyPlace.{before, not_below}
 use Rattle.map_history.specs.Map.{Put}
 use Rattle.map_history.specs.Operation.{Make}
-use Rattle.report_examples.specs.Samples.{dashes, line, made}
+use Rattle.report_examples.specs.Samples.{line, made}
+use Rattle.map_history.specs.Report.{dashes}
 use Rattle.report_examples.specs.ScanSamples.{ab, a_zero, a_empty, puts_and_scan, puts_and_scan_told, puts_made, in_one_piece}
 use Rattle.report_examples.proofs.OneLane.{is_legal}
 use Rattle.report_examples.proofs.scans.puts_and_scan_are_legal.Goals as goal

@@ -1,4 +1,4 @@
-use Rattle.key_tuple.specs.Place.{before, not_below}
+use Rattle.key_tuple.specs.KeyPlace.{before, not_below}
 use Rattle.report_examples.proofs.scans.row_left_out_is_no_scan.Goals as goal
 
 pub returns : goal.returns

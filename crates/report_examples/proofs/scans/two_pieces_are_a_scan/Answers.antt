@@ -1,5 +1,5 @@
 use Rattle.std.proofs.Common.{refl, arith}
-use Rattle.key_tuple.specs.Place.{before, not_below}
+use Rattle.key_tuple.specs.KeyPlace.{before, not_below}
 use Rattle.report_examples.proofs.scans.two_pieces_are_a_scan.Goals as goal
 
 pub returns : goal.returns

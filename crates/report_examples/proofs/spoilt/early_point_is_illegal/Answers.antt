@@ -1,8 +1,9 @@
 use Rattle.std.proofs.Common.{refl}
-use Rattle.key_tuple.specs.Place.{before}
+use Rattle.key_tuple.specs.KeyPlace.{before}
 use Rattle.map_history.specs.Operation.{Get}
 use Rattle.map_history.specs.Reply.{Value}
-use Rattle.report_examples.specs.Samples.{row_life, dashes, line, a, x}
+use Rattle.report_examples.specs.Samples.{row_life, line, a, x}
+use Rattle.map_history.specs.Report.{dashes}
 use Rattle.report_examples.specs.Spoilt.{early_point}
 use Rattle.report_examples.proofs.spoilt.early_point_is_illegal.Goals as goal
 

@@ -1,7 +1,8 @@
 use Rattle.std.proofs.Common.{refl, arith}
 use Rattle.map_history.specs.Operation.{Get}
 use Rattle.map_history.specs.Reply.{Absent}
-use Rattle.report_examples.specs.Samples.{row_life, dashes, line, a}
+use Rattle.report_examples.specs.Samples.{row_life, line, a}
+use Rattle.map_history.specs.Report.{dashes}
 use Rattle.report_examples.specs.Spoilt.{late_point}
 use Rattle.report_examples.proofs.spoilt.late_point_is_illegal.Goals as goal
 

@@ -2,8 +2,8 @@ use Rattle.std.proofs.Common.{◌≡◌, ℕ, zero, suc, Some, refl, ◌+◌, ar
 use Rattle.std.specs.List.{slice_get}
 use Rattle.map_history.specs.Map.{Del}
 use Rattle.map_history.specs.Operation.{Make}
-use Rattle.map_history.specs.Report.{ChangeLine}
-use Rattle.report_examples.specs.Samples.{row_life, row_life_told, dashes, line, a}
+use Rattle.map_history.specs.Report.{ChangeLine, dashes}
+use Rattle.report_examples.specs.Samples.{row_life, row_life_told, line, a}
 use Rattle.report_examples.specs.Spoilt.{missing_change}
 use Rattle.report_examples.proofs.spoilt.missing_change_is_illegal.Goals as goal
 

@@ -2,8 +2,8 @@ use Rattle.std.proofs.Common.{◌≡◌, ℕ, zero, suc, Some, refl, ap, get_or,
 use Rattle.std.specs.List.{slice_get}
 use Rattle.map_history.specs.Map.{Put}
 use Rattle.map_history.specs.Operation.{Ask, Make}
-use Rattle.map_history.specs.Report.{ChangeLine}
-use Rattle.report_examples.specs.Samples.{row_life, row_life_told, dashes, line, made, a, x, y}
+use Rattle.map_history.specs.Report.{ChangeLine, dashes}
+use Rattle.report_examples.specs.Samples.{row_life, row_life_told, line, made, a, x, y}
 use Rattle.report_examples.specs.Spoilt.{other_change}
 use Rattle.report_examples.proofs.spoilt.other_change_is_illegal.Goals as goal
 

@@ -1,8 +1,9 @@
 use Rattle.std.proofs.Common.{ℕ, refl, ap, get_or, arith}
-use Rattle.key_tuple.specs.Place.{before}
+use Rattle.key_tuple.specs.KeyPlace.{before}
 use Rattle.map_history.specs.Operation.{Get}
 use Rattle.map_history.specs.Reply.{MapReply, Value}
-use Rattle.report_examples.specs.Samples.{row_life, dashes, line, a, y}
+use Rattle.report_examples.specs.Samples.{row_life, line, a, y}
+use Rattle.map_history.specs.Report.{dashes}
 use Rattle.report_examples.specs.Spoilt.{other_value}
 use Rattle.report_examples.proofs.spoilt.other_value_is_illegal.Goals as goal
 

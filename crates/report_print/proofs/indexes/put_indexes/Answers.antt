@@ -4,7 +4,7 @@ use Rattle.std.specs.String.{string_bytes}
 use Rattle.std.proofs.lemmas.List.{length-map}
 use Rattle.std.proofs.lemmas.Slice.Zip.{length-zip}
 use Rattle.std.proofs.lemmas.Result.{err_from_is_err_and}
-use Rattle.lane_law.proofs.Lists.{zip_get, all_at}
+use Rattle.list_facts.proofs.Elements.{zip_get, all_at}
 use Rattle.change_lines.specs.Made.{made_lists}
 use Rattle.change_lines.specs.Printed.{AsksChange}
 use Rattle.report_print.specs.Texts.{index_text}

@@ -1,5 +1,6 @@
 -- Each line is one of the lane's.
-use Rattle.script.specs.Views.{schema_text, line_texts}
+use Rattle.script.specs.Views.{schema_text}
+use Rattle.map_history.specs.Lines.{line_texts}
 use Rattle.script.proofs.LaneFacts.{told_lane}
 use Rattle.script.proofs.reading.read_lane.Goals as goal
 

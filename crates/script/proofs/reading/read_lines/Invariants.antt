@@ -2,7 +2,8 @@
 use Rattle.std.proofs.Common.{◌≡◌, ◌≤◌, ◌+◌, length}
 use Rattle.script.specs.Pieces.{lines_left}
 use Rattle.script.specs.Lane.{lane_from, lane_of}
-use Rattle.script.specs.Views.{schema_text, line_texts}
+use Rattle.script.specs.Views.{schema_text}
+use Rattle.map_history.specs.Lines.{line_texts}
 use Rattle.script.proofs.Whole.{after}
 use Rattle.script.proofs.reading.read_lines.Given as goal
 

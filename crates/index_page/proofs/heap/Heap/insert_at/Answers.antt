@@ -2,7 +2,7 @@ use Rattle.std.proofs.Common.{◌≡◌, ◌≤◌, None, length, set, ap, sym, 
 use Rattle.std.proofs.lemmas.List.{length-map}
 use Rattle.index_page.specs.Rows.{Row, find_row}
 use Rattle.index_page.specs.Store.{PlaceLists, row_in, rows_in, IsStore}
-use Rattle.index_page.proofs.EachLemmas.{when_err}
+use Rattle.list_facts.proofs.Outcomes.{when_err}
 use Rattle.index_page.proofs.StoreLemmas.{spare_below, spare_others, written_store, written_rows, claimed_store, claimed_rows, find_vacant, stored_differ}
 use Rattle.index_page.proofs.heap.Heap.insert_at.Goals as goal
 

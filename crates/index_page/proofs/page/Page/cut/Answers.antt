@@ -1,5 +1,5 @@
 use Rattle.std.proofs.Common.{suc, ◌+◌, ◌-◌, ◌/◌, add-one, sym, ap, ◌∙◌, subst, arith, take, drop, List}
-use Rattle.key_tuple.specs.Place.{cut_of}
+use Rattle.key_tuple.specs.KeyPlace.{cut_of}
 use Rattle.index_page.specs.Rows.{Row}
 use Rattle.index_page.specs.Page.{PageRows}
 use Rattle.index_page.specs.Search.{AllOut, AllIn}

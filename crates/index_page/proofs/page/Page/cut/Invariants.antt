@@ -1,5 +1,5 @@
 use Rattle.std.proofs.Common.{◌≤◌, ◌-◌, length, take, drop}
-use Rattle.key_tuple.specs.Place.{cut_of}
+use Rattle.key_tuple.specs.KeyPlace.{cut_of}
 use Rattle.index_page.specs.Search.{AllOut, AllIn}
 use Rattle.index_page.proofs.page.Page.cut.Given as goal
 

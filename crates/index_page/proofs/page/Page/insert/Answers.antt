@@ -1,5 +1,5 @@
 use Rattle.std.proofs.Common.{◌≤◌, List, length, take, drop, sym, ap, ◌∙◌, subst}
-use Rattle.key_tuple.specs.Place.{not_below}
+use Rattle.key_tuple.specs.KeyPlace.{not_below}
 use Rattle.index_page.specs.declared.TheConstants.{MAX_ROWS}
 use Rattle.index_page.specs.Rows.{Row, row_of, body_by, LacksKey}
 use Rattle.index_page.specs.Page.{PageRows, IsInOrder, IsRowOf, PlacesDiffer, FitsLevel}

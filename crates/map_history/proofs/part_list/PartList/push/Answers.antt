@@ -2,7 +2,7 @@ use Rattle.std.proofs.Common.{◌≡◌, ◌+◌, ◌++◌, ◌∷◌, [], ◌�
 use Rattle.key_tuple.specs.Order.{FieldList}
 use Rattle.key_tuple.proofs.PartsLemmas.{RiseTo-push}
 use Rattle.map_history.proofs.CutLemmas.{cuts-push}
-use Rattle.map_history.proofs.EachLemmas.{as_ok}
+use Rattle.list_facts.proofs.Outcomes.{as_ok}
 use Rattle.map_history.proofs.part_list.PartList.push.Goals as goal
 
 -- the offset of the new end stands behind the others

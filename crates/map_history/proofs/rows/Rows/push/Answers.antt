@@ -1,7 +1,7 @@
 use Rattle.std.proofs.Common.{◌≡◌, ◌++◌, ◌∷◌, [], ◌∙◌, ap, sym, arith}
 use Rattle.map_history.specs.Map.{Map}
 use Rattle.map_history.specs.Rows.{row_from}
-use Rattle.map_history.proofs.EachLemmas.{as_ok, of_ok}
+use Rattle.list_facts.proofs.Outcomes.{as_ok, of_ok}
 use Rattle.map_history.proofs.RowsLemmas.{AreRows-push, rows-push}
 use Rattle.map_history.proofs.rows.Rows.push.Given.{Over}
 use Rattle.map_history.proofs.rows.Rows.push.Goals as goal

@@ -1,7 +1,7 @@
 use Rattle.std.proofs.Common.{ap, ◌∙◌}
 use lib.ListN.{get_elem?}
 use Rattle.search_info.specs.declared.knows.Opening.{Opening}
-use Rattle.search_info.proofs.ListLemmas.{inside}
+use Rattle.list_facts.proofs.Places.{inside}
 use Rattle.search_info.proofs.CallLemmas.{has_read, tells, worn_tells}
 use Rattle.search_info.proofs.learner.Learner.after.Goals as goal
 
@@ -9,12 +9,12 @@ pub load_at-word-requires-clause-index : goal.load_at-word-requires-clause-index
 load_at-word-requires-clause-index c = inside _ _ _ c.requires.event.1
 
 pub exchange-requires-clause-read : goal.exchange-requires-clause-read
-exchange-requires-clause-read c = let e = c.requires.event in has_read c.args.pass.now.seat.me.0 c.load_at-word.new.seat.me.0 c.args.index c.args.event.now c.load_at-word.result c.unpack-before.result c.load_at-word.ensures.told c.unpack-before.ensures
+exchange-requires-clause-read c = let e = c.requires.event in has_read c.args.pass.now.seat.me.0 c.load_at-word.new.seat.me.0 c.args.index c.args.event.now c.load_at-word.result c.unpack-before.result c.load_at-word.ensures.did c.unpack-before.ensures
     c.if-before.false c.args.pass.now.all e.0 (ap (λ (o : Opening). get_elem? o.starts c.args.index) c.requires.own.1 ∙ e.1) e.2
 
-pub returns-clause-told : goal.returns-clause-told
-returns-clause-told c = let e = c.requires.event in tells c.args.pass.now.seat.me.0 c.load_at-word.new.seat.me.0 c.args.index c.args.event.now c.load_at-word.result c.unpack-before.result c.load_at-word.ensures.told c.unpack-before.ensures
-    c.if-before.false c.args.pass.now.all e.0 (ap (λ (o : Opening). get_elem? o.starts c.args.index) c.requires.own.1 ∙ e.1) e.2 c.exchange.new.pass.seat.me.0 c.exchange.result c.exchange.ensures.told
+pub returns-clause-did : goal.returns-clause-did
+returns-clause-did c = let e = c.requires.event in tells c.args.pass.now.seat.me.0 c.load_at-word.new.seat.me.0 c.args.index c.args.event.now c.load_at-word.result c.unpack-before.result c.load_at-word.ensures.did c.unpack-before.ensures
+    c.if-before.false c.args.pass.now.all e.0 (ap (λ (o : Opening). get_elem? o.starts c.args.index) c.requires.own.1 ∙ e.1) e.2 c.exchange.new.pass.seat.me.0 c.exchange.result c.exchange.ensures.did
 
-pub returns-then-before-clause-told : goal.returns-then-before-clause-told
-returns-then-before-clause-told c = worn_tells c.args.pass.now.seat.me.0 c.load_at-word.new.seat.me.0 c.args.index c.args.event.now c.load_at-word.result c.unpack-before.result c.load_at-word.ensures.told c.unpack-before.ensures c.if-before.true
+pub returns-then-before-clause-did : goal.returns-then-before-clause-did
+returns-then-before-clause-did c = worn_tells c.args.pass.now.seat.me.0 c.load_at-word.new.seat.me.0 c.args.index c.args.event.now c.load_at-word.result c.unpack-before.result c.load_at-word.ensures.did c.unpack-before.ensures c.if-before.true

@@ -1,4 +1,4 @@
-use Rattle.search_info.proofs.ListLemmas.{there}
+use Rattle.list_facts.proofs.Places.{there}
 use Rattle.search_info.proofs.learner.Learner.after_miss.Goals as goal
 
 pub after-requires-clause-event : goal.after-requires-clause-event

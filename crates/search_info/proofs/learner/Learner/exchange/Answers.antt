@@ -6,7 +6,7 @@ use Rattle.learning.proofs.LearningLemmas.{learn_bounded}
 use Rattle.search_info.specs.declared.knows.Opening.{Opening}
 use Rattle.search_info.specs.declared.knows.Entry.{Entry}
 use Rattle.search_info.specs.History.{Start, known_after}
-use Rattle.search_info.proofs.ListLemmas.{inside, one_value}
+use Rattle.list_facts.proofs.Places.{inside, one_value}
 use Rattle.search_info.proofs.CallLemmas.{overtakes, unpacked_word}
 use Rattle.search_info.proofs.learner.Learner.exchange.Goals as goal
 
@@ -17,8 +17,8 @@ pack-new-requires c = let r = c.requires.read in
 pub exchange_at-found-requires-clause-index : goal.exchange_at-found-requires-clause-index
 exchange_at-found-requires-clause-index c = let r = c.requires.read in subst (λ (o : Opening). c.args.index < length o.starts) c.requires.own.1 (inside _ _ _ r.is_start)
 
-pub returns-else-found-word-clause-told : goal.returns-else-found-word-clause-told
-returns-else-found-word-clause-told c = let r = c.requires.read in let v = c.args.pass.now.seat.me.0 in let before = c.args.before.now in
+pub returns-else-found-word-clause-did : goal.returns-else-found-word-clause-did
+returns-else-found-word-clause-did c = let r = c.requires.read in let v = c.args.pass.now.seat.me.0 in let before = c.args.before.now in
     let late = λ (s : Start) (xs : List Entry) (at : get_elem? v.opening.starts c.args.index ≡ some s) (seen : get_elem? v.seen c.args.index ≡ some xs).
     overtakes v c.exchange_at-found.new.seat.me.0 c.args.index s xs c.args.event.now before c.unpack.result c.exchange_at-found.result at
     (r.before_is ∙ (λ k. known_after (one_value v.opening.starts c.args.index r.start s r.is_start at k) (one_value v.seen c.args.index r.list xs r.is_seen seen k)))

@@ -3,7 +3,7 @@ use Rattle.search_info.specs.declared.knows.Entry.{Entry}
 use Rattle.learning.specs.Word.{word_of}
 use Rattle.search_info.specs.History.{known_after}
 use Rattle.search_info.specs.Steps.{Hits}
-use Rattle.search_info.proofs.ListLemmas.{one_value}
+use Rattle.list_facts.proofs.Places.{one_value}
 use Rattle.search_info.proofs.StepLemmas.{exchanges, exchange_keeps}
 use Rattle.search_info.proofs.learner.Learner.exchange_at.Goals as goal
 

@@ -1,7 +1,7 @@
 use Rattle.std.proofs.Common.{ap, ◌∙◌, arith}
 use lib.ListN.{get_elem?}
 use Rattle.search_info.specs.declared.knows.Opening.{Opening}
-use Rattle.search_info.proofs.ListLemmas.{there}
+use Rattle.list_facts.proofs.Places.{there}
 use Rattle.search_info.proofs.StepLemmas.{loads, loading_keeps}
 use Rattle.search_info.proofs.learner.Learner.load_at.Goals as goal
 
@@ -13,4 +13,4 @@ load-requires g c = let s = there c.args.self.now.settings.starts.items c.args.i
 )
 
 pub returns-clause-same : goal.returns-clause-same
-returns-clause-same g c = let l = c.load.ensures.2.0 in loading_keeps g.X.Asks.event c.args.seat.now.me.0 c.args.index l.start l.list c.load.new.seat.me.0 l.told
+returns-clause-same g c = let l = c.load.ensures.2.0 in loading_keeps g.X.Asks.event c.args.seat.now.me.0 c.args.index l.start l.list c.load.new.seat.me.0 l.did

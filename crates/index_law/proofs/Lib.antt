@@ -1,0 +1,5 @@
+pub mod FollowingLemmas
+pub mod KeepingLemmas
+pub mod StayingLemmas
+pub mod OpeningLemmas
+pub mod OneRowLemmas

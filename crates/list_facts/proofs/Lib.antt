@@ -1,0 +1,5 @@
+pub mod Places
+pub mod Elements
+pub mod Each
+pub mod Orders
+pub mod Outcomes

@@ -1,5 +1,0 @@
-pub mod OneLane
-pub mod Law
-pub mod Texts
-pub mod History
-pub mod Lane
