@@ -5,6 +5,7 @@ use ahi_cli::{Status, run_words};
 use io_port::{FileShelf, OutSink};
 use lanes::NoGate;
 use std::env;
+use std::io;
 use std::io::ErrorKind;
 use std::process::ExitCode;
 
@@ -14,8 +15,15 @@ fn main(rt: HostRuntime) -> ExitCode {
     let Some(words) = words(&rt) else {
         return ExitCode::from(Status::NoMemory.number());
     };
-    let (mut shelf, mut sink) = (FileShelf::new(&rt), OutSink::new(&rt));
+    let Ok(mut sink) = OutSink::new(rt.alloc(), io::writer(&rt)) else {
+        return ExitCode::from(Status::NoMemory.number());
+    };
+    let mut shelf = FileShelf::new(&rt);
     let status = run_words(&rt, &rt, &words, &mut shelf, &mut sink, &NoGate, &mut None);
+    let status = match sink.finish() {
+        Ok(_) => status,
+        Err(_) => Status::SinkFault,
+    };
     ExitCode::from(status.number())
 }
 

@@ -1,6 +1,6 @@
 use Rattle.std.proofs.Common.{◌≤◌, ◌-◌, length, take}
 use Rattle.std.specs.Io.KnownBytes.{Appends}
-use Rattle.io_port.proofs.streams.write_through.Given as goal
+use Rattle.io_port.proofs.streams.write_whole.Given as goal
 
 -- what was taken so far is what the writer has more
 abbrev pub invariant-writes : goal.invariant-writes
