@@ -1,5 +1,6 @@
 -- The lowest bit of a hash, and what a fold depends on.
 use Rattle.std.proofs.Common.{◌≡◌, ℕ, ◌+◌, ◌-◌, ◌*◌, ◌%◌, ◌^◌, ◌≤◌, ◌<◌, List, [], ◌∷◌, ◌++◌, fold, flat_map, map, bit_xor, refl, sym, ap, ◌∙◌, arith}
+use Rattle.std.proofs.lemmas.List.Sums.{fold-append}
 use Rattle.std.proofs.lemmas.Nat.{xor_mod, mod_below, pow_pos}
 use Rattle.std.proofs.Math.Pow.{mod-mod-pow}
 use Rattle.std.specs.Int.{bytes_high_first}
@@ -22,6 +23,7 @@ low_of [] hash = refl
 low_of (byte ∷ bytes) hash = low_of bytes (hash_byte hash byte) ∙ ap (λ (bit : ℕ). fold bit_xor bit (map (λ byte. byte % 2) bytes)) (hash_byte-low hash byte)
 
 pub lowest_bit : (index : ℕ) (s : FieldList) (p : Params) (bits : ℕ) → 1 ≤ bits → fold_of index s p bits % 2 ≡ lowest_bits (prefix_bytes index s p)
+unfolding fold_of
 lowest_bit index s p bits some =
     let hash : ℕ = hash_of (prefix_bytes index s p) in
     let rest : (bits - 1) + 1 ≡ bits = omega arith in
@@ -29,7 +31,19 @@ lowest_bit index s p bits some =
     short ∙ low_of (prefix_bytes index s p) 0xcbf29ce484222325
 
 pub fold_below : (index : ℕ) (s : FieldList) (p : Params) (bits : ℕ) → fold_of index s p bits < 2 ^ bits
+unfolding fold_of
 fold_below index s p bits = mod_below (hash_of (prefix_bytes index s p)) (2 ^ bits) (pow_pos bits)
 
 pub same_prefix : (index : ℕ) (s t : FieldList) (p q : Params) (bits : ℕ) → whole_fields s p ≡ whole_fields t q → next_bytes s p ≡ next_bytes t q → fold_of index s p bits ≡ fold_of index t q bits
+unfolding fold_of
 same_prefix index s t p q bits whole next = λ i. hash_of (bytes_high_first 4 index ++ flat_map with_length (whole i) ++ next i) % 2 ^ bits
+
+-- the hash of a prefix, taken part by part
+pub prefix_hash : (index : ℕ) (s : FieldList) (p : Params) (start whole hash : ℕ) → start ≡ fold hash_byte 0xcbf29ce484222325 (bytes_high_first 4 index) → whole ≡ fold hash_byte start (flat_map with_length (whole_fields s p)) → hash ≡ fold hash_byte whole (next_bytes s p) → hash ≡ hash_of (prefix_bytes index s p)
+prefix_hash index s p start whole hash first fields next =
+    let four : List ℕ = bytes_high_first 4 index in
+    let all : List ℕ = flat_map with_length (whole_fields s p) in
+    next
+    ∙ ap (λ (n : ℕ). fold hash_byte n (next_bytes s p)) (fields ∙ ap (λ (n : ℕ). fold hash_byte n all) first)
+    ∙ sym (fold-append hash_byte (fold hash_byte 0xcbf29ce484222325 four) all (next_bytes s p))
+    ∙ sym (fold-append hash_byte 0xcbf29ce484222325 four (all ++ next_bytes s p))

@@ -30,7 +30,7 @@ prefix_bytes index fields params =
     bytes_high_first 4 index ++ flat_map with_length (whole_fields fields params) ++ next_bytes fields params
 
 -- the fold: the low bits of the hash
-abbrev pub fold_of : ℕ → FieldList → Params → ℕ → ℕ
+unfoldable pub fold_of : ℕ → FieldList → Params → ℕ → ℕ
 fold_of index fields params bits = hash_of (prefix_bytes index fields params) % 2 ^ bits
 
 -- how many fields the parameters ask for
