@@ -98,7 +98,7 @@ greater_key (t ∷ ts) (k ∷ ks) e = go (slice_cmp nat_cmp k t) (slice_cmp nat_
     go Greater r q e more = absurd cc
 
 -- a key before the tuple's key is left out in each mode
-before_left_out : (mode : Mode) (tuple : FieldList) (x : KeyPlace) → before x (At tuple) ≡ true → cut_of mode tuple x ≡ false
+pub before_left_out : (mode : Mode) (tuple : FieldList) (x : KeyPlace) → before x (At tuple) ≡ true → cut_of mode tuple x ≡ false
 unfolding before above not_below
 before_left_out mode tuple Start e = starts mode
   where
