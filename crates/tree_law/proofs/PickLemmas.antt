@@ -7,7 +7,7 @@ use Rattle.index_page.specs.Rows.{RowBody, Bytes, Child, Row, last_row, last_aft
 use Rattle.index_page.specs.Page.{FitsLevel}
 use Rattle.tree_law.specs.TreeShape.{Pointer, In, first_from, ranges, Rise, HasCut, pointer_to}
 use Rattle.tree_law.specs.PickLaws.{CutRange, AreInner, PicksRange, RangesArePicked, DescentSteps}
-use Rattle.tree_law.proofs.RecordLemmas.{tree_is, pointers-append, pointer_is}
+use Rattle.tree_law.proofs.PageRowLemmas.{tree_is, pointers-append, pointer_is}
 use Rattle.tree_law.proofs.DescentLemmas.{child_has_cut}
 use Rattle.list_facts.proofs.Each.{each_right}
 use Rattle.tree_law.specs.Pages.{is_empty, from_place, pointers_of, outline, forest, low_place, high_place}
@@ -130,11 +130,11 @@ descent_steps indexes fields_of heights maps pages law p cut number level page i
     let rise = sound.rise over in
     let begins = sound.begins over in
     let bodies = (law.orderly number page is).bodies in
-    let inner = are_inner page.level (λ e. omega (arith, e, above)) page.records bodies in
-    let down : (n : ℕ) → CutRange p page.records (high_place page.high) n → HasCut trees p page.index level n =
-        λ n r. subst (HasCut trees p page.index level) r.child (child_has_cut indexes heights trees law.shape p page.index level number (outline page) there refl above r.range r.among r.from r.to) in
+    let inner = are_inner page.level (λ e. omega (arith, e, above)) page.rows bodies in
+    let down : (n : ℕ) → CutRange p page.rows (high_place page.high) n → HasCut trees p page.index level n =
+    λ n r. subst (HasCut trees p page.index level) r.child (child_has_cut indexes heights trees law.shape p page.index level number (outline page) there refl above r.range r.among r.from r.to) in
     record {
-      last = λ left right x n split last body outs ins. down n (pick_last p cut page.records left right (high_place page.high) x n split last body outs ins (each_right _ left right (subst AreInner split inner)) high rise);
+      last = λ left right x n split last body outs ins. down n (pick_last p cut page.rows left right (high_place page.high) x n split last body outs ins (each_right _ left right (subst AreInner split inner)) high rise);
       first = λ x ys n is_first body ins.
           down n (subst (λ rows. CutRange p rows (high_place page.high) n) (sym is_first)
           (pick_first p cut x ys (low_place page.low) (high_place page.high) n body ins (subst AreInner is_first inner).1 (ap (λ rows. first_from (pointers_of rows) (high_place page.high)) (sym is_first) ∙ begins) low high (subst (λ rows. Rise (pointers_of rows) (high_place page.high)) is_first rise)));

@@ -36,9 +36,9 @@ RangesArePicked = (p : KeyPlace → Bool) → IsCut p → PicksRange p
 
 -- one level down: that row points to the page of the level below that has the cut
 pub record StepsDown (trees : Forest) (p : KeyPlace → Bool) (page : Page) (level : ℕ) : Type 0 where
-  pub last : (left right : List Row) (x : Row) (n : ℕ) → page.records ≡ left ++ right → last_row left ≡ Some x
+  pub last : (left right : List Row) (x : Row) (n : ℕ) → page.rows ≡ left ++ right → last_row left ≡ Some x
       → x.body ≡ Child n → AllOut p left → AllIn p right → HasCut trees p page.index level n
-  pub first : (x : Row) (ys : List Row) (n : ℕ) → page.records ≡ x ∷ ys → x.body ≡ Child n → AllIn p ys
+  pub first : (x : Row) (ys : List Row) (n : ℕ) → page.rows ≡ x ∷ ys → x.body ≡ Child n → AllIn p ys
       → HasCut trees p page.index level n
 
 -- so it is on each page above the leaves that has the cut
