@@ -2,7 +2,7 @@
 ghost use Rattle.std.specs.Prelude.{◌≡◌, ◌≤◌, length, IfOk, OnErr, IsSome};
 ghost use Rattle.key_tuple.specs.Limits.{IsWithinLimits};
 ghost use Rattle.index_page.specs.declared.TheConstants.{MAX_ROWS};
-ghost use Rattle.index_page.specs.Rows.{row_of, body_by, find_row, LacksKey};
+ghost use Rattle.index_page.specs.Rows.{placed_row, body_by, find_row, LacksKey};
 ghost use Rattle.index_page.specs.Page.{FitsLevel};
 ghost use Rattle.index_page.specs.Changes.{Inserts, Deletes};
 
@@ -21,7 +21,7 @@ impl Page {
         requires body { FitsLevel self.old.head.level (body_by body) }
         requires room { length self.old.rows ≤ MAX_ROWS }
         ensures ok { IfOk result (λ place.
-            Inserts self.old self.new (row_of place (A.fields_of key.now) (body_by body.entry))) }
+            Inserts self.old self.new (placed_row place (A.fields_of key.now) (body_by body.entry))) }
         ensures err { OnErr result (self.new ≡ self.old) }
     {
         let cut = self.cut(key, Mode::Ge);
