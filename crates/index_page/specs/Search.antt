@@ -1,5 +1,5 @@
 -- What a search in a page tells.
-use Rattle.std.specs.Prelude.{ℕ, ◌≡◌, Bool, true, false, Option, Some, None, List, ◌++◌, slice_get}
+use Rattle.std.specs.Prelude.{ℕ, ◌≡◌, ◌≤◌, Bool, true, false, Option, Some, None, List, ◌++◌, length, take, drop, slice_get}
 use Rattle.std.specs.List.{AllByRecursion}
 use Rattle.key_tuple.specs.Order.{FieldList}
 use Rattle.key_tuple.specs.KeyPlace.{KeyPlace, At, cut_of}
@@ -34,6 +34,13 @@ pub record Finds (mode : Mode) (tuple : FieldList) (rows : List Row) (spot : Spo
   pub after_at : IsAt rows spot.after (first_of_rows right)
   pub low : spot.low ≡ agreement tuple (last_of_rows left)
   pub up : spot.up ≡ agreement tuple (first_of_rows right)
+  pub cut : spot.cut ≡ length left
+
+-- the mode's cut leaves out as many of the first rows as the number says, and admits the rest
+pub record CutsAt (mode : Mode) (tuple : FieldList) (rows : List Row) (cut : ℕ) : Type 0 where
+  pub within : cut ≤ length rows
+  pub out : AllOut (cut_of mode tuple) (take cut rows)
+  pub past : AllIn (cut_of mode tuple) (drop cut rows)
 
 -- the row with that number, if a number is given
 abbrev pub nth_row : List Row → Option ℕ → Option Row

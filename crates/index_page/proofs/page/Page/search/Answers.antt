@@ -1,5 +1,5 @@
 use Rattle.std.proofs.Common.{◌≡◌, length, take, drop, sym, ap, ◌∙◌, subst, arith}
-use Rattle.std.proofs.lemmas.List.{take-append-drop}
+use Rattle.std.proofs.lemmas.List.{take-append-drop, length-take-le}
 use Rattle.index_page.specs.Rows.{first_of_rows, IsAt}
 use Rattle.index_page.specs.Page.{PageRows}
 use Rattle.index_page.specs.Search.{agreement, nth_row}
@@ -32,4 +32,5 @@ returns g c =
       after_at = subst (IsAt rows c.beside-after.result.0) first c.beside-after.ensures.place;
       low = c.beside-before.ensures.figures ∙ ap (agreement tuple) last;
       up = c.beside-after.ensures.figures ∙ ap (agreement tuple) first;
+      cut = sym (length-take-le c.cut-cut.result rows c.cut-cut.ensures.within);
     }
