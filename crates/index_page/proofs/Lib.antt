@@ -5,3 +5,4 @@ pub mod StoreLemmas
 pub mod OrderLemmas
 pub mod BesideLemmas
 pub mod SpotLemmas
+pub mod LoadLemmas

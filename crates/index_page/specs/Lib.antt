@@ -4,3 +4,4 @@ pub mod Search
 pub mod Changes
 pub mod Laws
 pub mod Store
+pub mod Loads
