@@ -6,3 +6,5 @@ pub mod OrderLemmas
 pub mod BesideLemmas
 pub mod SpotLemmas
 pub mod LoadLemmas
+pub mod HalvesLemmas
+pub mod RoomLemmas

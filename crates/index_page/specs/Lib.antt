@@ -5,3 +5,4 @@ pub mod Changes
 pub mod Laws
 pub mod Store
 pub mod Loads
+pub mod LoadLaws

@@ -23,7 +23,7 @@ pub use body::Body;
 pub use charges::charge;
 pub use copy::PageCopy;
 pub use head::PageHead;
-pub use laws::{places_tell_rows, spots_tell_keys};
+pub use laws::{halves_are_near, loads_add_up, places_tell_rows, rows_have_room, spots_tell_keys};
 pub use page::Page;
 pub use row_ref::RowRef;
 pub use spot::{Place, Spot};

@@ -1,7 +1,7 @@
 //! How much of its room a page's rows take.
-ghost use Rattle.std.specs.Prelude.{◌≡◌, ◌-◌};
+ghost use Rattle.std.specs.Prelude.{◌≡◌, ◌<◌, ◌-◌, length};
 ghost use Rattle.index_page.specs.declared.TheConstants.{PAGE_ROOM};
-ghost use Rattle.index_page.specs.Loads.{load_of};
+ghost use Rattle.index_page.specs.Loads.{load_of, HalvesRows};
 
 use crate::PAGE_ROOM;
 use crate::page::Page;
@@ -29,5 +29,24 @@ impl Page {
         } else {
             0
         }
+    }
+
+    /// After how many rows a split cuts the page: as near to half of the load as rows allow, and the
+    /// first such cut.
+    pub fn split_point(&self) -> u32
+        requires { 1 < length self.now.rows }
+        ensures { HalvesRows self.now.rows result }
+    {
+        let load = self.load();
+        let (mut cut, mut least) = (0, load);
+        let mut left = 0;
+        for i in 0..self.rows.len() {
+            left += u64::from(self.rows.stored(i).1.charge());
+            let larger = left.max(load - left);
+            if larger < least {
+                (cut, least) = (i + 1, larger);
+            }
+        }
+        cut as u32
     }
 }
