@@ -4,3 +4,7 @@ pub mod KeyLemmas
 pub mod StoreLemmas
 pub mod OrderLemmas
 pub mod BesideLemmas
+pub mod SpotLemmas
+pub mod LoadLemmas
+pub mod HalvesLemmas
+pub mod RoomLemmas

@@ -1,10 +1,13 @@
 //! One stored row.
-ghost use Rattle.std.specs.Prelude.{◌≡◌, ℕ, List, [], IfOk, OnOk};
+ghost use Rattle.std.specs.Prelude.{◌≡◌, ◌≤◌, ℕ, List, [], IfOk, OnOk};
 ghost use Rattle.key_tuple.specs.Limits.{IsWithinLimits};
 ghost use Rattle.index_page.specs.Rows.{body_by, Bytes, Child};
-ghost use Rattle.index_page.specs.Page.{IsShort};
+ghost use Rattle.index_page.specs.declared.TheConstants.{MAX_CHARGE};
+ghost use Rattle.index_page.specs.Page.{HasShortValue};
+ghost use Rattle.index_page.specs.Loads.{charge_of};
 
 use crate::body::Body;
+use crate::charges::{CHILD_SIZE, record_charge, size_with_length};
 use key_tuple::{FieldBuffer, Fields};
 use std::alloc::{AllocError, Global};
 use std::marker::Model;
@@ -40,7 +43,7 @@ impl Record {
         requires { IsWithinLimits (A.fields_of key.now) }
         ensures key { OnOk result (self.new.key ≡ A.fields_of key.now) }
         ensures body { OnOk result (self.new.body ≡ body_by body.entry) }
-        ensures short { OnOk result (IsShort (body_by body.entry)) }
+        ensures short { OnOk result (HasShortValue (body_by body.entry)) }
     {
         fill_key(&mut self.key, key)?;
         self.value.clear();
@@ -58,6 +61,20 @@ impl Record {
     pub(crate) fn clear(&mut self) {
         self.key.clear();
         self.value.clear();
+    }
+
+    /// What a page is charged for it.
+    pub(crate) fn charge(&self) -> u16
+        requires limits { IsWithinLimits self.now.key }
+        requires short { HasShortValue self.now.body }
+        ensures charge { result ≡ charge_of self.now.key self.now.body }
+        ensures most { result ≤ MAX_CHARGE }
+    {
+        let beside = match self.child {
+            None => size_with_length(&self.value),
+            Some(_) => CHILD_SIZE,
+        };
+        record_charge(&self.key, beside)
     }
 
     /// The value's bytes.
