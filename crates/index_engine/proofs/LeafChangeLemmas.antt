@@ -9,8 +9,8 @@ use Rattle.key_tuple.proofs.PlaceLemmas.{before-itself, before_not_after}
 use Rattle.map_history.specs.Map.{Pair, Put, Del, value_at, write, row_of, after_change}
 use Rattle.map_history.proofs.ApplyLemmas.{after-allowed}
 use Rattle.list_facts.proofs.Each.{filter_each, filter_none, each_weaker}
-use Rattle.index_page.specs.Page.{PageRows, Ascends, PlacesDiffer}
-use Rattle.index_page.specs.Rows.{Row, Bytes, row_of as row_at, find_row}
+use Rattle.index_page.specs.Page.{PageRows, RowsAscend, PlacesDiffer}
+use Rattle.index_page.specs.Rows.{Row, Bytes, placed_row as row_at, find_row}
 use Rattle.index_page.specs.Changes.{Inserts, Deletes}
 use Rattle.index_law.specs.State.{pair_of, rows_of}
 use Rattle.index_engine.specs.Leaf.{HasRow}
@@ -27,7 +27,7 @@ abbrev AreAbove : FieldList → List Row → Type 0
 AreAbove k rows = AllByRecursion (λ (x : Row). before (At k) (At x.key) ≡ true) rows
 
 -- around each row of an ascending list are those below it and those above it
-around : (below : List Row) (row : Row) (above : List Row) → Ascends (below ++ row ∷ above) → AreBelow row.key below × AreAbove row.key above
+around : (below : List Row) (row : Row) (above : List Row) → RowsAscend (below ++ row ∷ above) → AreBelow row.key below × AreAbove row.key above
 around [] row above rise = (tt, rise.0)
 around (x ∷ below) row above rise =
     let rest = around below row above rise.1 in
@@ -74,7 +74,7 @@ module _ (k : FieldList) (below mid above : List Row) (low : AreBelow k below) (
   write-between o = rw (lower_part, upper_part) refl
 
 -- a new row is a put
-pub put-rows : (old new : PageRows) (place : ℕ) (k : FieldList) (v : List ℕ) → Ascends new.rows → value_at k (rows_of old) ≡ None → Inserts old new (row_at place k (Bytes v)) → rows_of new ≡ after_change (rows_of old) (Put k v)
+pub put-rows : (old new : PageRows) (place : ℕ) (k : FieldList) (v : List ℕ) → RowsAscend new.rows → value_at k (rows_of old) ≡ None → Inserts old new (row_at place k (Bytes v)) → rows_of new ≡ after_change (rows_of old) (Put k v)
 put-rows old new place k v rise absent put =
     ap (map pair_of) put.is ∙ map-append pair_of put.below (row ∷ put.above) ∙ sym (append_assoc (map pair_of put.below) (pair_of row ∷ []) (map pair_of put.above))
     ∙ sym (write-between k put.below [] put.above sides.0 tt sides.1 (Some v)) ∙ ap (λ rows. write k (Some v) (map pair_of rows)) (sym put.was)
@@ -84,17 +84,17 @@ put-rows old new place k v rise absent put =
     row = row_at place k (Bytes v)
 
     sides : AreBelow k put.below × AreAbove k put.above
-    sides = around put.below row put.above (subst Ascends put.is rise)
+    sides = around put.below row put.above (subst RowsAscend put.is rise)
 
 -- a row less is a del
-pub del-rows : (old new : PageRows) (place : ℕ) (k : FieldList) → Ascends old.rows → PlacesDiffer old.rows → HasRow old place k → Deletes old new place → rows_of new ≡ after_change (rows_of old) (Del k)
+pub del-rows : (old new : PageRows) (place : ℕ) (k : FieldList) → RowsAscend old.rows → PlacesDiffer old.rows → HasRow old place k → Deletes old new place → rows_of new ≡ after_change (rows_of old) (Del k)
 del-rows old new place k rise differ has taken =
     ap (map pair_of) taken.is ∙ map-append pair_of taken.left taken.right ∙ ap (λ rows. rows ++ map pair_of taken.right) (sym (append-nil (map pair_of taken.left)))
     ∙ sym (write-between k taken.left (taken.row ∷ []) taken.right (subst (λ (j : FieldList). AreBelow j taken.left) key sides.0) (key, tt) (subst (λ (j : FieldList). AreAbove j taken.right) key sides.1) None)
     ∙ ap (λ rows. write k None (map pair_of rows)) (sym taken.was) ∙ sym (after-allowed (rows_of old) (Del k) (ap is_some has.value))
   where
     sides : AreBelow taken.row.key taken.left × AreAbove taken.row.key taken.right
-    sides = around taken.left taken.row taken.right (subst Ascends taken.was rise)
+    sides = around taken.left taken.row taken.right (subst RowsAscend taken.was rise)
 
     there : find_row place old.rows ≡ Some taken.row
     there = rw (taken.was, sym taken.place_is) (find_row-split taken.left taken.row taken.right (subst PlacesDiffer taken.was differ))

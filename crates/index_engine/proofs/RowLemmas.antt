@@ -10,8 +10,8 @@ use Rattle.map_history.specs.Map.{Pair, MapChange, Put, Del, value_at}
 use Rattle.map_history.specs.Operation.{Ask, Make}
 use Rattle.map_history.specs.Reply.{Done}
 use Rattle.map_history.specs.Report.{Replied, dashes}
-use Rattle.index_page.specs.Page.{PageRows, IsInOrder}
-use Rattle.index_page.specs.Rows.{Bytes, row_of}
+use Rattle.index_page.specs.Page.{PageRows, IsPageInOrder}
+use Rattle.index_page.specs.Rows.{Bytes, placed_row}
 use Rattle.index_law.specs.declared.frame.Frame.{Frame}
 use Rattle.index_law.specs.Law.{IsRootLeaf, MakesChange}
 use Rattle.index_law.specs.Once.{IsQuiet, IsStill, AnswersOnce}
@@ -48,7 +48,7 @@ put_makes shape i f g place key value root puts absent = let same = same_some ro
 }
 
 -- and so is a row less
-pub del_makes : (shape : Shape) (i : ℕ) (f : Frame) (place : ℕ) (key : FieldList) (page : PageRows) → IsRootLeaf shape i f → f.page ≡ Some page → IsInOrder page → HasRow page place key → MakesChange i (Del key) f (frame_without place f)
+pub del_makes : (shape : Shape) (i : ℕ) (f : Frame) (place : ℕ) (key : FieldList) (page : PageRows) → IsRootLeaf shape i f → f.page ≡ Some page → IsPageInOrder page → HasRow page place key → MakesChange i (Del key) f (frame_without place f)
 del_makes shape i f place key page root paged order has = let same = same_some root.page page (sym root.paged ∙ paged) in record {
   before = page;
   paged_before = paged;
@@ -70,7 +70,7 @@ put_stands f g place key value puts = record { page = puts.after; paged = puts.p
 
 pub put_leaves : (f g : Frame) (place : ℕ) (key : FieldList) (value : List ℕ) → PutsRow f g place key value → frame_without place g ≡ f
 put_leaves f g place key value puts =
-    let page = ap (option_map (page_without place)) puts.paged_after ∙ (ap Some (put_without puts.before puts.after (row_of place key (Bytes value)) puts.inserts) ∙ sym puts.paged_before) in
+    let page = ap (option_map (page_without place)) puts.paged_after ∙ (ap Some (put_without puts.before puts.after (placed_row place key (Bytes value)) puts.inserts) ∙ sym puts.paged_before) in
     λ i. record { page = page i; low = puts.range.low i; high = puts.range.high i; clock = puts.range.clock i }
 
 -- a row that was found has a value

@@ -6,7 +6,7 @@ use Rattle.map_history.specs.Map.{Put, value_at, after_change}
 use Rattle.index_page.specs.declared.TheConstants.{MAX_ROWS}
 use Rattle.index_page.specs.Changes.{Inserts}
 use Rattle.index_page.specs.Page.{PageRows}
-use Rattle.index_page.specs.Rows.{Bytes, row_of, find_row}
+use Rattle.index_page.specs.Rows.{Bytes, placed_row, find_row}
 use Rattle.index_law.specs.declared.frame.Frame.{Frame}
 use Rattle.index_law.specs.State.{rows_of}
 use Rattle.index_engine.specs.Leaf.{page_without}
@@ -36,7 +36,7 @@ pub record PutsRow (f g : Frame) (place : ℕ) (key : FieldList) (value : List �
   pub paged_before : f.page ≡ Some before
   pub after : PageRows
   pub paged_after : g.page ≡ Some after
-  pub inserts : Inserts before after (row_of place key (Bytes value))
+  pub inserts : Inserts before after (placed_row place key (Bytes value))
   pub map : rows_of after ≡ after_change (rows_of before) (Put key value)
   pub range : SameRange f g
 

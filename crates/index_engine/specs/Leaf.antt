@@ -5,7 +5,7 @@ use Rattle.key_tuple.specs.Order.{FieldList}
 use Rattle.map_history.specs.Map.{MapChange, value_at, after_change}
 use Rattle.index_page.specs.Changes.{Inserts}
 use Rattle.index_page.specs.Page.{PageRows}
-use Rattle.index_page.specs.Rows.{Row, Bytes, row_of, find_row}
+use Rattle.index_page.specs.Rows.{Row, Bytes, placed_row, find_row}
 use Rattle.index_law.specs.State.{rows_of, value_in}
 
 -- the row of the key stands at the place
@@ -30,4 +30,4 @@ page_without place page = record page { rows = filter (λ (x : Row). not (x.plac
 
 -- the row of the key and the value was put in at the place
 abbrev pub InsertsAt : PageRows → PageRows → ℕ → FieldList → List ℕ → Type 0
-InsertsAt before after place key value = Inserts before after (row_of place key (Bytes value))
+InsertsAt before after place key value = Inserts before after (placed_row place key (Bytes value))

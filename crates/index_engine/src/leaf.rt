@@ -2,7 +2,7 @@
 ghost use Rattle.std.specs.Prelude.{◌≡◌, ◌≤◌, length, None, IsSome, IfOk, OnErr};
 ghost use Rattle.map_history.specs.Map.{Put, value_at};
 ghost use Rattle.index_page.specs.declared.TheConstants.{MAX_ROWS};
-ghost use Rattle.index_page.specs.Page.{IsInOrder};
+ghost use Rattle.index_page.specs.Page.{IsPageInOrder};
 ghost use Rattle.index_page.specs.Rows.{find_row};
 ghost use Rattle.index_law.specs.State.{rows_of};
 ghost use Rattle.index_engine.specs.Leaf.{IsFoundAt, IsMadeBy, InsertsAt, page_without};
@@ -14,7 +14,7 @@ use key_tuple::{Fields, Key, Mode, NoMemory, Value};
 pub(crate) fn find(page: &Page, key: &Key) -> Option<Place>
     requires fields { length key.now.tuple ≡ page.now.head.fields }
     ensures found { IsFoundAt page.now key.now.tuple result }
-    ensures order { IsInOrder page.now }
+    ensures order { IsPageInOrder page.now }
 {
     page.is_in_order();
     let spot = page.search(key, Mode::Ge);
