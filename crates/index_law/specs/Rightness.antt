@@ -3,7 +3,7 @@ use Rattle.std.specs.Prelude.{ℕ, ◌≡◌, ◌≢◌, ◌≤◌, Bool, true, 
 use Rattle.std.specs.List.{AllByRecursion}
 use mathlib.Core.Option.{some}
 use lib.ListN.{get_elem?}
-use Rattle.map_history.specs.Map.{Map, MapChange, Put, Set, Del, is_allowed, map_after, slice}
+use Rattle.map_history.specs.Map.{Map, MapChange, is_allowed, map_after, slice, writes}
 use Rattle.map_history.specs.Operation.{Ask, Make}
 use Rattle.map_history.specs.Reply.{MapReply, Done, reply_of}
 use Rattle.map_history.specs.LegalReport.{may_reply}
@@ -13,12 +13,6 @@ use Rattle.index_law.specs.State.{State, Entries, changes}
 -- the map after the first p changes of a list
 abbrev pub map_at : Entries → ℕ → Map
 map_at xs p = map_after (take p (changes xs))
-
--- the change writes a row
-abbrev pub writes : MapChange → Bool
-writes (Put k v) = true
-writes (Set k v) = true
-writes (Del k) = false
 
 -- a change is asked for, and the map allows it
 pub record IsAllowed (m : Map) (ask : Ask) : Type 0 where
