@@ -25,7 +25,7 @@ pub fulls-append : (qs rs : List OwnAnswer) → fulls (qs ++ rs) ≡ fulls qs ++
 fulls-append [] rs = λ _. fulls rs
 fulls-append (q ∷ qs) rs = ap (λ z. full_places q.what ++ z) (fulls-append qs rs) ∙ sym (append_assoc (full_places q.what) (fulls qs) (fulls rs))
 
-given_both : (i n : ℕ) (qs rs : List OwnAnswer) → AreGivenAt i n qs → AreGivenAt i n rs → AreGivenAt i n (qs ++ rs)
+pub given_both : (i n : ℕ) (qs rs : List OwnAnswer) → AreGivenAt i n qs → AreGivenAt i n rs → AreGivenAt i n (qs ++ rs)
 given_both i n [] rs first second = second
 given_both i n (q ∷ qs) rs first second = (first.0, given_both i n qs rs first.1 second)
 
@@ -57,7 +57,7 @@ pub only_both : (a b : Added) → IsOnlySaid a → IsOnlySaid b → IsOnlySaid (
 only_both a b first second = record { refused = (λ k. first.refused k ++ second.refused k); references = (λ k. first.references k ++ second.references k) }
 
 -- nothing was answered, and then nothing
-pub quiet_both : (v v0 v1 : View) (i : ℕ) → IsQuiet v v0 i → IsQuiet v0 v1 i → IsQuiet v v1 i
+unfoldable pub quiet_both : (v v0 v1 : View) (i : ℕ) → IsQuiet v v0 i → IsQuiet v0 v1 i → IsQuiet v v1 i
 quiet_both v v0 v1 i a b = record {
   added = both_added a.added b.added;
   adds = adds_both v v0 v1 a.added b.added a.adds b.adds;
@@ -68,7 +68,7 @@ quiet_both v v0 v1 i a b = record {
 
 module _ (i : ℕ) (ask : Ask) (answer : Answer) where
   -- nothing was answered, and then the operation was
-  pub quiet_then_once : (v v0 v1 : View) → IsQuiet v v0 i → AnswersOnce v0 v1 i ask answer → AnswersOnce v v1 i ask answer
+  unfoldable pub quiet_then_once : (v v0 v1 : View) → IsQuiet v v0 i → AnswersOnce v0 v1 i ask answer → AnswersOnce v v1 i ask answer
   quiet_then_once v v0 v1 quiet once = record {
     added = both_added quiet.added once.added;
     adds = adds_both v v0 v1 quiet.added once.added quiet.adds once.adds;
