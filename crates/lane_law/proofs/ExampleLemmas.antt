@@ -9,8 +9,7 @@ use Rattle.latch_law.specs.declared.knows.Entry.{Entry}
 use Rattle.latch_law.specs.declared.knows.Holding.{Holding}
 use Rattle.latch_law.specs.declared.knows.Statement as what
 use Rattle.latch_law.specs.Rule.{IsSo, Fits, Holds}
-use Rattle.latch_law.proofs.Begins.{replicate_is}
-use Rattle.list_facts.proofs.Places.{none_is_not, same_some}
+use Rattle.list_facts.proofs.Places.{none_is_not, replicate_is, same_some}
 use Rattle.change_log.specs.declared.entry.Entry as log
 use Rattle.map_history.specs.declared.sizes.Sizes.{Sizes}
 use Rattle.map_history.specs.Operation.{Get}
