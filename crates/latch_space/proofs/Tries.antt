@@ -7,11 +7,11 @@ use Rattle.latch_law.specs.declared.knows.Reference.{Reference}
 use Rattle.latch_law.specs.declared.knows.Refusal.{Refusal}
 use Rattle.latch_law.specs.Whole.{Whole}
 use Rattle.latch_law.specs.Views.{with_refused, refusing}
-use Rattle.latch_law.specs.Fitting.{IsAnother}
+use Rattle.latch_law.specs.Fitting.{AreTriesOf, IsAnother}
 use Rattle.latch_space.specs.declared.pass.PassOf.{PassOf}
 use Rattle.latch_space.specs.Passes.{view}
 use Rattle.latch_space.specs.Has.{SameHands}
-use Rattle.latch_space.specs.Takes.{AreTriesOf, WasBusy}
+use Rattle.latch_space.specs.Takes.{WasBusy}
 
 module _ {Sh O C A : Type 0} where
   -- some refused tries of the object k, and nothing else
