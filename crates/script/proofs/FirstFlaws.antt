@@ -9,7 +9,7 @@ use Rattle.script.specs.declared.error.Flaw.{Flaw}
 use Rattle.script.specs.declared.error.ScriptError.{ScriptError}
 use Rattle.script.specs.declared.error.ScriptError.TheVariants.{BadLine}
 use Rattle.script.specs.Grammar.{lines_of}
-use Rattle.script.specs.Lane.{lane_line, lane_from, lane_of, line_said}
+use Rattle.script.specs.Lane.{line_meaning, lane_from, lane_of, line_said}
 use Rattle.script.specs.Laws.{IsFirstFlaw, Makes, IsFirstSchemaFlaw, LacksIndex}
 use Rattle.script.specs.Schema.{SchemaText, no_index, schema_line, schema_from, schema_of}
 use Rattle.script.specs.Steps.{◌>>=◌, at_line, numbered}
@@ -21,15 +21,15 @@ record LaneStops (n : ℕ) (s : SchemaText) (lines : List (List ℕ)) (e : Scrip
   rest : List (List ℕ)
   flaw : Flaw
   split : lines ≡ before ++ line ∷ rest
-  good : AllByRecursion (λ (l : List ℕ). IsOk (lane_line s l)) before
-  bad : lane_line s line ≡ Err flaw
+  good : AllByRecursion (λ (l : List ℕ). IsOk (line_meaning s l)) before
+  bad : line_meaning s line ≡ Err flaw
   number : e ≡ at_line (length before + n) flaw
 
 err_before : (r : Result (List Line) ScriptError) (front : List Line) (e : ScriptError) → (r >>= λ more. Ok (front ++ more)) ≡ Err e → r ≡ Err e
 err_before (Ok xs) front e h = absurd cc
 err_before (Err f) front e h = cc
 
-lane_by_line : (n : ℕ) (s : SchemaText) (line : List ℕ) (lines : List (List ℕ)) (e : ScriptError) (r : Result (Option Operation) Flaw) → lane_line s line ≡ r
+lane_by_line : (n : ℕ) (s : SchemaText) (line : List ℕ) (lines : List (List ℕ)) (e : ScriptError) (r : Result (Option Operation) Flaw) → line_meaning s line ≡ r
     → (lane_from (n + 1) s lines ≡ Err e → LaneStops (n + 1) s lines e)
     → (numbered n r >>= λ said. lane_from (n + 1) s lines >>= λ more. Ok (line_said n said ++ more)) ≡ Err e → LaneStops n s (line ∷ lines) e
 lane_by_line n s line lines e (Ok said) is later h =
@@ -52,7 +52,7 @@ lane_by_line n s line lines e (Err f) is later h =
 
 lane_stops : (n : ℕ) (s : SchemaText) (lines : List (List ℕ)) (e : ScriptError) → lane_from n s lines ≡ Err e → LaneStops n s lines e
 lane_stops n s [] e h = absurd cc
-lane_stops n s (line ∷ lines) e h = lane_by_line n s line lines e (lane_line s line) refl (λ later. lane_stops (n + 1) s lines e later) h
+lane_stops n s (line ∷ lines) e h = lane_by_line n s line lines e (line_meaning s line) refl (λ later. lane_stops (n + 1) s lines e later) h
 
 -- the first flaw of a lane
 pub first_in_lane : (s : SchemaText) (bytes : List ℕ) (e : ScriptError) → lane_of s bytes ≡ Err e → IsFirstFlaw s (lines_of bytes) e

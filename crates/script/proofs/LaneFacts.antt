@@ -14,9 +14,9 @@ use Rattle.script.specs.declared.error.ScriptError.{ScriptError}
 use Rattle.script.specs.declared.verb.Verb.{Verb}
 use Rattle.script.specs.declared.verb.Verb.TheVariants as verb
 use Rattle.script.specs.Steps.{◌>>=◌, or_bad, numbered, GivesWhole}
-use Rattle.script.specs.Grammar.{only, both, exactly, key_of, tuple_of, field_of, short_key, short_value, is_name, says_nothing, words_of, lines_of}
-use Rattle.script.specs.Schema.{SchemaText, index_of}
-use Rattle.script.specs.Lane.{verb_of, index_named, key_parts, row_parts, ask_of, operation_for, operation_in, lane_line, lane_from, lane_of, line_said, HasKey, IsLaneLine}
+use Rattle.script.specs.Grammar.{only, both, exactly, key_spelled, tuple_of, field_of, short_key, short_value, is_name, says_nothing, line_words, lines_of}
+use Rattle.script.specs.Schema.{SchemaText, index_by_name}
+use Rattle.script.specs.Lane.{verb_named, index_named, key_parts, row_parts, ask_of, operation_for, operation_in, line_meaning, lane_from, lane_of, line_said, HasKey, IsLaneLine}
 use Rattle.script.proofs.Results.{bind_ok, some_of, not_chosen, given, unnumbered}
 
 exactly_so : (n : ℕ) (o : Option FieldList) (fields : FieldList) → exactly n o ≡ Some fields → length fields ≡ n
@@ -28,19 +28,19 @@ exactly_so n (Some xs) fields h =
 short_same : (fields key : FieldList) → short_key fields ≡ Ok key → fields ≡ key
 short_same fields key h = (not_chosen _ fields key TooLong h).1
 
-key_counted : (n : ℕ) (word : List ℕ) (fields key : FieldList) → or_bad (key_of n word) ≡ Ok fields → short_key fields ≡ Ok key → length key ≡ n
+key_counted : (n : ℕ) (word : List ℕ) (fields key : FieldList) → or_bad (key_spelled n word) ≡ Ok fields → short_key fields ≡ Ok key → length key ≡ n
 key_counted n word fields key h g = subst (λ (f : FieldList). length f ≡ n) (short_same fields key g) (exactly_so n (tuple_of word) fields (some_of _ _ h))
 
 key_parts_counted : (n : ℕ) (parts : List (List ℕ)) (key : FieldList) → key_parts n parts ≡ Ok key → length key ≡ n
 key_parts_counted n parts key h =
     let word = bind_ok (or_bad (only parts)) _ key h in
-    let fields = bind_ok (or_bad (key_of n word.0)) _ key word.2 in
+    let fields = bind_ok (or_bad (key_spelled n word.0)) _ key word.2 in
     key_counted n word.0 fields.0 key fields.1 fields.2
 
 row_parts_counted : (n : ℕ) (parts : List (List ℕ)) (row : FieldList × List ℕ) → row_parts n parts ≡ Ok row → length row.0 ≡ n
 row_parts_counted n parts row h =
     let two = bind_ok (or_bad (both parts)) _ row h in
-    let fields = bind_ok (or_bad (key_of n two.0.0)) _ row two.2 in
+    let fields = bind_ok (or_bad (key_spelled n two.0.0)) _ row two.2 in
     let bytes = bind_ok (or_bad (field_of two.0.1)) _ row fields.2 in
     let key = bind_ok (short_key fields.0) _ row bytes.2 in
     let value = bind_ok (short_value bytes.0) (λ (v : List ℕ). Ok (key.0, v)) row key.2 in
@@ -71,7 +71,7 @@ found : (o : Option ℕ) (i : ℕ) → ok_or o UnknownIndex ≡ Ok i → o ≡ S
 found None i h = absurd cc
 found (Some j) i h = cc
 
-named_below : (named : Bool) (names : List (List ℕ)) (name : List ℕ) (i : ℕ) → cond named (ok_or (index_of names name) UnknownIndex) (Err BadLine) ≡ Ok i → i < length names
+named_below : (named : Bool) (names : List (List ℕ)) (name : List ℕ) (i : ℕ) → cond named (ok_or (index_by_name names name) UnknownIndex) (Err BadLine) ≡ Ok i → i < length names
 named_below false names name i h = absurd cc
 named_below true names name i h = (position-Some (λ (known : List ℕ). bytes_eq known name) names i [] (found _ i h)).0
 
@@ -84,7 +84,7 @@ operation_is : (s : SchemaText) (words : List (List ℕ)) (op : Operation) → o
 operation_is s [] op h = absurd cc
 operation_is s (word ∷ []) op h = absurd cc
 operation_is s (word ∷ name ∷ parts) op h =
-    let kind = bind_ok (or_bad (verb_of word)) _ op h in
+    let kind = bind_ok (or_bad (verb_named word)) _ op h in
     let i = bind_ok (index_named s name) (λ (j : ℕ). operation_for kind.0 j (slice_index s.fields j) parts) op kind.2 in
     let ask = bind_ok (ask_of kind.0 (slice_index s.fields i.0) parts) (λ (a : Ask). Ok (record { index = i.0; ask = a })) op i.2 in
     let made : Operation = record { index = i.0; ask = ask.0 } in
@@ -103,9 +103,9 @@ said_is n false s words said h =
     subst (λ (o : Option Operation). AllByRecursion (IsLaneLine s) (line_said n o)) is
     (record { key = holds.keyed.key; about = holds.keyed.about; known = holds.known; fields = holds.keyed.counted }, tt)
 
-line_is : (n : ℕ) (s : SchemaText) (line : List ℕ) (said : Option Operation) → lane_line s line ≡ Ok said → AllByRecursion (IsLaneLine s) (line_said n said)
-unfolding lane_line
-line_is n s line said h = said_is n (says_nothing line) s (words_of line) said h
+line_is : (n : ℕ) (s : SchemaText) (line : List ℕ) (said : Option Operation) → line_meaning s line ≡ Ok said → AllByRecursion (IsLaneLine s) (line_said n said)
+unfolding line_meaning
+line_is n s line said h = said_is n (says_nothing line) s (line_words line) said h
 
 joined : (s : SchemaText) (n : ℕ) (said : Option Operation) (ys : List Line) → AllByRecursion (IsLaneLine s) (line_said n said) → AllByRecursion (IsLaneLine s) ys → AllByRecursion (IsLaneLine s) (line_said n said ++ ys)
 joined s n None ys h g = g
@@ -117,7 +117,7 @@ from_is n s [] said h =
     let is : none ≡ said = cc in
     subst (λ (o : List Line). AllByRecursion (IsLaneLine s) o) is tt
 from_is n s (line ∷ lines) said h =
-    let one = bind_ok (numbered n (lane_line s line)) _ said h in
+    let one = bind_ok (numbered n (line_meaning s line)) _ said h in
     let more = bind_ok (lane_from (n + 1) s lines) (λ (m : List Line). Ok (line_said n one.0 ++ m)) said one.2 in
     let is : line_said n one.0 ++ more.0 ≡ said = cc in
     subst (λ (o : List Line). AllByRecursion (IsLaneLine s) o) is

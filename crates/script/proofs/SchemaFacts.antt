@@ -11,8 +11,8 @@ use Rattle.script.specs.declared.entry.Entry.TheVariants.{Index}
 use Rattle.script.specs.declared.error.ScriptError.TheVariants as error
 use Rattle.script.specs.declared.error.Flaw.TheVariants.{BadLine}
 use Rattle.script.specs.Steps.{or_bad, numbered}
-use Rattle.script.specs.Grammar.{is_from, number_of, is_name, both, says_nothing, words_of, lines_of}
-use Rattle.script.specs.Schema.{SchemaText, IsSchema, count_of, takes_name, with_index, index_line, entry_of, after_entry, after_words, schema_line, schema_from, schema_of}
+use Rattle.script.specs.Grammar.{is_from, number_spelled, is_name, both, says_nothing, line_words, lines_of}
+use Rattle.script.specs.Schema.{SchemaText, IsSchema, count_spelled, takes_name, with_index, index_line, entry_named, after_entry, after_words, schema_line, schema_from, schema_of}
 use Rattle.script.proofs.Results.{bind_ok, some_of, chosen, given, both_so, unnumbered}
 
 -- what holds from the first line on
@@ -27,8 +27,8 @@ in_range (Some k) n h =
     let g = given (is_from 1 MAX_FIELD_COUNT k) k n h in
     subst (λ (m : ℕ). is_from 1 MAX_FIELD_COUNT m ≡ true) g.1 g.0
 
-count_in : (word : List ℕ) (n : ℕ) → count_of word ≡ Some n → is_from 1 MAX_FIELD_COUNT n ≡ true
-count_in word n h = in_range (number_of word) n h
+count_in : (word : List ℕ) (n : ℕ) → count_spelled word ≡ Some n → is_from 1 MAX_FIELD_COUNT n ≡ true
+count_in word n h = in_range (number_spelled word) n h
 
 with_index_keeps : (s : SchemaText) (name : List ℕ) (n : ℕ) → IsDraft s → length s.names < MAX_INDEXES → is_from 1 MAX_FIELD_COUNT n ≡ true → IsDraft (with_index s name n)
 with_index_keeps s name n d room good = record {
@@ -40,7 +40,7 @@ with_index_keeps s name n d room good = record {
 index_line_keeps : (s t : SchemaText) (parts : List (List ℕ)) → IsDraft s → index_line s parts ≡ Ok t → IsDraft t
 index_line_keeps s t parts d h =
     let two = bind_ok (or_bad (both parts)) _ t h in
-    let count = bind_ok (or_bad (count_of two.0.1)) _ t two.2 in
+    let count = bind_ok (or_bad (count_spelled two.0.1)) _ t two.2 in
     let taken = chosen (takes_name s two.0.0) (with_index s two.0.0 count.0) t BadLine count.2 in
     let good : is_from 1 MAX_FIELD_COUNT count.0 ≡ true = count_in two.0.1 count.0 (some_of _ _ count.1) in
     let parted = both_so _ _ taken.0 in
@@ -53,7 +53,7 @@ after_entry_keeps Index s t parts d h = index_line_keeps s t parts d h
 after_words_keeps : (s t : SchemaText) (words : List (List ℕ)) → IsDraft s → after_words s words ≡ Ok t → IsDraft t
 after_words_keeps s t [] d h = absurd cc
 after_words_keeps s t (word ∷ parts) d h =
-    let entry = bind_ok (or_bad (entry_of word)) (λ (e : Entry). after_entry e s parts) t h in
+    let entry = bind_ok (or_bad (entry_named word)) (λ (e : Entry). after_entry e s parts) t h in
     after_entry_keeps entry.0 s t parts d entry.2
 
 line_keeps : (silent : Bool) (s t : SchemaText) (words : List (List ℕ)) → IsDraft s → cond silent (Ok s) (after_words s words) ≡ Ok t → IsDraft t
@@ -62,7 +62,7 @@ line_keeps false s t words d h = after_words_keeps s t words d h
 
 schema_line_keeps : (s t : SchemaText) (line : List ℕ) → IsDraft s → schema_line s line ≡ Ok t → IsDraft t
 unfolding schema_line
-schema_line_keeps s t line d h = line_keeps (says_nothing line) s t (words_of line) d h
+schema_line_keeps s t line d h = line_keeps (says_nothing line) s t (line_words line) d h
 
 done : (n : ℕ) (empty : Bool) (s t : SchemaText) → eqb (length s.names) 0 ≡ empty → IsDraft s → cond empty (Err (error.BadLine n)) (Ok s) ≡ Ok t → IsSchema t.names t.fields
 done n true s t e d h = absurd cc

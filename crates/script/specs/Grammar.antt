@@ -19,8 +19,8 @@ says_nothing [] = true
 says_nothing (b ∷ bytes) = b == 35
 
 -- the words of a line: what stands between its spaces
-abbrev pub words_of : List ℕ → List (List ℕ)
-words_of line = slice_split (λ (b : ℕ). b == 32) line
+abbrev pub line_words : List ℕ → List (List ℕ)
+line_words line = slice_split (λ (b : ℕ). b == 32) line
 
 -- the word, if there is just one
 abbrev pub only : List (List ℕ) → Option (List ℕ)
@@ -68,8 +68,8 @@ decimal_from n [] = n
 decimal_from n (b ∷ word) = decimal_from (n * 10 + (b - 48)) word
 
 -- the number that a word writes, below 2^32
-abbrev pub number_of : List ℕ → Option ℕ
-number_of word = if is_numeral word && nat_lt (decimal_from 0 word) (2 ^ 32) then Some (decimal_from 0 word) else None
+abbrev pub number_spelled : List ℕ → Option ℕ
+number_spelled word = if is_numeral word && nat_lt (decimal_from 0 word) (2 ^ 32) then Some (decimal_from 0 word) else None
 
 -- the value of a hexadecimal digit of either case
 abbrev pub digit_of : ℕ → Option ℕ
@@ -125,8 +125,8 @@ exactly n None = None
 exactly n (Some fields) = if length fields == n then Some fields else None
 
 -- the key that a word writes, of an index with so many fields
-abbrev pub key_of : ℕ → List ℕ → Option FieldList
-key_of n word = exactly n (tuple_of word)
+abbrev pub key_spelled : ℕ → List ℕ → Option FieldList
+key_spelled n word = exactly n (tuple_of word)
 
 -- a key within its limit
 abbrev pub short_key : FieldList → Result FieldList Flaw

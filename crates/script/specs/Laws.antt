@@ -7,7 +7,7 @@ use Rattle.script.specs.declared.error.Flaw.{Flaw}
 use Rattle.script.specs.declared.error.ScriptError.{ScriptError}
 use Rattle.script.specs.declared.error.ScriptError.TheVariants.{BadLine}
 use Rattle.script.specs.Grammar.{lines_of, field_of, tuple_of}
-use Rattle.script.specs.Lane.{lane_line, lane_of}
+use Rattle.script.specs.Lane.{line_meaning, lane_of}
 use Rattle.script.specs.Schema.{SchemaText, no_index, schema_line, schema_of}
 use Rattle.script.specs.Steps.{at_line}
 
@@ -37,8 +37,8 @@ pub record IsFirstFlaw (s : SchemaText) (lines : List (List ℕ)) (e : ScriptErr
   pub rest : List (List ℕ)
   pub flaw : Flaw
   pub split : lines ≡ before ++ line ∷ rest
-  pub good : AllByRecursion (λ (l : List ℕ). IsOk (lane_line s l)) before
-  pub bad : lane_line s line ≡ Err flaw
+  pub good : AllByRecursion (λ (l : List ℕ). IsOk (line_meaning s l)) before
+  pub bad : line_meaning s line ≡ Err flaw
   pub number : e ≡ at_line (length before + 1) flaw
 
 -- one schema after another by lines that are in the grammar

@@ -12,7 +12,7 @@ use Rattle.script.specs.declared.error.ScriptError.TheVariants as error
 use Rattle.script.specs.declared.error.Flaw.{Flaw}
 use Rattle.script.specs.declared.error.Flaw.TheVariants.{BadLine}
 use Rattle.script.specs.Steps.{◌>>=◌, or_bad, numbered}
-use Rattle.script.specs.Grammar.{lines_of, words_of, says_nothing, is_name, is_from, number_of, both}
+use Rattle.script.specs.Grammar.{lines_of, line_words, says_nothing, is_name, is_from, number_spelled, both}
 
 -- sizes, and for each index its name and how many fields its keys have
 pub record SchemaText : Type 0 where
@@ -25,20 +25,20 @@ abbrev pub entries : List (List ℕ × Entry)
 entries = (codes "index", Index) ∷ []
 
 -- the entry that a word begins
-abbrev pub entry_of : List ℕ → Option Entry
-entry_of word = lookup (λ (known : List ℕ). bytes_eq word known) entries
+abbrev pub entry_named : List ℕ → Option Entry
+entry_named word = lookup (λ (known : List ℕ). bytes_eq word known) entries
 
 -- the number of an index by its name
-abbrev pub index_of : List (List ℕ) → List ℕ → Option ℕ
-index_of names name = position (λ (known : List ℕ). bytes_eq known name) names
+abbrev pub index_by_name : List (List ℕ) → List ℕ → Option ℕ
+index_by_name names name = position (λ (known : List ℕ). bytes_eq known name) names
 
 -- how many fields: a number from 1 to 4
-abbrev pub count_of : List ℕ → Option ℕ
-count_of word = option_and_then (λ (n : ℕ). if is_from 1 MAX_FIELD_COUNT n then Some n else None) (number_of word)
+abbrev pub count_spelled : List ℕ → Option ℕ
+count_spelled word = option_and_then (λ (n : ℕ). if is_from 1 MAX_FIELD_COUNT n then Some n else None) (number_spelled word)
 
 -- the schema has room for an index of this name, which is new
 abbrev pub takes_name : SchemaText → List ℕ → Bool
-takes_name s name = is_name name && nat_lt (length s.names) MAX_INDEXES && is_none (index_of s.names name)
+takes_name s name = is_name name && nat_lt (length s.names) MAX_INDEXES && is_none (index_by_name s.names name)
 
 -- one index more
 abbrev pub with_index : SchemaText → List ℕ → ℕ → SchemaText
@@ -48,7 +48,7 @@ with_index s name count = record s { names = s.names ++ name ∷ []; fields = s.
 abbrev pub index_line : SchemaText → List (List ℕ) → Result SchemaText Flaw
 index_line s parts = do
   two ← or_bad (both parts)
-  count ← or_bad (count_of two.1)
+  count ← or_bad (count_spelled two.1)
   if takes_name s two.0 then Ok (with_index s two.0 count) else Err BadLine
 
 -- what an entry's line makes of a schema
@@ -58,11 +58,11 @@ after_entry Index s parts = index_line s parts
 -- what the words of a line make of a schema
 abbrev pub after_words : SchemaText → List (List ℕ) → Result SchemaText Flaw
 after_words s [] = Err BadLine
-after_words s (word ∷ parts) = or_bad (entry_of word) >>= λ (entry : Entry). after_entry entry s parts
+after_words s (word ∷ parts) = or_bad (entry_named word) >>= λ (entry : Entry). after_entry entry s parts
 
 -- the schema after a line
 unfoldable pub schema_line : SchemaText → List ℕ → Result SchemaText Flaw
-schema_line s line = if says_nothing line then Ok s else after_words s (words_of line)
+schema_line s line = if says_nothing line then Ok s else after_words s (line_words line)
 
 -- the schema after the lines from number n on; one without an index is refused behind its last line
 abbrev pub schema_from : ℕ → SchemaText → List (List ℕ) → Result SchemaText ScriptError

@@ -59,8 +59,8 @@ GivesWhole view (Ok x) read = read ≡ Ok (view x)
 GivesWhole view (Err e) read = FailsWhole e read
 
 -- where a definition refuses a file, the program does so with the same error, or memory ran out
-abbrev pub IsRefused : {X Y : Type 0} → Result X ScriptError → Result Y ScriptError → Type 0
-IsRefused result read = IfErr read (λ e. (result ≡ Err e) ⊎ (result ≡ Err error.NoMemory))
+abbrev pub RefusesAlike : {X Y : Type 0} → Result X ScriptError → Result Y ScriptError → Type 0
+RefusesAlike result read = IfErr read (λ e. (result ≡ Err e) ⊎ (result ≡ Err error.NoMemory))
 
 -- an error of the program is the definition's, but for want of memory
 abbrev pub HasCause : {X Y : Type 0} → Result X ScriptError → Result Y ScriptError → Type 0

@@ -1,6 +1,6 @@
 //! A schema while its lines are read.
 ghost use Rattle.std.specs.Prelude.{◌≡◌, OnOk, IfErr, Ok, true};
-ghost use Rattle.script.specs.Schema.{schema_line, after_words, index_line, takes_name, with_index, count_of};
+ghost use Rattle.script.specs.Schema.{schema_line, after_words, index_line, takes_name, with_index, count_spelled};
 ghost use Rattle.script.specs.Grammar.{is_name};
 ghost use Rattle.script.specs.Pieces.{pieces_left};
 ghost use Rattle.script.specs.Steps.{Leaves};
@@ -79,7 +79,7 @@ impl Draft {
 
 /// A number of fields, from 1 to 4.
 fn find_count(word: &[u8]) -> Option<u8>
-    ensures { result ≡ count_of word.now }
+    ensures { result ≡ count_spelled word.now }
 {
     let number = find_number(word)?;
     if number < 1 || u32::from(MAX_FIELD_COUNT) < number {

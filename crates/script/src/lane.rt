@@ -1,8 +1,8 @@
 //! Lines of a lane.
 ghost use Rattle.std.specs.Prelude.{◌≡◌, ◌<◌, ◌≤◌, length, IfOk, option_map, slice_index};
 ghost use Rattle.map_history.specs.Operation.{operation_of};
-ghost use Rattle.script.specs.Grammar.{words_of};
-ghost use Rattle.script.specs.Lane.{lane_line, operation_in, index_named, operation_for};
+ghost use Rattle.script.specs.Grammar.{line_words};
+ghost use Rattle.script.specs.Lane.{line_meaning, operation_in, index_named, operation_for};
 ghost use Rattle.script.specs.Pieces.{pieces_left};
 ghost use Rattle.script.specs.Steps.{Gives};
 ghost use Rattle.script.specs.Views.{schema_text};
@@ -18,10 +18,10 @@ use map_history::Op;
 use std::alloc::Global;
 
 /// What a line of a lane says.
-#[tactic(auto, unfolding(crate::specs::Lane::lane_line))]
+#[tactic(auto, unfolding(crate::specs::Lane::line_meaning))]
 pub fn read_line(alloc: Global, line: &[u8], schema: &Schema) -> Result<Option<Op>, Refusal>
     ensures { Gives (λ o. option_map operation_of o) result
-        (lane_line (schema_text schema.now) line.now) }
+        (line_meaning (schema_text schema.now) line.now) }
 {
     if is_silent(line) {
         return Ok(None);
@@ -32,7 +32,7 @@ pub fn read_line(alloc: Global, line: &[u8], schema: &Schema) -> Result<Option<O
 
 fn read_operation(alloc: Global, line: &[u8], schema: &Schema) -> Result<Op, Refusal>
     ensures { Gives operation_of result
-        (operation_in (schema_text schema.now) (words_of line.now)) }
+        (operation_in (schema_text schema.now) (line_words line.now)) }
 {
     let mut words = Pieces::new(line, b' ');
     let word = words.next().ok_or(Flaw::BadLine)?;

@@ -1,8 +1,8 @@
 //! Whole files.
 ghost use Rattle.std.specs.Prelude.{◌≡◌, ◌≤◌, length, IfOk, IfErr, OnOk, Ok};
-ghost use Rattle.script.specs.Lane.{lane_of, lane_line, AreLaneLines, TakesLine};
+ghost use Rattle.script.specs.Lane.{lane_of, line_meaning, AreLaneLines, TakesLine};
 ghost use Rattle.script.specs.Schema.{schema_of};
-ghost use Rattle.script.specs.Steps.{GivesWhole, FailsWhole, numbered, IsRefused, HasCause};
+ghost use Rattle.script.specs.Steps.{GivesWhole, FailsWhole, numbered, RefusesAlike, HasCause};
 ghost use Rattle.script.specs.Views.{schema_text, draft_text};
 ghost use Rattle.map_history.specs.Lines.{line_texts};
 
@@ -20,7 +20,7 @@ use std::alloc::Global;
 pub fn read_schema(alloc: Global, bytes: &[u8]) -> Result<Schema, ScriptError>
     requires { length bytes.now ≤ MAX_FILE_BYTES }
     ensures ok { IfOk result (λ s. schema_of bytes.now ≡ Ok (schema_text s)) }
-    ensures refused { IsRefused result (schema_of bytes.now) }
+    ensures refused { RefusesAlike result (schema_of bytes.now) }
     ensures cause { HasCause result (schema_of bytes.now) }
 {
     let draft = read_indexes(alloc, bytes)?;
@@ -37,7 +37,7 @@ pub fn read_lane(alloc: Global, bytes: &[u8], schema: &Schema) -> Result<Vec<Lin
     requires { length bytes.now ≤ MAX_FILE_BYTES }
     ensures ok { IfOk result (λ v. lane_of (schema_text schema.now) bytes.now
         ≡ Ok (line_texts v.items)) }
-    ensures refused { IsRefused result (lane_of (schema_text schema.now) bytes.now) }
+    ensures refused { RefusesAlike result (lane_of (schema_text schema.now) bytes.now) }
     ensures cause { HasCause result (lane_of (schema_text schema.now) bytes.now) }
     ensures lines { IfOk result (λ v. AreLaneLines (schema_text schema.now) (line_texts v.items)) }
 {
@@ -92,7 +92,7 @@ fn take_line(
     ensures ok { OnOk result (TakesLine (schema_text schema.now) number line.now
         (line_texts lines.old.items) (line_texts lines.new.items)) }
     ensures cause { IfErr result (λ e. FailsWhole e
-        (numbered number (lane_line (schema_text schema.now) line.now))) }
+        (numbered number (line_meaning (schema_text schema.now) line.now))) }
 {
     match read_line(alloc, line, schema) {
         Ok(None) => Ok(()),

@@ -1,7 +1,7 @@
 //! The words of a line.
 ghost use Rattle.std.specs.Prelude.{◌≡◌, ◌<◌, ◌≤◌, map, length, IfOk, option_copied, option_map};
 ghost use Rattle.std.specs.List.{list_all};
-ghost use Rattle.script.specs.Grammar.{says_nothing, only, both, is_name, is_name_byte, key_of, field_of, short_key, short_value};
+ghost use Rattle.script.specs.Grammar.{says_nothing, only, both, is_name, is_name_byte, key_spelled, field_of, short_key, short_value};
 ghost use Rattle.script.specs.Lane.{key_parts, row_parts};
 ghost use Rattle.script.specs.Pieces.{pieces_left};
 ghost use Rattle.script.specs.Steps.{Gives, or_bad};
@@ -98,7 +98,7 @@ pub fn read_row(alloc: Global, count: u8, words: Pieces<'_>) -> Result<(Key, Val
 /// The fields of a key's word, if there are exactly so many.
 fn key_fields(alloc: Global, count: u8, word: &[u8]) -> Result<Vec<Vec<u8>>, Refusal>
     ensures fields { Gives (λ v. map (λ f. f.items) v.items) result
-        (or_bad (key_of count word.now)) }
+        (or_bad (key_spelled count word.now)) }
     ensures counted { IfOk result (λ v. length v.items ≡ count) }
 {
     let mut fields = Vec::new(alloc);

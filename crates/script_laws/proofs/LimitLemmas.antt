@@ -15,9 +15,9 @@ use Rattle.script.specs.declared.error.Flaw.TheVariants.{TooLong}
 use Rattle.script.specs.declared.verb.Verb.{Verb}
 use Rattle.script.specs.declared.verb.Verb.TheVariants as verb
 use Rattle.script.specs.Steps.{◌>>=◌, or_bad}
-use Rattle.script.specs.Grammar.{lines_of, only, both, exactly, key_of, tuple_of, field_of, short_key, short_value, says_nothing, words_of}
+use Rattle.script.specs.Grammar.{lines_of, only, both, exactly, key_spelled, tuple_of, field_of, short_key, short_value, says_nothing, line_words}
 use Rattle.script.specs.Laws.{AreFields}
-use Rattle.script.specs.Lane.{verb_of, index_named, key_parts, row_parts, ask_of, operation_for, operation_in, lane_line, lane_of, HasKey, IsLaneLine}
+use Rattle.script.specs.Lane.{verb_named, index_named, key_parts, row_parts, ask_of, operation_for, operation_in, line_meaning, lane_of, HasKey, IsLaneLine}
 use Rattle.script.specs.Schema.{SchemaText}
 use Rattle.script.proofs.Results.{bind_ok, some_of, not_chosen, given}
 use Rattle.script.proofs.LaneFacts.{spelled_lane}
@@ -38,7 +38,7 @@ exactly_so n (Some xs) fields h =
     let g = given (eqb (length xs) n) xs fields h in
     (ap Some g.1, subst (λ (f : FieldList). length f ≡ n) g.1 (eqb-true _ _ g.0))
 
-key_short : (n : ℕ) (word : List ℕ) (fields key : FieldList) → or_bad (key_of n word) ≡ Ok fields → short_key fields ≡ Ok key → IsShortKey n key
+key_short : (n : ℕ) (word : List ℕ) (fields key : FieldList) → or_bad (key_spelled n word) ≡ Ok fields → short_key fields ≡ Ok key → IsShortKey n key
 key_short n word fields key h g =
     let written = exactly_so n (tuple_of word) fields (some_of _ _ h) in
     let kept = not_chosen (ltb MAX_KEY_BYTES (byte_count fields)) fields key TooLong g in
@@ -47,7 +47,7 @@ key_short n word fields key h g =
 key_parts_short : (n : ℕ) (parts : List (List ℕ)) (key : FieldList) → key_parts n parts ≡ Ok key → IsShortKey n key
 key_parts_short n parts key h =
     let word = bind_ok (or_bad (only parts)) _ key h in
-    let fields = bind_ok (or_bad (key_of n word.0)) _ key word.2 in
+    let fields = bind_ok (or_bad (key_spelled n word.0)) _ key word.2 in
     key_short n word.0 fields.0 key fields.1 fields.2
 
 value_short : (word bytes value : List ℕ) → or_bad (field_of word) ≡ Ok bytes → short_value bytes ≡ Ok value → IsValue value
@@ -58,7 +58,7 @@ value_short word bytes value h g =
 row_parts_short : (n : ℕ) (parts : List (List ℕ)) (row : FieldList × List ℕ) → row_parts n parts ≡ Ok row → IsShortKey n row.0 × IsValue row.1
 row_parts_short n parts row h =
     let two = bind_ok (or_bad (both parts)) _ row h in
-    let fields = bind_ok (or_bad (key_of n two.0.0)) _ row two.2 in
+    let fields = bind_ok (or_bad (key_spelled n two.0.0)) _ row two.2 in
     let bytes = bind_ok (or_bad (field_of two.0.1)) _ row fields.2 in
     let key = bind_ok (short_key fields.0) _ row bytes.2 in
     let value = bind_ok (short_value bytes.0) (λ (v : List ℕ). Ok (key.0, v)) row key.2 in
@@ -92,7 +92,7 @@ operation_short : (s : SchemaText) (words : List (List ℕ)) (op : Operation) �
 operation_short s [] op h = absurd cc
 operation_short s (word ∷ []) op h = absurd cc
 operation_short s (word ∷ name ∷ parts) op h =
-    let kind = bind_ok (or_bad (verb_of word)) _ op h in
+    let kind = bind_ok (or_bad (verb_named word)) _ op h in
     let i = bind_ok (index_named s name) (λ (j : ℕ). operation_for kind.0 j (slice_index s.fields j) parts) op kind.2 in
     let ask = bind_ok (ask_of kind.0 (slice_index s.fields i.0) parts) (λ (a : Ask). Ok (record { index = i.0; ask = a })) op i.2 in
     let made : Operation = record { index = i.0; ask = ask.0 } in
@@ -107,9 +107,9 @@ said_short false s words op h =
     let is : one.0 ≡ op = cc in
     subst (λ (o : Operation). IsShortAsk (slice_index s.fields o.index) o.ask) is (operation_short s words one.0 one.1)
 
-line_short : (s : SchemaText) (text : List ℕ) (op : Operation) → lane_line s text ≡ Ok (Some op) → IsShortAsk (slice_index s.fields op.index) op.ask
-unfolding lane_line
-line_short s text op h = said_short (says_nothing text) s (words_of text) op h
+line_short : (s : SchemaText) (text : List ℕ) (op : Operation) → line_meaning s text ≡ Ok (Some op) → IsShortAsk (slice_index s.fields op.index) op.ask
+unfolding line_meaning
+line_short s text op h = said_short (says_nothing text) s (line_words text) op h
 
 -- an index without a number of fields would have keys of none
 has_count : (fields : List ℕ) (i : ℕ) (key : FieldList) → IsShortKey (slice_index fields i) key → i < length fields

@@ -7,36 +7,36 @@ use Rattle.std.proofs.lemmas.Option.{slice_get_within}
 use Rattle.map_history.specs.Operation.{Operation}
 use Rattle.map_history.specs.LegalReport.{Line}
 use Rattle.script.specs.Grammar.{lines_of}
-use Rattle.script.specs.Lane.{lane_line, lane_from, lane_of, line_said}
+use Rattle.script.specs.Lane.{line_meaning, lane_from, lane_of, line_said}
 use Rattle.script.specs.Schema.{SchemaText}
 use Rattle.script.specs.Steps.{numbered}
 use Rattle.script.proofs.Results.{bind_ok, unnumbered}
-use Rattle.script_laws.specs.LaneLaws.{LineNumbersAscend, LinesAreTold, Says, IsTold}
+use Rattle.script_laws.specs.LaneLaws.{LineNumbersAscend, LinesAreTold, TextSays, IsTold}
 
 -- the line is said by the texts, whose first has number n
 record IsSaid (s : SchemaText) (n : ℕ) (texts : List (List ℕ)) (line : Line) : Type 0 where
   place : ℕ
   number : line.line ≡ n + place
-  says : Says s texts place line.op
+  says : TextSays s texts place line.op
 
 -- one text, and the lines of those after it
 record Step (s : SchemaText) (n : ℕ) (text : List ℕ) (texts : List (List ℕ)) (lines : List Line) : Type 0 where
   said : Option Operation
   more : List Line
-  says : lane_line s text ≡ Ok said
+  says : line_meaning s text ≡ Ok said
   later : lane_from (n + 1) s texts ≡ Ok more
   whole : line_said n said ++ more ≡ lines
 
 step : (s : SchemaText) (n : ℕ) (text : List ℕ) (texts : List (List ℕ)) (lines : List Line) → lane_from n s (text ∷ texts) ≡ Ok lines → Step s n text texts lines
 step s n text texts lines h =
-    let one = bind_ok (numbered n (lane_line s text)) _ lines h in
+    let one = bind_ok (numbered n (line_meaning s text)) _ lines h in
     let more = bind_ok (lane_from (n + 1) s texts) (λ (m : List Line). Ok (line_said n one.0 ++ m)) lines one.2 in
     record { said = one.0; more = more.0; says = unnumbered n _ _ one.1; later = more.1; whole = cc }
 
 no_lines : (lines : List Line) (s : SchemaText) (n : ℕ) → lane_from n s [] ≡ Ok lines → [] ≡ lines
 no_lines lines s n h = cc
 
-first_said : (s : SchemaText) (n : ℕ) (text : List ℕ) (texts : List (List ℕ)) (said : Option Operation) → lane_line s text ≡ Ok said → All (IsSaid s n (text ∷ texts)) (line_said n said)
+first_said : (s : SchemaText) (n : ℕ) (text : List ℕ) (texts : List (List ℕ)) (said : Option Operation) → line_meaning s text ≡ Ok said → All (IsSaid s n (text ∷ texts)) (line_said n said)
 first_said s n text texts None h = All-nil _
 first_said s n text texts (Some op) h =
     let line : Line = record { line = n; op = op } in
@@ -71,7 +71,7 @@ from_ascends s n (text ∷ texts) lines h =
 
 -- what a text says is among the lines
 from_has : (s : SchemaText) (n : ℕ) (texts : List (List ℕ)) (lines : List Line) → lane_from n s texts ≡ Ok lines
-    → (place : ℕ) (op : Operation) → Says s texts place op → Contains lines (record { line = place + n; op = op })
+    → (place : ℕ) (op : Operation) → TextSays s texts place op → Contains lines (record { line = place + n; op = op })
 from_has s n [] lines h place op says = absurd (cc (says.there))
 from_has s n (text ∷ texts) lines h zero op says =
     let x = step s n text texts lines h in

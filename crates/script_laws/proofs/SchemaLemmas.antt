@@ -15,8 +15,8 @@ use Rattle.script.specs.declared.entry.Entry.TheVariants.{Index}
 use Rattle.script.specs.declared.error.ScriptError.TheVariants as error
 use Rattle.script.specs.declared.error.Flaw.TheVariants.{BadLine}
 use Rattle.script.specs.Steps.{or_bad, numbered}
-use Rattle.script.specs.Grammar.{is_from, is_name, both, says_nothing, words_of, lines_of}
-use Rattle.script.specs.Schema.{SchemaText, index_of, count_of, takes_name, with_index, index_line, entry_of, after_entry, after_words, schema_line, schema_from, schema_of}
+use Rattle.script.specs.Grammar.{is_from, is_name, both, says_nothing, line_words, lines_of}
+use Rattle.script.specs.Schema.{SchemaText, index_by_name, count_spelled, takes_name, with_index, index_line, entry_named, after_entry, after_words, schema_line, schema_from, schema_of}
 use Rattle.script.proofs.Results.{bind_ok, chosen, both_so, unnumbered}
 use Rattle.script.proofs.SchemaFacts.{spelled_schema}
 use Rattle.script_laws.specs.SchemaLaws.{SchemasAreWithinLimits}
@@ -32,10 +32,10 @@ not_there false o n e h = refl
 not_there true o n e h = absurd cc
 
 -- a name that isn't found is none of the names
-is_new : (names : List (List ℕ)) (name : List ℕ) → is_none (index_of names name) ≡ true → (k : ℕ) (d : List ℕ) → k < length names → get_or names k d ≢ name
+is_new : (names : List (List ℕ)) (name : List ℕ) → is_none (index_by_name names name) ≡ true → (k : ℕ) (d : List ℕ) → k < length names → get_or names k d ≢ name
 is_new names name h k d lt same =
     let test = λ (known : List ℕ). bytes_eq known name in
-    let past : ltb (position_or_len test names) (length names) ≡ false = not_there _ (index_of names name) _ refl h in
+    let past : ltb (position_or_len test names) (length names) ≡ false = not_there _ (index_by_name names name) _ refl h in
     let fails : bytes_eq (get_or names k d) name ≡ false = fails_before_first test names k d (omega (arith, lt, ltb-false _ _ past)) in
     let passes : bytes_eq (get_or names k d) name ≡ true = (bytes_eq-Decides (get_or names k d) name).1 same in
     cc
@@ -43,7 +43,7 @@ is_new names name h k d lt same =
 index_line_keeps : (s t : SchemaText) (parts : List (List ℕ)) → IsDraft s → index_line s parts ≡ Ok t → IsDraft t
 index_line_keeps s t parts d h =
     let two = bind_ok (or_bad (both parts)) _ t h in
-    let count = bind_ok (or_bad (count_of two.0.1)) _ t two.2 in
+    let count = bind_ok (or_bad (count_spelled two.0.1)) _ t two.2 in
     let name : List ℕ = two.0.0 in
     let taken = chosen (takes_name s name) (with_index s name count.0) t BadLine count.2 in
     let parted = both_so _ _ taken.0 in
@@ -60,7 +60,7 @@ after_entry_keeps Index s t parts d h = index_line_keeps s t parts d h
 after_words_keeps : (s t : SchemaText) (words : List (List ℕ)) → IsDraft s → after_words s words ≡ Ok t → IsDraft t
 after_words_keeps s t [] d h = absurd cc
 after_words_keeps s t (word ∷ parts) d h =
-    let entry = bind_ok (or_bad (entry_of word)) (λ (e : Entry). after_entry e s parts) t h in
+    let entry = bind_ok (or_bad (entry_named word)) (λ (e : Entry). after_entry e s parts) t h in
     after_entry_keeps entry.0 s t parts d entry.2
 
 line_keeps : (silent : Bool) (s t : SchemaText) (words : List (List ℕ)) → IsDraft s → cond silent (Ok s) (after_words s words) ≡ Ok t → IsDraft t
@@ -69,7 +69,7 @@ line_keeps false s t words d h = after_words_keeps s t words d h
 
 schema_line_keeps : (s t : SchemaText) (line : List ℕ) → IsDraft s → schema_line s line ≡ Ok t → IsDraft t
 unfolding schema_line
-schema_line_keeps s t line d h = line_keeps (says_nothing line) s t (words_of line) d h
+schema_line_keeps s t line d h = line_keeps (says_nothing line) s t (line_words line) d h
 
 done : (n : ℕ) (empty : Bool) (s t : SchemaText) → IsDraft s → cond empty (Err (error.BadLine n)) (Ok s) ≡ Ok t → IsDraft t
 done n true s t d h = absurd cc

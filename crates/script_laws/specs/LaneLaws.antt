@@ -8,12 +8,12 @@ use Rattle.map_history.specs.Map.{Put, Set, Del}
 use Rattle.map_history.specs.Operation.{Operation, Ask, Get, Make, Seek, Scan}
 use Rattle.map_history.specs.LegalReport.{Line}
 use Rattle.script.specs.Grammar.{lines_of}
-use Rattle.script.specs.Lane.{lane_line, lane_of, HasKey}
+use Rattle.script.specs.Lane.{line_meaning, lane_of, HasKey}
 use Rattle.script.specs.Laws.{AreBytes, AreFields}
 use Rattle.script.specs.Schema.{SchemaText, schema_of}
 
 -- the numbers rise from line to line, from 1 up to how many lines there are
-pub record AreNumbered (count : ℕ) (lines : List Line) : Type 0 where
+pub record NumbersRise (count : ℕ) (lines : List Line) : Type 0 where
   pub ascend : AllPairs (λ (x y : Line). x.line < y.line) lines
   pub from_one : AllByRecursion (λ (x : Line). 1 ≤ x.line) lines
   pub within : AllByRecursion (λ (x : Line). x.line ≤ count) lines
@@ -22,19 +22,19 @@ pub record AreNumbered (count : ℕ) (lines : List Line) : Type 0 where
 abbrev pub LineNumbersAscend : Type 0
 LineNumbersAscend =
     (schema : SchemaText) (bytes : List ℕ) (lines : List Line) → lane_of schema bytes ≡ Ok lines
-    → AreNumbered (length (lines_of bytes)) lines
+    → NumbersRise (length (lines_of bytes)) lines
 
 -- the text at this place, counted from 0, says the operation
-pub record Says (schema : SchemaText) (texts : List (List ℕ)) (place : ℕ) (op : Operation) : Type 0 where
+pub record TextSays (schema : SchemaText) (texts : List (List ℕ)) (place : ℕ) (op : Operation) : Type 0 where
   pub text : List ℕ
   pub there : slice_get texts place ≡ Some text
-  pub said : lane_line schema text ≡ Ok (Some op)
+  pub said : line_meaning schema text ≡ Ok (Some op)
 
 -- a line of the lane is said at its number, counted from 1
 pub record IsTold (schema : SchemaText) (texts : List (List ℕ)) (line : Line) : Type 0 where
   pub place : ℕ
   pub number : line.line ≡ place + 1
-  pub says : Says schema texts place line.op
+  pub says : TextSays schema texts place line.op
 
 -- a lane has what the lines of its file say, and each of them
 pub record LinesAreTold : Type 0 where
@@ -43,7 +43,7 @@ pub record LinesAreTold : Type 0 where
       → AllByRecursion (IsTold schema (lines_of bytes)) lines
   pub all :
       (schema : SchemaText) (bytes : List ℕ) (lines : List Line) → lane_of schema bytes ≡ Ok lines
-      → (place : ℕ) (op : Operation) → Says schema (lines_of bytes) place op
+      → (place : ℕ) (op : Operation) → TextSays schema (lines_of bytes) place op
       → Contains lines (record { line = place + 1; op = op })
 
 -- a value: bytes, within their limit
