@@ -1,10 +1,11 @@
 -- What the lines of a schema file say.
-use Rattle.std.specs.Prelude.{ℕ, ◌+◌, ◌≡◌, ◌<◌, ◌≤◌, Bool, true, ◌&&◌, ◌==◌, nat_lt, if◌then◌else◌, Option, Some, None, is_none, List, [], ◌∷◌, ◌++◌, length, codes, Result, Ok, Err, option_and_then}
-use Rattle.std.specs.List.{position, list_all}
+use Rattle.std.specs.Prelude.{ℕ, ◌+◌, ◌≡◌, ◌≢◌, ◌<◌, ◌≤◌, Bool, true, ◌&&◌, ◌==◌, nat_lt, if◌then◌else◌, Option, Some, None, is_none, List, [], ◌∷◌, ◌++◌, length, codes, Result, Ok, Err, option_and_then}
+use Rattle.std.specs.List.{position, All, AllPairs}
 use Rattle.std.specs.Map.{lookup}
 use Rattle.std.specs.Str.{bytes_eq}
 use Rattle.map_history.specs.declared.sizes.Sizes.{Sizes}
-use Rattle.script.specs.declared.TheConstants.{DEFAULT_SIZES, MAX_INDEXES, MAX_FIELD_COUNT}
+use Rattle.key_tuple.specs.declared.TheConstants.{MAX_FIELDS}
+use Rattle.script.specs.declared.TheConstants.{DEFAULT_SIZES, MAX_INDEXES}
 use Rattle.script.specs.declared.entry.Entry.{Entry}
 use Rattle.script.specs.declared.entry.Entry.TheVariants.{Index}
 use Rattle.script.specs.declared.error.ScriptError.{ScriptError}
@@ -34,7 +35,7 @@ index_by_name names name = position (λ (known : List ℕ). bytes_eq known name)
 
 -- how many fields: a number from 1 to 4
 abbrev pub count_spelled : List ℕ → Option ℕ
-count_spelled word = option_and_then (λ (n : ℕ). if is_from 1 MAX_FIELD_COUNT n then Some n else None) (number_spelled word)
+count_spelled word = option_and_then (λ (n : ℕ). if is_from 1 MAX_FIELDS n then Some n else None) (number_spelled word)
 
 -- the schema has room for an index of this name, which is new
 abbrev pub takes_name : SchemaText → List ℕ → Bool
@@ -77,9 +78,15 @@ no_index = record { sizes = DEFAULT_SIZES; names = []; fields = [] }
 unfoldable pub schema_of : List ℕ → Result SchemaText ScriptError
 schema_of bytes = schema_from 1 no_index (lines_of bytes)
 
--- as many numbers as names, 1 to 64, and 1 to 4 fields each
+-- how many fields the keys of an index may have
+abbrev pub IsFieldCount : ℕ → Type 0
+IsFieldCount n = (1 ≤ n) × (n ≤ MAX_FIELDS)
+
+-- 1 to 64 names in a name's form, no two alike, and for each how many fields its keys have
 pub record IsSchema (names : List (List ℕ)) (fields : List ℕ) : Type 0 where
   pub paired : length fields ≡ length names
   pub some : 0 < length names
   pub few : length names ≤ MAX_INDEXES
-  pub counts : list_all (λ (n : ℕ). is_from 1 MAX_FIELD_COUNT n) fields ≡ true
+  pub named : All (λ (name : List ℕ). is_name name ≡ true) names
+  pub apart : AllPairs (λ (a b : List ℕ). a ≢ b) names
+  pub counts : All IsFieldCount fields

@@ -12,7 +12,8 @@ use crate::names::{find_name, name_text};
 use crate::numbers::find_number;
 use crate::pieces::Pieces;
 use crate::words::{has_name_form, is_silent, two_words};
-use crate::{MAX_FIELD_COUNT, MAX_INDEXES};
+use crate::MAX_INDEXES;
+use key_tuple::MAX_FIELDS;
 use std::alloc::{AllocError, Global};
 
 /// The indexes so far.
@@ -82,7 +83,7 @@ fn find_count(word: &[u8]) -> Option<u8>
     ensures { result ≡ count_spelled word.now }
 {
     let number = find_number(word)?;
-    if number < 1 || u32::from(MAX_FIELD_COUNT) < number {
+    if number < 1 || u32::from(MAX_FIELDS) < number {
         return None;
     }
     Some(number as u8)

@@ -7,13 +7,13 @@ ghost use Rattle.script.specs.Pieces.{pieces_left};
 ghost use Rattle.script.specs.Steps.{Gives};
 ghost use Rattle.script.specs.Views.{schema_text};
 
-use crate::MAX_FIELD_COUNT;
 use crate::error::{Flaw, Refusal};
 use crate::names::find_name;
 use crate::pieces::Pieces;
 use crate::schema::Schema;
 use crate::verb::{Verb, find_verb};
 use crate::words::{has_name_form, is_silent, read_key, read_row};
+use key_tuple::MAX_FIELDS;
 use map_history::Op;
 use std::alloc::Global;
 
@@ -51,7 +51,7 @@ fn read_parts(
     words: Pieces<'_>,
 ) -> Result<Op, Refusal>
     requires some { 0 < count }
-    requires few { count ≤ MAX_FIELD_COUNT }
+    requires few { count ≤ MAX_FIELDS }
     ensures { Gives operation_of result (operation_for verb index count (pieces_left words.entry)) }
 {
     match verb {
@@ -89,7 +89,7 @@ fn field_count(schema: &Schema, index: u32) -> u8
     requires { index < length schema.now.names.items }
     ensures count { result ≡ slice_index schema.now.fields.items index }
     ensures some { 0 < result }
-    ensures few { result ≤ MAX_FIELD_COUNT }
+    ensures few { result ≤ MAX_FIELDS }
 {
     schema.fields[index as usize]
 }

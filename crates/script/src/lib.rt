@@ -34,9 +34,6 @@ pub const MAX_INDEXES: usize = 64;
 /// The most bytes of an index's name.
 pub const MAX_NAME_BYTES: usize = 32;
 
-/// The most fields of an index's keys.
-pub const MAX_FIELD_COUNT: u8 = key_tuple::MAX_FIELDS;
-
 /// The sizes of a schema that sets none.
 pub const DEFAULT_SIZES: Sizes = Sizes {
     blocks: 256,

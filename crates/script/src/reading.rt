@@ -4,6 +4,7 @@ ghost use Rattle.script.specs.Lane.{lane_of, line_meaning, AreLaneLines, TakesLi
 ghost use Rattle.script.specs.Schema.{schema_of};
 ghost use Rattle.script.specs.Steps.{GivesWhole, FailsWhole, numbered, RefusesAlike, HasCause};
 ghost use Rattle.script.specs.Views.{schema_text, draft_text};
+ghost use Rattle.script.specs.declared.TheConstants.{DEFAULT_SIZES};
 ghost use Rattle.map_history.specs.Lines.{line_texts};
 
 use crate::draft::Draft;
@@ -22,6 +23,7 @@ pub fn read_schema(alloc: Global, bytes: &[u8]) -> Result<Schema, ScriptError>
     ensures ok { IfOk result (λ s. schema_of bytes.now ≡ Ok (schema_text s)) }
     ensures refused { RefusesAlike result (schema_of bytes.now) }
     ensures cause { HasCause result (schema_of bytes.now) }
+    ensures sizes { IfOk result (λ s. s.sizes ≡ DEFAULT_SIZES) }
 {
     let draft = read_indexes(alloc, bytes)?;
     Ok(Schema {

@@ -9,8 +9,8 @@ ghost use Rattle.script.specs.Steps.{Gives, or_bad};
 use crate::error::{Flaw, Refusal};
 use crate::field::field;
 use crate::pieces::Pieces;
-use crate::{MAX_FIELD_COUNT, MAX_NAME_BYTES};
-use key_tuple::{Key, KeyError, Value};
+use crate::MAX_NAME_BYTES;
+use key_tuple::{Key, KeyError, MAX_FIELDS, Value};
 use std::alloc::Global;
 
 /// An empty line and a line that begins with `#` say nothing.
@@ -73,7 +73,7 @@ pub fn two_words<'a>(mut words: Pieces<'a>) -> Option<(&'a [u8], &'a [u8])>
 /// `KEY`, for an index whose keys have so many fields.
 pub fn read_key(alloc: Global, count: u8, words: Pieces<'_>) -> Result<Key, Refusal>
     requires some { 0 < count }
-    requires few { count ≤ MAX_FIELD_COUNT }
+    requires few { count ≤ MAX_FIELDS }
     ensures { Gives (λ k. k.tuple) result (key_parts count (pieces_left words.entry)) }
 {
     let word = one_word(words).ok_or(Flaw::BadLine)?;
@@ -84,7 +84,7 @@ pub fn read_key(alloc: Global, count: u8, words: Pieces<'_>) -> Result<Key, Refu
 /// `KEY VALUE`. The form of both is judged before their lengths.
 pub fn read_row(alloc: Global, count: u8, words: Pieces<'_>) -> Result<(Key, Value), Refusal>
     requires some { 0 < count }
-    requires few { count ≤ MAX_FIELD_COUNT }
+    requires few { count ≤ MAX_FIELDS }
     ensures { Gives (λ r. (r.0.tuple, r.1)) result (row_parts count (pieces_left words.entry)) }
 {
     let (key, value) = two_words(words).ok_or(Flaw::BadLine)?;
@@ -116,7 +116,7 @@ fn key_fields(alloc: Global, count: u8, word: &[u8]) -> Result<Vec<Vec<u8>>, Ref
 
 fn key_within(alloc: Global, fields: Vec<Vec<u8>>) -> Result<Key, Refusal>
     requires some { 0 < length fields.items }
-    requires few { length fields.items ≤ MAX_FIELD_COUNT }
+    requires few { length fields.items ≤ MAX_FIELDS }
     ensures { Gives (λ k. k.tuple) result (short_key (map (λ f. f.items) fields.items)) }
 {
     match Key::try_new(alloc, fields) {
