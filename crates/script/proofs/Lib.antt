@@ -5,7 +5,10 @@ pub mod KeyFields
 pub mod Whole
 pub mod Results
 pub mod SchemaFacts
+pub mod LaneSteps
+pub mod ByteFacts
 pub mod LaneFacts
+pub mod NumberFacts
 pub mod Escapes
 pub mod Decimals
 pub mod Commas

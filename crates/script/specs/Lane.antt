@@ -1,17 +1,19 @@
 -- What the lines of a lane file say.
-use Rattle.std.specs.Prelude.{ℕ, ◌+◌, ◌≡◌, ◌<◌, if◌then◌else◌, Option, Some, None, ok_or, List, [], ◌∷◌, ◌++◌, length, codes, slice_index, Result, Ok, Err}
-use Rattle.std.specs.List.{AllByRecursion}
+use Rattle.std.specs.Prelude.{ℕ, ◌+◌, ◌≡◌, ◌<◌, ◌≤◌, if◌then◌else◌, Option, Some, None, ok_or, List, [], ◌∷◌, ◌++◌, length, codes, slice_index, Result, Ok, Err}
+use Rattle.std.specs.List.{AllByRecursion, AllPairs}
 use Rattle.std.specs.Map.{lookup}
 use Rattle.std.specs.Str.{bytes_eq}
+use Rattle.key_tuple.specs.Limits.{IsWithinLimits}
 use Rattle.key_tuple.specs.Order.{FieldList}
-use Rattle.map_history.specs.Map.{Put, Del}
-use Rattle.map_history.specs.Operation.{Operation, Ask, Get, Make}
+use Rattle.map_history.specs.Map.{Put, Set, Del}
+use Rattle.map_history.specs.Operation.{Operation, Ask, Get, Make, Seek, Scan}
 use Rattle.map_history.specs.LegalReport.{Line}
 use Rattle.script.specs.declared.verb.Verb.{Verb}
 use Rattle.script.specs.declared.verb.Verb.TheVariants as verb
 use Rattle.script.specs.declared.error.ScriptError.{ScriptError}
 use Rattle.script.specs.declared.error.Flaw.{Flaw}
 use Rattle.script.specs.declared.error.Flaw.TheVariants.{BadLine, UnknownIndex}
+use Rattle.script.specs.Bytes.{AreFields, IsValue}
 use Rattle.script.specs.Steps.{◌>>=◌, or_bad, numbered}
 use Rattle.script.specs.Grammar.{lines_of, line_words, says_nothing, is_name, only, both, key_spelled, field_of, short_key, short_value}
 use Rattle.script.specs.Schema.{SchemaText, index_by_name}
@@ -98,13 +100,33 @@ HasKey (Make (Put k v)) key = k ≡ key
 HasKey (Make (Del k)) key = k ≡ key
 HasKey ask key = ⊥
 
--- a line of a lane: a get, put or del of an index of the schema, whose key has that index's number of fields
+-- what is to be written is a value
+abbrev pub HasValue : Ask → Type 0
+HasValue (Get k) = Unit {0}
+HasValue (Make (Put k v)) = IsValue v
+HasValue (Make (Set k v)) = IsValue v
+HasValue (Make (Del k)) = Unit {0}
+HasValue (Seek mode tuple) = Unit {0}
+HasValue (Scan from to limit) = Unit {0}
+
+-- a line of a lane: a get, put or del of an index of the schema, whose key has that index's number
+-- of fields, and all within the limits
 pub record IsLaneLine (s : SchemaText) (line : Line) : Type 0 where
   pub key : FieldList
   pub about : HasKey line.op.ask key
   pub known : line.op.index < length s.names
+  pub counted : line.op.index < length s.fields
   pub fields : length key ≡ slice_index s.fields line.op.index
+  pub written : AreFields key
+  pub within : IsWithinLimits key
+  pub value : HasValue line.op.ask
 
 -- each line is one
 abbrev pub AreLaneLines : SchemaText → List Line → Type 0
 AreLaneLines s lines = AllByRecursion (IsLaneLine s) lines
+
+-- the numbers rise from line to line, from 1 up to how many lines the file has
+pub record NumbersRise (count : ℕ) (lines : List Line) : Type 0 where
+  pub ascend : AllPairs (λ (x y : Line). x.line < y.line) lines
+  pub from_one : AllByRecursion (λ (x : Line). 1 ≤ x.line) lines
+  pub within : AllByRecursion (λ (x : Line). x.line ≤ count) lines

@@ -6,24 +6,16 @@ use Rattle.map_history.specs.Text.{field_text, key_text}
 use Rattle.script.specs.declared.error.Flaw.{Flaw}
 use Rattle.script.specs.declared.error.ScriptError.{ScriptError}
 use Rattle.script.specs.declared.error.ScriptError.TheVariants.{BadLine}
+use Rattle.script.specs.Bytes.{AreBytes, AreFields}
 use Rattle.script.specs.Grammar.{lines_of, field_of, tuple_of}
 use Rattle.script.specs.Lane.{line_meaning, lane_of}
 use Rattle.script.specs.Schema.{SchemaText, no_index, schema_line, schema_of}
 use Rattle.script.specs.Steps.{at_line}
 
--- each is a byte
-abbrev pub AreBytes : List ℕ → Type 0
-AreBytes = AllByRecursion (λ (b : ℕ). b < 256)
-
 -- the bytes that were written as a field are read again, so no two fields are written alike
 pub record FieldsAreReadAgain : Type 0 where
   pub again : (bytes : List ℕ) → AreBytes bytes → field_of (field_text bytes) ≡ Some bytes
   pub unique : (a b : List ℕ) → AreBytes a → AreBytes b → field_text a ≡ field_text b → a ≡ b
-
--- a key's fields: at least one, each of bytes
-pub record AreFields (fields : FieldList) : Type 0 where
-  pub some : 0 < length fields
-  pub bytes : AllByRecursion AreBytes fields
 
 -- the fields that were written as a key are read again, so no two keys are written alike
 pub record KeysAreReadAgain : Type 0 where

@@ -1,6 +1,7 @@
 //! Whole files.
 ghost use Rattle.std.specs.Prelude.{◌≡◌, ◌≤◌, length, IfOk, IfErr, OnOk, Ok};
-ghost use Rattle.script.specs.Lane.{lane_of, line_meaning, AreLaneLines, TakesLine};
+ghost use Rattle.script.specs.Grammar.{lines_of};
+ghost use Rattle.script.specs.Lane.{lane_of, line_meaning, AreLaneLines, NumbersRise, TakesLine};
 ghost use Rattle.script.specs.Schema.{schema_of};
 ghost use Rattle.script.specs.Steps.{GivesWhole, FailsWhole, numbered, RefusesAlike, HasCause};
 ghost use Rattle.script.specs.Views.{schema_text, draft_text};
@@ -42,6 +43,8 @@ pub fn read_lane(alloc: Global, bytes: &[u8], schema: &Schema) -> Result<Vec<Lin
     ensures refused { RefusesAlike result (lane_of (schema_text schema.now) bytes.now) }
     ensures cause { HasCause result (lane_of (schema_text schema.now) bytes.now) }
     ensures lines { IfOk result (λ v. AreLaneLines (schema_text schema.now) (line_texts v.items)) }
+    ensures numbers { IfOk result (λ v. NumbersRise (length (lines_of bytes.now))
+        (line_texts v.items)) }
 {
     read_lines(alloc, bytes, schema)
 }
