@@ -16,7 +16,6 @@ use crate::stop::Stop;
 use crate::words::Command;
 use io_port::{Shelf, ShelfError};
 use script::{Line, MAX_FILE_BYTES, Schema, ScriptError, read_lane, read_schema};
-use script_laws::line_numbers_ascend;
 use std::alloc::Global;
 
 /// A schema and lanes.
@@ -123,7 +122,6 @@ fn load_lane<F: Shelf>(
         (lane_stop file before (schema_text schema.now))) }
     ensures kept { KeepsFiles F.Shelf shelf.old shelf.new }
 {
-    line_numbers_ascend();
     let bytes = load(alloc, shelf, name, file, MAX_FILE_BYTES as u64 - before)?;
     match read_lane(alloc, &bytes, schema) {
         Ok(lines) => Ok((lines, bytes.len() as u64)),

@@ -9,7 +9,4 @@ pub mod LaneSteps
 pub mod ByteFacts
 pub mod LaneFacts
 pub mod NumberFacts
-pub mod Escapes
 pub mod Decimals
-pub mod Commas
-pub mod FirstFlaws

@@ -5,4 +5,3 @@ pub mod Pieces
 pub mod Schema
 pub mod Lane
 pub mod Views
-pub mod Laws

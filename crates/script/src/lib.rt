@@ -7,7 +7,6 @@ mod entry;
 mod error;
 mod field;
 mod lane;
-mod laws;
 mod names;
 mod numbers;
 mod pieces;
@@ -20,7 +19,6 @@ mod words;
 
 pub use error::ScriptError;
 pub use map_history::Line;
-pub use laws::{fields_are_read_again, keys_are_read_again, refusals_are_first};
 use map_history::Sizes;
 pub use reading::{read_lane, read_schema};
 pub use schema::Schema;

@@ -9,7 +9,7 @@ use Rattle.map_history.specs.Text.{is_plain, hex_digit, byte_text, field_text, k
 use Rattle.script.specs.Grammar.{fields_in, tuple_of}
 use Rattle.script.specs.Bytes.{AreBytes, AreFields}
 use Rattle.script.proofs.Results.{both_so}
-use Rattle.script.proofs.Escapes.{field_again, not_so}
+use Rattle.script_laws.proofs.Escapes.{field_again, not_so}
 
 abbrev no_comma : ℕ → Type 0
 no_comma b = eqb b 44 ≡ false

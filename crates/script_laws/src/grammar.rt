@@ -1,5 +1,5 @@
 //! Laws of the grammar, each the contract of a function that does nothing.
-ghost use Rattle.script.specs.Laws.{FieldsAreReadAgain, KeysAreReadAgain, RefusalsAreFirst};
+ghost use Rattle.script_laws.specs.GrammarLaws.{FieldsAreReadAgain, KeysAreReadAgain, RefusalsAreFirst};
 
 /// A field that was written is read again, and no two fields are written alike.
 pub fn fields_are_read_again()

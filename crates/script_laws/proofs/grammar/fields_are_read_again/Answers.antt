@@ -1,8 +1,8 @@
 -- Each field is read again.
 use Rattle.std.proofs.Common.{◌≡◌, Some, ap, sym, ◌∙◌}
 use Rattle.script.specs.Grammar.{field_of}
-use Rattle.script.proofs.Escapes.{field_again}
-use Rattle.script.proofs.laws.fields_are_read_again.Goals as goal
+use Rattle.script_laws.proofs.Escapes.{field_again}
+use Rattle.script_laws.proofs.grammar.fields_are_read_again.Goals as goal
 
 pub returns : goal.returns
 returns c = record {

@@ -1,8 +1,8 @@
 -- Each key is read again.
 use Rattle.std.proofs.Common.{◌≡◌, Some, ap, sym, ◌∙◌}
 use Rattle.script.specs.Grammar.{tuple_of}
-use Rattle.script.proofs.Commas.{key_again}
-use Rattle.script.proofs.laws.keys_are_read_again.Goals as goal
+use Rattle.script_laws.proofs.Commas.{key_again}
+use Rattle.script_laws.proofs.grammar.keys_are_read_again.Goals as goal
 
 pub returns : goal.returns
 returns c = record {

@@ -10,7 +10,7 @@ use Rattle.script.specs.declared.error.ScriptError.{ScriptError}
 use Rattle.script.specs.declared.error.ScriptError.TheVariants.{BadLine}
 use Rattle.script.specs.Grammar.{lines_of}
 use Rattle.script.specs.Lane.{line_meaning, lane_from, lane_of, line_said}
-use Rattle.script.specs.Laws.{IsFirstFlaw, Makes, IsFirstSchemaFlaw, LacksIndex}
+use Rattle.script_laws.specs.GrammarLaws.{IsFirstFlaw, Makes, IsFirstSchemaFlaw, LacksIndex}
 use Rattle.script.specs.Schema.{SchemaText, no_index, schema_line, schema_from, schema_of}
 use Rattle.script.specs.Steps.{◌>>=◌, at_line, numbered}
 
