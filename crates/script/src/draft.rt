@@ -6,13 +6,13 @@ ghost use Rattle.script.specs.Pieces.{pieces_left};
 ghost use Rattle.script.specs.Steps.{Leaves};
 ghost use Rattle.script.specs.Views.{draft_text};
 
+use crate::MAX_INDEXES;
 use crate::entry::{Entry, find_entry};
 use crate::error::{Flaw, Refusal};
 use crate::names::{find_name, name_text};
 use crate::numbers::find_number;
 use crate::pieces::Pieces;
 use crate::words::{has_name_form, is_silent, two_words};
-use crate::MAX_INDEXES;
 use key_tuple::MAX_FIELDS;
 use std::alloc::{AllocError, Global};
 

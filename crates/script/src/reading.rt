@@ -11,10 +11,10 @@ ghost use Rattle.map_history.specs.Lines.{line_texts};
 use crate::draft::Draft;
 use crate::error::ScriptError;
 use crate::lane::read_line;
-use map_history::Line;
 use crate::pieces::Lines;
 use crate::schema::Schema;
 use crate::{DEFAULT_SIZES, MAX_FILE_BYTES};
+use map_history::Line;
 use std::alloc::Global;
 
 /// The schema that a file spells. A refusal speaks of the first line that isn't in the grammar; a

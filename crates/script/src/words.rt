@@ -6,10 +6,10 @@ ghost use Rattle.script.specs.Lane.{key_parts, row_parts};
 ghost use Rattle.script.specs.Pieces.{pieces_left};
 ghost use Rattle.script.specs.Steps.{Gives, or_bad};
 
+use crate::MAX_NAME_BYTES;
 use crate::error::{Flaw, Refusal};
 use crate::field::field;
 use crate::pieces::Pieces;
-use crate::MAX_NAME_BYTES;
 use key_tuple::{Key, KeyError, MAX_FIELDS, Value};
 use std::alloc::Global;
 
