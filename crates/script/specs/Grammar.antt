@@ -1,5 +1,5 @@
 -- Lines, words, names, fields, keys and values, as lists of bytes.
-use Rattle.std.specs.Prelude.{ℕ, ◌+◌, ◌-◌, ◌*◌, Bool, true, false, ◌&&◌, ◌||◌, ◌==◌, nat_le, nat_lt, if◌then◌else◌, Option, Some, None, option_and_then, option_map, List, [], ◌∷◌, length, Result, Ok, Err, ◌^◌, not}
+use Rattle.std.specs.Prelude.{ℕ, ◌+◌, ◌-◌, ◌*◌, Bool, true, false, ◌&&◌, ◌||◌, ◌==◌, nat_le, nat_lt, if◌then◌else◌, Option, Some, None, option_and_then, option_map, List, [], ◌∷◌, ◌++◌, length, Result, Ok, Err, ◌^◌, not}
 use Rattle.std.specs.List.{slice_split, onto_first, list_all}
 use Rattle.key_tuple.specs.declared.TheConstants.{MAX_KEY_BYTES, MAX_VALUE_BYTES}
 use Rattle.key_tuple.specs.Order.{FieldList, byte_count}
@@ -91,6 +91,11 @@ abbrev pub in_front : {A : Type 0} → Option A → Option (List A) → Option (
 in_front None rest = None
 in_front (Some x) None = None
 in_front (Some x) (Some xs) = Some (x ∷ xs)
+
+-- what was read before, and what is still read, if it is there
+abbrev pub behind : {A : Type 0} → List A → Option (List A) → Option (List A)
+behind front None = None
+behind front (Some xs) = Some (front ++ xs)
 
 -- the bytes that a text stands for: each byte alone, or `%` and two digits
 abbrev pub bytes_of : List ℕ → Option (List ℕ)

@@ -11,6 +11,7 @@ mod names;
 mod numbers;
 mod pieces;
 mod reading;
+mod rows;
 mod schema;
 #[cfg(test)]
 mod tests;
