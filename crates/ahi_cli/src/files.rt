@@ -9,13 +9,13 @@ ghost use Rattle.lane_work.specs.Workable.{AreLinesOf};
 ghost use Rattle.lane_threads.specs.Together.{AllAreLinesOf};
 ghost use Rattle.change_lines.specs.Made.{lane_texts, Ascends, AllAscend};
 ghost use Rattle.ahi_cli.specs.Files.{failures_of, KeepsFiles, StopsLoading, StopsFile, StopsReading, SpellsSchema, SpellsLane, SpellsLanes, Spells};
-ghost use Rattle.ahi_cli.specs.Stops.{schema_stop, lane_stop, refused};
+ghost use Rattle.ahi_cli.specs.Stops.{schema_stop, lane_stop, flaw_code, refused};
 ghost use Rattle.ahi_cli.specs.Words.{names_of, file_names};
 
 use crate::stop::Stop;
 use crate::words::Command;
 use io_port::{Shelf, ShelfError};
-use script::{Line, MAX_FILE_BYTES, Schema, ScriptError, read_lane, read_schema};
+use script::{Flaw, Line, MAX_FILE_BYTES, Schema, ScriptError, read_lane, read_schema};
 use std::alloc::Global;
 
 /// A schema and lanes.
@@ -156,21 +156,22 @@ fn refuse(file: u32, error: ScriptError) -> Stop
     ensures { result ≡ refused file error }
 {
     match error {
-        ScriptError::BadLine { line } => Stop::Script {
+        ScriptError::Flawed { line, flaw } => Stop::Script {
             file,
             line,
-            code: 1,
-        },
-        ScriptError::UnknownIndex { line } => Stop::Script {
-            file,
-            line,
-            code: 2,
-        },
-        ScriptError::TooLong { line } => Stop::Script {
-            file,
-            line,
-            code: 3,
+            code: code_of(flaw),
         },
         ScriptError::NoMemory => Stop::NoMemory,
+    }
+}
+
+/// The code of a flaw.
+fn code_of(flaw: Flaw) -> u8
+    ensures { result ≡ flaw_code flaw }
+{
+    match flaw {
+        Flaw::BadLine => 1,
+        Flaw::UnknownIndex => 2,
+        Flaw::TooLong => 3,
     }
 }

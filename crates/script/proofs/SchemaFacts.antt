@@ -88,7 +88,7 @@ schema_line_keeps : (s t : SchemaText) (line : List ℕ) → IsDraft s → schem
 unfolding schema_line
 schema_line_keeps s t line d h = line_keeps (says_nothing line) s t (line_words line) d h
 
-done : (n : ℕ) (empty : Bool) (s t : SchemaText) → eqb (length s.names) 0 ≡ empty → IsDraft s → cond empty (Err (error.BadLine n)) (Ok s) ≡ Ok t → IsSchema t.names t.fields
+done : (n : ℕ) (empty : Bool) (s t : SchemaText) → eqb (length s.names) 0 ≡ empty → IsDraft s → cond empty (Err (error.Flawed n BadLine)) (Ok s) ≡ Ok t → IsSchema t.names t.fields
 done n true s t e d h = absurd cc
 done n false s t e d h =
     let is : s ≡ t = cc in

@@ -67,7 +67,7 @@ schema_line s line = if says_nothing line then Ok s else after_words s (line_wor
 
 -- the schema after the lines from number n on; one without an index is refused behind its last line
 abbrev pub schema_from : ℕ → SchemaText → List (List ℕ) → Result SchemaText ScriptError
-schema_from n s [] = if length s.names == 0 then Err (error.BadLine n) else Ok s
+schema_from n s [] = if length s.names == 0 then Err (error.Flawed n BadLine) else Ok s
 schema_from n s (line ∷ lines) = numbered n (schema_line s line) >>= λ (t : SchemaText). schema_from (n + 1) t lines
 
 -- the schema before its first line

@@ -18,7 +18,7 @@ mod tests;
 mod verb;
 mod words;
 
-pub use error::ScriptError;
+pub use error::{Flaw, ScriptError};
 pub use map_history::Line;
 use map_history::Sizes;
 pub use reading::{read_lane, read_schema};

@@ -3,13 +3,13 @@ ghost use Rattle.std.specs.Prelude.{◌≡◌, ◌≤◌, length, IfOk, IfErr, O
 ghost use Rattle.script.specs.Grammar.{lines_of};
 ghost use Rattle.script.specs.Lane.{lane_of, line_meaning, AreLaneLines, NumbersRise, TakesLine};
 ghost use Rattle.script.specs.Schema.{schema_of};
-ghost use Rattle.script.specs.Steps.{GivesWhole, FailsWhole, numbered, RefusesAlike, HasCause};
+ghost use Rattle.script.specs.Steps.{GivesWhole, Fails, RefusesAlike, HasCause};
 ghost use Rattle.script.specs.Views.{schema_text, draft_text};
 ghost use Rattle.script.specs.declared.TheConstants.{DEFAULT_SIZES};
 ghost use Rattle.map_history.specs.Lines.{line_texts};
 
 use crate::draft::Draft;
-use crate::error::ScriptError;
+use crate::error::{Flaw, Refusal, ScriptError};
 use crate::lane::read_line;
 use crate::pieces::Lines;
 use crate::schema::Schema;
@@ -66,7 +66,7 @@ fn read_indexes(alloc: Global, bytes: &[u8]) -> Result<Draft, ScriptError>
         number += 1;
     }
     if draft.names.is_empty() {
-        return Err(ScriptError::BadLine { line: number });
+        return Err(Refusal::Flawed(Flaw::BadLine).at(number));
     }
     Ok(draft)
 }
@@ -80,7 +80,9 @@ fn read_lines(alloc: Global, bytes: &[u8], schema: &Schema) -> Result<Vec<Line>,
     let mut lines = Vec::new(alloc);
     let mut number: u32 = 1;
     for line in Lines::new(bytes) {
-        take_line(alloc, &mut lines, number, line, schema)?;
+        if let Err(refusal) = take_line(alloc, &mut lines, number, line, schema) {
+            return Err(refusal.at(number));
+        }
         number += 1;
     }
     Ok(lines)
@@ -93,18 +95,13 @@ fn take_line(
     number: u32,
     line: &[u8],
     schema: &Schema,
-) -> Result<(), ScriptError>
+) -> Result<(), Refusal>
     ensures ok { OnOk result (TakesLine (schema_text schema.now) number line.now
         (line_texts lines.old.items) (line_texts lines.new.items)) }
-    ensures cause { IfErr result (λ e. FailsWhole e
-        (numbered number (line_meaning (schema_text schema.now) line.now))) }
+    ensures cause { IfErr result (λ e. Fails e (line_meaning (schema_text schema.now) line.now)) }
 {
-    match read_line(alloc, line, schema) {
-        Ok(None) => Ok(()),
-        Ok(Some(op)) => {
-            lines.push(Line { line: number, op })?;
-            Ok(())
-        }
-        Err(refusal) => Err(refusal.at(number)),
+    if let Some(op) = read_line(alloc, line, schema)? {
+        lines.push(Line { line: number, op })?;
     }
+    Ok(())
 }

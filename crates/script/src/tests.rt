@@ -65,15 +65,24 @@ const SCHEMAS: [&[u8]; 3] = [
 ];
 
 fn bad(line: u32) -> Option<ScriptError> {
-    Some(ScriptError::BadLine { line })
+    Some(ScriptError::Flawed {
+        line,
+        flaw: Flaw::BadLine,
+    })
 }
 
 fn unknown(line: u32) -> Option<ScriptError> {
-    Some(ScriptError::UnknownIndex { line })
+    Some(ScriptError::Flawed {
+        line,
+        flaw: Flaw::UnknownIndex,
+    })
 }
 
 fn long(line: u32) -> Option<ScriptError> {
-    Some(ScriptError::TooLong { line })
+    Some(ScriptError::Flawed {
+        line,
+        flaw: Flaw::TooLong,
+    })
 }
 
 /// Why the lane isn't read over those two indexes.

@@ -7,12 +7,13 @@ use Rattle.map_history.specs.Operation.{Operation}
 use Rattle.map_history.specs.LegalReport.{Line}
 use Rattle.script.specs.declared.error.Flaw.{Flaw}
 use Rattle.script.specs.declared.error.ScriptError.{ScriptError}
-use Rattle.script.specs.declared.error.ScriptError.TheVariants.{BadLine}
+use Rattle.script.specs.declared.error.ScriptError.TheVariants.{Flawed}
+use Rattle.script.specs.declared.error.Flaw.TheVariants.{BadLine}
 use Rattle.script.specs.Grammar.{lines_of}
 use Rattle.script.specs.Lane.{line_meaning, lane_from, lane_of, line_said}
 use Rattle.script_laws.specs.GrammarLaws.{IsFirstFlaw, Makes, IsFirstSchemaFlaw, LacksIndex}
 use Rattle.script.specs.Schema.{SchemaText, no_index, schema_line, schema_from, schema_of}
-use Rattle.script.specs.Steps.{◌>>=◌, at_line, numbered}
+use Rattle.script.specs.Steps.{◌>>=◌, numbered}
 
 -- the first flaw of lines that begin at number n
 record LaneStops (n : ℕ) (s : SchemaText) (lines : List (List ℕ)) (e : ScriptError) : Type 0 where
@@ -23,7 +24,7 @@ record LaneStops (n : ℕ) (s : SchemaText) (lines : List (List ℕ)) (e : Scrip
   split : lines ≡ before ++ line ∷ rest
   good : AllByRecursion (λ (l : List ℕ). IsOk (line_meaning s l)) before
   bad : line_meaning s line ≡ Err flaw
-  number : e ≡ at_line (length before + n) flaw
+  number : e ≡ Flawed (length before + n) flaw
 
 err_before : (r : Result (List Line) ScriptError) (front : List Line) (e : ScriptError) → (r >>= λ more. Ok (front ++ more)) ≡ Err e → r ≡ Err e
 err_before (Ok xs) front e h = absurd cc
@@ -43,12 +44,12 @@ lane_by_line n s line lines e (Ok said) is later h =
       split = ap (λ (ls : List (List ℕ)). line ∷ ls) x.split;
       good = (rw is refl, x.good);
       bad = x.bad;
-      number = x.number ∙ ap (λ (k : ℕ). at_line k x.flaw) place;
+      number = x.number ∙ ap (λ (k : ℕ). Flawed k x.flaw) place;
     }
 lane_by_line n s line lines e (Err f) is later h =
-    let here : at_line n f ≡ e = cc in
+    let here : Flawed n f ≡ e = cc in
     let place : n ≡ 0 + n = omega arith in
-    record { before = []; line = line; rest = lines; flaw = f; split = refl; good = tt; bad = is; number = sym here ∙ ap (λ (k : ℕ). at_line k f) place }
+    record { before = []; line = line; rest = lines; flaw = f; split = refl; good = tt; bad = is; number = sym here ∙ ap (λ (k : ℕ). Flawed k f) place }
 
 lane_stops : (n : ℕ) (s : SchemaText) (lines : List (List ℕ)) (e : ScriptError) → lane_from n s lines ≡ Err e → LaneStops n s lines e
 lane_stops n s [] e h = absurd cc
@@ -71,13 +72,13 @@ record SchemaStops (n : ℕ) (s : SchemaText) (lines : List (List ℕ)) (e : Scr
   split : lines ≡ before ++ line ∷ rest
   good : Makes s before schema
   bad : schema_line schema line ≡ Err flaw
-  number : e ≡ at_line (length before + n) flaw
+  number : e ≡ Flawed (length before + n) flaw
 
 record SchemaEnds (n : ℕ) (s : SchemaText) (lines : List (List ℕ)) (e : ScriptError) : Type 0 where
   schema : SchemaText
   good : Makes s lines schema
   none : length schema.names ≡ 0
-  number : e ≡ BadLine (length lines + n)
+  number : e ≡ Flawed (length lines + n) BadLine
 
 schema_goes_on : (n : ℕ) (s u : SchemaText) (line : List ℕ) (lines : List (List ℕ)) (e : ScriptError) → schema_line s line ≡ Ok u
     → SchemaStops (n + 1) u lines e ⊎ SchemaEnds (n + 1) u lines e → SchemaStops n s (line ∷ lines) e ⊎ SchemaEnds n s (line ∷ lines) e
@@ -92,26 +93,26 @@ schema_goes_on n s u line lines e is (inl x) =
       split = ap (λ (ls : List (List ℕ)). line ∷ ls) x.split;
       good = (u, is, x.good);
       bad = x.bad;
-      number = x.number ∙ ap (λ (k : ℕ). at_line k x.flaw) place;
+      number = x.number ∙ ap (λ (k : ℕ). Flawed k x.flaw) place;
     })
 schema_goes_on n s u line lines e is (inr x) =
     let place : length lines + (n + 1) ≡ length (line ∷ lines) + n = omega arith in
-    inr (record { schema = x.schema; good = (u, is, x.good); none = x.none; number = x.number ∙ ap BadLine place })
+    inr (record { schema = x.schema; good = (u, is, x.good); none = x.none; number = x.number ∙ ap (λ (k : ℕ). Flawed k BadLine) place })
 
 schema_by_line : (n : ℕ) (s : SchemaText) (line : List ℕ) (lines : List (List ℕ)) (e : ScriptError) (r : Result SchemaText Flaw) → schema_line s line ≡ r
     → ((u : SchemaText) → schema_from (n + 1) u lines ≡ Err e → SchemaStops (n + 1) u lines e ⊎ SchemaEnds (n + 1) u lines e)
     → (numbered n r >>= λ (u : SchemaText). schema_from (n + 1) u lines) ≡ Err e → SchemaStops n s (line ∷ lines) e ⊎ SchemaEnds n s (line ∷ lines) e
 schema_by_line n s line lines e (Ok u) is later h = schema_goes_on n s u line lines e is (later u h)
 schema_by_line n s line lines e (Err f) is later h =
-    let here : at_line n f ≡ e = cc in
+    let here : Flawed n f ≡ e = cc in
     let place : n ≡ 0 + n = omega arith in
-    inl (record { before = []; schema = s; line = line; rest = lines; flaw = f; split = refl; good = refl; bad = is; number = sym here ∙ ap (λ (k : ℕ). at_line k f) place })
+    inl (record { before = []; schema = s; line = line; rest = lines; flaw = f; split = refl; good = refl; bad = is; number = sym here ∙ ap (λ (k : ℕ). Flawed k f) place })
 
-schema_ends : (n : ℕ) (empty : Bool) (s : SchemaText) (e : ScriptError) → eqb (length s.names) 0 ≡ empty → cond empty (Err (BadLine n)) (Ok s) ≡ Err e → SchemaEnds n s [] e
+schema_ends : (n : ℕ) (empty : Bool) (s : SchemaText) (e : ScriptError) → eqb (length s.names) 0 ≡ empty → cond empty (Err (Flawed n BadLine)) (Ok s) ≡ Err e → SchemaEnds n s [] e
 schema_ends n true s e is h =
-    let here : BadLine n ≡ e = cc in
+    let here : Flawed n BadLine ≡ e = cc in
     let place : n ≡ 0 + n = omega arith in
-    record { schema = s; good = refl; none = eqb-true _ _ is; number = sym here ∙ ap BadLine place }
+    record { schema = s; good = refl; none = eqb-true _ _ is; number = sym here ∙ ap (λ (k : ℕ). Flawed k BadLine) place }
 schema_ends n false s e is h = absurd cc
 
 schema_stops : (n : ℕ) (s : SchemaText) (lines : List (List ℕ)) (e : ScriptError) → schema_from n s lines ≡ Err e → SchemaStops n s lines e ⊎ SchemaEnds n s lines e

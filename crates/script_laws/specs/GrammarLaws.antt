@@ -5,12 +5,12 @@ use Rattle.key_tuple.specs.Order.{FieldList}
 use Rattle.map_history.specs.Text.{field_text, key_text}
 use Rattle.script.specs.declared.error.Flaw.{Flaw}
 use Rattle.script.specs.declared.error.ScriptError.{ScriptError}
-use Rattle.script.specs.declared.error.ScriptError.TheVariants.{BadLine}
+use Rattle.script.specs.declared.error.ScriptError.TheVariants.{Flawed}
+use Rattle.script.specs.declared.error.Flaw.TheVariants.{BadLine}
 use Rattle.script.specs.Bytes.{AreBytes, AreFields}
 use Rattle.script.specs.Grammar.{lines_of, field_of, tuple_of}
 use Rattle.script.specs.Lane.{line_meaning, lane_of}
 use Rattle.script.specs.Schema.{SchemaText, no_index, schema_line, schema_of}
-use Rattle.script.specs.Steps.{at_line}
 
 -- the bytes that were written as a field are read again, so no two fields are written alike
 pub record FieldsAreReadAgain : Type 0 where
@@ -31,7 +31,7 @@ pub record IsFirstFlaw (s : SchemaText) (lines : List (List ℕ)) (e : ScriptErr
   pub split : lines ≡ before ++ line ∷ rest
   pub good : AllByRecursion (λ (l : List ℕ). IsOk (line_meaning s l)) before
   pub bad : line_meaning s line ≡ Err flaw
-  pub number : e ≡ at_line (length before + 1) flaw
+  pub number : e ≡ Flawed (length before + 1) flaw
 
 -- one schema after another by lines that are in the grammar
 abbrev pub Makes : SchemaText → List (List ℕ) → SchemaText → Type 0
@@ -48,14 +48,14 @@ pub record IsFirstSchemaFlaw (lines : List (List ℕ)) (e : ScriptError) : Type 
   pub split : lines ≡ before ++ line ∷ rest
   pub good : Makes no_index before schema
   pub bad : schema_line schema line ≡ Err flaw
-  pub number : e ≡ at_line (length before + 1) flaw
+  pub number : e ≡ Flawed (length before + 1) flaw
 
 -- or all lines are in the grammar, and none is an index: the error is behind the last
 pub record LacksIndex (lines : List (List ℕ)) (e : ScriptError) : Type 0 where
   pub schema : SchemaText
   pub good : Makes no_index lines schema
   pub none : length schema.names ≡ 0
-  pub number : e ≡ BadLine (length lines + 1)
+  pub number : e ≡ Flawed (length lines + 1) BadLine
 
 -- each refusal speaks of the first line that isn't in the grammar
 pub record RefusalsAreFirst : Type 0 where
