@@ -4,6 +4,8 @@ use Rattle.map_history.specs.Text.{line_of}
 use Rattle.script.specs.declared.TheConstants.{MAX_FILE_BYTES}
 use Rattle.script.specs.declared.error.ScriptError.{ScriptError}
 use Rattle.script.specs.declared.error.ScriptError.TheVariants as error
+use Rattle.script.specs.declared.error.Flaw.{Flaw}
+use Rattle.script.specs.declared.error.Flaw.TheVariants as flaw
 use Rattle.script.specs.Schema.{SchemaText, schema_of}
 use Rattle.script.specs.Lane.{lane_of}
 use Rattle.index_engine.specs.declared.setting.Setting.{Setting}
@@ -43,11 +45,15 @@ stop_text (TooLarge file) = line_of (codes "too-large" ∷ decimal file ∷ [])
 stop_text (Sizes setting) = line_of (codes "sizes" ∷ setting_word setting ∷ [])
 stop_text NoMemory = []
 
+-- the code of a flaw
+abbrev pub flaw_code : Flaw → ℕ
+flaw_code flaw.BadLine = 1
+flaw_code flaw.UnknownIndex = 2
+flaw_code flaw.TooLong = 3
+
 -- the refusal that an error of a file is
 abbrev pub refused : ℕ → ScriptError → Stop
-refused file (error.BadLine line) = Script file line 1
-refused file (error.UnknownIndex line) = Script file line 2
-refused file (error.TooLong line) = Script file line 3
+refused file (error.Flawed line kind) = Script file line (flaw_code kind)
 refused file error.NoMemory = NoMemory
 
 -- the refusal in the outcome of a reading, if any

@@ -9,14 +9,13 @@ ghost use Rattle.lane_work.specs.Workable.{AreLinesOf};
 ghost use Rattle.lane_threads.specs.Together.{AllAreLinesOf};
 ghost use Rattle.change_lines.specs.Made.{lane_texts, Ascends, AllAscend};
 ghost use Rattle.ahi_cli.specs.Files.{failures_of, KeepsFiles, StopsLoading, StopsFile, StopsReading, SpellsSchema, SpellsLane, SpellsLanes, Spells};
-ghost use Rattle.ahi_cli.specs.Stops.{schema_stop, lane_stop, refused};
+ghost use Rattle.ahi_cli.specs.Stops.{schema_stop, lane_stop, flaw_code, refused};
 ghost use Rattle.ahi_cli.specs.Words.{names_of, file_names};
 
 use crate::stop::Stop;
 use crate::words::Command;
 use io_port::{Shelf, ShelfError};
-use script::{Line, MAX_FILE_BYTES, Schema, ScriptError, read_lane, read_schema};
-use script_laws::line_numbers_ascend;
+use script::{Flaw, Line, MAX_FILE_BYTES, Schema, ScriptError, read_lane, read_schema};
 use std::alloc::Global;
 
 /// A schema and lanes.
@@ -123,7 +122,6 @@ fn load_lane<F: Shelf>(
         (lane_stop file before (schema_text schema.now))) }
     ensures kept { KeepsFiles F.Shelf shelf.old shelf.new }
 {
-    line_numbers_ascend();
     let bytes = load(alloc, shelf, name, file, MAX_FILE_BYTES as u64 - before)?;
     match read_lane(alloc, &bytes, schema) {
         Ok(lines) => Ok((lines, bytes.len() as u64)),
@@ -158,21 +156,22 @@ fn refuse(file: u32, error: ScriptError) -> Stop
     ensures { result ≡ refused file error }
 {
     match error {
-        ScriptError::BadLine { line } => Stop::Script {
+        ScriptError::Flawed { line, flaw } => Stop::Script {
             file,
             line,
-            code: 1,
-        },
-        ScriptError::UnknownIndex { line } => Stop::Script {
-            file,
-            line,
-            code: 2,
-        },
-        ScriptError::TooLong { line } => Stop::Script {
-            file,
-            line,
-            code: 3,
+            code: code_of(flaw),
         },
         ScriptError::NoMemory => Stop::NoMemory,
+    }
+}
+
+/// The code of a flaw.
+fn code_of(flaw: Flaw) -> u8
+    ensures { result ≡ flaw_code flaw }
+{
+    match flaw {
+        Flaw::BadLine => 1,
+        Flaw::UnknownIndex => 2,
+        Flaw::TooLong => 3,
     }
 }

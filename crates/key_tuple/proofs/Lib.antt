@@ -5,3 +5,4 @@ pub mod TupleLemmas
 pub mod FoldLemmas
 pub mod SizeLemmas
 pub mod PositionLemmas
+pub mod FlatLemmas

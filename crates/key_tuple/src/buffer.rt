@@ -42,6 +42,24 @@ impl FieldBuffer {
         })
     }
 
+    /// The fields of these bytes that end at these offsets. Nothing is copied.
+    pub fn from_parts(bytes: Vec<u8>, ends: &[usize]) -> FieldBuffer
+        requires few { length ends.now ≤ FIELD_ROOM }
+        requires short { length bytes.items < 65536 }
+        requires rise { RiseTo 0 ends.now (length bytes.items) }
+        ensures { result.fields ≡ parts bytes.items 0 ends.now }
+    {
+        let mut offsets = [0; FIELD_ROOM];
+        for (i, end) in ends.iter().enumerate() {
+            offsets[i] = *end as u16;
+        }
+        FieldBuffer {
+            bytes,
+            ends: offsets,
+            count: ends.len() as u8,
+        }
+    }
+
     /// Takes all fields out and keeps the room.
     pub fn clear(&mut self)
         ensures fields { self.new.fields ≡ [] }

@@ -1,6 +1,7 @@
 //! A key: a tuple with at least one field.
 ghost use Rattle.std.specs.Prelude.{◌≡◌, ◌<◌, ◌⊎◌, length, map, IfOk, IfErr, IfSome, Some};
 ghost use Rattle.key_tuple.specs.Limits.{IsWithinLimits, refusal_of};
+ghost use Rattle.key_tuple.specs.Parts.{parts, RiseTo};
 
 use crate::error::KeyError;
 use crate::fields::Fields;
@@ -29,6 +30,20 @@ impl Key {
         ensures cause { IfErr result (λ e. (refusal_of (map (λ f. f.items) fields.items) ≡ Some e) ⊎ (e ≡ KeyError.NoMemory)) }
     {
         let tuple = Tuple::try_new(alloc, fields)?;
+        Ok(Key { tuple, room: 0 })
+    }
+
+    /// The key of the fields of these bytes that end at these offsets. Refuses as `try_new` does,
+    /// and copies nothing.
+    pub fn from_parts(bytes: Vec<u8>, ends: &[usize]) -> Result<Key, KeyError>
+        requires some { 0 < length ends.now }
+        requires rise { RiseTo 0 ends.now (length bytes.items) }
+        ensures ok { IfOk result (λ k. k.tuple ≡ parts bytes.items 0 ends.now) }
+        ensures room { IfOk result (λ k. k.room ≡ 0) }
+        ensures refused { IfSome (refusal_of (parts bytes.items 0 ends.now)) (λ e. result ≡ Err e) }
+        ensures cause { IfErr result (λ e. refusal_of (parts bytes.items 0 ends.now) ≡ Some e) }
+    {
+        let tuple = Tuple::from_parts(bytes, ends)?;
         Ok(Key { tuple, room: 0 })
     }
 

@@ -2,6 +2,7 @@
 ghost use Rattle.std.specs.Prelude.{◌≡◌, ◌≤◌, ◌⊎◌, length, map, IfOk, IfErr, IfSome, Some};
 ghost use Rattle.key_tuple.specs.Order.{byte_count};
 ghost use Rattle.key_tuple.specs.Limits.{IsWithinLimits, refusal_of, MAX_FIELDS, MAX_KEY_BYTES};
+ghost use Rattle.key_tuple.specs.Parts.{parts, RiseTo};
 
 use crate::buffer::FieldBuffer;
 use crate::error::KeyError;
@@ -47,6 +48,25 @@ impl Tuple {
         }
         let buffer = gather(alloc, &fields, total)?;
         Ok(Tuple { buffer })
+    }
+
+    /// The tuple of the fields of these bytes that end at these offsets. Refuses as `try_new` does,
+    /// and copies nothing.
+    pub fn from_parts(bytes: Vec<u8>, ends: &[usize]) -> Result<Tuple, KeyError>
+        requires rise { RiseTo 0 ends.now (length bytes.items) }
+        ensures ok { IfOk result (λ t. t ≡ parts bytes.items 0 ends.now) }
+        ensures refused { IfSome (refusal_of (parts bytes.items 0 ends.now)) (λ e. result ≡ Err e) }
+        ensures cause { IfErr result (λ e. refusal_of (parts bytes.items 0 ends.now) ≡ Some e) }
+    {
+        if usize::from(MAX_FIELDS) < ends.len() {
+            return Err(KeyError::TooManyFields(ends.len()));
+        }
+        if MAX_KEY_BYTES < bytes.len() {
+            return Err(KeyError::TooLong(bytes.len()));
+        }
+        Ok(Tuple {
+            buffer: FieldBuffer::from_parts(bytes, ends),
+        })
     }
 
     /// The tuple is within the limits.

@@ -8,7 +8,7 @@ use Rattle.std.proofs.lemmas.List.{get_or-take, length-take, take_rest}
 use Rattle.std.proofs.lemmas.List.Sums.{fails_before_first}
 use Rattle.std.proofs.Math.Seq.{split_at}
 use Rattle.script.specs.Grammar.{lines_of}
-use Rattle.script.specs.Pieces.{Lacks, IsCut, pieces_by}
+use Rattle.script.specs.Pieces.{LacksByte, IsFirstCut, pieces_by}
 
 abbrev is_at : ℕ → ℕ → Bool
 is_at v b = eqb b v
@@ -18,7 +18,7 @@ none_cond true n h = absurd cc
 none_cond false n h = refl
 
 -- what the first place cuts
-pub cut_there : (v : ℕ) (s : List ℕ) (i : ℕ) → position (is_at v) s ≡ Some i → IsCut v s (take i s) (drop (i + 1) s)
+pub cut_there : (v : ℕ) (s : List ℕ) (i : ℕ) → position (is_at v) s ≡ Some i → IsFirstCut v s (take i s) (drop (i + 1) s)
 cut_there v s i h =
     let p = position-Some (is_at v) s i 0 h in
     let lt : i < length s = p.0 in
@@ -31,19 +31,19 @@ cut_there v s i h =
     }
 
 -- where there is no place, nothing is cut
-pub cut_nowhere : (v : ℕ) (s : List ℕ) → position (is_at v) s ≡ None → Lacks v s
+pub cut_nowhere : (v : ℕ) (s : List ℕ) → position (is_at v) s ≡ None → LacksByte v s
 cut_nowhere v s h k d lt =
     let long : length s ≤ position_or_len (is_at v) s = ltb-false _ _ (none_cond _ _ h) in
     fails_before_first (is_at v) s k d (omega arith)
 
 -- the first piece, and the pieces of what is cut off
-pub pieces_cut : (v : ℕ) (s a b : List ℕ) → IsCut v s a b → pieces_by v s ≡ a ∷ pieces_by v b
+pub pieces_cut : (v : ℕ) (s a b : List ℕ) → IsFirstCut v s a b → pieces_by v s ≡ a ∷ pieces_by v b
 pieces_cut v s a b h = rw h.whole (slice_split_at (is_at v) a v b h.first (eq-eqb v v refl))
 
-pub pieces_whole : (v : ℕ) (s : List ℕ) → Lacks v s → pieces_by v s ≡ s ∷ []
+pub pieces_whole : (v : ℕ) (s : List ℕ) → LacksByte v s → pieces_by v s ≡ s ∷ []
 pieces_whole v s h = slice_split_none (is_at v) s h
 
-lines_at : (a b : List ℕ) → Lacks 10 a → lines_of (a ++ 10 ∷ b) ≡ a ∷ lines_of b
+lines_at : (a b : List ℕ) → LacksByte 10 a → lines_of (a ++ 10 ∷ b) ≡ a ∷ lines_of b
 lines_at [] b h = refl
 lines_at (x ∷ xs) b h =
     let ne : eqb x 10 ≡ false = h 0 0 (omega arith) in
@@ -51,10 +51,10 @@ lines_at (x ∷ xs) b h =
     rw (ne, rest) refl
 
 -- the first line, and the lines of what is cut off
-pub lines_cut : (s a b : List ℕ) → IsCut 10 s a b → lines_of s ≡ a ∷ lines_of b
+pub lines_cut : (s a b : List ℕ) → IsFirstCut 10 s a b → lines_of s ≡ a ∷ lines_of b
 lines_cut s a b h = rw h.whole (lines_at a b h.first)
 
-pub lines_whole : (x : ℕ) (s : List ℕ) → Lacks 10 (x ∷ s) → lines_of (x ∷ s) ≡ (x ∷ s) ∷ []
+pub lines_whole : (x : ℕ) (s : List ℕ) → LacksByte 10 (x ∷ s) → lines_of (x ∷ s) ≡ (x ∷ s) ∷ []
 lines_whole x [] h = let ne : eqb x 10 ≡ false = h 0 0 (omega arith) in rw ne refl
 lines_whole x (y ∷ s) h =
     let ne : eqb x 10 ≡ false = h 0 0 (omega arith) in
@@ -62,10 +62,10 @@ lines_whole x (y ∷ s) h =
     rw (ne, rest) refl
 
 -- some bytes are the one line where none ends it
-pub lines_last : (s : List ℕ) → 0 < length s → Lacks 10 s → lines_of s ≡ s ∷ []
+pub lines_last : (s : List ℕ) → 0 < length s → LacksByte 10 s → lines_of s ≡ s ∷ []
 lines_last [] lt h = absurd (omega arith)
 lines_last (x ∷ s) lt h = lines_whole x s h
 
 -- the same, as `&bytes[..i]` and `&bytes[i + 1..]` stand
-pub cut_parts : (v : ℕ) (s : List ℕ) (i : ℕ) → position (is_at v) s ≡ Some i → IsCut v s (take i s) (take (length s - (i + 1)) (drop (i + 1) s))
+pub cut_parts : (v : ℕ) (s : List ℕ) (i : ℕ) → position (is_at v) s ≡ Some i → IsFirstCut v s (take i s) (take (length s - (i + 1)) (drop (i + 1) s))
 cut_parts v s i h = rw (take_rest s (i + 1)) (cut_there v s i h)

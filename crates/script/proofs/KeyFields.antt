@@ -1,15 +1,17 @@
 -- The fields of a key, one word's piece after another.
-use Rattle.std.proofs.Common.{◌≡◌, ℕ, false, eqb, List, [], ◌∷◌, ◌++◌, length, Option, Some, None, Ok, Err, refl, ap, ◌∙◌, arith}
+use Rattle.std.proofs.Common.{◌≡◌, ℕ, ◌+◌, Bool, true, false, cond, eqb, List, [], ◌∷◌, ◌++◌, length, Option, Some, None, Ok, Err, refl, sym, ap, subst, ◌∙◌, append-nil, arith}
 use Rattle.std.proofs.lemmas.List.{length-append}
-use Rattle.std.proofs.lemmas.Bool.{ne_eqb}
+use Rattle.std.proofs.lemmas.Bool.{eq-eqb, ne_eqb}
 use Rattle.key_tuple.specs.Order.{FieldList}
+use Rattle.key_tuple.specs.Parts.{parts, RiseTo}
+use Rattle.key_tuple.proofs.PartsLemmas.{length-parts, parts-push, RiseTo-push}
 use Rattle.script.specs.declared.error.Flaw.{Flaw}
 use Rattle.script.specs.declared.error.Flaw.TheVariants.{BadLine}
 use Rattle.script.specs.declared.error.Refusal.{Refusal}
 use Rattle.script.specs.declared.error.Refusal.TheVariants as refusal
-use Rattle.script.specs.Grammar.{in_front, field_of, fields_in, exactly}
+use Rattle.script.specs.Grammar.{in_front, behind, field_of, fields_in, exactly}
 use Rattle.script.specs.Steps.{Fails, or_bad}
-use Rattle.script.proofs.Steps.{behind, behind_in_front}
+use Rattle.script.proofs.Steps.{behind_in_front}
 
 too_long : (n : ℕ) (front : FieldList) (f : Option (List ℕ)) (o : Option FieldList) → length front ≡ n → exactly n (behind front (in_front f o)) ≡ None
 too_long n front None o e = refl
@@ -33,13 +35,67 @@ pub no_field : (n : ℕ) (whole : Option FieldList) (front : FieldList) (left : 
 no_field n whole front left text texts refusal.NoMemory told steps h = tt
 no_field n whole front left text texts (refusal.Flawed f) told steps h = rw (told, steps) (flawed n front (field_of text) (fields_in texts) f h)
 
-field_is : (f : Option (List ℕ)) (x : List ℕ) → or_bad f ≡ Ok x → f ≡ Some x
-field_is None x h = absurd cc
-field_is (Some y) x h = cc
+-- what was put behind others
+record IsPut (front : List ℕ) (o : Option (List ℕ)) (new : List ℕ) : Type 0 where
+  more : List ℕ
+  there : o ≡ Some more
+  joined : front ++ more ≡ new
+
+is_put : (front : List ℕ) (o : Option (List ℕ)) (new : List ℕ) → or_bad (behind front o) ≡ Ok new → IsPut front o new
+is_put front None new h = absurd cc
+is_put front (Some x) new h = record { more = x; there = refl; joined = cc }
+
+unread_behind : (front : List ℕ) (o : Option (List ℕ)) (e : Flaw) → or_bad (behind front o) ≡ Err e → or_bad o ≡ Err e
+unread_behind front None e h = h
+unread_behind front (Some x) e h = absurd cc
+
+-- a field that isn't put behind others is none
+pub not_put : (front : List ℕ) (o : Option (List ℕ)) (e : Refusal) → Fails e (or_bad (behind front o)) → Fails e (or_bad o)
+not_put front o refusal.NoMemory h = tt
+not_put front o (refusal.Flawed f) h = unread_behind front o f h
+
+-- the fields so far lie in one buffer, and those that are left are to come behind them
+pub record AreSoFar (whole : Option FieldList) (bytes ends : List ℕ) (left : List (List ℕ)) : Type 0 where
+  pub told : whole ≡ behind (parts bytes 0 ends) (fields_in left)
+  pub rise : RiseTo 0 ends (length bytes)
+
+-- one field more, right behind them
+field_there : (whole : Option FieldList) (bytes ends more : List ℕ) (left : List (List ℕ)) (text : List ℕ) (texts : List (List ℕ))
+    → AreSoFar whole bytes ends left → left ≡ text ∷ texts → field_of text ≡ Some more → AreSoFar whole (bytes ++ more) (ends ++ length (bytes ++ more) ∷ []) texts
+field_there whole bytes ends more left text texts old steps there =
+    let long : length (bytes ++ more) ≡ length bytes + length more = length-append bytes more in
+    let parts_more = parts-push bytes more 0 ends (length (bytes ++ more)) old.rise long in
+    record {
+      told = old.told ∙ rw (steps, there, parts_more) (behind_in_front (parts bytes 0 ends) more (fields_in texts));
+      rise = RiseTo-push 0 ends (length bytes) (length (bytes ++ more)) old.rise (omega (arith, long));
+    }
 
 -- one field more
-pub field_more : (whole : Option FieldList) (front new : FieldList) (left : List (List ℕ)) (text : List ℕ) (texts : List (List ℕ)) (x : List ℕ)
-    → whole ≡ behind front (fields_in left) → left ≡ text ∷ texts → or_bad (field_of text) ≡ Ok x → new ≡ front ++ x ∷ [] → whole ≡ behind new (fields_in texts)
-field_more whole front new left text texts x told steps h more =
-    let f : field_of text ≡ Some x = field_is _ _ h in
-    told ∙ rw (steps, f, more) (behind_in_front front x (fields_in texts))
+pub field_more : (whole : Option FieldList) (bytes ends new ends' : List ℕ) (left : List (List ℕ)) (text : List ℕ) (texts : List (List ℕ))
+    → AreSoFar whole bytes ends left → left ≡ text ∷ texts → or_bad (behind bytes (field_of text)) ≡ Ok new → ends' ≡ ends ++ length new ∷ [] → AreSoFar whole new ends' texts
+field_more whole bytes ends new ends' left text texts old steps h e =
+    let put = is_put bytes (field_of text) new h in
+    let there = field_there whole bytes ends put.more left text texts old steps put.there in
+    let joined = subst (λ (ys : List ℕ). AreSoFar whole ys (ends ++ length ys ∷ []) texts) put.joined there in
+    subst (λ (es : List ℕ). AreSoFar whole new es texts) (sym e) joined
+
+-- where no piece is left, there are as many fields as ends
+ended : (n : ℕ) (whole : Option FieldList) (front : FieldList) (left : List (List ℕ)) → whole ≡ behind front (fields_in left) → left ≡ []
+    → or_bad (exactly n whole) ≡ cond (eqb (length front) n) (Ok front) (Err BadLine)
+ended n whole front left told none = rw (told, none, append-nil front) (by_count (eqb (length front) n))
+  where
+    by_count : (same : Bool) → or_bad (cond same (Some front) None) ≡ cond same (Ok front) (Err BadLine)
+    by_count true = refl
+    by_count false = refl
+
+pub as_many : (n : ℕ) (whole : Option FieldList) (bytes ends : List ℕ) (left : List (List ℕ)) → AreSoFar whole bytes ends left → left ≡ [] → length ends ≡ n
+    → or_bad (exactly n whole) ≡ Ok (parts bytes 0 ends)
+as_many n whole bytes ends left so_far none count =
+    let same : eqb (length (parts bytes 0 ends)) n ≡ true = eq-eqb _ _ (length-parts bytes 0 ends ∙ count) in
+    ended n whole (parts bytes 0 ends) left so_far.told none ∙ rw same refl
+
+pub too_few : (n : ℕ) (whole : Option FieldList) (bytes ends : List ℕ) (left : List (List ℕ)) → AreSoFar whole bytes ends left → left ≡ [] → (length ends ≡ n → ⊥)
+    → or_bad (exactly n whole) ≡ Err BadLine
+too_few n whole bytes ends left so_far none other =
+    let same : eqb (length (parts bytes 0 ends)) n ≡ false = ne_eqb _ _ (λ e. other (sym (length-parts bytes 0 ends) ∙ e)) in
+    ended n whole (parts bytes 0 ends) left so_far.told none ∙ rw same refl

@@ -5,8 +5,8 @@ pub mod KeyFields
 pub mod Whole
 pub mod Results
 pub mod SchemaFacts
+pub mod LaneSteps
+pub mod ByteFacts
 pub mod LaneFacts
-pub mod Escapes
+pub mod NumberFacts
 pub mod Decimals
-pub mod Commas
-pub mod FirstFlaws

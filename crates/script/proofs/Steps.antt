@@ -1,11 +1,6 @@
 -- A list that grows in front of what is still to come.
 use Rattle.std.proofs.Common.{◌≡◌, List, [], ◌∷◌, ◌++◌, Option, Some, None, refl, sym, ap, append_assoc}
-use Rattle.script.specs.Grammar.{in_front}
-
--- what was read before, and what is still read
-abbrev pub behind : {A : Type 0} → List A → Option (List A) → Option (List A)
-behind front None = None
-behind front (Some xs) = Some (front ++ xs)
+use Rattle.script.specs.Grammar.{in_front, behind}
 
 pub behind_in_front : {A : Type 0} (front : List A) (x : A) (o : Option (List A)) → behind front (in_front (Some x) o) ≡ behind (front ++ x ∷ []) o
 behind_in_front front x None = refl

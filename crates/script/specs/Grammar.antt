@@ -1,5 +1,5 @@
 -- Lines, words, names, fields, keys and values, as lists of bytes.
-use Rattle.std.specs.Prelude.{ℕ, ◌+◌, ◌-◌, ◌*◌, Bool, true, false, ◌&&◌, ◌||◌, ◌==◌, nat_le, nat_lt, if◌then◌else◌, Option, Some, None, option_and_then, option_map, List, [], ◌∷◌, length, Result, Ok, Err, ◌^◌, not}
+use Rattle.std.specs.Prelude.{ℕ, ◌+◌, ◌-◌, ◌*◌, Bool, true, false, ◌&&◌, ◌||◌, ◌==◌, nat_le, nat_lt, if◌then◌else◌, Option, Some, None, option_and_then, option_map, List, [], ◌∷◌, ◌++◌, length, Result, Ok, Err, ◌^◌, not}
 use Rattle.std.specs.List.{slice_split, onto_first, list_all}
 use Rattle.key_tuple.specs.declared.TheConstants.{MAX_KEY_BYTES, MAX_VALUE_BYTES}
 use Rattle.key_tuple.specs.Order.{FieldList, byte_count}
@@ -19,8 +19,8 @@ says_nothing [] = true
 says_nothing (b ∷ bytes) = b == 35
 
 -- the words of a line: what stands between its spaces
-abbrev pub words_of : List ℕ → List (List ℕ)
-words_of line = slice_split (λ (b : ℕ). b == 32) line
+abbrev pub line_words : List ℕ → List (List ℕ)
+line_words line = slice_split (λ (b : ℕ). b == 32) line
 
 -- the word, if there is just one
 abbrev pub only : List (List ℕ) → Option (List ℕ)
@@ -68,8 +68,8 @@ decimal_from n [] = n
 decimal_from n (b ∷ word) = decimal_from (n * 10 + (b - 48)) word
 
 -- the number that a word writes, below 2^32
-abbrev pub number_of : List ℕ → Option ℕ
-number_of word = if is_numeral word && nat_lt (decimal_from 0 word) (2 ^ 32) then Some (decimal_from 0 word) else None
+abbrev pub number_spelled : List ℕ → Option ℕ
+number_spelled word = if is_numeral word && nat_lt (decimal_from 0 word) (2 ^ 32) then Some (decimal_from 0 word) else None
 
 -- the value of a hexadecimal digit of either case
 abbrev pub digit_of : ℕ → Option ℕ
@@ -91,6 +91,11 @@ abbrev pub in_front : {A : Type 0} → Option A → Option (List A) → Option (
 in_front None rest = None
 in_front (Some x) None = None
 in_front (Some x) (Some xs) = Some (x ∷ xs)
+
+-- what was read before, and what is still read, if it is there
+abbrev pub behind : {A : Type 0} → List A → Option (List A) → Option (List A)
+behind front None = None
+behind front (Some xs) = Some (front ++ xs)
 
 -- the bytes that a text stands for: each byte alone, or `%` and two digits
 abbrev pub bytes_of : List ℕ → Option (List ℕ)
@@ -125,8 +130,8 @@ exactly n None = None
 exactly n (Some fields) = if length fields == n then Some fields else None
 
 -- the key that a word writes, of an index with so many fields
-abbrev pub key_of : ℕ → List ℕ → Option FieldList
-key_of n word = exactly n (tuple_of word)
+abbrev pub key_spelled : ℕ → List ℕ → Option FieldList
+key_spelled n word = exactly n (tuple_of word)
 
 -- a key within its limit
 abbrev pub short_key : FieldList → Result FieldList Flaw

@@ -1,45 +1,47 @@
 -- What the lines of a lane file say.
-use Rattle.std.specs.Prelude.{ℕ, ◌+◌, ◌≡◌, ◌<◌, if◌then◌else◌, Option, Some, None, ok_or, List, [], ◌∷◌, ◌++◌, length, codes, slice_index, Result, Ok, Err}
-use Rattle.std.specs.List.{AllByRecursion}
+use Rattle.std.specs.Prelude.{ℕ, ◌+◌, ◌≡◌, ◌<◌, ◌≤◌, if◌then◌else◌, Option, Some, None, ok_or, List, [], ◌∷◌, ◌++◌, length, codes, slice_index, Result, Ok, Err}
+use Rattle.std.specs.List.{AllByRecursion, AllPairs}
 use Rattle.std.specs.Map.{lookup}
 use Rattle.std.specs.Str.{bytes_eq}
+use Rattle.key_tuple.specs.Limits.{IsWithinLimits}
 use Rattle.key_tuple.specs.Order.{FieldList}
-use Rattle.map_history.specs.Map.{Put, Del}
-use Rattle.map_history.specs.Operation.{Operation, Ask, Get, Make}
+use Rattle.map_history.specs.Map.{Put, Set, Del}
+use Rattle.map_history.specs.Operation.{Operation, Ask, Get, Make, Seek, Scan}
 use Rattle.map_history.specs.LegalReport.{Line}
 use Rattle.script.specs.declared.verb.Verb.{Verb}
 use Rattle.script.specs.declared.verb.Verb.TheVariants as verb
 use Rattle.script.specs.declared.error.ScriptError.{ScriptError}
 use Rattle.script.specs.declared.error.Flaw.{Flaw}
 use Rattle.script.specs.declared.error.Flaw.TheVariants.{BadLine, UnknownIndex}
+use Rattle.script.specs.Bytes.{AreFields, IsValue}
 use Rattle.script.specs.Steps.{◌>>=◌, or_bad, numbered}
-use Rattle.script.specs.Grammar.{lines_of, words_of, says_nothing, is_name, only, both, key_of, field_of, short_key, short_value}
-use Rattle.script.specs.Schema.{SchemaText, index_of}
+use Rattle.script.specs.Grammar.{lines_of, line_words, says_nothing, is_name, only, both, key_spelled, field_of, short_key, short_value}
+use Rattle.script.specs.Schema.{SchemaText, index_by_name}
 
 -- the words of the operations
 abbrev pub verbs : List (List ℕ × Verb)
 verbs = (codes "get", verb.Get) ∷ (codes "put", verb.Put) ∷ (codes "del", verb.Del) ∷ []
 
 -- the operation that a word names
-abbrev pub verb_of : List ℕ → Option Verb
-verb_of word = lookup (λ (known : List ℕ). bytes_eq word known) verbs
+abbrev pub verb_named : List ℕ → Option Verb
+verb_named word = lookup (λ (known : List ℕ). bytes_eq word known) verbs
 
 -- the index of a line: a word that isn't a name is bad form, and a name that the schema lacks is unknown
 abbrev pub index_named : SchemaText → List ℕ → Result ℕ Flaw
-index_named s name = if is_name name then ok_or (index_of s.names name) UnknownIndex else Err BadLine
+index_named s name = if is_name name then ok_or (index_by_name s.names name) UnknownIndex else Err BadLine
 
 -- `KEY`, for an index whose keys have so many fields
 abbrev pub key_parts : ℕ → List (List ℕ) → Result FieldList Flaw
 key_parts n parts = do
   word ← or_bad (only parts)
-  fields ← or_bad (key_of n word)
+  fields ← or_bad (key_spelled n word)
   short_key fields
 
 -- `KEY VALUE`: the form of both is judged before their lengths
 abbrev pub row_parts : ℕ → List (List ℕ) → Result (FieldList × List ℕ) Flaw
 row_parts n parts = do
   two ← or_bad (both parts)
-  fields ← or_bad (key_of n two.0)
+  fields ← or_bad (key_spelled n two.0)
   bytes ← or_bad (field_of two.1)
   key ← short_key fields
   value ← short_value bytes
@@ -60,13 +62,13 @@ abbrev pub operation_in : SchemaText → List (List ℕ) → Result Operation Fl
 operation_in s [] = Err BadLine
 operation_in s (word ∷ []) = Err BadLine
 operation_in s (word ∷ name ∷ parts) = do
-  kind ← or_bad (verb_of word)
+  kind ← or_bad (verb_named word)
   i ← index_named s name
   operation_for kind i (slice_index s.fields i) parts
 
 -- what a line of a lane says: nothing, an operation, or a flaw
-unfoldable pub lane_line : SchemaText → List ℕ → Result (Option Operation) Flaw
-lane_line s line = if says_nothing line then Ok None else (operation_in s (words_of line) >>= λ (op : Operation). Ok (Some op))
+unfoldable pub line_meaning : SchemaText → List ℕ → Result (Option Operation) Flaw
+line_meaning s line = if says_nothing line then Ok None else (operation_in s (line_words line) >>= λ (op : Operation). Ok (Some op))
 
 -- a line with its number, if it says something
 abbrev pub line_said : ℕ → Option Operation → List Line
@@ -77,7 +79,7 @@ line_said n (Some op) = record { line = n; op = op } ∷ []
 abbrev pub lane_from : ℕ → SchemaText → List (List ℕ) → Result (List Line) ScriptError
 lane_from n s [] = Ok []
 lane_from n s (line ∷ lines) = do
-  said ← numbered n (lane_line s line)
+  said ← numbered n (line_meaning s line)
   more ← lane_from (n + 1) s lines
   Ok (line_said n said ++ more)
 
@@ -88,7 +90,7 @@ lane_of s bytes = lane_from 1 s (lines_of bytes)
 -- `new` is `old` and what the line says, if it says something
 pub record TakesLine (s : SchemaText) (n : ℕ) (line : List ℕ) (old new : List Line) : Type 0 where
   pub said : Option Operation
-  pub says : lane_line s line ≡ Ok said
+  pub says : line_meaning s line ≡ Ok said
   pub grown : new ≡ old ++ line_said n said
 
 -- a get, a put or a del of a key
@@ -98,13 +100,33 @@ HasKey (Make (Put k v)) key = k ≡ key
 HasKey (Make (Del k)) key = k ≡ key
 HasKey ask key = ⊥
 
--- a line of a lane: a get, put or del of an index of the schema, whose key has that index's number of fields
+-- what is to be written is a value
+abbrev pub HasValue : Ask → Type 0
+HasValue (Get k) = Unit {0}
+HasValue (Make (Put k v)) = IsValue v
+HasValue (Make (Set k v)) = IsValue v
+HasValue (Make (Del k)) = Unit {0}
+HasValue (Seek mode tuple) = Unit {0}
+HasValue (Scan from to limit) = Unit {0}
+
+-- a line of a lane: a get, put or del of an index of the schema, whose key has that index's number
+-- of fields, and all within the limits
 pub record IsLaneLine (s : SchemaText) (line : Line) : Type 0 where
   pub key : FieldList
   pub about : HasKey line.op.ask key
   pub known : line.op.index < length s.names
+  pub counted : line.op.index < length s.fields
   pub fields : length key ≡ slice_index s.fields line.op.index
+  pub written : AreFields key
+  pub within : IsWithinLimits key
+  pub value : HasValue line.op.ask
 
 -- each line is one
 abbrev pub AreLaneLines : SchemaText → List Line → Type 0
 AreLaneLines s lines = AllByRecursion (IsLaneLine s) lines
+
+-- the numbers rise from line to line, from 1 up to how many lines the file has
+pub record NumbersRise (count : ℕ) (lines : List Line) : Type 0 where
+  pub ascend : AllPairs (λ (x y : Line). x.line < y.line) lines
+  pub from_one : AllByRecursion (λ (x : Line). 1 ≤ x.line) lines
+  pub within : AllByRecursion (λ (x : Line). x.line ≤ count) lines

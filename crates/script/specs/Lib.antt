@@ -1,7 +1,7 @@
 pub mod Steps
 pub mod Grammar
+pub mod Bytes
 pub mod Pieces
 pub mod Schema
 pub mod Lane
 pub mod Views
-pub mod Laws

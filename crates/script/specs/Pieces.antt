@@ -18,13 +18,13 @@ abbrev pub lines_left : Lines → List (List ℕ)
 lines_left lines = lines_of lines.rest.now
 
 -- no byte has this value
-abbrev pub Lacks : ℕ → List ℕ → Type 0
-Lacks value bytes = All (λ (b : ℕ). (b == value) ≡ false) bytes
+abbrev pub LacksByte : ℕ → List ℕ → Type 0
+LacksByte value bytes = All (λ (b : ℕ). (b == value) ≡ false) bytes
 
 -- the bytes before the first of this value, and after it
-pub record IsCut (value : ℕ) (bytes before after : List ℕ) : Type 0 where
+pub record IsFirstCut (value : ℕ) (bytes before after : List ℕ) : Type 0 where
   pub whole : bytes ≡ before ++ value ∷ after
-  pub first : Lacks value before
+  pub first : LacksByte value before
 
 -- the byte that the front of a text stands for, and the text after it
 pub record IsFirstByte (text : List ℕ) (byte : ℕ) (after : List ℕ) : Type 0 where

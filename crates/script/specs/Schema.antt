@@ -1,10 +1,11 @@
 -- What the lines of a schema file say.
-use Rattle.std.specs.Prelude.{ℕ, ◌+◌, ◌≡◌, ◌<◌, ◌≤◌, Bool, true, ◌&&◌, ◌==◌, nat_lt, if◌then◌else◌, Option, Some, None, is_none, List, [], ◌∷◌, ◌++◌, length, codes, Result, Ok, Err, option_and_then}
-use Rattle.std.specs.List.{position, list_all}
+use Rattle.std.specs.Prelude.{ℕ, ◌+◌, ◌≡◌, ◌≢◌, ◌<◌, ◌≤◌, Bool, true, ◌&&◌, ◌==◌, nat_lt, if◌then◌else◌, Option, Some, None, is_none, List, [], ◌∷◌, ◌++◌, length, codes, Result, Ok, Err, option_and_then}
+use Rattle.std.specs.List.{position, All, AllPairs}
 use Rattle.std.specs.Map.{lookup}
 use Rattle.std.specs.Str.{bytes_eq}
 use Rattle.map_history.specs.declared.sizes.Sizes.{Sizes}
-use Rattle.script.specs.declared.TheConstants.{DEFAULT_SIZES, MAX_INDEXES, MAX_FIELD_COUNT}
+use Rattle.key_tuple.specs.declared.TheConstants.{MAX_FIELDS}
+use Rattle.script.specs.declared.TheConstants.{DEFAULT_SIZES, MAX_INDEXES}
 use Rattle.script.specs.declared.entry.Entry.{Entry}
 use Rattle.script.specs.declared.entry.Entry.TheVariants.{Index}
 use Rattle.script.specs.declared.error.ScriptError.{ScriptError}
@@ -12,7 +13,7 @@ use Rattle.script.specs.declared.error.ScriptError.TheVariants as error
 use Rattle.script.specs.declared.error.Flaw.{Flaw}
 use Rattle.script.specs.declared.error.Flaw.TheVariants.{BadLine}
 use Rattle.script.specs.Steps.{◌>>=◌, or_bad, numbered}
-use Rattle.script.specs.Grammar.{lines_of, words_of, says_nothing, is_name, is_from, number_of, both}
+use Rattle.script.specs.Grammar.{lines_of, line_words, says_nothing, is_name, is_from, number_spelled, both}
 
 -- sizes, and for each index its name and how many fields its keys have
 pub record SchemaText : Type 0 where
@@ -25,20 +26,20 @@ abbrev pub entries : List (List ℕ × Entry)
 entries = (codes "index", Index) ∷ []
 
 -- the entry that a word begins
-abbrev pub entry_of : List ℕ → Option Entry
-entry_of word = lookup (λ (known : List ℕ). bytes_eq word known) entries
+abbrev pub entry_named : List ℕ → Option Entry
+entry_named word = lookup (λ (known : List ℕ). bytes_eq word known) entries
 
 -- the number of an index by its name
-abbrev pub index_of : List (List ℕ) → List ℕ → Option ℕ
-index_of names name = position (λ (known : List ℕ). bytes_eq known name) names
+abbrev pub index_by_name : List (List ℕ) → List ℕ → Option ℕ
+index_by_name names name = position (λ (known : List ℕ). bytes_eq known name) names
 
 -- how many fields: a number from 1 to 4
-abbrev pub count_of : List ℕ → Option ℕ
-count_of word = option_and_then (λ (n : ℕ). if is_from 1 MAX_FIELD_COUNT n then Some n else None) (number_of word)
+abbrev pub count_spelled : List ℕ → Option ℕ
+count_spelled word = option_and_then (λ (n : ℕ). if is_from 1 MAX_FIELDS n then Some n else None) (number_spelled word)
 
 -- the schema has room for an index of this name, which is new
 abbrev pub takes_name : SchemaText → List ℕ → Bool
-takes_name s name = is_name name && nat_lt (length s.names) MAX_INDEXES && is_none (index_of s.names name)
+takes_name s name = is_name name && nat_lt (length s.names) MAX_INDEXES && is_none (index_by_name s.names name)
 
 -- one index more
 abbrev pub with_index : SchemaText → List ℕ → ℕ → SchemaText
@@ -48,7 +49,7 @@ with_index s name count = record s { names = s.names ++ name ∷ []; fields = s.
 abbrev pub index_line : SchemaText → List (List ℕ) → Result SchemaText Flaw
 index_line s parts = do
   two ← or_bad (both parts)
-  count ← or_bad (count_of two.1)
+  count ← or_bad (count_spelled two.1)
   if takes_name s two.0 then Ok (with_index s two.0 count) else Err BadLine
 
 -- what an entry's line makes of a schema
@@ -58,15 +59,15 @@ after_entry Index s parts = index_line s parts
 -- what the words of a line make of a schema
 abbrev pub after_words : SchemaText → List (List ℕ) → Result SchemaText Flaw
 after_words s [] = Err BadLine
-after_words s (word ∷ parts) = or_bad (entry_of word) >>= λ (entry : Entry). after_entry entry s parts
+after_words s (word ∷ parts) = or_bad (entry_named word) >>= λ (entry : Entry). after_entry entry s parts
 
 -- the schema after a line
 unfoldable pub schema_line : SchemaText → List ℕ → Result SchemaText Flaw
-schema_line s line = if says_nothing line then Ok s else after_words s (words_of line)
+schema_line s line = if says_nothing line then Ok s else after_words s (line_words line)
 
 -- the schema after the lines from number n on; one without an index is refused behind its last line
 abbrev pub schema_from : ℕ → SchemaText → List (List ℕ) → Result SchemaText ScriptError
-schema_from n s [] = if length s.names == 0 then Err (error.BadLine n) else Ok s
+schema_from n s [] = if length s.names == 0 then Err (error.Flawed n BadLine) else Ok s
 schema_from n s (line ∷ lines) = numbered n (schema_line s line) >>= λ (t : SchemaText). schema_from (n + 1) t lines
 
 -- the schema before its first line
@@ -77,9 +78,15 @@ no_index = record { sizes = DEFAULT_SIZES; names = []; fields = [] }
 unfoldable pub schema_of : List ℕ → Result SchemaText ScriptError
 schema_of bytes = schema_from 1 no_index (lines_of bytes)
 
--- as many numbers as names, 1 to 64, and 1 to 4 fields each
+-- how many fields the keys of an index may have
+abbrev pub IsFieldCount : ℕ → Type 0
+IsFieldCount n = (1 ≤ n) × (n ≤ MAX_FIELDS)
+
+-- 1 to 64 names in a name's form, no two alike, and for each how many fields its keys have
 pub record IsSchema (names : List (List ℕ)) (fields : List ℕ) : Type 0 where
   pub paired : length fields ≡ length names
   pub some : 0 < length names
   pub few : length names ≤ MAX_INDEXES
-  pub counts : list_all (λ (n : ℕ). is_from 1 MAX_FIELD_COUNT n) fields ≡ true
+  pub named : All (λ (name : List ℕ). is_name name ≡ true) names
+  pub apart : AllPairs (λ (a b : List ℕ). a ≢ b) names
+  pub counts : All IsFieldCount fields

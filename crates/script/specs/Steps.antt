@@ -17,21 +17,15 @@ abbrev pub ◌>>=◌ : {A B E : Type 0} → Result A E → (A → Result B E) �
 abbrev pub or_bad : {A : Type 0} → Option A → Result A Flaw
 or_bad o = ok_or o flaw.BadLine
 
--- the error that a flaw of the line with this number is
-abbrev pub at_line : ℕ → Flaw → ScriptError
-at_line n flaw.BadLine = error.BadLine n
-at_line n flaw.UnknownIndex = error.UnknownIndex n
-at_line n flaw.TooLong = error.TooLong n
-
 -- the error of a file, by that of its line
 abbrev pub error_at : ℕ → Refusal → ScriptError
 error_at n refusal.NoMemory = error.NoMemory
-error_at n (refusal.Flawed f) = at_line n f
+error_at n (refusal.Flawed f) = error.Flawed n f
 
 -- what is read of the line with this number
 abbrev pub numbered : {A : Type 0} → ℕ → Result A Flaw → Result A ScriptError
 numbered n (Ok x) = Ok x
-numbered n (Err f) = Err (at_line n f)
+numbered n (Err f) = Err (error.Flawed n f)
 
 -- what is read is that refusal, unless memory ran out
 abbrev pub Fails : {Y : Type 0} → Refusal → Result Y Flaw → Type 0
@@ -59,8 +53,8 @@ GivesWhole view (Ok x) read = read ≡ Ok (view x)
 GivesWhole view (Err e) read = FailsWhole e read
 
 -- where a definition refuses a file, the program does so with the same error, or memory ran out
-abbrev pub IsRefused : {X Y : Type 0} → Result X ScriptError → Result Y ScriptError → Type 0
-IsRefused result read = IfErr read (λ e. (result ≡ Err e) ⊎ (result ≡ Err error.NoMemory))
+abbrev pub RefusesAlike : {X Y : Type 0} → Result X ScriptError → Result Y ScriptError → Type 0
+RefusesAlike result read = IfErr read (λ e. (result ≡ Err e) ⊎ (result ≡ Err error.NoMemory))
 
 -- an error of the program is the definition's, but for want of memory
 abbrev pub HasCause : {X Y : Type 0} → Result X ScriptError → Result Y ScriptError → Type 0

@@ -1,8 +1,11 @@
--- The program's schemas as plain lists.
+-- The program's schemas and keys as plain lists.
 use Rattle.std.specs.Prelude.{map, string_bytes}
 use Rattle.script.specs.declared.schema.Schema.{Schema}
 use Rattle.script.specs.declared.draft.Draft.{Draft}
 use Rattle.script.specs.declared.TheConstants.{DEFAULT_SIZES}
+use Rattle.key_tuple.specs.Order.{FieldList}
+use Rattle.key_tuple.specs.Parts.{parts}
+use Rattle.script.specs.declared.rows.KeyText.{KeyText}
 use Rattle.script.specs.Schema.{SchemaText}
 
 -- the schema that a draft stands for
@@ -12,3 +15,7 @@ draft_text d = record { sizes = DEFAULT_SIZES; names = map string_bytes d.names.
 -- a schema's text
 abbrev pub schema_text : Schema → SchemaText
 schema_text s = record { sizes = s.sizes; names = map string_bytes s.names.items; fields = s.fields.items }
+
+-- the fields that a key's text has
+abbrev pub text_fields : KeyText → FieldList
+text_fields t = parts t.bytes.items 0 t.ends.items

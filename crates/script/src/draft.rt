@@ -1,18 +1,19 @@
 //! A schema while its lines are read.
 ghost use Rattle.std.specs.Prelude.{◌≡◌, OnOk, IfErr, Ok, true};
-ghost use Rattle.script.specs.Schema.{schema_line, after_words, index_line, takes_name, with_index, count_of};
+ghost use Rattle.script.specs.Schema.{schema_line, after_words, index_line, takes_name, with_index, count_spelled};
 ghost use Rattle.script.specs.Grammar.{is_name};
 ghost use Rattle.script.specs.Pieces.{pieces_left};
 ghost use Rattle.script.specs.Steps.{Leaves};
 ghost use Rattle.script.specs.Views.{draft_text};
 
+use crate::MAX_INDEXES;
 use crate::entry::{Entry, find_entry};
 use crate::error::{Flaw, Refusal};
 use crate::names::{find_name, name_text};
 use crate::numbers::find_number;
 use crate::pieces::Pieces;
 use crate::words::{has_name_form, is_silent, two_words};
-use crate::{MAX_FIELD_COUNT, MAX_INDEXES};
+use key_tuple::MAX_FIELDS;
 use std::alloc::{AllocError, Global};
 
 /// The indexes so far.
@@ -79,10 +80,10 @@ impl Draft {
 
 /// A number of fields, from 1 to 4.
 fn find_count(word: &[u8]) -> Option<u8>
-    ensures { result ≡ count_of word.now }
+    ensures { result ≡ count_spelled word.now }
 {
     let number = find_number(word)?;
-    if number < 1 || u32::from(MAX_FIELD_COUNT) < number {
+    if number < 1 || u32::from(MAX_FIELDS) < number {
         return None;
     }
     Some(number as u8)

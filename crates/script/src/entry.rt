@@ -1,6 +1,6 @@
 //! The words that a schema's line begins with.
 ghost use Rattle.std.specs.Prelude.{◌≡◌};
-ghost use Rattle.script.specs.Schema.{entry_of};
+ghost use Rattle.script.specs.Schema.{entry_named};
 
 /// What a line of a schema sets.
 #[derive(Debug, Clone, Copy, PartialEq, Eq)]
@@ -11,7 +11,7 @@ pub enum Entry {
 
 /// The entry of a word.
 pub fn find_entry(word: &[u8]) -> Option<Entry>
-    ensures { result ≡ entry_of word.now }
+    ensures { result ≡ entry_named word.now }
 {
     if word == b"index".as_slice() {
         Some(Entry::Index)

@@ -4,57 +4,33 @@ ghost use Rattle.script.specs.Steps.{error_at};
 
 use std::alloc::{AllocError, AllocFailed};
 
-/// What is wrong with the first line that isn't in the grammar, or want of memory.
-#[derive(Debug, Clone, Copy, PartialEq, Eq)]
-pub enum ScriptError {
-    /// The line has none of the forms.
-    BadLine { line: u32 },
-    /// The word in the index's place has the form of a name, and isn't one of the schema's.
-    UnknownIndex { line: u32 },
-    /// All else is right, and a key or a value is too long.
-    TooLong { line: u32 },
-    /// There was no memory.
-    NoMemory,
-}
-
-impl From<AllocError> for ScriptError {
-    ghost use Rattle.script.specs.declared.error.ScriptError.TheVariants as error;
-
-    ghost from_gives = { λ _ e. e ≡ error.NoMemory };
-
-    fn from(_refused: AllocError) -> ScriptError {
-        ScriptError::NoMemory
-    }
-}
-
-impl<T: Drop> From<AllocFailed<T>> for ScriptError {
-    ghost use Rattle.script.specs.declared.error.ScriptError.TheVariants as error;
-
-    ghost from_gives = { λ _ e. e ≡ error.NoMemory };
-
-    fn from(_refused: AllocFailed<T>) -> ScriptError {
-        ScriptError::NoMemory
-    }
-}
-
 /// What is wrong with a line, whichever its number.
 #[derive(Debug, Clone, Copy, PartialEq, Eq)]
 pub enum Flaw {
     /// It has none of the forms.
     BadLine,
-    /// Its index isn't one of the schema's.
+    /// The word in the index's place has the form of a name, and isn't one of the schema's.
     UnknownIndex,
-    /// A key or a value is too long.
+    /// All else is right, and a key or a value is too long.
     TooLong,
+}
+
+/// Why a file isn't read.
+#[derive(Debug, Clone, Copy, PartialEq, Eq)]
+pub enum ScriptError {
+    /// The first line that isn't in the grammar, and what is wrong with it.
+    Flawed { line: u32, flaw: Flaw },
+    /// There was no memory.
+    NoMemory,
 }
 
 /// Why a line isn't read.
 #[derive(Debug, Clone, Copy, PartialEq, Eq)]
 pub enum Refusal {
-    /// There was no memory.
-    NoMemory,
     /// It isn't in the grammar.
     Flawed(Flaw),
+    /// There was no memory.
+    NoMemory,
 }
 
 impl Refusal {
@@ -63,10 +39,8 @@ impl Refusal {
         ensures { result ≡ error_at line self }
     {
         match self {
+            Refusal::Flawed(flaw) => ScriptError::Flawed { line, flaw },
             Refusal::NoMemory => ScriptError::NoMemory,
-            Refusal::Flawed(Flaw::BadLine) => ScriptError::BadLine { line },
-            Refusal::Flawed(Flaw::UnknownIndex) => ScriptError::UnknownIndex { line },
-            Refusal::Flawed(Flaw::TooLong) => ScriptError::TooLong { line },
         }
     }
 }

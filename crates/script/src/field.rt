@@ -1,38 +1,49 @@
 //! Fields and values as text.
 ghost use Rattle.std.specs.Prelude.{◌≡◌, ◌<◌, length, IfSome, MatchOption, Some, None};
 ghost use Rattle.map_history.specs.Text.{is_plain};
-ghost use Rattle.script.specs.Grammar.{digit_of, byte_of, bytes_of, field_of, in_front};
+ghost use Rattle.script.specs.Grammar.{digit_of, byte_of, bytes_of, field_of, in_front, behind};
 ghost use Rattle.script.specs.Pieces.{IsFirstByte};
-ghost use Rattle.script.specs.Steps.{Gives, or_bad};
+ghost use Rattle.script.specs.Steps.{Gives, Leaves, or_bad};
 
 use crate::error::{Flaw, Refusal};
 use std::alloc::Global;
 
-/// The bytes that a field's text stands for; `~` is the empty field.
+/// The bytes that a field's or a value's text stands for.
+#[tactic(auto, using(crate::proofs::Steps::behind_nothing))]
 pub fn field(alloc: Global, text: &[u8]) -> Result<Vec<u8>, Refusal>
     ensures { Gives (λ v. v.items) result (or_bad (field_of text.now)) }
 {
+    let mut bytes = Vec::with_capacity(alloc, text.len())?;
+    add_field(&mut bytes, text)?;
+    Ok(bytes)
+}
+
+/// Puts the bytes that a field's text stands for behind others; `~` is the empty field.
+pub fn add_field(bytes: &mut Vec<u8>, text: &[u8]) -> Result<(), Refusal>
+    ensures { Leaves result (or_bad (behind bytes.old.items (field_of text.now)))
+        bytes.new.items }
+{
     match text {
         [] => Err(Refusal::Flawed(Flaw::BadLine)),
-        [b'~'] => Ok(Vec::new(alloc)),
-        _ => decode(alloc, text),
+        [b'~'] => Ok(()),
+        _ => decode(bytes, text),
     }
 }
 
 #[tactic(auto, using(crate::proofs::Steps::behind_in_front))]
-fn decode(alloc: Global, text: &[u8]) -> Result<Vec<u8>, Refusal>
-    ensures { Gives (λ v. v.items) result (or_bad (bytes_of text.now)) }
+fn decode(bytes: &mut Vec<u8>, text: &[u8]) -> Result<(), Refusal>
+    ensures { Leaves result (or_bad (behind bytes.old.items (bytes_of text.now)))
+        bytes.new.items }
 {
-    let mut bytes = Vec::with_capacity(alloc, text.len())?;
     let mut rest = text;
     'text: while !rest.is_empty() {
         let Some((byte, after)) = first_byte(rest) else {
             return Err(Refusal::Flawed(Flaw::BadLine));
         };
-        bytes.push_reserved(byte);
+        bytes.push(byte)?;
         rest = after;
     }
-    Ok(bytes)
+    Ok(())
 }
 
 /// The byte at the front of a text, and the text after it.

@@ -1,27 +1,28 @@
 //! Lines of a lane.
 ghost use Rattle.std.specs.Prelude.{◌≡◌, ◌<◌, ◌≤◌, length, IfOk, option_map, slice_index};
 ghost use Rattle.map_history.specs.Operation.{operation_of};
-ghost use Rattle.script.specs.Grammar.{words_of};
-ghost use Rattle.script.specs.Lane.{lane_line, operation_in, index_named, operation_for};
+ghost use Rattle.script.specs.Grammar.{line_words};
+ghost use Rattle.script.specs.Lane.{line_meaning, operation_in, index_named, operation_for};
 ghost use Rattle.script.specs.Pieces.{pieces_left};
 ghost use Rattle.script.specs.Steps.{Gives};
 ghost use Rattle.script.specs.Views.{schema_text};
 
-use crate::MAX_FIELD_COUNT;
 use crate::error::{Flaw, Refusal};
 use crate::names::find_name;
 use crate::pieces::Pieces;
+use crate::rows::{read_key, read_row};
 use crate::schema::Schema;
 use crate::verb::{Verb, find_verb};
-use crate::words::{has_name_form, is_silent, read_key, read_row};
+use crate::words::{has_name_form, is_silent};
+use key_tuple::MAX_FIELDS;
 use map_history::Op;
 use std::alloc::Global;
 
 /// What a line of a lane says.
-#[tactic(auto, unfolding(crate::specs::Lane::lane_line))]
+#[tactic(auto, unfolding(crate::specs::Lane::line_meaning))]
 pub fn read_line(alloc: Global, line: &[u8], schema: &Schema) -> Result<Option<Op>, Refusal>
     ensures { Gives (λ o. option_map operation_of o) result
-        (lane_line (schema_text schema.now) line.now) }
+        (line_meaning (schema_text schema.now) line.now) }
 {
     if is_silent(line) {
         return Ok(None);
@@ -32,7 +33,7 @@ pub fn read_line(alloc: Global, line: &[u8], schema: &Schema) -> Result<Option<O
 
 fn read_operation(alloc: Global, line: &[u8], schema: &Schema) -> Result<Op, Refusal>
     ensures { Gives operation_of result
-        (operation_in (schema_text schema.now) (words_of line.now)) }
+        (operation_in (schema_text schema.now) (line_words line.now)) }
 {
     let mut words = Pieces::new(line, b' ');
     let word = words.next().ok_or(Flaw::BadLine)?;
@@ -51,7 +52,7 @@ fn read_parts(
     words: Pieces<'_>,
 ) -> Result<Op, Refusal>
     requires some { 0 < count }
-    requires few { count ≤ MAX_FIELD_COUNT }
+    requires few { count ≤ MAX_FIELDS }
     ensures { Gives operation_of result (operation_for verb index count (pieces_left words.entry)) }
 {
     match verb {
@@ -89,7 +90,7 @@ fn field_count(schema: &Schema, index: u32) -> u8
     requires { index < length schema.now.names.items }
     ensures count { result ≡ slice_index schema.now.fields.items index }
     ensures some { 0 < result }
-    ensures few { result ≤ MAX_FIELD_COUNT }
+    ensures few { result ≤ MAX_FIELDS }
 {
     schema.fields[index as usize]
 }

@@ -7,20 +7,19 @@ mod entry;
 mod error;
 mod field;
 mod lane;
-mod laws;
 mod names;
 mod numbers;
 mod pieces;
 mod reading;
+mod rows;
 mod schema;
 #[cfg(test)]
 mod tests;
 mod verb;
 mod words;
 
-pub use error::ScriptError;
+pub use error::{Flaw, ScriptError};
 pub use map_history::Line;
-pub use laws::{fields_are_read_again, keys_are_read_again, refusals_are_first};
 use map_history::Sizes;
 pub use reading::{read_lane, read_schema};
 pub use schema::Schema;
@@ -33,9 +32,6 @@ pub const MAX_INDEXES: usize = 64;
 
 /// The most bytes of an index's name.
 pub const MAX_NAME_BYTES: usize = 32;
-
-/// The most fields of an index's keys.
-pub const MAX_FIELD_COUNT: u8 = key_tuple::MAX_FIELDS;
 
 /// The sizes of a schema that sets none.
 pub const DEFAULT_SIZES: Sizes = Sizes {

@@ -2,13 +2,13 @@
 ghost use Rattle.std.specs.Prelude.{◌≡◌, ◌<◌, map, string_bytes, IfOk};
 ghost use Rattle.std.specs.List.{All, position};
 ghost use Rattle.std.specs.Str.{bytes_eq};
-ghost use Rattle.script.specs.Schema.{index_of};
+ghost use Rattle.script.specs.Schema.{index_by_name};
 
 use std::alloc::{AllocError, Global};
 
 /// The number of the index of this name.
 pub fn find_name(names: &[String], name: &[u8]) -> Option<usize>
-    ensures { result ≡ index_of (map string_bytes names.now) name.now }
+    ensures { result ≡ index_by_name (map string_bytes names.now) name.now }
 {
     place_of(names, name)
 }

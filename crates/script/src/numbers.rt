@@ -1,11 +1,11 @@
 //! Numbers in decimal.
 ghost use Rattle.std.specs.Prelude.{◌≡◌};
 ghost use Rattle.std.specs.List.{list_all};
-ghost use Rattle.script.specs.Grammar.{is_numeral, is_digit, number_of};
+ghost use Rattle.script.specs.Grammar.{is_numeral, is_digit, number_spelled};
 
 /// The number that a word spells, if it has a number's form and is below 2^32.
 pub fn find_number(word: &[u8]) -> Option<u32>
-    ensures { result ≡ number_of word.now }
+    ensures { result ≡ number_spelled word.now }
 {
     if !has_number_form(word) {
         return None;

@@ -2,7 +2,7 @@
 ghost use Rattle.std.specs.Prelude.{◌≡◌, ◌==◌, MatchOption};
 ghost use Rattle.std.specs.List.{position};
 ghost use Rattle.std.specs.Iterator.{YieldsFirstRef, item_count};
-ghost use Rattle.script.specs.Pieces.{Lacks, IsCut, pieces_by, pieces_left, lines_left};
+ghost use Rattle.script.specs.Pieces.{LacksByte, IsFirstCut, pieces_by, pieces_left, lines_left};
 ghost use Rattle.script.specs.Grammar.{lines_of};
 
 /// What stands between the bytes of one value: one piece more than there are such bytes.
@@ -90,8 +90,8 @@ impl<'a> Iterator for Lines<'a> {
 
 /// What stands before the first byte of this value, and what stands after it.
 fn cut(bytes: &[u8], value: u8) -> Option<(&[u8], &[u8])>
-    ensures { MatchOption result (Lacks value bytes.now)
-        (λ p. IsCut value bytes.now p.0.now p.1.now) }
+    ensures { MatchOption result (LacksByte value bytes.now)
+        (λ p. IsFirstCut value bytes.now p.0.now p.1.now) }
 {
     let at = first_place(bytes, value)?;
     Some((&bytes[..at], &bytes[at + 1..]))

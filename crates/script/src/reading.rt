@@ -1,18 +1,20 @@
 //! Whole files.
 ghost use Rattle.std.specs.Prelude.{◌≡◌, ◌≤◌, length, IfOk, IfErr, OnOk, Ok};
-ghost use Rattle.script.specs.Lane.{lane_of, lane_line, AreLaneLines, TakesLine};
+ghost use Rattle.script.specs.Grammar.{lines_of};
+ghost use Rattle.script.specs.Lane.{lane_of, line_meaning, AreLaneLines, NumbersRise, TakesLine};
 ghost use Rattle.script.specs.Schema.{schema_of};
-ghost use Rattle.script.specs.Steps.{GivesWhole, FailsWhole, numbered, IsRefused, HasCause};
+ghost use Rattle.script.specs.Steps.{GivesWhole, Fails, RefusesAlike, HasCause};
 ghost use Rattle.script.specs.Views.{schema_text, draft_text};
+ghost use Rattle.script.specs.declared.TheConstants.{DEFAULT_SIZES};
 ghost use Rattle.map_history.specs.Lines.{line_texts};
 
 use crate::draft::Draft;
-use crate::error::ScriptError;
+use crate::error::{Flaw, Refusal, ScriptError};
 use crate::lane::read_line;
-use map_history::Line;
 use crate::pieces::Lines;
 use crate::schema::Schema;
 use crate::{DEFAULT_SIZES, MAX_FILE_BYTES};
+use map_history::Line;
 use std::alloc::Global;
 
 /// The schema that a file spells. A refusal speaks of the first line that isn't in the grammar; a
@@ -20,8 +22,9 @@ use std::alloc::Global;
 pub fn read_schema(alloc: Global, bytes: &[u8]) -> Result<Schema, ScriptError>
     requires { length bytes.now ≤ MAX_FILE_BYTES }
     ensures ok { IfOk result (λ s. schema_of bytes.now ≡ Ok (schema_text s)) }
-    ensures refused { IsRefused result (schema_of bytes.now) }
+    ensures refused { RefusesAlike result (schema_of bytes.now) }
     ensures cause { HasCause result (schema_of bytes.now) }
+    ensures sizes { IfOk result (λ s. s.sizes ≡ DEFAULT_SIZES) }
 {
     let draft = read_indexes(alloc, bytes)?;
     Ok(Schema {
@@ -37,9 +40,11 @@ pub fn read_lane(alloc: Global, bytes: &[u8], schema: &Schema) -> Result<Vec<Lin
     requires { length bytes.now ≤ MAX_FILE_BYTES }
     ensures ok { IfOk result (λ v. lane_of (schema_text schema.now) bytes.now
         ≡ Ok (line_texts v.items)) }
-    ensures refused { IsRefused result (lane_of (schema_text schema.now) bytes.now) }
+    ensures refused { RefusesAlike result (lane_of (schema_text schema.now) bytes.now) }
     ensures cause { HasCause result (lane_of (schema_text schema.now) bytes.now) }
     ensures lines { IfOk result (λ v. AreLaneLines (schema_text schema.now) (line_texts v.items)) }
+    ensures numbers { IfOk result (λ v. NumbersRise (length (lines_of bytes.now))
+        (line_texts v.items)) }
 {
     read_lines(alloc, bytes, schema)
 }
@@ -61,7 +66,7 @@ fn read_indexes(alloc: Global, bytes: &[u8]) -> Result<Draft, ScriptError>
         number += 1;
     }
     if draft.names.is_empty() {
-        return Err(ScriptError::BadLine { line: number });
+        return Err(Refusal::Flawed(Flaw::BadLine).at(number));
     }
     Ok(draft)
 }
@@ -75,7 +80,9 @@ fn read_lines(alloc: Global, bytes: &[u8], schema: &Schema) -> Result<Vec<Line>,
     let mut lines = Vec::new(alloc);
     let mut number: u32 = 1;
     for line in Lines::new(bytes) {
-        take_line(alloc, &mut lines, number, line, schema)?;
+        if let Err(refusal) = take_line(alloc, &mut lines, number, line, schema) {
+            return Err(refusal.at(number));
+        }
         number += 1;
     }
     Ok(lines)
@@ -88,18 +95,13 @@ fn take_line(
     number: u32,
     line: &[u8],
     schema: &Schema,
-) -> Result<(), ScriptError>
+) -> Result<(), Refusal>
     ensures ok { OnOk result (TakesLine (schema_text schema.now) number line.now
         (line_texts lines.old.items) (line_texts lines.new.items)) }
-    ensures cause { IfErr result (λ e. FailsWhole e
-        (numbered number (lane_line (schema_text schema.now) line.now))) }
+    ensures cause { IfErr result (λ e. Fails e (line_meaning (schema_text schema.now) line.now)) }
 {
-    match read_line(alloc, line, schema) {
-        Ok(None) => Ok(()),
-        Ok(Some(op)) => {
-            lines.push(Line { line: number, op })?;
-            Ok(())
-        }
-        Err(refusal) => Err(refusal.at(number)),
+    if let Some(op) = read_line(alloc, line, schema)? {
+        lines.push(Line { line: number, op })?;
     }
+    Ok(())
 }

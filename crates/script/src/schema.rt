@@ -5,7 +5,7 @@ ghost use Rattle.script.specs.Schema.{IsSchema};
 use map_history::Sizes;
 
 /// Sizes, and for each index its name and how many fields its keys have: 1 to 64 indexes, numbered
-/// from 0, of 1 to 4 fields.
+/// from 0, of 1 to 4 fields, and no two of one name.
 #[derive(Debug, Drop)]
 pub struct Schema {
     pub sizes: Sizes,

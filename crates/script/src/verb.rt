@@ -1,6 +1,6 @@
 //! The words that a lane's line begins with.
 ghost use Rattle.std.specs.Prelude.{◌≡◌};
-ghost use Rattle.script.specs.Lane.{verb_of};
+ghost use Rattle.script.specs.Lane.{verb_named};
 
 /// What a line of a lane asks for.
 #[derive(Debug, Clone, Copy, PartialEq, Eq)]
@@ -15,7 +15,7 @@ pub enum Verb {
 
 /// The verb of a word.
 pub fn find_verb(word: &[u8]) -> Option<Verb>
-    ensures { result ≡ verb_of word.now }
+    ensures { result ≡ verb_named word.now }
 {
     if word == b"get".as_slice() {
         Some(Verb::Get)

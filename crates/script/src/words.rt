@@ -1,16 +1,14 @@
 //! The words of a line.
-ghost use Rattle.std.specs.Prelude.{◌≡◌, ◌<◌, ◌≤◌, map, length, IfOk, option_copied, option_map};
+ghost use Rattle.std.specs.Prelude.{◌≡◌, option_copied, option_map};
 ghost use Rattle.std.specs.List.{list_all};
-ghost use Rattle.script.specs.Grammar.{says_nothing, only, both, is_name, is_name_byte, key_of, field_of, short_key, short_value};
-ghost use Rattle.script.specs.Lane.{key_parts, row_parts};
+ghost use Rattle.script.specs.Grammar.{says_nothing, only, both, is_name, is_name_byte};
 ghost use Rattle.script.specs.Pieces.{pieces_left};
-ghost use Rattle.script.specs.Steps.{Gives, or_bad};
 
+use crate::MAX_NAME_BYTES;
 use crate::error::{Flaw, Refusal};
 use crate::field::field;
 use crate::pieces::Pieces;
-use crate::{MAX_FIELD_COUNT, MAX_NAME_BYTES};
-use key_tuple::{Key, KeyError, Value};
+use key_tuple::{Key, KeyError, MAX_FIELDS, Value};
 use std::alloc::Global;
 
 /// An empty line and a line that begins with `#` say nothing.
@@ -67,71 +65,5 @@ pub fn two_words<'a>(mut words: Pieces<'a>) -> Option<(&'a [u8], &'a [u8])>
     match words.next() {
         None => Some((first, second)),
         Some(_) => None,
-    }
-}
-
-/// `KEY`, for an index whose keys have so many fields.
-pub fn read_key(alloc: Global, count: u8, words: Pieces<'_>) -> Result<Key, Refusal>
-    requires some { 0 < count }
-    requires few { count ≤ MAX_FIELD_COUNT }
-    ensures { Gives (λ k. k.tuple) result (key_parts count (pieces_left words.entry)) }
-{
-    let word = one_word(words).ok_or(Flaw::BadLine)?;
-    let fields = key_fields(alloc, count, word)?;
-    key_within(alloc, fields)
-}
-
-/// `KEY VALUE`. The form of both is judged before their lengths.
-pub fn read_row(alloc: Global, count: u8, words: Pieces<'_>) -> Result<(Key, Value), Refusal>
-    requires some { 0 < count }
-    requires few { count ≤ MAX_FIELD_COUNT }
-    ensures { Gives (λ r. (r.0.tuple, r.1)) result (row_parts count (pieces_left words.entry)) }
-{
-    let (key, value) = two_words(words).ok_or(Flaw::BadLine)?;
-    let fields = key_fields(alloc, count, key)?;
-    let bytes = field(alloc, value)?;
-    let key = key_within(alloc, fields)?;
-    let value = value_within(bytes)?;
-    Ok((key, value))
-}
-
-/// The fields of a key's word, if there are exactly so many.
-fn key_fields(alloc: Global, count: u8, word: &[u8]) -> Result<Vec<Vec<u8>>, Refusal>
-    ensures fields { Gives (λ v. map (λ f. f.items) v.items) result
-        (or_bad (key_of count word.now)) }
-    ensures counted { IfOk result (λ v. length v.items ≡ count) }
-{
-    let mut fields = Vec::new(alloc);
-    for text in Pieces::new(word, b',') {
-        if fields.len() == usize::from(count) {
-            return Err(Refusal::Flawed(Flaw::BadLine));
-        }
-        fields.push(field(alloc, text)?)?;
-    }
-    if fields.len() != usize::from(count) {
-        return Err(Refusal::Flawed(Flaw::BadLine));
-    }
-    Ok(fields)
-}
-
-fn key_within(alloc: Global, fields: Vec<Vec<u8>>) -> Result<Key, Refusal>
-    requires some { 0 < length fields.items }
-    requires few { length fields.items ≤ MAX_FIELD_COUNT }
-    ensures { Gives (λ k. k.tuple) result (short_key (map (λ f. f.items) fields.items)) }
-{
-    match Key::try_new(alloc, fields) {
-        Ok(key) => Ok(key),
-        Err(KeyError::TooLong(_)) => Err(Refusal::Flawed(Flaw::TooLong)),
-        Err(_) => Err(Refusal::NoMemory),
-    }
-}
-
-fn value_within(bytes: Vec<u8>) -> Result<Value, Refusal>
-    ensures { Gives (λ v. v) result (short_value bytes.items) }
-{
-    match Value::try_new(bytes) {
-        Ok(value) => Ok(value),
-        Err(KeyError::TooLong(_)) => Err(Refusal::Flawed(Flaw::TooLong)),
-        Err(_) => Err(Refusal::NoMemory),
     }
 }

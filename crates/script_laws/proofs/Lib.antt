@@ -1,4 +1,4 @@
-pub mod SchemaLemmas
+pub mod Escapes
+pub mod Commas
+pub mod FirstFlaws
 pub mod NumberLemmas
-pub mod ByteLemmas
-pub mod LimitLemmas

@@ -1,42 +1,22 @@
--- The numbers of a lane's lines, and what the file says there.
+-- What a file says at the numbers of its lane's lines.
 use Rattle.std.proofs.Common.{◌≡◌, ℕ, zero, suc, ◌+◌, ◌<◌, ◌≤◌, List, [], ◌∷◌, ◌++◌, length, Option, Some, None, Ok, refl, sym, subst, arith}
 use Rattle.std.specs.List.{All, AllPairs, Contains}
 use Rattle.std.proofs.lemmas.List.Elements.{All-nil, All-cons, All-append, All-weaker, Contains-append_left, Contains-append_right, recursion_from_All}
-use Rattle.std.proofs.lemmas.List.Kept.{AllPairs-cons}
-use Rattle.std.proofs.lemmas.Option.{slice_get_within}
 use Rattle.map_history.specs.Operation.{Operation}
 use Rattle.map_history.specs.LegalReport.{Line}
 use Rattle.script.specs.Grammar.{lines_of}
-use Rattle.script.specs.Lane.{lane_line, lane_from, lane_of, line_said}
+use Rattle.script.specs.Lane.{line_meaning, lane_from, lane_of, line_said}
 use Rattle.script.specs.Schema.{SchemaText}
-use Rattle.script.specs.Steps.{numbered}
-use Rattle.script.proofs.Results.{bind_ok, unnumbered}
-use Rattle.script_laws.specs.LaneLaws.{LineNumbersAscend, LinesAreTold, Says, IsTold}
+use Rattle.script.proofs.LaneSteps.{step, no_lines}
+use Rattle.script_laws.specs.LaneLaws.{LinesAreTold, TextSays, IsTold}
 
 -- the line is said by the texts, whose first has number n
 record IsSaid (s : SchemaText) (n : ℕ) (texts : List (List ℕ)) (line : Line) : Type 0 where
   place : ℕ
   number : line.line ≡ n + place
-  says : Says s texts place line.op
+  says : TextSays s texts place line.op
 
--- one text, and the lines of those after it
-record Step (s : SchemaText) (n : ℕ) (text : List ℕ) (texts : List (List ℕ)) (lines : List Line) : Type 0 where
-  said : Option Operation
-  more : List Line
-  says : lane_line s text ≡ Ok said
-  later : lane_from (n + 1) s texts ≡ Ok more
-  whole : line_said n said ++ more ≡ lines
-
-step : (s : SchemaText) (n : ℕ) (text : List ℕ) (texts : List (List ℕ)) (lines : List Line) → lane_from n s (text ∷ texts) ≡ Ok lines → Step s n text texts lines
-step s n text texts lines h =
-    let one = bind_ok (numbered n (lane_line s text)) _ lines h in
-    let more = bind_ok (lane_from (n + 1) s texts) (λ (m : List Line). Ok (line_said n one.0 ++ m)) lines one.2 in
-    record { said = one.0; more = more.0; says = unnumbered n _ _ one.1; later = more.1; whole = cc }
-
-no_lines : (lines : List Line) (s : SchemaText) (n : ℕ) → lane_from n s [] ≡ Ok lines → [] ≡ lines
-no_lines lines s n h = cc
-
-first_said : (s : SchemaText) (n : ℕ) (text : List ℕ) (texts : List (List ℕ)) (said : Option Operation) → lane_line s text ≡ Ok said → All (IsSaid s n (text ∷ texts)) (line_said n said)
+first_said : (s : SchemaText) (n : ℕ) (text : List ℕ) (texts : List (List ℕ)) (said : Option Operation) → line_meaning s text ≡ Ok said → All (IsSaid s n (text ∷ texts)) (line_said n said)
 first_said s n text texts None h = All-nil _
 first_said s n text texts (Some op) h =
     let line : Line = record { line = n; op = op } in
@@ -54,24 +34,9 @@ from_said s n (text ∷ texts) lines h =
     let later = All-weaker (IsSaid s (n + 1) texts) (IsSaid s n (text ∷ texts)) (said_later s n text texts) x.more (from_said s (n + 1) texts x.more x.later) in
     subst (λ (ls : List Line). All (IsSaid s n (text ∷ texts)) ls) x.whole (All-append (IsSaid s n (text ∷ texts)) (line_said n x.said) x.more (first_said s n text texts x.said x.says) later)
 
-abbrev precedes : Line → Line → Type 0
-precedes x y = x.line < y.line
-
-first_precedes : (n : ℕ) (said : Option Operation) (more : List Line) → All (λ (y : Line). n + 1 ≤ y.line) more → AllPairs precedes more → AllPairs precedes (line_said n said ++ more)
-first_precedes n None more high ascend = ascend
-first_precedes n (Some op) more high ascend = AllPairs-cons precedes (record { line = n; op = op }) more (All-weaker (λ (y : Line). n + 1 ≤ y.line) (precedes (record { line = n; op = op })) (λ y le. omega (arith, le)) more high) ascend
-
--- the numbers rise
-from_ascends : (s : SchemaText) (n : ℕ) (texts : List (List ℕ)) (lines : List Line) → lane_from n s texts ≡ Ok lines → AllPairs precedes lines
-from_ascends s n [] lines h = subst (λ (ls : List Line). AllPairs precedes ls) (no_lines lines s n h) (λ i j d lt within. absurd (omega (arith, within)))
-from_ascends s n (text ∷ texts) lines h =
-    let x = step s n text texts lines h in
-    let high = All-weaker (IsSaid s (n + 1) texts) (λ (y : Line). n + 1 ≤ y.line) (λ y told. omega (arith, told.number)) x.more (from_said s (n + 1) texts x.more x.later) in
-    subst (λ (ls : List Line). AllPairs precedes ls) x.whole (first_precedes n x.said x.more high (from_ascends s (n + 1) texts x.more x.later))
-
 -- what a text says is among the lines
 from_has : (s : SchemaText) (n : ℕ) (texts : List (List ℕ)) (lines : List Line) → lane_from n s texts ≡ Ok lines
-    → (place : ℕ) (op : Operation) → Says s texts place op → Contains lines (record { line = place + n; op = op })
+    → (place : ℕ) (op : Operation) → TextSays s texts place op → Contains lines (record { line = place + n; op = op })
 from_has s n [] lines h place op says = absurd (cc (says.there))
 from_has s n (text ∷ texts) lines h zero op says =
     let x = step s n text texts lines h in
@@ -96,17 +61,6 @@ said_is_told s texts line h = record { place = h.place; number = omega (arith, h
 pub told : (s : SchemaText) (bytes : List ℕ) (lines : List Line) → lane_of s bytes ≡ Ok lines → All (IsTold s (lines_of bytes)) lines
 unfolding lane_of
 told s bytes lines h = All-weaker (IsSaid s 1 (lines_of bytes)) (IsTold s (lines_of bytes)) (said_is_told s (lines_of bytes)) lines (from_said s 1 (lines_of bytes) lines h)
-
-pub line_numbers_ascend : LineNumbersAscend
-unfolding lane_of
-line_numbers_ascend s bytes lines h =
-    let each = told s bytes lines h in
-    let texts = lines_of bytes in
-    record {
-      ascend = from_ascends s 1 texts lines h;
-      from_one = recursion_from_All _ lines (All-weaker (IsTold s texts) (λ (x : Line). 1 ≤ x.line) (λ x t. omega (arith, t.number)) lines each);
-      within = recursion_from_All _ lines (All-weaker (IsTold s texts) (λ (x : Line). x.line ≤ length texts) (λ x t. omega (arith, t.number, slice_get_within texts t.place t.says.text t.says.there)) lines each);
-    }
 
 pub lines_are_told : LinesAreTold
 unfolding lane_of

@@ -1,3 +1,3 @@
-pub mod SchemaLaws
+pub mod GrammarLaws
 pub mod LaneLaws
 pub mod Samples

@@ -1,0 +1,9 @@
+-- There are as many fields as offsets.
+use Rattle.std.proofs.Common.{◌≡◌, length, ap, ◌∙◌, arith}
+use Rattle.key_tuple.proofs.PartsLemmas.{length-parts}
+use Rattle.key_tuple.proofs.key.Key.from_parts.Goals as goal
+
+pub invariant_of-result : goal.invariant_of-result
+invariant_of-result c =
+    let count : length c.in_ok-tuple.tuple ≡ length c.args.ends.now = ap length c.in_ok-tuple.ensures.ok ∙ length-parts c.args.bytes.items 0 c.args.ends.now in
+    record { some = omega (arith, c.requires.some) }
