@@ -9,7 +9,7 @@ pub mod CountLemmas
 pub mod NoteLemmas
 pub mod CoverLemmas
 pub mod MergeLemmas
-pub mod LookLemmas
+pub mod MergedLemmas
 pub mod TrailLemmas
 pub mod JoinLemmas
 pub mod ExampleLemmas
