@@ -2,7 +2,7 @@
 use Rattle.std.proofs.Common.{◌≡◌, ℕ, zero, suc, ◌+◌, ◌<◌, ◌≤◌, Bool, true, false, cond, eqb, Some, None, [], ◌∷◌, ◌++◌, length, refl, ap, sym, ◌∙◌, subst, arith}
 use Rattle.std.proofs.lemmas.List.{length-replicate}
 use Rattle.std.proofs.lemmas.List.Sorted.{IsPermutation-refl, IsNonDecreasingBy-short}
-use Rattle.std.specs.List.{slice_get, AllPairs, AllZip}
+use Rattle.std.specs.List.{slice_get, AllPairs}
 use mathlib.Core.Option.{some, some-injective, some-ne-none}
 use lib.ListN.{get_elem?}
 use Rattle.latch_law.specs.declared.knows.Entry.{Entry}
@@ -12,12 +12,13 @@ use Rattle.latch_law.specs.Rule.{IsSo, Fits, Holds}
 use Rattle.latch_law.proofs.Begins.{replicate_is}
 use Rattle.list_facts.proofs.Places.{none_is_not, same_some}
 use Rattle.change_log.specs.Log.{ChangeNote}
+use Rattle.change_log.specs.Entries.{ArePrinted}
 use Rattle.map_history.specs.declared.sizes.Sizes.{Sizes}
 use Rattle.map_history.specs.Operation.{Get}
 use Rattle.map_history.specs.Reply.{Value}
 use Rattle.map_history.specs.Report.{IndexPart, dashes}
 use Rattle.map_history.specs.Statistics.{counts_of}
-use Rattle.map_history.specs.LegalReport.{Line, Mark, Precedes, columns_at}
+use Rattle.map_history.specs.LegalReport.{Mark, Precedes, columns_at}
 use Rattle.index_law.specs.declared.frame.Object.{Object}
 use Rattle.index_law.specs.Answers.{MadeChange, Saying, Gives, Replies}
 use Rattle.index_law.specs.State.{State, Entries}
@@ -25,8 +26,8 @@ use Rattle.index_law.specs.Rightness.{IsRight}
 use Rattle.index_law.specs.References.{IsReference}
 use Rattle.index_law.specs.Spoken.{OwnAnswer}
 use Rattle.lane_law.specs.Runs.{HasNoScan, RunsAll, AreEntries}
-use Rattle.lane_law.specs.Merged.{note_at, ArePrinted, HasMerged}
-use Rattle.lane_law.specs.Example.{row_made, key, value, put_line, get_line, example_run, example_report, example_logs, example_view, IsExample, IsMet}
+use Rattle.lane_law.specs.Merged.{note_at, HasMerged}
+use Rattle.lane_law.specs.Example.{row_made, key, value, put_line, example_run, example_report, example_logs, example_view, IsExample, IsMet}
 use Rattle.lane_law.proofs.PairLemmas.{all_pairs_none, all_pairs_one}
 use Rattle.lane_law.proofs.LegalLemmas.{legal}
 use Rattle.lane_law.proofs.TrailLemmas.{trail}

@@ -3,7 +3,6 @@ pub mod WorkLemmas
 pub mod SaidLemmas
 pub mod AnswerLemmas
 pub mod EntryLemmas
-pub mod RowLemmas
 pub mod LegalLemmas
 pub mod CountLemmas
 pub mod NoteLemmas

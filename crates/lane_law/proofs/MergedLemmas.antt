@@ -1,5 +1,5 @@
 -- Entries that are the merged changes are those of the lists.
-use Rattle.std.proofs.Common.{◌≡◌, ℕ, ◌+◌, ◌<◌, Some, List, [], ◌∷◌, length, map, zero, suc, refl, ap, sym, ◌∙◌, subst, arith}
+use Rattle.std.proofs.Common.{◌≡◌, ℕ, ◌+◌, ◌<◌, Some, List, [], ◌∷◌, length, zero, suc, refl, ap, sym, ◌∙◌, subst, arith}
 use Rattle.std.proofs.lemmas.List.{length-map}
 use Rattle.std.specs.List.{slice_get}
 use Rattle.std.specs.Option.{option_map}
@@ -8,16 +8,16 @@ use lib.ListN.{get_elem?}
 use Rattle.list_facts.proofs.Places.{inside, there, same_some, get_inside, get_there}
 use Rattle.list_facts.proofs.Elements.{map_get, map_get_from}
 use Rattle.change_log.specs.Log.{ChangeNote, Log}
-use Rattle.change_log.specs.Entries.{change_asked, printed_entry}
+use Rattle.change_log.specs.Entries.{printed_entry, ArePrinted}
 use Rattle.map_history.specs.Map.{MapChange}
-use Rattle.map_history.specs.Operation.{Operation, Make}
+use Rattle.map_history.specs.Operation.{Operation, Make, change_asked}
 use Rattle.map_history.specs.Reply.{Done}
 use Rattle.map_history.specs.Report.{Replied, ChangeLine, IndexPart, Report, entries_in}
 use Rattle.map_history.specs.LegalReport.{Run, IsAnswered, NamesLine}
 use Rattle.index_law.specs.State.{State, Entries}
 use Rattle.index_law.specs.Spoken.{View}
 use Rattle.lane_law.specs.Runs.{RunsAll, AreEntries}
-use Rattle.lane_law.specs.Merged.{HasNotes, IsNoted, IsNumbered, ArePrinted, HasMerged}
+use Rattle.lane_law.specs.Merged.{HasNotes, IsNoted, IsNumbered, HasMerged}
 use Rattle.lane_law.proofs.AnswerLemmas.{parts_counted}
 use Rattle.lane_law.proofs.MergeLemmas.{are_lists}
 

@@ -7,9 +7,9 @@ use Rattle.map_history.specs.declared.sizes.Sizes.{Sizes}
 use Rattle.map_history.specs.Map.{MapChange, Put}
 use Rattle.map_history.specs.Operation.{Get, Make}
 use Rattle.map_history.specs.Reply.{Value, Done}
-use Rattle.map_history.specs.Report.{Columns, AnswerLine, Replied, Report, dashes}
+use Rattle.map_history.specs.Report.{AnswerLine, Replied, Report, dashes}
 use Rattle.map_history.specs.Statistics.{counts_of}
-use Rattle.map_history.specs.LegalReport.{Line, Run, IsLegalReport}
+use Rattle.map_history.specs.LegalReport.{Line, Run, IsLegalButRoom}
 use Rattle.index_law.specs.Answers.{MadeChange, Gives, Replies}
 use Rattle.index_law.specs.State.{State}
 use Rattle.index_law.specs.Law.{IsLawful}
@@ -97,7 +97,7 @@ pub record IsMet (sizes : Sizes) (w : State) : Type 0 where
   pub runs : RunsAll (example_run sizes) example_report w (example_view w)
   pub notes : HasNotes (example_run sizes) example_report example_logs
   pub merged : HasMerged example_report example_logs
-  pub legal : IsLegalReport (example_run sizes) example_report
+  pub legal : IsLegalButRoom (example_run sizes) example_report
   pub trail : IsTrail (example_run sizes) example_report (example_view w)
 
 -- in each such state

@@ -8,7 +8,7 @@ use Rattle.change_log.specs.Log.{ChangeNote, Log}
 use Rattle.change_log.specs.Merge.{IsMerge}
 use Rattle.map_history.specs.Operation.{is_scan}
 use Rattle.map_history.specs.Report.{Answer, AnswerLine, Report}
-use Rattle.map_history.specs.LegalReport.{Line, Run, Precedes, marks_of, IsLegalReport}
+use Rattle.map_history.specs.LegalReport.{Line, Run, Precedes, marks_of, IsLegalButRoom}
 use Rattle.index_law.specs.State.{State, Entries}
 use Rattle.index_law.specs.Spoken.{View, spoken}
 use Rattle.index_law.specs.Once.{AnswersOnce}
@@ -34,9 +34,9 @@ pub record RunsJoin : Type 0 where
   pub noted : (n m : ℕ) (lanes lanes' : List (List Line)) (told told' : List (List AnswerLine)) → length told ≡ length lanes → m ≡ n + length lanes → all_notes n (lanes ++ lanes') (told ++ told') ≡ all_notes n lanes told ++ all_notes m lanes' told'
   pub in_order : (lanes lanes' : List (List Line)) (told told' : List (List AnswerLine)) → AllZip AreInOrder lanes told → AllZip AreInOrder lanes' told' → AllZip AreInOrder (lanes ++ lanes') (told ++ told')
 
--- what lanes without scans are told is a legal report
+-- what lanes without scans are told is a legal report, but for room
 abbrev pub LanesAreLegal : Type 0
-LanesAreLegal = (run : Run) (report : Report) (w : State) (v : View) → HasNoScan run → RunsAll run report w v → AreEntries run report w → IsLegalReport run report
+LanesAreLegal = (run : Run) (report : Report) (w : State) (v : View) → HasNoScan run → RunsAll run report w v → AreEntries run report w → IsLegalButRoom run report
 
 -- where each lane noted its changes, the merged logs of an index are its list, change by change
 abbrev pub MergedLogsAreLists : Type 0

@@ -1,13 +1,13 @@
 -- How the entries of a report come from what the lanes noted.
-use Rattle.std.specs.Prelude.{ℕ, ◌≡◌, ◌+◌, Option, Some, List, [], ◌∷◌, length, map}
+use Rattle.std.specs.Prelude.{ℕ, ◌≡◌, ◌+◌, Some, List, [], ◌∷◌, length, map}
 use Rattle.std.specs.List.{slice_get, flat_map, zip}
 use Rattle.change_log.specs.Log.{ChangeNote, Log}
 use Rattle.change_log.specs.Merge.{IsMerge}
-use Rattle.change_log.specs.Entries.{printed_entry}
+use Rattle.change_log.specs.Entries.{ArePrinted}
 use Rattle.map_history.specs.Map.{MapChange}
 use Rattle.map_history.specs.Operation.{Make}
 use Rattle.map_history.specs.Reply.{Done}
-use Rattle.map_history.specs.Report.{Columns, Answer, Replied, AnswerLine, ChangeLine, IndexPart, Report}
+use Rattle.map_history.specs.Report.{Columns, Answer, Replied, AnswerLine, IndexPart, Report}
 use Rattle.map_history.specs.LegalReport.{Line, Run, IsAnswered}
 use Rattle.index_law.specs.State.{Entries}
 
@@ -49,10 +49,6 @@ pub record IsNumbered (run : Run) (report : Report) (i : ℕ) (xs : Entries) (me
   pub long : length merged ≡ length xs
   pub numbers : (n : ℕ) (note : ChangeNote) → slice_get merged n ≡ Some note → note.number ≡ n + 1
   pub noted : (n : ℕ) (note : ChangeNote) → slice_get merged n ≡ Some note → IsNoted run report i note
-
--- these entries are what is printed of the changes
-abbrev pub ArePrinted : List ChangeNote → List ChangeLine → Type 0
-ArePrinted notes entries = map printed_entry notes ≡ map Some entries
 
 -- each index has as its entries the changes that the logs merge to
 abbrev pub HasMerged : Report → List Log → Type 0
