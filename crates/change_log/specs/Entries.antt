@@ -1,6 +1,6 @@
 -- What is printed of a change.
-use Rattle.std.specs.Prelude.{◌≡◌, Option, Some, List, map}
-use Rattle.std.specs.List.{flat_map}
+use Rattle.std.specs.Prelude.{ℕ, ◌≡◌, ◌+◌, Option, Some, List, map}
+use Rattle.std.specs.List.{slice_get, flat_map}
 use Rattle.std.specs.Option.{option_map, option_to_list}
 use Rattle.map_history.specs.Map.{MapChange}
 use Rattle.map_history.specs.Operation.{change_asked}
@@ -18,3 +18,7 @@ printed_entries notes = flat_map (λ (note : ChangeNote). option_to_list (printe
 -- the entries are those of the changes, one of each
 abbrev pub ArePrinted : List ChangeNote → List ChangeLine → Type 0
 ArePrinted notes entries = map printed_entry notes ≡ map Some entries
+
+-- the changes are numbered from 1, in their order
+abbrev pub AreCounted : List ChangeNote → Type 0
+AreCounted notes = (n : ℕ) (note : ChangeNote) → slice_get notes n ≡ Some note → note.number ≡ n + 1

@@ -1,14 +1,14 @@
 -- Entries that are the merged changes are those of the lists.
-use Rattle.std.proofs.Common.{◌≡◌, ℕ, ◌+◌, ◌<◌, Some, List, [], ◌∷◌, length, zero, suc, refl, ap, sym, ◌∙◌, subst, arith}
+use Rattle.std.proofs.Common.{◌≡◌, ℕ, ◌+◌, ◌<◌, Option, Some, List, [], ◌∷◌, ◌++◌, length, map, zero, suc, refl, ap, sym, ◌∙◌, subst, arith}
 use Rattle.std.proofs.lemmas.List.{length-map}
 use Rattle.std.specs.List.{slice_get}
-use Rattle.std.specs.Option.{option_map}
+use Rattle.std.specs.Option.{option_map, option_to_list}
 use mathlib.Core.Option.{some}
 use lib.ListN.{get_elem?}
 use Rattle.list_facts.proofs.Places.{inside, there, same_some, get_inside, get_there}
 use Rattle.list_facts.proofs.Elements.{map_get, map_get_from}
 use Rattle.change_log.specs.Log.{ChangeNote, Log}
-use Rattle.change_log.specs.Entries.{printed_entry, ArePrinted}
+use Rattle.change_log.specs.Entries.{printed_entry, printed_entries, ArePrinted}
 use Rattle.map_history.specs.Map.{MapChange}
 use Rattle.map_history.specs.Operation.{Operation, Make, change_asked}
 use Rattle.map_history.specs.Reply.{Done}
@@ -40,6 +40,17 @@ printed_long notes entries printed = sym (length-map entries (λ (e : ChangeLine
 -- and each at its place
 printed_at : (notes : List ChangeNote) (entries : List ChangeLine) (n : ℕ) (e : ChangeLine) → ArePrinted notes entries → slice_get entries n ≡ Some e → (note : ChangeNote) × (slice_get notes n ≡ Some note) × (printed_entry note ≡ Some e)
 printed_at notes entries n e printed at = map_get_from printed_entry notes n (Some e) (ap (λ z. slice_get z n) printed ∙ map_get (λ (e : ChangeLine). Some e) entries n e at)
+
+-- a change whose line asks for one is printed
+printed_more : (note : ChangeNote) (notes : List ChangeNote) (c : MapChange) → note.line.op.ask ≡ Make c → ArePrinted notes (printed_entries notes) → ArePrinted (note ∷ notes) (printed_entries (note ∷ notes))
+printed_more note notes c asks rest =
+    let entry : MapChange → ChangeLine = λ c. record { lane = note.lane; line = note.line.line; change = c } in
+    subst (λ (o : Option ChangeLine). o ∷ map printed_entry notes ≡ map Some (option_to_list o ++ printed_entries notes)) (ap (λ a. option_map entry (change_asked a)) (sym asks)) (ap (λ es. Some (entry c) ∷ es) rest)
+
+-- what was noted is printed
+pub noted_printed : (run : Run) (report : Report) (i : ℕ) (notes : List ChangeNote) → ((n : ℕ) (note : ChangeNote) → slice_get notes n ≡ Some note → IsNoted run report i note) → ArePrinted notes (printed_entries notes)
+noted_printed run report i [] noted = refl
+noted_printed run report i (note ∷ notes) noted = let is = noted 0 note refl in printed_more note notes is.change (ap (λ (o : Operation). o.ask) is.same_op) (noted_printed run report i notes (λ n. noted (suc n)))
 
 module _ (run : Run) (report : Report) (w : State) (v : View) (logs : List Log) (all : RunsAll run report w v) (noted : HasNotes run report logs) (merges : HasMerged report logs) where
   -- an index with a part has a list
