@@ -24,7 +24,7 @@ build() {
     if [ -z "$program" ]; then
         # without words the program ends with its usage line and status 2, once it is built
         "$top/ahi" >"$target/usage" </dev/null || [ $? -eq 2 ] || fail "ahi could not be built"
-        program=$top/crates/ahi/out/ahi
+        program=$(ls -t "$top"/out/ahi-* | head -n 1)
     fi
 }
 
