@@ -1,7 +1,7 @@
 //! The list of an index, replayed from the empty map.
-use crate::tests::legality::Lie;
-use crate::tests::legality::asked::Act;
-use crate::tests::legality::told::Change;
+use crate::judge::Lie;
+use crate::judge::asked::Act;
+use crate::judge::told::Change;
 use std::alloc::Global;
 
 /// The change of a number: its key, and the value that the key has from then on.

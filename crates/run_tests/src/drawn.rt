@@ -1,6 +1,5 @@
 //! Lanes drawn by number, over keys that all lanes share, so that they get in each other's way.
 use std::alloc::{AllocError, Global};
-use std::test::Fail;
 
 pub(crate) fn draw(state: &mut u64) -> u64 {
     *state = state
@@ -90,20 +89,41 @@ fn count_of_lines(text: &str, verb: &str) -> u64 {
     count
 }
 
+/// Whether two lanes are drawn alike by their seeds and numbers.
+fn are_alike(alloc: Global, seeds: (u64, u64), lanes: (u64, u64)) -> Option<bool> {
+    let first = lane_text(alloc, seeds.0, lanes.0, 400, 3, 6).ok()?;
+    let second = lane_text(alloc, seeds.1, lanes.1, 400, 3, 6).ok()?;
+    Some(first.as_str() == second.as_str())
+}
+
 #[test]
-fn lanes_are_drawn_by_their_numbers(rt: HostRuntime) -> Result<(), Fail> {
-    let alloc = rt.alloc();
-    let first = lane_text(alloc, 7, 1, 400, 3, 6)?;
-    let again = lane_text(alloc, 7, 1, 400, 3, 6)?;
-    let second = lane_text(alloc, 7, 2, 400, 3, 6)?;
-    let other = lane_text(alloc, 8, 1, 400, 3, 6)?;
-    assert!(rt; first.as_str() == again.as_str());
-    assert!(rt; first.as_str() != second.as_str());
-    assert!(rt; first.as_str() != other.as_str());
-    for verb in ["get ", "put ", "del "] {
-        assert!(rt; count_of_lines(first.as_str(), verb) > 80, "{verb}");
+fn lanes_are_drawn_by_their_numbers(rt: HostRuntime) {
+    assert_eq!(rt; are_alike(rt.alloc(), (7, 7), (1, 1)), Some(true));
+    assert_eq!(rt; are_alike(rt.alloc(), (7, 7), (1, 2)), Some(false));
+    assert_eq!(rt; are_alike(rt.alloc(), (7, 8), (1, 1)), Some(false));
+}
+
+/// Whether a drawn lane has more than 80 lines of each verb.
+fn has_each_verb(alloc: Global) -> Option<bool> {
+    let text = lane_text(alloc, 7, 1, 400, 3, 6).ok()?;
+    let text = text.as_str();
+    let counts = (count_of_lines(text, "get "), count_of_lines(text, "put "));
+    Some(counts.0 > 80 && counts.1 > 80 && count_of_lines(text, "del ") > 80)
+}
+
+#[test]
+fn each_verb_is_drawn(rt: HostRuntime) {
+    assert_eq!(rt; has_each_verb(rt.alloc()), Some(true));
+}
+
+fn is_schema(alloc: Global, wanted: &str) -> bool {
+    match schema_text(alloc, 3) {
+        Ok(text) => text.as_str() == wanted,
+        Err(_) => false,
     }
-    let schema = schema_text(alloc, 3)?;
-    assert_eq!(rt; schema.as_str(), "index t0 1\nindex t1 2\nindex t2 3\n");
-    Ok(())
+}
+
+#[test]
+fn indexes_are_named_by_their_numbers(rt: HostRuntime) {
+    assert!(rt; is_schema(rt.alloc(), "index t0 1\nindex t1 2\nindex t2 3\n"));
 }

@@ -1,6 +1,6 @@
 //! What a schema and its lanes ask.
-use crate::tests::legality::Lie;
-use crate::tests::legality::words::{number_of, words_of};
+use crate::judge::Lie;
+use crate::judge::words::{number_of, words_of};
 use std::alloc::Global;
 
 /// An index: its name, and how many fields its keys have.

@@ -1,8 +1,8 @@
 //! The answers against the changes.
-use crate::tests::legality::Lie;
-use crate::tests::legality::asked::Act;
-use crate::tests::legality::history::History;
-use crate::tests::legality::told::{Answer, Change, Report, Said};
+use crate::judge::Lie;
+use crate::judge::asked::Act;
+use crate::judge::history::History;
+use crate::judge::told::{Answer, Change, Report, Said};
 use std::alloc::Global;
 
 /// What a lane's answers are judged by.

@@ -1,5 +1,5 @@
 //! Texts taken apart: lines, words and numbers.
-use crate::tests::legality::Lie;
+use crate::judge::Lie;
 use std::alloc::{AllocError, Global};
 
 /// What stands between single spaces.

@@ -1,7 +1,7 @@
 //! What a report tells, read line by line against what was asked.
-use crate::tests::legality::Lie;
-use crate::tests::legality::asked::{Act, Index, Line};
-use crate::tests::legality::words::{Reader, number_of, words_of};
+use crate::judge::Lie;
+use crate::judge::asked::{Act, Index, Line};
+use crate::judge::words::{Reader, number_of, words_of};
 use std::alloc::Global;
 
 /// What a line of statistics says after the name.
