@@ -8,7 +8,7 @@ use refusal_text::{FirstLine, explain, refused_file};
 use script::MAX_FILE_BYTES;
 use std::env;
 use std::fs;
-use std::io::ErrorKind;
+use std::io::{self, ErrorKind};
 use std::process::ExitCode;
 
 /// Runs the words after the program's name on real files and the standard output, and ends with the
@@ -18,10 +18,18 @@ fn main(rt: HostRuntime) -> ExitCode {
         say_why(&rt, Status::NoMemory, &[], b"");
         return ExitCode::from(Status::NoMemory.number());
     };
-    let mut shelf = FileShelf::new(&rt);
-    let mut sink = FirstLine::new(rt.alloc(), OutSink::new(&rt));
+    let Ok(out) = OutSink::new(rt.alloc(), io::writer(&rt)) else {
+        say_why(&rt, Status::NoMemory, &words, b"");
+        return ExitCode::from(Status::NoMemory.number());
+    };
+    let (mut shelf, mut sink) = (FileShelf::new(&rt), FirstLine::new(rt.alloc(), out));
     let status = run_words(&rt, &rt, &words, &mut shelf, &mut sink, &NoGate, &mut None);
-    say_why(&rt, status, &words, sink.first());
+    let (out, first) = sink.into_parts();
+    let status = match out.finish() {
+        Ok(_) => status,
+        Err(_) => Status::SinkFault,
+    };
+    say_why(&rt, status, &words, &first);
     ExitCode::from(status.number())
 }
 

@@ -23,14 +23,10 @@ impl<K> FirstLine<K> {
         }
     }
 
-    /// The beginning of what was put first; nothing where there was no memory for it.
-    pub fn first(&self) -> &[u8] {
-        &self.first
-    }
-
-    /// The sink that all went to.
-    pub fn sink(&mut self) -> &mut K {
-        &mut self.sink
+    /// The sink that all went to, and the beginning of what was put first; nothing of that where
+    /// there was no memory for it.
+    pub fn into_parts(self) -> (K, Vec<u8>) {
+        (self.sink, self.first)
     }
 }
 

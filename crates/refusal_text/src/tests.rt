@@ -331,8 +331,8 @@ fn kept(alloc: Global, puts: &[&[u8]]) -> Option<(Vec<u8>, Vec<u8>)> {
     for bytes in puts {
         sink.put(bytes).ok()?;
     }
-    let first = sink.first().to_vec(alloc).ok()?;
-    Some((first, sink.sink().written().to_vec(alloc).ok()?))
+    let (memory, first) = sink.into_parts();
+    Some((first, memory.written().to_vec(alloc).ok()?))
 }
 
 fn is(bytes: &[u8], wanted: &[u8]) -> bool {
