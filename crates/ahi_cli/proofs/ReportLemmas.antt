@@ -33,7 +33,7 @@ use Rattle.lane_law.specs.Reports.{part_with, report_of}
 use Rattle.report_print.specs.Texts.{report_text_of, AskChanges}
 use Rattle.report_print.proofs.SpellLemmas.{report_spelled, has_parts}
 use Rattle.ahi_cli.specs.declared.files.Script.{Script}
-use Rattle.ahi_cli.specs.Run.{run_of, IsReportBy}
+use Rattle.ahi_cli.specs.Run.{run_over, IsReportBy}
 use Rattle.ahi_cli.specs.Scripts.{IsScript}
 
 -- the answers of lanes that are in order have the forms of their lines
@@ -60,7 +60,7 @@ module _ (script : Script) (is : IsScript script) (texts : List (List (List ℕ)
   lanes = lane_texts script.lanes.items
 
   abbrev run : Run
-  run = run_of schema lanes
+  run = run_over schema lanes
 
   -- each noted entry has its line
   pub noted : HaveLines lanes logs
