@@ -1,5 +1,5 @@
-use Rattle.std.proofs.Common.{◌≡◌, ◌∙◌, ◌%◌, ◌^◌, ℕ, List, [], fold, take, get_or, ap, refl}
-use Rattle.key_tuple.specs.Fold.{hash_byte, fold_of, hash_of, prefix_bytes, next_bytes}
+use Rattle.std.proofs.Common.{◌≡◌, ◌∙◌, ◌%◌, ◌^◌, ℕ, List, fold, take, ap}
+use Rattle.key_tuple.specs.Fold.{hash_byte, fold_of, next_bytes}
 use Rattle.key_tuple.proofs.FoldLemmas.{prefix_hash}
 use Rattle.key_tuple.proofs.folding.fold.Goals as goal
 use Rattle.key_tuple.proofs.folding.fold.Goals.{then-params-eq0, else-params-eq0}
