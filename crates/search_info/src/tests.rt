@@ -3,7 +3,7 @@ ghost use Rattle.std.specs.Prelude.{◌≡◌, ◌<◌, IfOk, IfSome, Some};
 ghost use Rattle.learning.specs.declared.event.Event.TheVariants as kind;
 ghost use Rattle.learning.specs.Bounds.{IsInfoOf};
 ghost use Rattle.search_info.specs.Exchanges.{HasRead};
-ghost use Rattle.search_info.specs.Passes.{view, opening, IsPassOf, HasUnique};
+ghost use Rattle.search_info.specs.Passes.{knowledge, opening, IsLearnPassOf, HasUnique};
 
 use crate::{Learn, LearnPass, Learner};
 use key_tuple::{Match, NoMemory};
@@ -28,7 +28,7 @@ const ONE: Match = Match {
 fn open_one(alloc: Global, first: &Info, passes: u32) -> Result<(Learner, LearnPass), NoMemory>
     requires info { IsInfoOf 1 first.now }
     requires one { 0 < passes }
-    ensures own { IfOk result (λ r. IsPassOf r.0 r.1 × HasUnique r.0 0 1) }
+    ensures own { IfOk result (λ r. IsLearnPassOf r.0 r.1 × HasUnique r.0 0 1) }
 {
     let (learner, pass) = Learner::open(alloc, [*first].as_slice(), [1].as_slice(), passes)?;
     Ok((learner, pass))
@@ -41,9 +41,9 @@ fn descend(
     block: &mut BlockFigures,
     up: Match,
 ) -> bool
-    requires own { IsPassOf learner.now pass.old × HasUnique learner.now 0 1 }
+    requires own { IsLearnPassOf learner.now pass.old × HasUnique learner.now 0 1 }
     requires near { (up.fields < 2) × (up.bytes ≡ 0) }
-    ensures { IsPassOf learner.now pass.new }
+    ensures { IsLearnPassOf learner.now pass.new }
 {
     assert!(rt; block.advice.asked_fields() <= 1);
     let figures = Figures { low: NONE, up };
@@ -53,8 +53,8 @@ fn descend(
 
 /// Three puts into an empty leaf, then searches for one of the keys.
 fn descents(rt: &impl Abort, learner: &Learner, pass: &mut LearnPass)
-    requires own { IsPassOf learner.now pass.old × HasUnique learner.now 0 1 }
-    ensures { IsPassOf learner.now pass.new }
+    requires own { IsLearnPassOf learner.now pass.old × HasUnique learner.now 0 1 }
+    ensures { IsLearnPassOf learner.now pass.new }
 {
     let mut block = BlockFigures::opening();
     for i in 0..134 {
@@ -71,8 +71,8 @@ fn descents(rt: &impl Abort, learner: &Learner, pass: &mut LearnPass)
 }
 
 fn all_hits(rt: &impl Abort, learner: &Learner, pass: &mut LearnPass)
-    requires own { IsPassOf learner.now pass.old × HasUnique learner.now 0 1 }
-    ensures { IsPassOf learner.now pass.new }
+    requires own { IsLearnPassOf learner.now pass.old × HasUnique learner.now 0 1 }
+    ensures { IsLearnPassOf learner.now pass.new }
 {
     for _ in 0..169 {
         let learn = learner.after_hit(pass, 0);
@@ -116,9 +116,9 @@ fn a_worn_word_stays(rt: HostRuntime) -> Result<(), Fail> {
 
 /// The load of a hit, without its exchange.
 fn read_hit(learner: &Learner, pass: &mut LearnPass) -> Option<(u64, Info)>
-    requires own { IsPassOf learner.now pass.old × HasUnique learner.now 0 1 }
-    ensures own { IsPassOf learner.now pass.new }
-    ensures read { IfSome result (λ r. HasRead (view pass.new) 0 kind.Hit r.0 r.1) }
+    requires own { IsLearnPassOf learner.now pass.old × HasUnique learner.now 0 1 }
+    ensures own { IsLearnPassOf learner.now pass.new }
+    ensures read { IfSome result (λ r. HasRead (knowledge pass.new) 0 kind.Hit r.0 r.1) }
 {
     let word = learner.load_at::<Brand>(&mut pass.seat, 0, &Some(Event::Hit));
     let before = unpack(word);
@@ -153,8 +153,8 @@ fn an_event_that_another_overtakes_is_not_counted(rt: HostRuntime) -> Result<(),
 }
 
 fn event(learner: &Learner, pass: &mut LearnPass, is_hit: bool) -> bool
-    requires own { IsPassOf learner.now pass.old × HasUnique learner.now 0 1 }
-    ensures { IsPassOf learner.now pass.new }
+    requires own { IsLearnPassOf learner.now pass.old × HasUnique learner.now 0 1 }
+    ensures { IsLearnPassOf learner.now pass.new }
 {
     if is_hit {
         let learn = learner.after_hit(pass, 0);
@@ -166,8 +166,8 @@ fn event(learner: &Learner, pass: &mut LearnPass, is_hit: bool) -> bool
 
 /// Makes 1,000 events, and says how many were counted.
 fn events(learner: &Learner, mut pass: LearnPass) -> (LearnPass, u32)
-    requires own { IsPassOf learner.now pass × HasUnique learner.now 0 1 }
-    ensures { IsPassOf learner.now result.0 }
+    requires own { IsLearnPassOf learner.now pass × HasUnique learner.now 0 1 }
+    ensures { IsLearnPassOf learner.now result.0 }
 {
     let mut counted: u32 = 0;
     for i in 0..1000 {
@@ -189,12 +189,12 @@ fn two_threads_count_what_the_word_counts(rt: HostRuntime) -> Result<(), Fail> {
     let (one, two) = join(
         &rt,
         || -> (LearnPass, u32)
-            requires { IsPassOf learner pass × HasUnique learner 0 1 }
-            ensures { IsPassOf learner result.0 }
+            requires { IsLearnPassOf learner pass × HasUnique learner 0 1 }
+            ensures { IsLearnPassOf learner result.0 }
         { events(&learner, pass) },
         || -> (LearnPass, u32)
-            requires { IsPassOf learner other × HasUnique learner 0 1 }
-            ensures { IsPassOf learner result.0 }
+            requires { IsLearnPassOf learner other × HasUnique learner 0 1 }
+            ensures { IsLearnPassOf learner result.0 }
         { events(&learner, other) },
     );
     let (mut one, here) = one;
