@@ -1,13 +1,12 @@
 -- Maps after changes, lists of changes, and replies at their points.
-use Rattle.std.proofs.Common.{◌≡◌, ◌≢◌, ℕ, zero, suc, ◌<◌, ◌≤◌, Bool, true, false, cond, Some, List, [], ◌∷◌, ◌++◌, length, take, refl, sym, ap, ◌∙◌, arith, is_eq, is_some, is_none, length-append, Ordering, Less, Equal, Greater, inl, inr}
+use Rattle.std.proofs.Common.{◌≡◌, ◌≢◌, ℕ, zero, suc, ◌<◌, ◌≤◌, Bool, true, false, cond, Some, List, [], ◌∷◌, ◌++◌, length, take, refl, sym, ap, ◌∙◌, arith, is_some, is_none, length-append, inl, inr}
 use Rattle.std.proofs.lemmas.List.{take-append-le}
 use Rattle.std.proofs.lemmas.Bool.{cases_lt}
 use Rattle.std.proofs.lemmas.Option.{slice_get_within}
 use Rattle.std.proofs.Math.Seq.{take-append_seam}
 use Rattle.std.specs.List.{slice_get}
-use Rattle.key_tuple.specs.Order.{FieldList, key_cmp}
+use Rattle.key_tuple.specs.Order.{FieldList}
 use Rattle.key_tuple.specs.KeyPlace.{KeyPlace, At, within}
-use Rattle.key_tuple.proofs.PlaceLemmas.{key_exact}
 use Rattle.map_history.specs.Map.{Map, MapChange, Put, Set, Del, Ascends, slice, value_at, write, key_of, value_of, is_allowed, after_change, after_changes, map_after, AreLawful}
 use Rattle.map_history.specs.Operation.{Ask}
 use Rattle.map_history.specs.Reply.{reply_of}

@@ -7,11 +7,12 @@ use Rattle.map_history.specs.Map.{MapChange, Put, Set, Del}
 use Rattle.map_history.specs.Operation.{Ask, Get, Make}
 use Rattle.map_history.specs.Reply.{MapReply, Value, Done, Absent, Duplicate}
 use Rattle.map_history.specs.Report.{Answer, Replied, AnswerLine, ChangeLine, Report, dashes}
+use Rattle.map_history.specs.Statistics.{counts_of}
 use Rattle.map_history.specs.LegalReport.{Line, Run, IsLegalButRoom, IsLegalReport}
 
 -- statistics that count nothing
 abbrev pub no_counts : Counts
-no_counts = record { hit = 0; off = 0; cold = 0; short = 0; part_busy = 0; no_entry = 0; block_busy = 0; clock = 0; unequal = 0; by_clock = 0; by_busy = 0; by_moved = 0; by_last = 0; built = 0; same = 0; arena = 0; raced = 0; worn = 0 }
+no_counts = counts_of []
 
 -- a line of the index 0
 abbrev pub line : ℕ → Ask → Line

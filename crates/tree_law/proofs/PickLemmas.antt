@@ -6,7 +6,7 @@ use Rattle.key_tuple.specs.KeyPlace.{KeyPlace, Start, At, End, before, IsCut}
 use Rattle.index_page.specs.Rows.{RowBody, Bytes, Child, Row, last_of_rows, last_row_after}
 use Rattle.index_page.specs.Page.{FitsLevel}
 use Rattle.tree_law.specs.TreeShape.{Pointer, In, first_from, ranges, Rise, HasCut, pointer_to}
-use Rattle.tree_law.specs.PickLaws.{CutRange, AreInner, PicksRange, RangesArePicked, DescentSteps}
+use Rattle.tree_law.specs.PickLaws.{CutRange, AreInner, RangesArePicked, DescentSteps}
 use Rattle.tree_law.proofs.PageRowLemmas.{tree_is, pointers-append, pointer_is}
 use Rattle.tree_law.proofs.DescentLemmas.{child_has_cut}
 use Rattle.list_facts.proofs.Each.{each_right}
