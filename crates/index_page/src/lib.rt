@@ -18,6 +18,7 @@ mod search;
 mod spot;
 #[cfg(test)]
 mod tests;
+mod walks;
 
 pub use body::Body;
 pub use charges::charge;
