@@ -1,5 +1,5 @@
 //! Rows at their places.
-ghost use Rattle.std.specs.Prelude.{◌≡◌, ◌≤◌, ◌<◌, [], ◌∷◌, ◌++◌, length, Some, None, IfOk, OnOk, OnErr, IsSome, slice_get};
+ghost use Rattle.std.specs.Prelude.{◌≡◌, ◌≤◌, ◌<◌, [], ◌∷◌, ◌++◌, length, take, drop, Some, None, IfOk, OnOk, OnErr, IsSome, slice_get};
 ghost use Rattle.std.specs.List.{insert, remove};
 ghost use Rattle.key_tuple.specs.Limits.{IsWithinLimits};
 ghost use Rattle.index_page.specs.declared.TheConstants.{MAX_ROWS};
@@ -112,6 +112,26 @@ impl Heap {
         self.places.release(at);
         let slot = &mut self.slots[place as usize];
         slot.clear();
+    }
+
+    /// Takes out all rows but the first ones, so many.
+    pub(crate) fn keep_first(&mut self, count: usize)
+        requires { count ≤ length self.old }
+        ensures { self.new ≡ take count self.old }
+    {
+        while self.len() > count {
+            self.remove_at(self.len() - 1);
+        }
+    }
+
+    /// Takes out the first rows, so many.
+    pub(crate) fn drop_first(&mut self, count: usize)
+        requires { count ≤ length self.old }
+        ensures { self.new ≡ drop count self.old }
+    {
+        for _taken in 0..count {
+            self.remove_at(0);
+        }
     }
 
     /// The same rows at the same places.

@@ -10,6 +10,7 @@ mod head;
 mod heap;
 mod laws;
 mod loads;
+mod moves;
 mod page;
 mod places;
 mod record;

@@ -1,0 +1,17 @@
+-- Rows that move from page to page.
+use Rattle.std.specs.Prelude.{ℕ, ◌≡◌, List, ◌∷◌, ◌++◌}
+use Rattle.index_page.specs.Rows.{Row, SameRows}
+use Rattle.index_page.specs.Page.{PageRows}
+
+-- the rows from the one at `first` on went in their order to a page that had none, at places there; the
+-- others keep theirs, and both pages their heads
+pub record MovesTail (old new to_old to_new : PageRows) (first : ℕ) : Type 0 where
+  pub left : List Row
+  pub row : Row
+  pub right : List Row
+  pub was : old.rows ≡ left ++ row ∷ right
+  pub place_is : row.place ≡ first
+  pub stay : new.rows ≡ left
+  pub go : SameRows (row ∷ right) to_new.rows
+  pub head : new.head ≡ old.head
+  pub to_head : to_new.head ≡ to_old.head
