@@ -9,3 +9,4 @@ pub mod LoadLemmas
 pub mod HalvesLemmas
 pub mod RoomLemmas
 pub mod PartLemmas
+pub mod AppendLemmas
