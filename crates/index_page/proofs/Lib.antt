@@ -8,3 +8,5 @@ pub mod SpotLemmas
 pub mod LoadLemmas
 pub mod HalvesLemmas
 pub mod RoomLemmas
+pub mod PartLemmas
+pub mod AppendLemmas

@@ -21,6 +21,16 @@ pub record PrevIs (rows : List Row) (place : ℕ) (prev : Option ℕ) : Type 0 w
   pub place_is : row.place ≡ place
   pub prev_at : IsAt rows prev (last_of_rows left)
 
+-- the places of the rows before and after the one at `place`
+pub record IsBeside (rows : List Row) (place : ℕ) (prev next : Option ℕ) : Type 0 where
+  pub left : List Row
+  pub row : Row
+  pub right : List Row
+  pub split : rows ≡ left ++ row ∷ right
+  pub place_is : row.place ≡ place
+  pub prev_at : IsAt rows prev (last_of_rows left)
+  pub next_at : IsAt rows next (first_of_rows right)
+
 -- the row stands among those that were there, at a place at which none stood; all else is as before
 pub record Inserts (old new : PageRows) (row : Row) : Type 0 where
   pub below : List Row

@@ -6,3 +6,4 @@ pub mod Laws
 pub mod Store
 pub mod Loads
 pub mod LoadLaws
+pub mod Moves

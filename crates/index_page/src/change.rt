@@ -63,7 +63,7 @@ impl Page {
             Inserts self.old self.new (placed_row place (A.fields_of key.now) (body_by body.entry))) }
         ensures err { OnErr result (self.new ≡ self.old) }
     {
-        Ok(self.rows.insert_at(cut, key, body)?)
+        Ok(self.rows.insert_at(cut, key, body.beside())?)
     }
 
     /// Takes the row at a place out.

@@ -10,6 +10,7 @@ mod head;
 mod heap;
 mod laws;
 mod loads;
+mod moves;
 mod page;
 mod places;
 mod record;
@@ -18,6 +19,7 @@ mod search;
 mod spot;
 #[cfg(test)]
 mod tests;
+mod walks;
 
 pub use body::Body;
 pub use charges::charge;

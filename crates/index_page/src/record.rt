@@ -1,12 +1,13 @@
 //! One stored row.
 ghost use Rattle.std.specs.Prelude.{◌≡◌, ◌≤◌, ℕ, List, [], IfOk, OnOk};
 ghost use Rattle.key_tuple.specs.Limits.{IsWithinLimits};
-ghost use Rattle.index_page.specs.Rows.{body_by, Bytes, Child};
+ghost use Rattle.index_page.specs.Rows.{Bytes, Child};
+ghost use Rattle.index_page.specs.Store.{beside_by};
 ghost use Rattle.index_page.specs.declared.TheConstants.{MAX_CHARGE};
 ghost use Rattle.index_page.specs.Page.{HasShortValue};
 ghost use Rattle.index_page.specs.Loads.{charge_of};
 
-use crate::body::Body;
+use crate::body::Beside;
 use crate::charges::{CHILD_SIZE, record_charge, size_with_length};
 use key_tuple::{FieldBuffer, Fields};
 use std::alloc::{AllocError, Global};
@@ -39,20 +40,19 @@ impl Record {
     }
 
     /// Puts a row in the place of the one before. After an error a part of it may be there.
-    pub(crate) fn fill<A: Fields>(&mut self, key: &A, body: Body<'_>) -> Result<(), AllocError>
+    pub(crate) fn fill<A: Fields>(&mut self, key: &A, beside: Beside<'_>) -> Result<(), AllocError>
         requires { IsWithinLimits (A.fields_of key.now) }
         ensures key { OnOk result (self.new.key ≡ A.fields_of key.now) }
-        ensures body { OnOk result (self.new.body ≡ body_by body.entry) }
-        ensures short { OnOk result (HasShortValue (body_by body.entry)) }
+        ensures body { OnOk result (self.new.body ≡ beside_by beside.entry) }
     {
         fill_key(&mut self.key, key)?;
         self.value.clear();
-        match body {
-            Body::Value(value) => {
-                self.value.extend_from_slice(value.as_bytes())?;
+        match beside {
+            Beside::Value(bytes) => {
+                self.value.extend_from_slice(bytes)?;
                 self.child = None;
             }
-            Body::Child(number) => self.child = Some(number),
+            Beside::Child(number) => self.child = Some(number),
         }
         Ok(())
     }
@@ -61,6 +61,16 @@ impl Record {
     pub(crate) fn clear(&mut self) {
         self.key.clear();
         self.value.clear();
+    }
+
+    /// What it carries beside its key.
+    pub(crate) fn beside(&self) -> Beside<'_>
+        ensures { beside_by result ≡ self.now.body }
+    {
+        match self.child {
+            None => Beside::Value(&self.value),
+            Some(number) => Beside::Child(number),
+        }
     }
 
     /// What a page is charged for it.
