@@ -153,6 +153,9 @@ fn key_of_four(alloc: Global, parts: [&[u8]; 4]) -> Option<Key> {
     for part in parts {
         fields.push(part.to_vec(alloc).ok()?).ok()?;
     }
+    if fields.len() != 4 {
+        return None;
+    }
     Key::try_new(alloc, fields).ok()
 }
 
