@@ -3,6 +3,7 @@ use Rattle.std.specs.Prelude.{ℕ, ◌+◌, ◌*◌, Bool, ◌&&◌, Option, Som
 use lib.Dec.{leb}
 use Rattle.map_history.specs.declared.sizes.Sizes.{Sizes}
 use Rattle.index_engine.specs.declared.setting.Setting.{Setting}
+use Rattle.index_engine.specs.declared.setting.TheConstants.{LANE_BLOCKS, MAX_BLOCKS, MAX_PAGES, MAX_PARTS, MAX_COUNTERS, MAX_CELLS, MAX_NODES, MAX_FOLD_BITS, MAX_CHANGES}
 use Rattle.index_engine.specs.declared.setting.Setting.TheVariants.{Blocks, Pages, Parts, Cells, Nodes, FoldBits, MaxChanges}
 
 -- the number is one of those from `low` to `high`
@@ -11,13 +12,13 @@ is_within low high n = leb low n && leb n high
 
 -- The setting is within its limits. Products of two settings are judged with the second, but that of partitions and blocks with the first.
 abbrev pub fits_limits : Sizes → ℕ → ℕ → Setting → Bool
-fits_limits sizes indexes lanes Blocks = is_within (8 * lanes + 8) 65536 sizes.blocks
-fits_limits sizes indexes lanes Pages = is_within indexes 65536 sizes.pages
-fits_limits sizes indexes lanes Parts = is_within 1 512 sizes.parts && leb (sizes.parts * sizes.blocks) 16777216
-fits_limits sizes indexes lanes Cells = leb 1 sizes.cells && leb (sizes.parts * sizes.cells) 4194304
-fits_limits sizes indexes lanes Nodes = leb (sizes.parts * sizes.nodes) 4194304
-fits_limits sizes indexes lanes FoldBits = is_within 1 64 sizes.fold_bits
-fits_limits sizes indexes lanes MaxChanges = is_within 1 8388608 sizes.max_changes
+fits_limits sizes indexes lanes Blocks = is_within (LANE_BLOCKS * lanes + LANE_BLOCKS) MAX_BLOCKS sizes.blocks
+fits_limits sizes indexes lanes Pages = is_within indexes MAX_PAGES sizes.pages
+fits_limits sizes indexes lanes Parts = is_within 1 MAX_PARTS sizes.parts && leb (sizes.parts * sizes.blocks) MAX_COUNTERS
+fits_limits sizes indexes lanes Cells = leb 1 sizes.cells && leb (sizes.parts * sizes.cells) MAX_CELLS
+fits_limits sizes indexes lanes Nodes = leb (sizes.parts * sizes.nodes) MAX_NODES
+fits_limits sizes indexes lanes FoldBits = is_within 1 MAX_FOLD_BITS sizes.fold_bits
+fits_limits sizes indexes lanes MaxChanges = is_within 1 MAX_CHANGES sizes.max_changes
 
 -- the first of some settings that isn't
 abbrev pub first_outside : Sizes → ℕ → ℕ → List Setting → Option Setting

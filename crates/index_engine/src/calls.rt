@@ -79,7 +79,7 @@ impl Engine {
     }
 
     /// A call on the leaf of an index.
-    fn call<'a, R: Wait>(&'a self, index: u32, key: &'a Key, wait: &'a R) -> LeafCall<'a, R>
+    fn call<'a, R>(&'a self, index: u32, key: &'a Key, wait: &'a R) -> LeafCall<'a, R>
         requires index { index < indexes_of self.now }
         requires key { FitsKey self.now index key.now.tuple }
         ensures space { result.space.now ≡ self.now.space }

@@ -67,7 +67,9 @@ impl<R: Wait> LeafCall<'_, R> {
             Err(LogFull(count)) => self.say_of_del(pass, Reply::LogFull(count)),
         }
     }
+}
 
+impl<R> LeafCall<'_, R> {
     /// Answers the del without a change.
     fn say_of_del(&self, pass: &mut WorldPass, reply: Reply) -> Told
         requires own { IsPassOf self.now.space.now pass.old }

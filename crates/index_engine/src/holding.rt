@@ -22,7 +22,9 @@ impl<R: Wait> LeafCall<'_, R> {
     {
         self.space.take(pass, self.leaf(), self.wait);
     }
+}
 
+impl<R> LeafCall<'_, R> {
     /// Gives the leaf back, which is what it is known to be.
     pub(crate) fn let_go(&self, pass: &mut WorldPass)
         requires own { IsPassOf self.now.space.now pass.old }

@@ -63,7 +63,7 @@ fn insert_at(page: &mut Page, spot: &Spot, key: &Key, value: &Value) -> Result<P
     ensures err { OnErr result (page.new ≡ page.old) }
 {
     key.tuple().is_within_limits();
-    if spot.up.fields == key.count() {
+    if key.count() == spot.up.fields {
         // Only a key without fields agrees in all of them with a row that isn't there.
         return page.insert(key, Body::Value(value));
     }

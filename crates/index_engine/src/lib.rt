@@ -23,4 +23,4 @@ mod tests;
 
 pub use engine::{Engine, EnginePass};
 pub use error::EngineError;
-pub use setting::Setting;
+pub use setting::{MAX_INDEXES, MAX_LANES, Setting};

@@ -9,7 +9,7 @@ ghost use Rattle.index_engine.specs.Settings.{first_broken};
 
 use crate::engine::{Engine, EnginePass};
 use crate::error::EngineError;
-use crate::setting::broken_setting;
+use crate::setting::{MAX_FOLD_BITS, MAX_INDEXES, MAX_LANES, broken_setting};
 use index_world::{Layout, WorldPass, WorldSpace, first_objects, opens_lawfully};
 use key_tuple::NoMemory;
 use map_history::Sizes;
@@ -25,8 +25,8 @@ impl Engine {
         fields: &[u8],
         lanes: u32,
     ) -> Result<(Engine, EnginePass), EngineError>
-        requires indexes { (0 < length fields.now) × (length fields.now ≤ 64) }
-        requires lanes { (0 < lanes) × (lanes ≤ 64) }
+        requires indexes { (0 < length fields.now) × (length fields.now ≤ MAX_INDEXES) }
+        requires lanes { (0 < lanes) × (lanes ≤ MAX_LANES) }
         ensures ok { IfOk result (λ r. IsOf r.0 r.1 × (r.1.sizes ≡ sizes.now)
             × (known r.1 ≡ first_view (terms_for sizes.now fields.now lanes))) }
         ensures refused { IfSome (first_broken sizes.now (length fields.now) lanes)
@@ -54,9 +54,9 @@ fn open_space(
     fields: &[u8],
     lanes: u32,
 ) -> Result<(WorldSpace, WorldPass), NoMemory>
-    requires indexes { length fields.now ≤ 64 }
+    requires indexes { length fields.now ≤ MAX_INDEXES }
     requires lanes { 0 < lanes }
-    requires bits { sizes.now.fold_bits ≤ 64 }
+    requires bits { sizes.now.fold_bits ≤ MAX_FOLD_BITS }
     ensures own { IfOk result (λ r. IsPassOf r.0 r.1) }
     ensures terms { IfOk result (λ r. r.0.terms ≡ terms_for sizes.now fields.now lanes) }
     ensures first { IfOk result (λ r. (view r.1 ≡ first_view r.0.terms) × (count r.1 ≡ 0)) }

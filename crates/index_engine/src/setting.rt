@@ -4,6 +4,29 @@ ghost use Rattle.index_engine.specs.Settings.{first_broken, fits_limits};
 
 use map_history::Sizes;
 
+/// The most indexes of an engine.
+pub const MAX_INDEXES: usize = 64;
+/// The most lanes.
+pub const MAX_LANES: u32 = 64;
+/// Each lane has so many blocks, and so many are for all of them.
+const LANE_BLOCKS: u32 = 8;
+
+const MAX_BLOCKS: u32 = 65_536;
+
+const MAX_PAGES: u32 = 65_536;
+
+const MAX_PARTS: u32 = 512;
+/// The most partitions times blocks.
+const MAX_COUNTERS: u64 = 16_777_216;
+/// The most cells, and the most nodes, of all partitions.
+const MAX_CELLS: u64 = 4_194_304;
+
+const MAX_NODES: u64 = 4_194_304;
+
+pub(crate) const MAX_FOLD_BITS: u32 = 64;
+
+const MAX_CHANGES: u32 = 8_388_608;
+
 /// A setting of a schema.
 #[derive(Debug, Clone, Copy, PartialEq, Eq)]
 pub enum Setting {
@@ -20,22 +43,24 @@ impl Setting {
     /// The setting is within its limits, for so many indexes and lanes. Products of two settings
     /// are judged with the second, but that of partitions and blocks with the first.
     fn is_within(self, sizes: &Sizes, indexes: u32, lanes: u32) -> bool
-        requires { lanes ≤ 64 }
+        requires { lanes ≤ MAX_LANES }
         ensures { result ≡ fits_limits sizes.now indexes lanes self }
     {
         let parts = u64::from(sizes.parts);
         match self {
-            Setting::Blocks => 8 * lanes + 8 <= sizes.blocks && sizes.blocks <= 65_536,
-            Setting::Pages => indexes <= sizes.pages && sizes.pages <= 65_536,
+            Setting::Blocks => {
+                LANE_BLOCKS * lanes + LANE_BLOCKS <= sizes.blocks && sizes.blocks <= MAX_BLOCKS
+            }
+            Setting::Pages => indexes <= sizes.pages && sizes.pages <= MAX_PAGES,
             Setting::Parts => {
                 1 <= sizes.parts
-                    && sizes.parts <= 512
-                    && parts * u64::from(sizes.blocks) <= 16_777_216
+                    && sizes.parts <= MAX_PARTS
+                    && parts * u64::from(sizes.blocks) <= MAX_COUNTERS
             }
-            Setting::Cells => 1 <= sizes.cells && parts * u64::from(sizes.cells) <= 4_194_304,
-            Setting::Nodes => parts * u64::from(sizes.nodes) <= 4_194_304,
-            Setting::FoldBits => 1 <= sizes.fold_bits && sizes.fold_bits <= 64,
-            Setting::MaxChanges => 1 <= sizes.max_changes && sizes.max_changes <= 8_388_608,
+            Setting::Cells => 1 <= sizes.cells && parts * u64::from(sizes.cells) <= MAX_CELLS,
+            Setting::Nodes => parts * u64::from(sizes.nodes) <= MAX_NODES,
+            Setting::FoldBits => 1 <= sizes.fold_bits && sizes.fold_bits <= MAX_FOLD_BITS,
+            Setting::MaxChanges => 1 <= sizes.max_changes && sizes.max_changes <= MAX_CHANGES,
         }
     }
 }
@@ -53,7 +78,7 @@ const ALL: [Setting; 7] = [
 
 /// The first setting that isn't within its limits, for so many indexes and lanes.
 pub(crate) fn broken_setting(sizes: &Sizes, indexes: u32, lanes: u32) -> Option<Setting>
-    requires { lanes ≤ 64 }
+    requires { lanes ≤ MAX_LANES }
     ensures { result ≡ first_broken sizes.now indexes lanes }
 {
     for setting in ALL {

@@ -1,5 +1,5 @@
-//! The operations one after another, the refusals of an opening, and two threads.
-ghost use Rattle.std.specs.Prelude.{◌≡◌, ◌<◌, [], ◌∷◌, IfOk, IfSome};
+//! The operations one after another, the largest row, the refusals of an opening, and two threads.
+ghost use Rattle.std.specs.Prelude.{◌≡◌, ◌<◌, ◌≤◌, [], ◌∷◌, IfSome};
 ghost use mathlib.Core.Option.{some};
 ghost use lib.ListN.{get_elem?};
 ghost use Rattle.index_engine.specs.Engines.{indexes_of, IsOf, FitsKey};
@@ -50,18 +50,18 @@ struct Worked {
 }
 
 #[derive(Clone, Copy)]
-enum Order {
-    Put(u8),
+enum Order<'a> {
+    Put(&'a [u8]),
     Del,
     Get,
 }
 
 impl Worked {
-    fn open(alloc: Global, max_changes: u32) -> Result<Worked, Fail> {
+    fn open(alloc: Global, max_changes: u32) -> Option<Worked> {
         let sizes = smallest(1, max_changes);
-        let (engine, pass) = Engine::open(alloc, &sizes, &[1, 1, 4], 1)?;
-        let out = RowBuf::new(alloc)?;
-        Ok(Worked { engine, pass, out })
+        let (engine, pass) = Engine::open(alloc, &sizes, &[1, 1, 4], 1).ok()?;
+        let out = RowBuf::new(alloc).ok()?;
+        Some(Worked { engine, pass, out })
     }
 
     /// What an order is told. A key that doesn't suit its index isn't asked for.
@@ -70,30 +70,92 @@ impl Worked {
         alloc: Global,
         index: u32,
         key: &Key,
-        order: Order,
+        order: Order<'_>,
         wait: &R,
-    ) -> Result<Told, Fail> {
+    ) -> Option<Told> {
         if index >= 3 || key.count() != fields_of(index) {
-            return Err(Fail::new("no such key"));
+            return None;
         }
-        let told = match order {
-            Order::Put(byte) => {
-                let value = Value::try_new(vec![in alloc; byte]?)?;
-                self.engine.put(&mut self.pass, index, key, &value, wait)?
+        match order {
+            Order::Put(bytes) => {
+                let value = Value::try_new(bytes.to_vec(alloc).ok()?).ok()?;
+                self.engine
+                    .put(&mut self.pass, index, key, &value, wait)
+                    .ok()
             }
-            Order::Del => self.engine.del(&mut self.pass, index, key, wait)?,
+            Order::Del => self.engine.del(&mut self.pass, index, key, wait).ok(),
             Order::Get => self
                 .engine
-                .get(&mut self.pass, index, key, &mut self.out, wait)?,
-        };
-        Ok(told)
+                .get(&mut self.pass, index, key, &mut self.out, wait)
+                .ok(),
+        }
+    }
+
+    /// An order with this key is told so.
+    fn tells<R: Wait>(
+        &mut self,
+        alloc: Global,
+        index: u32,
+        key: &Key,
+        order: Order<'_>,
+        so: Told,
+        wait: &R,
+    ) -> bool {
+        match self.ask(alloc, index, key, order, wait) {
+            Some(told) => told == so,
+            None => false,
+        }
+    }
+
+    /// The buffer has this row, whose key has one field.
+    fn has_row(&self, field: &[u8], value: &[u8]) -> bool {
+        self.out.count() == 1 && self.out.field(0) == field && self.out.value() == value
     }
 }
 
-/// The key of one field of one byte, if there is memory.
-fn letter(alloc: Global, byte: u8) -> Option<Key> {
+/// An order, whose key is a letter, and what it is told.
+#[derive(Clone, Copy)]
+struct Step<'a> {
+    index: u32,
+    byte: u8,
+    order: Order<'a>,
+    told: Told,
+}
+
+/// Each step is told what it says.
+fn all_told<R: Wait>(alloc: Global, worked: &mut Worked, steps: &[Step<'_>], wait: &R) -> bool {
+    for step in steps {
+        let Some(key) = letter(alloc, step.byte) else {
+            return false;
+        };
+        if !worked.tells(alloc, step.index, &key, step.order, step.told, wait) {
+            return false;
+        }
+    }
+    true
+}
+
+/// The key of one field, if there is memory.
+fn key_of(alloc: Global, field: &[u8]) -> Option<Key> {
     let mut fields = Vec::new(alloc);
-    fields.push([byte].to_vec(alloc).ok()?).ok()?;
+    fields.push(field.to_vec(alloc).ok()?).ok()?;
+    Key::try_new(alloc, fields).ok()
+}
+
+/// The key of one field of one byte.
+fn letter(alloc: Global, byte: u8) -> Option<Key> {
+    key_of(alloc, [byte].as_slice())
+}
+
+/// The key of four fields.
+fn key_of_four(alloc: Global, parts: [&[u8]; 4]) -> Option<Key> {
+    let mut fields = Vec::new(alloc);
+    for part in parts {
+        fields.push(part.to_vec(alloc).ok()?).ok()?;
+    }
+    if fields.len() != 4 {
+        return None;
+    }
     Key::try_new(alloc, fields).ok()
 }
 
@@ -106,86 +168,111 @@ fn told(reply: Reply, point: u64) -> Told {
     }
 }
 
+fn telling<'a>(index: u32, byte: u8, order: Order<'a>, reply: Reply, point: u64) -> Step<'a> {
+    Step {
+        index,
+        byte,
+        order,
+        told: told(reply, point),
+    }
+}
+
 #[test]
 fn each_index_answers_by_its_own_changes(rt: HostRuntime) -> Result<(), Fail> {
-    let alloc = rt.alloc();
-    let mut worked = Worked::open(alloc, 5)?;
-    for (i, (index, byte, order, reply, point)) in [
-        (0, b'a', Order::Get, Reply::Absent, 0),
-        (0, b'a', Order::Del, Reply::Absent, 0),
-        (0, b'a', Order::Put(b'x'), Reply::Ok, 1),
-        (0, b'a', Order::Get, Reply::Found, 1),
-        (0, b'b', Order::Get, Reply::Absent, 1),
-        (0, b'a', Order::Put(b'y'), Reply::Duplicate, 1),
-        (1, b'a', Order::Get, Reply::Absent, 0),
-        (1, b'a', Order::Put(b'z'), Reply::Ok, 1),
-        (0, b'a', Order::Del, Reply::Ok, 2),
-        (0, b'a', Order::Get, Reply::Absent, 2),
-        (0, b'a', Order::Put(b'w'), Reply::Ok, 3),
-        (1, b'a', Order::Get, Reply::Found, 1),
-    ]
-    .into_iter()
-    .enumerate()
-    {
-        let key = letter(alloc, byte).ok_or("no memory")?;
-        let answer = worked.ask(alloc, index, &key, order, &rt)?;
-        assert_eq!(rt; answer, told(reply, point), "at {i}");
-    }
-    assert!(rt; worked.out.value() == b"z".as_slice());
+    let steps = [
+        telling(0, b'a', Order::Get, Reply::Absent, 0),
+        telling(0, b'a', Order::Del, Reply::Absent, 0),
+        telling(0, b'a', Order::Put(b"x"), Reply::Ok, 1),
+        telling(0, b'a', Order::Get, Reply::Found, 1),
+        telling(0, b'b', Order::Get, Reply::Absent, 1),
+        telling(0, b'a', Order::Put(b"y"), Reply::Duplicate, 1),
+        telling(1, b'a', Order::Get, Reply::Absent, 0),
+        telling(1, b'a', Order::Put(b"z"), Reply::Ok, 1),
+        telling(0, b'a', Order::Del, Reply::Ok, 2),
+        telling(0, b'a', Order::Get, Reply::Absent, 2),
+        telling(0, b'a', Order::Put(b"w"), Reply::Ok, 3),
+        telling(1, b'a', Order::Get, Reply::Found, 1),
+    ];
+    let mut worked = Worked::open(rt.alloc(), 5).ok_or("no memory")?;
+    assert!(rt; all_told(rt.alloc(), &mut worked, steps.as_slice(), &rt));
+    assert!(rt; worked.has_row(b"a", b"z"));
     Ok(())
 }
 
 #[test]
 fn a_full_list_refuses_what_would_change_it(rt: HostRuntime) -> Result<(), Fail> {
-    let alloc = rt.alloc();
-    let mut worked = Worked::open(alloc, 2)?;
-    for (i, (index, byte, order, reply, point)) in [
-        (0, b'a', Order::Put(b'x'), Reply::Ok, 1),
-        (0, b'b', Order::Put(b'y'), Reply::Ok, 2),
-        (0, b'c', Order::Put(b'z'), Reply::LogFull(2), 2),
-        (0, b'c', Order::Get, Reply::Absent, 2),
-        (0, b'a', Order::Put(b'z'), Reply::Duplicate, 2),
-        (0, b'a', Order::Del, Reply::LogFull(2), 2),
-        (0, b'c', Order::Del, Reply::Absent, 2),
-        (1, b'c', Order::Put(b'z'), Reply::Ok, 1),
-        (0, b'b', Order::Get, Reply::Found, 2),
-        (0, b'a', Order::Get, Reply::Found, 2),
-    ]
-    .into_iter()
-    .enumerate()
-    {
-        let key = letter(alloc, byte).ok_or("no memory")?;
-        let answer = worked.ask(alloc, index, &key, order, &rt)?;
-        assert_eq!(rt; answer, told(reply, point), "at {i}");
-    }
-    assert!(rt; worked.out.value() == b"x".as_slice());
+    let steps = [
+        telling(0, b'a', Order::Put(b"x"), Reply::Ok, 1),
+        telling(0, b'b', Order::Put(b"y"), Reply::Ok, 2),
+        telling(0, b'c', Order::Put(b"z"), Reply::LogFull(2), 2),
+        telling(0, b'c', Order::Get, Reply::Absent, 2),
+        telling(0, b'a', Order::Put(b"z"), Reply::Duplicate, 2),
+        telling(0, b'a', Order::Del, Reply::LogFull(2), 2),
+        telling(0, b'c', Order::Del, Reply::Absent, 2),
+        telling(1, b'c', Order::Put(b"z"), Reply::Ok, 1),
+        telling(0, b'b', Order::Get, Reply::Found, 2),
+        telling(0, b'a', Order::Get, Reply::Found, 2),
+    ];
+    let mut worked = Worked::open(rt.alloc(), 2).ok_or("no memory")?;
+    assert!(rt; all_told(rt.alloc(), &mut worked, steps.as_slice(), &rt));
+    assert!(rt; worked.has_row(b"a", b"x"));
     Ok(())
+}
+
+/// A key of four fields is put and found, and another isn't found then.
+fn one_of_two<R: Wait>(
+    alloc: Global,
+    worked: &mut Worked,
+    key: &Key,
+    other: &Key,
+    wait: &R,
+) -> bool {
+    worked.tells(alloc, 2, key, Order::Put(b"\0"), told(Reply::Ok, 1), wait)
+        && worked.tells(alloc, 2, other, Order::Get, told(Reply::Absent, 1), wait)
+        && worked.tells(alloc, 2, key, Order::Get, told(Reply::Found, 1), wait)
 }
 
 #[test]
 fn keys_with_empty_fields_and_zero_bytes_differ(rt: HostRuntime) -> Result<(), Fail> {
     let alloc = rt.alloc();
-    let mut worked = Worked::open(alloc, 2)?;
-    let [first, second, third]: [&[u8]; 3] = [b"\0", b"a\0b", b"\xff"];
-    let mut keys = Vec::new(alloc);
-    for fields in [[b"", first, second, third], [first, b"", second, third]] {
-        let mut parts = Vec::new(alloc);
-        for field in fields {
-            parts.push(field.to_vec(alloc)?)?;
-        }
-        assert!(rt; parts.len() == 4);
-        keys.push(Key::try_new(alloc, parts)?)?;
-    }
-    let (Some(key), Some(other)) = (keys.get(0), keys.get(1)) else {
-        panic!(rt; "two keys")
-    };
-    let put = worked.ask(alloc, 2, key, Order::Put(b'\0'), &rt)?;
-    let missed = worked.ask(alloc, 2, other, Order::Get, &rt)?;
-    let found = worked.ask(alloc, 2, key, Order::Get, &rt)?;
-    assert_eq!(rt; put, told(Reply::Ok, 1));
-    assert_eq!(rt; missed, told(Reply::Absent, 1));
-    assert_eq!(rt; found, told(Reply::Found, 1));
+    let mut worked = Worked::open(alloc, 2).ok_or("no memory")?;
+    let key = key_of_four(alloc, [b"", b"\0", b"a\0b", b"\xff"]).ok_or("no memory")?;
+    let other = key_of_four(alloc, [b"\0", b"", b"a\0b", b"\xff"]).ok_or("no memory")?;
+    assert!(rt; one_of_two(alloc, &mut worked, &key, &other, &rt));
     assert!(rt; worked.out.value() == b"\0".as_slice());
+    Ok(())
+}
+
+/// The row is put and found again, key and value.
+fn comes_back<R: Wait>(
+    alloc: Global,
+    worked: &mut Worked,
+    field: &[u8],
+    value: &[u8],
+    wait: &R,
+) -> bool {
+    let Some(key) = key_of(alloc, field) else {
+        return false;
+    };
+    worked.tells(alloc, 0, &key, Order::Put(value), told(Reply::Ok, 1), wait)
+        && worked.tells(alloc, 0, &key, Order::Get, told(Reply::Found, 1), wait)
+        && worked.has_row(field, value)
+}
+
+#[test]
+fn the_largest_row_comes_back(rt: HostRuntime) -> Result<(), Fail> {
+    let mut worked = Worked::open(rt.alloc(), 1).ok_or("no memory")?;
+    let field = [b'k'; 767];
+    let value = [b'v'; 2048];
+    assert!(rt;
+        comes_back(
+            rt.alloc(),
+            &mut worked,
+            field.as_slice(),
+            value.as_slice(),
+            &rt
+        )
+    );
     Ok(())
 }
 
@@ -204,9 +291,27 @@ fn but_for(setting: Setting, number: u32) -> Sizes {
     sizes
 }
 
+/// The setting that is refused, if one is.
+fn refused(alloc: Global, sizes: &Sizes) -> Option<Setting> {
+    match Engine::open(alloc, sizes, &[1, 1, 4], 1) {
+        Err(EngineError::BadSize(setting)) => Some(setting),
+        Ok(_) | Err(EngineError::NoMemory) => None,
+    }
+}
+
+/// Each of the settings is refused at its number.
+fn all_refused(alloc: Global, settings: &[(Setting, u32)]) -> bool {
+    for (setting, number) in settings {
+        if refused(alloc, &but_for(*setting, *number)) != Some(*setting) {
+            return false;
+        }
+    }
+    true
+}
+
 #[test]
 fn a_setting_outside_its_limits_is_named(rt: HostRuntime) -> Result<(), Fail> {
-    for (setting, number) in [
+    let settings = [
         (Setting::Blocks, 15),
         (Setting::Blocks, 65_537),
         (Setting::Pages, 2),
@@ -218,47 +323,29 @@ fn a_setting_outside_its_limits_is_named(rt: HostRuntime) -> Result<(), Fail> {
         (Setting::FoldBits, 65),
         (Setting::MaxChanges, 0),
         (Setting::MaxChanges, 8_388_609),
-    ] {
-        let opened = Engine::open(rt.alloc(), &but_for(setting, number), &[1, 1, 4], 1);
-        assert_eq!(rt; opened.err(), Some(EngineError::BadSize(setting)));
-    }
-    Ok(())
-}
-
-#[test]
-fn the_first_of_two_broken_settings_is_named(rt: HostRuntime) -> Result<(), Fail> {
+    ];
+    assert!(rt; all_refused(rt.alloc(), settings.as_slice()));
     let mut sizes = but_for(Setting::MaxChanges, 0);
     sizes.pages = 2;
-    let opened = Engine::open(rt.alloc(), &sizes, &[1, 1, 4], 1);
-    assert_eq!(rt; opened.err(), Some(EngineError::BadSize(Setting::Pages)));
+    assert!(rt; refused(rt.alloc(), &sizes) == Some(Setting::Pages));
     Ok(())
 }
 
+/// An engine of these sizes is opened for some lanes, and its pass keeps the sizes.
+fn opens(alloc: Global, sizes: &Sizes, lanes: u32) -> bool
+    requires { (0 < lanes) × (lanes ≤ 64) }
+{
+    match Engine::open(alloc, sizes, &[1, 1, 4], lanes) {
+        Ok((_, pass)) => *pass.sizes() == *sizes,
+        Err(_) => false,
+    }
+}
+
 #[test]
-fn blocks_of_256_are_for_31_lanes_and_no_more(rt: HostRuntime) -> Result<(), Fail> {
-    let alloc = rt.alloc();
+fn blocks_of_256_are_for_31_lanes_and_no_more(rt: HostRuntime) {
     let sizes = but_for(Setting::Blocks, 256);
-    let (_, pass) = Engine::open(alloc, &sizes, &[1, 1, 4], 31)?;
-    assert_eq!(rt; *pass.sizes(), sizes);
-    let opened = Engine::open(alloc, &sizes, &[1, 1, 4], 32);
-    assert_eq!(rt; opened.err(), Some(EngineError::BadSize(Setting::Blocks)));
-    Ok(())
-}
-
-#[test]
-fn a_pass_of_seven_numbers_is_cut_after_three(rt: HostRuntime) -> Result<(), Fail> {
-    let alloc = rt.alloc();
-    let (engine, mut pass) = Engine::open(alloc, &smallest(7, 1), &[1, 1, 4], 7)?;
-    let (low, end) = pass.numbers();
-    assert!(rt; low == 0 && end == 7);
-    let other = engine.split(alloc, &mut pass)?;
-    let (low, middle) = pass.numbers();
-    let (next, end) = other.numbers();
-    assert!(rt; low == 0 && middle == 3);
-    assert!(rt; next == 3 && end == 7);
-    engine.join(&mut pass, other);
-    assert_eq!(rt; pass.numbers(), (0, 7));
-    Ok(())
+    assert!(rt; opens(rt.alloc(), &sizes, 31));
+    assert!(rt; !opens(rt.alloc(), &sizes, 32));
 }
 
 /// Puts rows with the keys of the letters, as long as each is told `Ok`.
@@ -288,13 +375,25 @@ fn put_letters<R: Wait>(
     Some(pass)
 }
 
+/// Each letter has a row, in a list of 26 changes.
+fn has_letters<R: Wait>(alloc: Global, worked: &mut Worked, wait: &R) -> bool {
+    for byte in b'a'..=b'z' {
+        let Some(key) = letter(alloc, byte) else {
+            return false;
+        };
+        if !worked.tells(alloc, 0, &key, Order::Get, told(Reply::Found, 26), wait) {
+            return false;
+        }
+    }
+    true
+}
+
 #[test]
 fn two_threads_put_their_rows_in_one_index(rt: HostRuntime) -> Result<(), Fail> {
     let alloc = rt.alloc();
-    let (engine, mut pass) = Engine::open(alloc, &smallest(2, 100), &[1, 1, 4], 2)?;
-    let (low, end) = pass.numbers();
-    assert!(rt; low == 0 && end == 2);
+    let (engine, mut pass) = Engine::open(alloc, &smallest(7, 100), &[1, 1, 4], 7)?;
     let other = engine.split(alloc, &mut pass)?;
+    assert!(rt; pass.numbers() == (0, 3) && other.numbers() == (3, 7));
     let (one, two) = join(
         &rt,
         || -> Option<EnginePass>
@@ -315,10 +414,6 @@ fn two_threads_put_their_rows_in_one_index(rt: HostRuntime) -> Result<(), Fail> 
     };
     let out = RowBuf::new(alloc)?;
     let mut worked = Worked { engine, pass, out };
-    for byte in b'a'..=b'z' {
-        let key = letter(alloc, byte).ok_or("no memory")?;
-        let found = worked.ask(alloc, 0, &key, Order::Get, &rt)?;
-        assert_eq!(rt; found, told(Reply::Found, 26));
-    }
+    assert!(rt; has_letters(alloc, &mut worked, &rt));
     Ok(())
 }

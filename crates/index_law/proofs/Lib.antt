@@ -4,3 +4,4 @@ pub mod StayingLemmas
 pub mod OpeningLemmas
 pub mod OneRowLemmas
 pub mod TraceLemmas
+pub mod Laws
