@@ -9,7 +9,7 @@ use std::io::{self, BufWriter, Write};
 use std::path::Path;
 use std::process::ExitCode;
 
-const USAGE: &str = "usage: generate gets|puts|mix LANES LINES SEED FOLDER";
+const USAGE: &str = "usage: generate gets|puts|random|descending|front|mix LANES LINES SEED FOLDER";
 const SCHEMA: &str =
     "# rows with even numbers, and rows with odd ones\nindex item 1\nindex price 2\n";
 
@@ -20,6 +20,13 @@ enum Kind {
     Gets,
     /// Each key is above those that the lane put before.
     Puts,
+    /// Puts of keys in no order. Each lane has keys of its own.
+    Random,
+    /// Each key is below those that the lane put before.
+    Descending,
+    /// Half of the lines put keys, each above those before, and the others delete them in that
+    /// order, so that each takes the first row out.
+    Front,
     /// Two gets for a put and a del, with skew, over an eighth as many keys as lines. All lanes ask
     /// for the same keys.
     Mix,
@@ -86,13 +93,29 @@ fn value(draw: u64) -> String {
     format!("row%20{draw:0digits$x}")
 }
 
+/// The number of the row that a lane comes to after so many: rows of all lanes rise together.
+fn rising(plan: &Plan, lane: u64, row: u64) -> u64 {
+    2 * (row / 2 * plan.lanes + lane) + row % 2
+}
+
 /// Line `line` of lane `lane`, both from 0.
 fn text_of(plan: &Plan, lane: u64, line: u64, numbers: &mut Numbers) -> String {
     let put = |number, draw| format!("put {} {}", key(number), value(draw));
     match plan.kind {
-        Kind::Puts => {
-            let pair = line / 2 * plan.lanes + lane;
-            put(2 * pair + line % 2, numbers.next())
+        Kind::Puts => put(rising(plan, lane, line), numbers.next()),
+        Kind::Random => put(scatter(lane << 40 | line), numbers.next()),
+        Kind::Descending => {
+            // no lane comes to a number above this one
+            let most = 4 * (plan.lines + plan.lanes);
+            put(most - rising(plan, lane, line), numbers.next())
+        }
+        Kind::Front => {
+            let rows = plan.lines_of(lane).div_ceil(2);
+            if line < rows {
+                put(rising(plan, lane, line), numbers.next())
+            } else {
+                format!("del {}", key(rising(plan, lane, line - rows)))
+            }
         }
         Kind::Gets => {
             let rows = plan.lines_of(lane).div_ceil(5);
@@ -147,6 +170,9 @@ fn read_words(words: &[String]) -> Option<(Plan, &Path)> {
     let kind = match kind.as_str() {
         "gets" => Kind::Gets,
         "puts" => Kind::Puts,
+        "random" => Kind::Random,
+        "descending" => Kind::Descending,
+        "front" => Kind::Front,
         "mix" => Kind::Mix,
         _ => return None,
     };

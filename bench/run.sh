@@ -1,13 +1,13 @@
 #!/usr/bin/env bash
 # Measures `ahi run` beside the peer and the limit, and prints a table: docs/BENCH.md says how.
 # Settings: AHI, the program's file (else ./ahi builds it, and the first build proves everything and
-# takes minutes), KINDS="gets puts mix", LANES="1 2 4 8", LINES=200000 of all lanes together, SEED=7,
-# ROUNDS=5.
+# takes minutes), KINDS="gets puts random descending front mix", LANES="1 2 4 8", LINES=200000 of all
+# lanes together, or several numbers, SEED=7, ROUNDS=5.
 set -euo pipefail
-export LC_ALL=C TIMEFORMAT='%R %U %S'
+export LC_ALL=C
 top=$(cd "$(dirname "$(readlink -f "${BASH_SOURCE[0]}")")/.." && pwd)
 target=$top/bench/target
-lines=${LINES:-200000} seed=${SEED:-7} rounds=${ROUNDS:-5}
+seed=${SEED:-7} rounds=${ROUNDS:-5}
 program=${AHI:-}
 programs=(ahi peer limit)
 
@@ -18,13 +18,13 @@ fail() {
 
 build() {
     mkdir -p "$target"
-    for name in generate peer limit replay; do
+    for name in generate measure peer limit replay; do
         rustc -O --edition 2024 -o "$target/$name" "$top/bench/$name.rs"
     done
     if [ -z "$program" ]; then
         # without words the program ends with its usage line and status 2, once it is built
         "$top/ahi" >"$target/usage" </dev/null || [ $? -eq 2 ] || fail "ahi could not be built"
-        program=$top/crates/ahi/out/ahi
+        program=$(ls -t "$top"/out/ahi-* | head -n 1)
     fi
 }
 
@@ -36,17 +36,19 @@ print_head() {
     local memory
     memory=$(awk '/^MemTotal/ { printf "%.0f", $2 / 1024 / 1024 }' /proc/meminfo)
     echo "$(date +%F), $(uname -m), $(nproc) processors, $memory GiB, load $(load)"
-    echo "$lines lines, seed $seed, median of $rounds"
-    printf '%-5s %5s  %-7s %7s %7s %7s %10s %9s\n' \
-        kind lanes program 'wall s' 'user s' 'sys s' 'wall/peer' 'cpu/peer'
+    echo "seed $seed, median of $rounds"
+    printf '%-10s %7s %5s  %-7s %7s %7s %7s %6s %9s %8s %9s %7s\n' \
+        kind lines lanes program 'wall s' 'user s' 'sys s' MiB 'wall/peer' 'cpu/peer' 'ns/line' 'B/line'
 }
 
+# Runs a program once, and notes what it took.
 run_once() {
     case $1 in
-        ahi) "$program" run "${files[@]}" ;;
-        peer) "$target/peer" "${files[@]}" ;;
-        limit) "$target/limit" "$changes" "${files[@]}" ;;
-    esac >"$folder/$1.report"
+        ahi) set -- ahi "$program" run "${files[@]}" ;;
+        peer) set -- peer "$target/peer" "${files[@]}" ;;
+        limit) set -- limit "$target/limit" "$changes" "${files[@]}" ;;
+    esac
+    "$target/measure" "$folder/$1.times" "${@:2}" >"$folder/$1.report"
 }
 
 # Writes the files of a kind for so many lanes. Sets folder and files.
@@ -77,6 +79,7 @@ try_all() {
         fail "$kind: limit and peer have different numbers of lines"
     run_once ahi || fail "$kind: ahi ended with $?: $(tail -n 1 "$folder/ahi.report")"
     check_report ahi
+    rm -f "$folder"/*.times
 }
 
 # The programs take turns, so that a busy moment meets all of them.
@@ -84,15 +87,17 @@ measure() {
     for ((round = 0; round < rounds; round++)); do
         for name in "${programs[@]}"; do
             rm -f "$folder/$name.report"
-            { time run_once "$name"; } 2>>"$folder/$name.times" || fail "$name failed"
+            run_once "$name" || fail "$name failed"
         done
     done
 }
 
-# The median of the wall's, the user's or the system's seconds, or of cpu: the sum of the last two.
+# The median of the wall's, the user's or the system's seconds, of cpu: the sum of the last two, or of
+# the memory in MiB.
 median() {
     awk -v which="$2" '{
         seconds["wall"] = $1; seconds["user"] = $2; seconds["sys"] = $3; seconds["cpu"] = $2 + $3
+        seconds["memory"] = $4
         print seconds[which]
     }' "$folder/$1.times" | sort -n | sed -n "$((rounds / 2 + 1))p"
 }
@@ -101,23 +106,34 @@ ratio() {
     awk -v one="$1" -v two="$2" 'BEGIN { if (two > 0) printf "%.2f", one / two; else print "-" }'
 }
 
+# One number for each line: nanoseconds of the processor, or bytes of memory.
+each_line() {
+    awk -v whole="$1" -v scale="$2" -v lines="$lines" 'BEGIN { printf "%.0f", whole * scale / lines }'
+}
+
 print_rows() {
     for name in "${programs[@]}"; do
-        printf '%-5s %5d  %-7s %7.3f %7.3f %7.3f %10s %9s\n' "$kind" "$lanes" "$name" \
+        printf '%-10s %7d %5d  %-7s %7.3f %7.3f %7.3f %6.1f %9s %8s %9s %7s\n' \
+            "$kind" "$lines" "$lanes" "$name" \
             "$(median "$name" wall)" "$(median "$name" user)" "$(median "$name" sys)" \
+            "$(median "$name" memory)" \
             "$(ratio "$(median "$name" wall)" "$(median peer wall)")" \
-            "$(ratio "$(median "$name" cpu)" "$(median peer cpu)")"
+            "$(ratio "$(median "$name" cpu)" "$(median peer cpu)")" \
+            "$(each_line "$(median "$name" cpu)" 1000000000)" \
+            "$(each_line "$(median "$name" memory)" 1048576)"
     done
 }
 
 build
 print_head
-for kind in ${KINDS:-gets puts mix}; do
+for kind in ${KINDS:-gets puts random descending front mix}; do
     for lanes in ${LANES:-1 2 4 8}; do
-        generate "$kind" "$lanes"
-        try_all
-        measure
-        print_rows
+        for lines in ${LINES:-200000}; do
+            generate "$kind" "$lanes"
+            try_all
+            measure
+            print_rows
+        done
     done
 done
 echo "load $(load) at the end"

@@ -39,13 +39,13 @@ pub record IsWithoutHash (report : Report) : Type 0 where
   pub zeros : AllByRecursion (λ (part : IndexPart). part.counts ≡ counts_of []) report.indexes
 
 -- the run of these lanes over a schema
-abbrev pub run_of : SchemaText → List (List Line) → Run
-run_of schema lanes = record { sizes = schema.sizes; names = schema.names; lanes = lanes }
+abbrev pub run_over : SchemaText → List (List Line) → Run
+run_over schema lanes = record { sizes = schema.sizes; names = schema.names; lanes = lanes }
 
 -- the bytes are a legal report of these lanes over a schema
 pub record IsReportOf (schema : SchemaText) (lanes : List (List Line))
     (bytes : List ℕ) : Type 0 where
-  pub legal : IsLegalBytes (run_of schema lanes) bytes
+  pub legal : IsLegalBytes (run_over schema lanes) bytes
   pub without_hash : IsWithoutHash legal.report
 
 -- they are, and what they tell is what this pass did, in an engine of the schema's sizes
@@ -53,7 +53,7 @@ pub record IsReportBy (pass : EnginePass) (schema : SchemaText) (lanes : List (L
     (bytes : List ℕ) : Type 0 where
   pub report : IsReportOf schema lanes bytes
   pub sizes : pass.sizes ≡ schema.sizes
-  pub trail : IsTrail (run_of schema lanes) report.legal.report (known pass)
+  pub trail : IsTrail (run_over schema lanes) report.legal.report (known pass)
 
 -- the files spell a schema and lanes, of which the bytes tell so
 pub record TellsFiles (IsTold : SchemaText → List (List Line) → List ℕ → Type 0) (files : Files)
@@ -84,7 +84,7 @@ abbrev pub ReportsBy : EnginePass → Asked → List ℕ → Type 0
 ReportsBy pass = Tells (IsReportBy pass)
 
 -- the words are accepted, and this is the first refusal of their files
-pub record IsFirst (asked : Asked) (refusal : Stop) : Type 0 where
+pub record IsFirstRefusal (asked : Asked) (refusal : Stop) : Type 0 where
   pub names : List ℕ × List (List ℕ)
   pub accepts : accepted asked.words ≡ Some names
   pub first : HasFirst asked (Some refusal)
@@ -98,8 +98,8 @@ pub record IsUnloaded (asked : Asked) (file : ℕ) : Type 0 where
 -- the cause of a refusal; want of memory has no line
 abbrev pub Stops : Asked → Stop → Type 0
 Stops asked Usage = accepted asked.words ≡ None
-Stops asked (Script file line code) = IsFirst asked (Script file line code)
+Stops asked (Script file line code) = IsFirstRefusal asked (Script file line code)
 Stops asked (Shelf file) = IsUnloaded asked file
-Stops asked (TooLarge file) = IsFirst asked (TooLarge file)
-Stops asked (Sizes setting) = IsFirst asked (Sizes setting)
+Stops asked (TooLarge file) = IsFirstRefusal asked (TooLarge file)
+Stops asked (Sizes setting) = IsFirstRefusal asked (Sizes setting)
 Stops asked NoMemory = ⊥

@@ -7,8 +7,6 @@ mod run;
 mod script_run;
 mod status;
 mod stop;
-#[cfg(test)]
-mod tests;
 mod words;
 
 pub use law::{good_runs_are_done, runs_end_by_first_refusal};

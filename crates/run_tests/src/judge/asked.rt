@@ -1,0 +1,115 @@
+//! What a schema and its lanes ask.
+use crate::judge::Lie;
+use crate::judge::words::{number_of, words_of};
+use std::alloc::Global;
+
+/// An index: its name, and how many fields its keys have.
+#[derive(Clone, Copy)]
+pub(super) struct Index<'a> {
+    pub(super) name: &'a str,
+    pub(super) fields: u64,
+}
+
+/// What is asked of a key.
+#[derive(Clone, Copy, PartialEq, Eq)]
+pub(super) enum Act<'a> {
+    Get,
+    Put(&'a str),
+    Del,
+}
+
+/// A line that says something, by its number in its file.
+#[derive(Clone, Copy)]
+pub(super) struct Line<'a> {
+    pub(super) number: u64,
+    pub(super) index: usize,
+    pub(super) act: Act<'a>,
+    pub(super) key: &'a str,
+}
+
+pub(super) fn read_schema<'a>(alloc: Global, text: &'a str) -> Result<Vec<Index<'a>>, Lie> {
+    let mut indexes = Vec::new(alloc);
+    let mut line: u64 = 0;
+    for said in text.split('\n') {
+        line = line.wrapping_add(1);
+        if says_something(said) {
+            let words = words_of(alloc, said)?;
+            indexes.push(index_of(&words).ok_or(Lie::Asked { file: 0, line })?)?;
+        }
+    }
+    Ok(indexes)
+}
+
+/// Reads a lane; its file is the lane's number.
+pub(super) fn read_lane<'a>(
+    alloc: Global,
+    indexes: &[Index<'_>],
+    file: usize,
+    text: &'a str,
+) -> Result<Vec<Line<'a>>, Lie> {
+    let mut lines = Vec::new(alloc);
+    let mut line: u64 = 0;
+    for said in text.split('\n') {
+        line = line.wrapping_add(1);
+        if says_something(said) {
+            let words = words_of(alloc, said)?;
+            let asked = line_of(indexes, line, &words).ok_or(Lie::Asked { file, line })?;
+            lines.push(asked)?;
+        }
+    }
+    Ok(lines)
+}
+
+fn says_something(line: &str) -> bool {
+    !line.is_empty() && !line.starts_with('#')
+}
+
+fn index_of<'a>(words: &[&'a str]) -> Option<Index<'a>> {
+    match words {
+        ["index", name, fields] => Some(Index {
+            name,
+            fields: number_of(fields)?,
+        }),
+        _ => None,
+    }
+}
+
+fn line_of<'a>(indexes: &[Index<'_>], number: u64, words: &[&'a str]) -> Option<Line<'a>> {
+    let (name, key, act) = match words {
+        ["get", name, key] => (*name, *key, Act::Get),
+        ["put", name, key, value] if is_plain(value) => (*name, *key, Act::Put(value)),
+        ["del", name, key] => (*name, *key, Act::Del),
+        _ => return None,
+    };
+    let index = indexes.iter().position(|index| index.name == name)?;
+    if !is_key(key, indexes.get(index)?.fields) {
+        return None;
+    }
+    Some(Line {
+        number,
+        index,
+        act,
+        key,
+    })
+}
+
+/// Whether this is a key of so many plain fields.
+fn is_key(key: &str, fields: u64) -> bool {
+    let mut count: u64 = 0;
+    for field in key.split(',') {
+        count = count.wrapping_add(1);
+        if !is_plain(field) {
+            return false;
+        }
+    }
+    count == fields
+}
+
+/// Whether this is a field or a value that is printed as it stands.
+fn is_plain(field: &str) -> bool {
+    field == "~" || (!field.is_empty() && field.as_bytes().iter().all(|byte| is_plain_byte(*byte)))
+}
+
+fn is_plain_byte(byte: u8) -> bool {
+    byte > b' ' && byte < b'~' && byte != b'%' && byte != b','
+}

@@ -1,0 +1,54 @@
+//! A report of two lanes, written by hand.
+use crate::judge::told::COUNTS;
+use crate::judge::{Lie, judge};
+use crate::setup::strings;
+use std::alloc::Global;
+
+/// Texts, and what is to stand in their place.
+pub(super) type Edits = &'static [(&'static str, &'static str)];
+
+pub(super) const SCHEMA: &str = "# two indexes\nindex t 1\nindex u 2\n";
+
+pub(super) const LANES: [&str; 2] = [
+    "# says nothing\nput t a x\nget t a\n\ndel t a\nput t a y\nget t b\nput u a,b x\n",
+    "put t a z\ndel t a\nput t b w\nget t a\nget u a,b\ndel u a,b",
+];
+
+/// What the lanes are told where their lines are worked in turns.
+const ANSWERS: &str =
+    "ahi run\nlane 1\n2 ok @1 - -\n3 found x @1 - -\n5 absent @2 - -\n6 ok @4 - -\n7 found w @4 - -\n8 ok @1 - -\nlane 2\n1 duplicate @1 - -\n2 ok @2 - -\n3 ok @3 - -\n4 found y @4 - -\n5 found x @1 - -\n6 ok @2 - -\n";
+
+const CHANGES: &str =
+    "changes t 4\n1 1 2 put a x\n2 2 2 del a\n3 2 3 put b w\n4 1 6 put a y\nchanges u 2\n1 1 8 put a,b x\n2 2 6 del a,b\n";
+
+/// The report of the lanes.
+fn report_of(alloc: Global) -> Option<String> {
+    format!(in alloc; "{ANSWERS}{CHANGES}stats t {COUNTS}\nstats u {COUNTS}\nend\n").ok()
+}
+
+/// A text with an edit made, where its old text first stands.
+fn with_edit(alloc: Global, text: &str, old: &str, new: &str) -> Option<String> {
+    let (before, after) = text.split_once(old)?;
+    format!(in alloc; "{before}{new}{after}").ok()
+}
+
+/// The report of the lanes with each edit made.
+fn edited(alloc: Global, edits: &[(&str, &str)]) -> Option<String> {
+    let mut text = report_of(alloc)?;
+    for (old, new) in edits {
+        text = with_edit(alloc, text.as_str(), old, new)?;
+    }
+    Some(text)
+}
+
+/// How the report of the lanes is judged with these edits made.
+pub(super) fn judge_edited(alloc: Global, edits: &[(&str, &str)]) -> Option<Result<(), Lie>> {
+    let lanes = strings(alloc, &LANES)?;
+    let report = edited(alloc, edits)?;
+    Some(judge(alloc, SCHEMA, &lanes, report.as_bytes()))
+}
+
+#[test]
+fn a_run_of_two_lanes_is_legal(rt: HostRuntime) {
+    assert_eq!(rt; judge_edited(rt.alloc(), &[]), Some(Ok(())));
+}

@@ -1,0 +1,80 @@
+//! Texts that aren't reports, and lanes that this reading can't read.
+use crate::judge::by_hand::{Edits, SCHEMA, judge_edited};
+use crate::judge::{Lie, judge};
+use crate::setup::strings;
+use std::alloc::Global;
+
+/// Edits of the report, and the line that isn't in its form then.
+const FORMS: [(Edits, u64); 14] = [
+    (&[("2 ok @1", "02 ok @1")], 3),
+    (&[("2 ok @1", "2 ok @01")], 3),
+    (&[("2 ok @1", "2  ok @1")], 3),
+    (&[("2 ok @1", "2 space-full")], 3),
+    (&[("2 ok @1 - -", "2 ok @1 hit -")], 3),
+    (&[("3 found", "4 found")], 4),
+    (&[("lane 2", "lane 3")], 9),
+    (&[("changes t 4", "changes t 3")], 20),
+    (&[("changes t 4", "changes t 5")], 21),
+    (&[("3 2 3 put b w", "4 2 3 put b w")], 19),
+    (&[("hit 0", "hit 1")], 24),
+    (&[("stats u", "stats t")], 25),
+    (&[("end\n", "end")], 26),
+    (&[("end\n", "end\nend\n")], 26),
+];
+
+/// The place of the first edits with which another line isn't in its form.
+fn other_form(alloc: Global) -> Option<usize> {
+    for (place, (edits, line)) in FORMS.iter().enumerate() {
+        if judge_edited(alloc, edits) != Some(Err(Lie::Form { line: *line })) {
+            return Some(place);
+        }
+    }
+    None
+}
+
+#[test]
+fn a_report_has_its_form(rt: HostRuntime) {
+    assert_eq!(rt; other_form(rt.alloc()), None);
+}
+
+/// How some bytes are judged as the report of one lane.
+fn judge_bytes(alloc: Global, schema: &str, lane: &str, report: &[u8]) -> Option<Result<(), Lie>> {
+    let lanes = strings(alloc, &[lane])?;
+    Some(judge(alloc, schema, &lanes, report))
+}
+
+#[test]
+fn a_report_is_text(rt: HostRuntime) {
+    let judged = judge_bytes(rt.alloc(), SCHEMA, "", b"ahi run\xff\n");
+    assert_eq!(rt; judged, Some(Err(Lie::Form { line: 0 })));
+}
+
+/// A schema and a lane that can't be read, and the file and the line of what isn't plain.
+const ASKED: [(&str, &str, usize, u64); 7] = [
+    ("index t 1\n\nindex u\n", "", 0, 3),
+    (SCHEMA, "# a\nget t %61\n", 1, 2),
+    (SCHEMA, "get t a,b\n", 1, 1),
+    (SCHEMA, "get u a\n", 1, 1),
+    (SCHEMA, "get v a\n", 1, 1),
+    (SCHEMA, "put t a a%20b\n", 1, 1),
+    (SCHEMA, "del t\n", 1, 1),
+];
+
+/// The place of the first schema and lane that are read otherwise.
+fn other_asked(alloc: Global) -> Option<usize> {
+    for (place, (schema, lane, file, line)) in ASKED.iter().enumerate() {
+        let lie = Lie::Asked {
+            file: *file,
+            line: *line,
+        };
+        if judge_bytes(alloc, schema, lane, b"") != Some(Err(lie)) {
+            return Some(place);
+        }
+    }
+    None
+}
+
+#[test]
+fn what_is_asked_is_plain(rt: HostRuntime) {
+    assert_eq!(rt; other_asked(rt.alloc()), None);
+}

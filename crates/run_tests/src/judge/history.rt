@@ -1,0 +1,84 @@
+//! The list of an index, replayed from the empty map.
+use crate::judge::Lie;
+use crate::judge::asked::Act;
+use crate::judge::told::Change;
+use std::alloc::Global;
+
+/// The change of a number: its key, and the value that the key has from then on.
+#[derive(Clone, Copy)]
+struct Event<'a> {
+    key: &'a str,
+    point: u64,
+    value: Option<&'a str>,
+}
+
+/// The events of an index, key by key, those of one key in the order of the list.
+#[derive(Drop)]
+pub(super) struct History<'a> {
+    events: Vec<Event<'a>>,
+    length: u64,
+}
+
+impl<'a> History<'a> {
+    /// Replays the list, in which each put has a key that isn't there, and each del one that is.
+    pub(super) fn replay(
+        alloc: Global,
+        index: usize,
+        list: &[Change<'a>],
+    ) -> Result<History<'a>, Lie> {
+        let mut events = Vec::new(alloc);
+        let mut length: u64 = 0;
+        for change in list {
+            length = length.wrapping_add(1);
+            events.push(event_of(length, change))?;
+        }
+        events.sort_by_key(|event| event.key)?;
+        check_law(index, &events)?;
+        Ok(History { events, length })
+    }
+
+    /// How many changes the list has.
+    pub(super) fn length(&self) -> u64 {
+        self.length
+    }
+
+    /// The value of the key after so many changes of the list, if the key is there.
+    pub(super) fn value_at(&self, key: &str, point: u64) -> Option<&'a str> {
+        let after = self.events.partition_point(|event| {
+            event.key < key || (event.key == key && event.point <= point)
+        });
+        let last = self.events.get(after.checked_sub(1)?)?;
+        if last.key == key { last.value } else { None }
+    }
+}
+
+fn event_of<'a>(point: u64, change: &Change<'a>) -> Event<'a> {
+    let value = match change.act {
+        Act::Put(value) => Some(value),
+        _ => None,
+    };
+    Event {
+        key: change.key,
+        point,
+        value,
+    }
+}
+
+/// Each event turns its key from absent to there, or back.
+fn check_law(index: usize, events: &[Event<'_>]) -> Result<(), Lie> {
+    let mut before: Option<Event<'_>> = None;
+    for event in events {
+        let was_there = match before {
+            Some(last) => last.key == event.key && last.value.is_some(),
+            None => false,
+        };
+        if was_there == event.value.is_some() {
+            return Err(Lie::Unlawful {
+                index,
+                change: event.point,
+            });
+        }
+        before = Some(*event);
+    }
+    Ok(())
+}

@@ -1,0 +1,173 @@
+//! What a report tells, read line by line against what was asked.
+use crate::judge::Lie;
+use crate::judge::asked::{Act, Index, Line};
+use crate::judge::words::{Reader, number_of, words_of};
+use std::alloc::Global;
+
+/// What a line of statistics says after the name.
+pub(super) const COUNTS: &str =
+    "hit 0 off 0 cold 0 short 0 part-busy 0 no-entry 0 block-busy 0 clock 0 unequal 0 by-clock 0 by-busy 0 by-moved 0 by-last 0 built 0 same 0 arena 0 raced 0 worn 0";
+
+/// What a line was told.
+#[derive(Clone, Copy, PartialEq, Eq)]
+pub(super) enum Said<'a> {
+    Done,
+    Found(&'a str),
+    Absent,
+    Duplicate,
+    LogFull,
+}
+
+/// The answer to a line. The point of `log-full` is its count.
+#[derive(Clone, Copy)]
+pub(super) struct Answer<'a> {
+    pub(super) line: Line<'a>,
+    pub(super) said: Said<'a>,
+    pub(super) point: u64,
+}
+
+/// A change, with the lane and the line that it names.
+#[derive(Clone, Copy)]
+pub(super) struct Change<'a> {
+    pub(super) lane: u64,
+    pub(super) line: u64,
+    pub(super) act: Act<'a>,
+    pub(super) key: &'a str,
+}
+
+/// The answers of each lane and the changes of each index.
+#[derive(Drop)]
+pub(super) struct Report<'a> {
+    pub(super) lanes: Vec<Vec<Answer<'a>>>,
+    pub(super) lists: Vec<Vec<Change<'a>>>,
+}
+
+pub(super) fn read_report<'a>(
+    alloc: Global,
+    indexes: &[Index<'_>],
+    asked: &[Vec<Line<'a>>],
+    text: &'a str,
+) -> Result<Report<'a>, Lie> {
+    let mut reader = Reader::new(text);
+    reader.expect_line("ahi run")?;
+    let lanes = read_lanes(alloc, &mut reader, asked)?;
+    let lists = read_lists(alloc, &mut reader, indexes)?;
+    read_statistics(alloc, &mut reader, indexes)?;
+    reader.expect_line("end")?;
+    reader.expect_end()?;
+    Ok(Report { lanes, lists })
+}
+
+fn read_lanes<'a>(
+    alloc: Global,
+    reader: &mut Reader<'a>,
+    asked: &[Vec<Line<'a>>],
+) -> Result<Vec<Vec<Answer<'a>>>, Lie> {
+    let mut lanes = Vec::new(alloc);
+    let mut lane: u64 = 0;
+    for lines in asked {
+        lane = lane.wrapping_add(1);
+        reader.expect_line(format!(in alloc; "lane {lane}")?.as_str())?;
+        lanes.push(read_answers(alloc, reader, lines)?)?;
+    }
+    Ok(lanes)
+}
+
+fn read_answers<'a>(
+    alloc: Global,
+    reader: &mut Reader<'a>,
+    lines: &[Line<'a>],
+) -> Result<Vec<Answer<'a>>, Lie> {
+    let mut answers = Vec::new(alloc);
+    for line in lines {
+        let words = words_of(alloc, reader.take_line()?)?;
+        answers.push(answer_of(*line, &words).ok_or(reader.lie())?)?;
+    }
+    Ok(answers)
+}
+
+fn answer_of<'a>(line: Line<'a>, words: &[&'a str]) -> Option<Answer<'a>> {
+    let (number, said, point) = match words {
+        [number, "ok", point, "-", "-"] => (*number, Said::Done, point_of(point)?),
+        [number, "found", value, point, "-", "-"] => (
+            *number,
+            Said::Found(value),
+            point_of(point)?,
+        ),
+        [number, "absent", point, "-", "-"] => (*number, Said::Absent, point_of(point)?),
+        [number, "duplicate", point, "-", "-"] => (*number, Said::Duplicate, point_of(point)?),
+        [number, "log-full", count, "-", "-"] => (*number, Said::LogFull, number_of(count)?),
+        _ => return None,
+    };
+    if number_of(number)? != line.number {
+        return None;
+    }
+    Some(Answer { line, said, point })
+}
+
+fn point_of(word: &str) -> Option<u64> {
+    number_of(word.strip_prefix('@')?)
+}
+
+fn read_lists<'a>(
+    alloc: Global,
+    reader: &mut Reader<'a>,
+    indexes: &[Index<'_>],
+) -> Result<Vec<Vec<Change<'a>>>, Lie> {
+    let mut lists = Vec::new(alloc);
+    for index in indexes {
+        let words = words_of(alloc, reader.take_line()?)?;
+        let count = count_of(index.name, &words).ok_or(reader.lie())?;
+        lists.push(read_changes(alloc, reader, count)?)?;
+    }
+    Ok(lists)
+}
+
+fn count_of(name: &str, words: &[&str]) -> Option<u64> {
+    match words {
+        ["changes", index, count] if *index == name => number_of(count),
+        _ => None,
+    }
+}
+
+fn read_changes<'a>(
+    alloc: Global,
+    reader: &mut Reader<'a>,
+    count: u64,
+) -> Result<Vec<Change<'a>>, Lie> {
+    let mut changes = Vec::new(alloc);
+    for before in 0..count {
+        let words = words_of(alloc, reader.take_line()?)?;
+        let change = change_of(before.wrapping_add(1), &words);
+        changes.push(change.ok_or(reader.lie())?)?;
+    }
+    Ok(changes)
+}
+
+fn change_of<'a>(number: u64, words: &[&'a str]) -> Option<Change<'a>> {
+    let (first, lane, line, key, act) = match words {
+        [first, lane, line, "put", key, value] => (*first, *lane, *line, *key, Act::Put(value)),
+        [first, lane, line, "del", key] => (*first, *lane, *line, *key, Act::Del),
+        _ => return None,
+    };
+    if number_of(first)? != number {
+        return None;
+    }
+    Some(Change {
+        lane: number_of(lane)?,
+        line: number_of(line)?,
+        act,
+        key,
+    })
+}
+
+fn read_statistics(
+    alloc: Global,
+    reader: &mut Reader<'_>,
+    indexes: &[Index<'_>],
+) -> Result<(), Lie> {
+    for index in indexes {
+        reader.expect_line(format!(in alloc; "stats {} {COUNTS}", index.name)?.as_str())?;
+    }
+    Ok(())
+}

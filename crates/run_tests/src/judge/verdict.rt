@@ -1,0 +1,126 @@
+//! The answers against the changes.
+use crate::judge::Lie;
+use crate::judge::asked::Act;
+use crate::judge::history::History;
+use crate::judge::told::{Answer, Change, Report, Said};
+use std::alloc::Global;
+
+/// What a lane's answers are judged by.
+#[derive(Clone, Copy)]
+pub(super) struct Evidence<'r, 'a> {
+    pub(super) most_changes: u64,
+    pub(super) lane: usize,
+    pub(super) lists: &'r [Vec<Change<'a>>],
+    pub(super) histories: &'r [History<'a>],
+}
+
+/// Each change is what its line asks, and that line is told `ok` at the change's number.
+pub(super) fn check_changes(report: &Report<'_>) -> Result<(), Lie> {
+    for (index, list) in report.lists.iter().enumerate() {
+        check_list(report, index, list)?;
+    }
+    Ok(())
+}
+
+fn check_list(report: &Report<'_>, index: usize, list: &[Change<'_>]) -> Result<(), Lie> {
+    let mut number: u64 = 0;
+    for change in list {
+        number = number.wrapping_add(1);
+        let is_made = match answer_to(report, change) {
+            Some(answer) => makes(&answer, index, number, change),
+            None => false,
+        };
+        if !is_made {
+            return Err(Lie::Unasked {
+                index,
+                change: number,
+            });
+        }
+    }
+    Ok(())
+}
+
+/// The answer to the line that a change names.
+fn answer_to<'a>(report: &Report<'a>, change: &Change<'_>) -> Option<Answer<'a>> {
+    let place = usize::try_from(change.lane.checked_sub(1)?).ok()?;
+    let answers = report.lanes.get(place)?;
+    let found = answers
+        .binary_search_by_key(&change.line, |answer| answer.line.number)
+        .ok()?;
+    answers.get(found).copied()
+}
+
+fn makes(answer: &Answer<'_>, index: usize, number: u64, change: &Change<'_>) -> bool {
+    let line = answer.line;
+    answer.said == Said::Done
+        && answer.point == number
+        && line.index == index
+        && line.act == change.act
+        && line.key == change.key
+}
+
+impl<'r, 'a> Evidence<'r, 'a> {
+    /// Checks the lane's answers in their order.
+    pub(super) fn check_lane(&self, alloc: Global, answers: &[Answer<'a>]) -> Result<(), Lie> {
+        let mut points = vec![in alloc; 0u64; self.lists.len()]?;
+        for answer in answers {
+            let (lane, line) = (self.lane, answer.line.number);
+            if !rises(&mut points, answer) {
+                return Err(Lie::Back { lane, line });
+            }
+            if !self.is_true(answer) {
+                return Err(Lie::Wrong { lane, line });
+            }
+        }
+        Ok(())
+    }
+
+    /// Whether the answer is one to such a line, and that of the map at its point.
+    fn is_true(&self, answer: &Answer<'_>) -> bool {
+        let Some(history) = self.histories.get(answer.line.index) else {
+            return false;
+        };
+        if answer.point > history.length() {
+            return false;
+        }
+        let held = history.value_at(answer.line.key, answer.point);
+        let is_full = answer.point == self.most_changes && answer.point == history.length();
+        match (answer.line.act, answer.said) {
+            (Act::Get, Said::Found(value)) => held == Some(value),
+            (Act::Get, Said::Absent) => held.is_none(),
+            (Act::Put(_), Said::Done) => self.is_listed(answer),
+            (Act::Put(_), Said::Duplicate) => held.is_some(),
+            (Act::Put(_), Said::LogFull) => is_full && held.is_none(),
+            (Act::Del, Said::Done) => self.is_listed(answer),
+            (Act::Del, Said::Absent) => held.is_none(),
+            (Act::Del, Said::LogFull) => is_full && held.is_some(),
+            _ => false,
+        }
+    }
+
+    /// Whether the change of the answer's number names the lane and the line.
+    fn is_listed(&self, answer: &Answer<'_>) -> bool {
+        match self.change_at(answer.line.index, answer.point) {
+            Some(change) => { change.lane == self.lane as u64 && change.line == answer.line.number }
+            None => false,
+        }
+    }
+
+    fn change_at(&self, index: usize, number: u64) -> Option<Change<'a>> {
+        let place = usize::try_from(number.checked_sub(1)?).ok()?;
+        self.lists.get(index)?.get(place).copied()
+    }
+}
+
+/// Takes the point of an answer, and says whether it may stand after those of the lane before it.
+fn rises(points: &mut Vec<u64>, answer: &Answer<'_>) -> bool {
+    let Some(last) = points.get_mut(answer.line.index) else {
+        return false;
+    };
+    let before = *last;
+    *last = answer.point;
+    match answer.said {
+        Said::Done => before < answer.point,
+        _ => before <= answer.point,
+    }
+}

@@ -1,0 +1,69 @@
+//! Texts taken apart: lines, words and numbers.
+use crate::judge::Lie;
+use std::alloc::{AllocError, Global};
+
+/// What stands between single spaces.
+pub(super) fn words_of<'a>(alloc: Global, line: &'a str) -> Result<Vec<&'a str>, AllocError> {
+    let mut words = Vec::new(alloc);
+    for word in line.split(' ') {
+        words.push(word)?;
+    }
+    Ok(words)
+}
+
+/// The number that a word spells in its one way.
+pub(super) fn number_of(word: &str) -> Option<u64> {
+    if word.starts_with('+') || (word.len() > 1 && word.starts_with('0')) {
+        return None;
+    }
+    word.parse::<u64>().ok()
+}
+
+/// What is left of a report, and how many of its lines were taken.
+#[derive(Drop)]
+pub(super) struct Reader<'a> {
+    rest: &'a str,
+    line: u64,
+}
+
+impl<'a> Reader<'a> {
+    pub(super) fn new(text: &'a str) -> Reader<'a> {
+        Reader {
+            rest: text,
+            line: 0,
+        }
+    }
+
+    /// That the line taken last isn't one that may stand there.
+    pub(super) fn lie(&self) -> Lie {
+        Lie::Form { line: self.line }
+    }
+
+    pub(super) fn take_line(&mut self) -> Result<&'a str, Lie> {
+        self.line = self.line.wrapping_add(1);
+        match self.rest.split_once('\n') {
+            Some((line, rest)) => {
+                self.rest = rest;
+                Ok(line)
+            }
+            None => Err(self.lie()),
+        }
+    }
+
+    pub(super) fn expect_line(&mut self, wanted: &str) -> Result<(), Lie> {
+        if self.take_line()? == wanted {
+            Ok(())
+        } else {
+            Err(self.lie())
+        }
+    }
+
+    /// That nothing is left.
+    pub(super) fn expect_end(&self) -> Result<(), Lie> {
+        if self.rest.is_empty() {
+            Ok(())
+        } else {
+            Err(self.lie())
+        }
+    }
+}

@@ -1,0 +1,109 @@
+//! Reports byte for byte.
+use crate::setup::{END, LANE, PLAIN, SCHEMA, Setup, ends, run};
+use ahi_cli::Status;
+use std::alloc::Global;
+use std::sync::Wait;
+use std::thread::Threads;
+
+/// A schema, a lane, and its report from the answers up to the statistics.
+const REPORTS: [(&str, &str, &str); 5] = [
+    (SCHEMA, "", "changes t 0\n"),
+    (
+        SCHEMA,
+        LANE,
+        "1 ok @1 - -\n2 found x @1 - -\n3 ok @2 - -\n4 absent @2 - -\nchanges t 2\n1 1 1 put a x\n2 1 3 del a\n",
+    ),
+    (
+        SCHEMA,
+        "put t a x\nput t a y\n",
+        "1 ok @1 - -\n2 duplicate @1 - -\nchanges t 1\n1 1 1 put a x\n",
+    ),
+    (SCHEMA, "del t a\n", "1 absent @0 - -\nchanges t 0\n"),
+    (
+        "index t 2\n",
+        "put t ab,~ 1\nput t a,%00 2\nput t a,~ 3\nget t ab,~\nget t a,%00\nget t a,~\n",
+        "1 ok @1 - -\n2 ok @2 - -\n3 ok @3 - -\n4 found 1 @3 - -\n5 found 2 @3 - -\n6 found 3 @3 - -\nchanges t 3\n1 1 1 put ab,~ 1\n2 1 2 put a,%00 2\n3 1 3 put a,~ 3\n",
+    ),
+];
+
+/// The report of one lane whose answers and changes are these.
+pub(crate) fn report_of(alloc: Global, middle: &str) -> Option<String> {
+    format!(in alloc; "ahi run\nlane 1\n{middle}{END}").ok()
+}
+
+/// Whether a lane is reported so, from its answers up to the statistics.
+pub(crate) fn is_reported<R: AllocGlobal + Threads + Wait + Sync>(
+    rt: &R,
+    schema: &str,
+    lane: &str,
+    middle: &str,
+) -> bool {
+    match report_of(rt.alloc(), middle) {
+        Some(report) => ends(rt, schema, &[lane], PLAIN, Status::Done, report.as_str()),
+        None => false,
+    }
+}
+
+/// The place of the first lane that is reported otherwise.
+fn other_report<R: AllocGlobal + Threads + Wait + Sync>(rt: &R) -> Option<usize> {
+    for (place, (schema, lane, middle)) in REPORTS.iter().enumerate() {
+        if !is_reported(rt, schema, lane, middle) {
+            return Some(place);
+        }
+    }
+    None
+}
+
+#[test]
+fn lanes_are_reported_byte_for_byte(rt: HostRuntime) {
+    assert_eq!(rt; other_report(&rt), None);
+}
+
+/// How many bytes the first lines of a text have.
+fn length_of_lines(text: &[u8], lines: u64) -> usize {
+    let mut left = lines;
+    for (i, byte) in text.iter().enumerate() {
+        if left == 0 {
+            return i;
+        }
+        if *byte == b'\n' {
+            left -= 1;
+        }
+    }
+    text.len()
+}
+
+/// Whether a sink that fails at this put has the lines before it.
+fn has_lines_before<R: AllocGlobal + Threads + Wait + Sync>(
+    rt: &R,
+    whole: &[u8],
+    put: u64,
+) -> bool {
+    let setup = Setup {
+        failing_put: Some(put),
+        ..PLAIN
+    };
+    let before = whole.get(..length_of_lines(whole, put)).unwrap_or(&[]);
+    match run(rt, SCHEMA, &[LANE], setup) {
+        Some((status, sink)) => status == Status::SinkFault && sink.written() == before,
+        None => false,
+    }
+}
+
+/// The first of the puts of a report at which a sink that fails has other lines.
+fn other_put<R: AllocGlobal + Threads + Wait + Sync>(rt: &R, whole: &[u8]) -> Option<u64> {
+    for put in 0..11 {
+        if !has_lines_before(rt, whole, put) {
+            return Some(put);
+        }
+    }
+    None
+}
+
+#[test]
+fn a_sink_that_fails_has_the_lines_before(rt: HostRuntime) {
+    match run(&rt, SCHEMA, &[LANE], PLAIN) {
+        Some((_, whole)) => assert_eq!(rt; other_put(&rt, whole.written()), None),
+        None => assert!(rt; false),
+    }
+}

@@ -1,0 +1,175 @@
+//! Runs on files in memory: the schema is the file `s`, and the lanes are `l1`, `l2` and so on.
+use ahi_cli::{Status, run_words};
+use index_engine::EnginePass;
+use io_port::{MemoryShelf, MemorySink};
+use lanes::{Gate, NoGate};
+use std::alloc::Global;
+use std::sync::Wait;
+use std::thread::Threads;
+
+pub(crate) const SCHEMA: &str = "index t 1\n";
+
+/// The lane whose run has every kind of line.
+pub(crate) const LANE: &str = "put t a x\nget t a\ndel t a\nget t a\n";
+
+/// The last two lines of each report on an index `t`.
+pub(crate) const END: &str =
+    "stats t hit 0 off 0 cold 0 short 0 part-busy 0 no-entry 0 block-busy 0 clock 0 unequal 0 by-clock 0 by-busy 0 by-moved 0 by-last 0 built 0 same 0 arena 0 raced 0 worn 0\nend\n";
+
+/// What is written where the words aren't accepted.
+pub(crate) const USAGE: &str =
+    "usage: ahi run SCHEMA LANE.. | ahi page FILE | ahi gen NUMBER LANES LINES\n";
+
+/// What a run meets. The load and the put that are to fail are counted from 0.
+#[derive(Clone, Copy)]
+pub(crate) struct Setup<'a, G> {
+    pub(crate) failing_load: Option<u64>,
+    pub(crate) failing_put: Option<u64>,
+    pub(crate) room: usize,
+    pub(crate) gate: &'a G,
+}
+
+/// Nothing fails, no lane waits, and there is room for a short report.
+pub(crate) const PLAIN: Setup<'static, NoGate> = Setup {
+    failing_load: None,
+    failing_put: None,
+    room: 8192,
+    gate: &NoGate,
+};
+
+/// There is room for a long report.
+pub(crate) const ROOMY: Setup<'static, NoGate> = Setup {
+    failing_load: None,
+    failing_put: None,
+    room: 80_000_000,
+    gate: &NoGate,
+};
+
+/// The lanes ask this gate.
+pub(crate) fn at_gate<G>(gate: &G) -> Setup<'_, G> {
+    Setup {
+        failing_load: None,
+        failing_put: None,
+        room: PLAIN.room,
+        gate,
+    }
+}
+
+/// How a run of a schema and lanes ends, and what it writes.
+pub(crate) fn run<R: AllocGlobal + Threads + Wait + Sync, G: Gate + Sync>(
+    rt: &R,
+    schema: &str,
+    lanes: &[&str],
+    setup: Setup<'_, G>,
+) -> Option<(Status, MemorySink)> {
+    run_leaving(rt, schema, lanes, setup, &mut None)
+}
+
+/// The same of lanes that leave their pass.
+pub(crate) fn run_leaving<R: AllocGlobal + Threads + Wait + Sync, G: Gate + Sync>(
+    rt: &R,
+    schema: &str,
+    lanes: &[&str],
+    setup: Setup<'_, G>,
+    trail: &mut Option<EnginePass>,
+) -> Option<(Status, MemorySink)> {
+    let words = run_line(rt.alloc(), lanes.len())?;
+    run_given(rt, &words, schema, lanes, setup, trail)
+}
+
+/// The same of these words, where a schema and lanes are held.
+pub(crate) fn run_given<R: AllocGlobal + Threads + Wait + Sync, G: Gate + Sync>(
+    rt: &R,
+    words: &[String],
+    schema: &str,
+    lanes: &[&str],
+    setup: Setup<'_, G>,
+    trail: &mut Option<EnginePass>,
+) -> Option<(Status, MemorySink)> {
+    let mut shelf = shelf_of(rt.alloc(), schema, lanes, setup.failing_load)?;
+    let mut sink = sink_of(rt.alloc(), setup.room, setup.failing_put)?;
+    let status = run_words(rt, rt, words, &mut shelf, &mut sink, setup.gate, trail);
+    Some((status, sink))
+}
+
+/// Whether a run ends so, and writes this.
+pub(crate) fn ends<R: AllocGlobal + Threads + Wait + Sync, G: Gate + Sync>(
+    rt: &R,
+    schema: &str,
+    lanes: &[&str],
+    setup: Setup<'_, G>,
+    status: Status,
+    text: &str,
+) -> bool {
+    match run(rt, schema, lanes, setup) {
+        Some((ended, sink)) => ended == status && sink.written() == text.as_bytes(),
+        None => false,
+    }
+}
+
+/// The words of a run with so many lanes.
+fn run_line(alloc: Global, lanes: usize) -> Option<Vec<String>> {
+    let mut words = strings(alloc, &["run", "s"])?;
+    for place in 0..lanes {
+        words.push(lane_name(alloc, place)?).ok()?;
+    }
+    Some(words)
+}
+
+pub(crate) fn strings(alloc: Global, texts: &[&str]) -> Option<Vec<String>> {
+    let mut strings = Vec::new(alloc);
+    for text in texts {
+        strings.push(String::from_str(alloc, text).ok()?).ok()?;
+    }
+    Some(strings)
+}
+
+/// The texts as slices.
+pub(crate) fn slices_of<'a>(alloc: Global, texts: &'a [String]) -> Option<Vec<&'a str>> {
+    let mut slices = Vec::new(alloc);
+    for text in texts {
+        slices.push(text.as_str()).ok()?;
+    }
+    Some(slices)
+}
+
+/// The name of the lane at this place.
+fn lane_name(alloc: Global, place: usize) -> Option<String> {
+    format!(in alloc; "l{}", place.wrapping_add(1)).ok()
+}
+
+/// A number where there is one.
+fn listed(alloc: Global, number: Option<u64>) -> Option<Vec<u64>> {
+    let mut numbers = Vec::new(alloc);
+    if let Some(number) = number {
+        numbers.push(number).ok()?;
+    }
+    Some(numbers)
+}
+
+fn sink_of(alloc: Global, room: usize, failing_put: Option<u64>) -> Option<MemorySink> {
+    MemorySink::with_room(alloc, room, listed(alloc, failing_put)?).ok()
+}
+
+/// A file of this name and text.
+fn file_of(alloc: Global, name: String, text: &str) -> Option<(String, Vec<u8>)> {
+    Some((name, text.as_bytes().to_vec(alloc).ok()?))
+}
+
+fn shelf_of(
+    alloc: Global,
+    schema: &str,
+    lanes: &[&str],
+    failing_load: Option<u64>,
+) -> Option<MemoryShelf> {
+    let mut files = Vec::new(alloc);
+    files
+        .push(file_of(alloc, String::from_str(alloc, "s").ok()?, schema)?)
+        .ok()?;
+    for (place, lane) in lanes.iter().enumerate() {
+        files
+            .push(file_of(alloc, lane_name(alloc, place)?, lane)?)
+            .ok()?;
+    }
+    Some(MemoryShelf::new(files, listed(alloc, failing_load)?))
+}

@@ -1,0 +1,88 @@
+//! Several lanes: how many there may be, and that they meet.
+use crate::meeting::Meeting;
+use crate::setup::{END, PLAIN, SCHEMA, USAGE, at_gate, ends, run};
+use ahi_cli::Status;
+use std::alloc::Global;
+use std::sync::Wait;
+use std::thread::Threads;
+
+const GET: &str = "get t a\n";
+
+/// A lane whose lines 2 and 3 are gets.
+const TWO_GETS: &str = "# says nothing\nget t a\nget t b\n";
+
+/// The report of two such lanes.
+fn report_of_two(alloc: Global) -> Option<String> {
+    let answers = "2 absent @0 - -\n3 absent @0 - -\n";
+    format!(in alloc; "ahi run\nlane 1\n{answers}lane 2\n{answers}changes t 0\n{END}").ok()
+}
+
+/// Whether two lanes that meet at this gate are reported.
+fn two_meet<R: AllocGlobal + Threads + Wait + Sync>(rt: &R, gate: &Meeting) -> bool {
+    match report_of_two(rt.alloc()) {
+        Some(report) => {
+            ends(
+                rt,
+                SCHEMA,
+                &[TWO_GETS; 2],
+                at_gate(gate),
+                Status::Done,
+                report.as_str(),
+            )
+        }
+        None => false,
+    }
+}
+
+#[test]
+fn two_lanes_meet_before_each_line(rt: HostRuntime) {
+    let gate = Meeting::new();
+    assert!(rt; two_meet(&rt, &gate));
+    assert!(rt; !gate.gave_up() && gate.counts() == [1, 1, 1, 1, 0]);
+}
+
+/// How a lane alone ends at this gate.
+fn alone<R: AllocGlobal + Threads + Wait + Sync>(rt: &R, gate: &Meeting) -> Option<Status> {
+    let (status, _) = run(rt, SCHEMA, &[TWO_GETS], at_gate(gate))?;
+    Some(status)
+}
+
+#[test]
+fn a_lane_alone_meets_none(rt: HostRuntime) {
+    let gate = Meeting::new();
+    assert_eq!(rt; alone(&rt, &gate), Some(Status::Done));
+    assert!(rt; gate.gave_up() && gate.counts() == [1, 1, 0, 0, 0]);
+}
+
+/// Whether so many lanes are refused so.
+fn are_refused<R: AllocGlobal + Threads + Wait + Sync>(
+    rt: &R,
+    count: usize,
+    status: Status,
+    text: &str,
+) -> bool {
+    let lanes = [GET; 65];
+    ends(
+        rt,
+        SCHEMA,
+        lanes.get(..count).unwrap_or(&[]),
+        PLAIN,
+        status,
+        text,
+    )
+}
+
+/// How 31 lanes end.
+fn end_of_31<R: AllocGlobal + Threads + Wait + Sync>(rt: &R) -> Option<Status> {
+    let (status, _) = run(rt, SCHEMA, &[GET; 31], PLAIN)?;
+    Some(status)
+}
+
+#[test]
+fn lanes_are_counted(rt: HostRuntime) {
+    assert!(rt; are_refused(&rt, 65, Status::Usage, USAGE));
+    assert!(rt; are_refused(&rt, 64, Status::TooLarge, "sizes blocks\n"));
+    assert!(rt; are_refused(&rt, 32, Status::TooLarge, "sizes blocks\n"));
+    assert!(rt; are_refused(&rt, 0, Status::Usage, USAGE));
+    assert_eq!(rt; end_of_31(&rt), Some(Status::Done));
+}

@@ -1,0 +1,108 @@
+//! A gate that looks at what the lanes have done so far, and lets their lines take turns: so each is
+//! asked before its line, and not after it.
+use crate::setup::{END, SCHEMA, at_gate, ends};
+use ahi_cli::Status;
+use lanes::Gate;
+use std::alloc::Global;
+use std::hint;
+use std::sync::Wait;
+use std::sync::atomic::{AtomicBool, AtomicU64, Ordering};
+use std::thread::Threads;
+
+// How often a lane looks for the other before it gives up.
+const TURNS: u32 = 100_000_000;
+
+/// How many lines of each lane take turns.
+const LINES: u64 = 5;
+
+/// Lets line n of lane 1 pass when lane 2 has done its line before, and line n of lane 2 when lane 1
+/// has done its line n. Gives up after so many turns.
+#[derive(Drop)]
+struct InTurns {
+    // The line that each lane has come to: those before it are done.
+    first: AtomicU64,
+    second: AtomicU64,
+    gave_up: AtomicBool,
+}
+
+impl InTurns {
+    fn new() -> Self {
+        InTurns {
+            first: AtomicU64::new(0),
+            second: AtomicU64::new(0),
+            gave_up: AtomicBool::new(false),
+        }
+    }
+
+    fn gave_up(&self) -> bool {
+        self.gave_up.load(Ordering::SeqCst)
+    }
+
+    /// Waits until a lane has come to a line.
+    fn wait_for(&self, lane: &AtomicU64, line: u64) {
+        for _ in 0..TURNS {
+            if self.gave_up() || lane.load(Ordering::SeqCst) >= line {
+                return;
+            }
+            hint::spin_loop();
+        }
+        self.gave_up.store(true, Ordering::SeqCst);
+    }
+}
+
+impl Gate for InTurns {
+    fn before(&self, lane: u32, line: u32) {
+        let line = u64::from(line);
+        if lane == 1 {
+            self.first.store(line, Ordering::SeqCst);
+            if line <= LINES {
+                self.wait_for(&self.second, line);
+            }
+        } else {
+            self.second.store(line, Ordering::SeqCst);
+            self.wait_for(&self.first, line.wrapping_add(1));
+        }
+    }
+}
+
+/// Lane 1 has a line more, which comes when the other's last line may pass.
+const FIRST: &str = "get t a\nput t a x\nget t b\nput t a y\nget t a\nget t a\n";
+
+const SECOND: &str = "get t a\nget t a\nput t b z\ndel t a\nget t a\n";
+
+const ANSWERS_OF_FIRST: &str =
+    "1 absent @0 - -\n2 ok @1 - -\n3 absent @1 - -\n4 duplicate @2 - -\n5 absent @3 - -\n6 absent @3 - -\n";
+
+const ANSWERS_OF_SECOND: &str =
+    "1 absent @0 - -\n2 found x @1 - -\n3 ok @2 - -\n4 ok @3 - -\n5 absent @3 - -\n";
+
+fn report_in_turns(alloc: Global) -> Option<String> {
+    let changes = "changes t 3\n1 1 2 put a x\n2 2 3 put b z\n3 2 4 del a\n";
+    format!(in alloc;
+        "ahi run\nlane 1\n{ANSWERS_OF_FIRST}lane 2\n{ANSWERS_OF_SECOND}{changes}{END}"
+    ).ok()
+}
+
+/// Whether the two lanes are reported as their lines in turns are answered.
+fn are_in_turns<R: AllocGlobal + Threads + Wait + Sync>(rt: &R, gate: &InTurns) -> bool {
+    match report_in_turns(rt.alloc()) {
+        Some(report) => {
+            ends(
+                rt,
+                SCHEMA,
+                &[FIRST, SECOND],
+                at_gate(gate),
+                Status::Done,
+                report.as_str(),
+            )
+        }
+        None => false,
+    }
+}
+
+#[test]
+fn the_gate_is_asked_before_each_line(rt: HostRuntime) {
+    let gate = InTurns::new();
+    assert!(rt; are_in_turns(&rt, &gate));
+    assert!(rt; !gate.gave_up());
+}
