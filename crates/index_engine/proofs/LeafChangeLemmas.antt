@@ -9,11 +9,11 @@ use Rattle.key_tuple.proofs.PlaceLemmas.{before-itself, before_not_after}
 use Rattle.map_history.specs.Map.{Pair, Put, Del, value_at, write, row_of, after_change}
 use Rattle.map_history.proofs.ApplyLemmas.{after-allowed}
 use Rattle.list_facts.proofs.Each.{filter_each, filter_none, each_weaker}
-use Rattle.index_page.specs.Page.{PageRows, Ascends, PlacesDiffer}
-use Rattle.index_page.specs.Rows.{Row, Bytes, row_of as row_at, find_row}
+use Rattle.index_page.specs.Page.{PageRows, RowsAscend, PlacesDiffer}
+use Rattle.index_page.specs.Rows.{Row, Bytes, placed_row as row_at, find_row}
 use Rattle.index_page.specs.Changes.{Inserts, Deletes}
-use Rattle.index_law.specs.State.{pair_of, rows_of}
-use Rattle.index_engine.specs.Leaf.{HasRow}
+use Rattle.index_law.specs.State.{row_pair, rows_of}
+use Rattle.index_engine.specs.Leaf.{HasRow, PutsPair}
 use Rattle.index_engine.proofs.LeafPlaceLemmas.{each_middle, find_row-split}
 
 -- the keys of some rows are all below a key, are all the key, or are all above it
@@ -27,21 +27,21 @@ abbrev AreAbove : FieldList → List Row → Type 0
 AreAbove k rows = AllByRecursion (λ (x : Row). before (At k) (At x.key) ≡ true) rows
 
 -- around each row of an ascending list are those below it and those above it
-around : (below : List Row) (row : Row) (above : List Row) → Ascends (below ++ row ∷ above) → AreBelow row.key below × AreAbove row.key above
+around : (below : List Row) (row : Row) (above : List Row) → RowsAscend (below ++ row ∷ above) → AreBelow row.key below × AreAbove row.key above
 around [] row above rise = (tt, rise.0)
 around (x ∷ below) row above rise =
     let rest = around below row above rise.1 in
     ((each_middle (λ (y : Row). before (At x.key) (At y.key) ≡ true) below row above rise.0, rest.0), rest.1)
 
-each_pair : (P : Pair → Type 0) (rows : List Row) → AllByRecursion (λ (x : Row). P (pair_of x)) rows → AllByRecursion P (map pair_of rows)
+each_pair : (P : Pair → Type 0) (rows : List Row) → AllByRecursion (λ (x : Row). P (row_pair x)) rows → AllByRecursion P (map row_pair rows)
 each_pair P [] a = a
 each_pair P (x ∷ rows) a = (a.0, each_pair P rows a.1)
 
-kept : (t : Pair → Bool) (rows : List Row) → AllByRecursion (λ (x : Row). t (pair_of x) ≡ true) rows → filter t (map pair_of rows) ≡ map pair_of rows
-kept t rows a = filter_each t (map pair_of rows) (each_pair (λ (e : Pair). t e ≡ true) rows a)
+kept : (t : Pair → Bool) (rows : List Row) → AllByRecursion (λ (x : Row). t (row_pair x) ≡ true) rows → filter t (map row_pair rows) ≡ map row_pair rows
+kept t rows a = filter_each t (map row_pair rows) (each_pair (λ (e : Pair). t e ≡ true) rows a)
 
-lost : (t : Pair → Bool) (rows : List Row) → AllByRecursion (λ (x : Row). t (pair_of x) ≡ false) rows → filter t (map pair_of rows) ≡ []
-lost t rows a = filter_none t (map pair_of rows) (each_pair (λ (e : Pair). t e ≡ false) rows a)
+lost : (t : Pair → Bool) (rows : List Row) → AllByRecursion (λ (x : Row). t (row_pair x) ≡ false) rows → filter t (map row_pair rows) ≡ []
+lost t rows a = filter_none t (map row_pair rows) (each_pair (λ (e : Pair). t e ≡ false) rows a)
 
 module _ (k : FieldList) (below mid above : List Row) (low : AreBelow k below) (is : Are k mid) (high : AreAbove k above) where
   abbrev lower : Pair → Bool
@@ -50,10 +50,10 @@ module _ (k : FieldList) (below mid above : List Row) (low : AreBelow k below) (
   abbrev upper : Pair → Bool
   upper e = before (At k) (At e.key)
 
-  parts : (t : Pair → Bool) → filter t (map pair_of (below ++ (mid ++ above))) ≡ filter t (map pair_of below) ++ (filter t (map pair_of mid) ++ filter t (map pair_of above))
+  parts : (t : Pair → Bool) → filter t (map row_pair (below ++ (mid ++ above))) ≡ filter t (map row_pair below) ++ (filter t (map row_pair mid) ++ filter t (map row_pair above))
   parts t = simp (map-append, filter-append) refl
 
-  lower_part : filter lower (map pair_of (below ++ (mid ++ above))) ≡ map pair_of below
+  lower_part : filter lower (map row_pair (below ++ (mid ++ above))) ≡ map row_pair below
   lower_part =
       parts lower ∙ rw (
         kept lower below low,
@@ -61,7 +61,7 @@ module _ (k : FieldList) (below mid above : List Row) (low : AreBelow k below) (
         lost lower above (each_weaker _ _ (λ (x : Row) b. before_not_after (At k) (At x.key) b) above high),
       ) (append-nil _)
 
-  upper_part : filter upper (map pair_of (below ++ (mid ++ above))) ≡ map pair_of above
+  upper_part : filter upper (map row_pair (below ++ (mid ++ above))) ≡ map row_pair above
   upper_part =
       parts upper ∙ rw (
         lost upper below (each_weaker _ _ (λ (x : Row) b. before_not_after (At x.key) (At k) b) below low),
@@ -70,31 +70,35 @@ module _ (k : FieldList) (below mid above : List Row) (low : AreBelow k below) (
       ) refl
 
   -- a write puts its row in place of those with the key
-  write-between : (o : Option (List ℕ)) → write k o (map pair_of (below ++ (mid ++ above))) ≡ (map pair_of below ++ row_of k o) ++ map pair_of above
+  write-between : (o : Option (List ℕ)) → write k o (map row_pair (below ++ (mid ++ above))) ≡ (map row_pair below ++ row_of k o) ++ map row_pair above
   write-between o = rw (lower_part, upper_part) refl
 
 -- a new row is a put
-pub put-rows : (old new : PageRows) (place : ℕ) (k : FieldList) (v : List ℕ) → Ascends new.rows → value_at k (rows_of old) ≡ None → Inserts old new (row_at place k (Bytes v)) → rows_of new ≡ after_change (rows_of old) (Put k v)
+put-rows : (old new : PageRows) (place : ℕ) (k : FieldList) (v : List ℕ) → RowsAscend new.rows → value_at k (rows_of old) ≡ None → Inserts old new (row_at place k (Bytes v)) → rows_of new ≡ after_change (rows_of old) (Put k v)
 put-rows old new place k v rise absent put =
-    ap (map pair_of) put.is ∙ map-append pair_of put.below (row ∷ put.above) ∙ sym (append_assoc (map pair_of put.below) (pair_of row ∷ []) (map pair_of put.above))
-    ∙ sym (write-between k put.below [] put.above sides.0 tt sides.1 (Some v)) ∙ ap (λ rows. write k (Some v) (map pair_of rows)) (sym put.was)
+    ap (map row_pair) put.is ∙ map-append row_pair put.below (row ∷ put.above) ∙ sym (append_assoc (map row_pair put.below) (row_pair row ∷ []) (map row_pair put.above))
+    ∙ sym (write-between k put.below [] put.above sides.0 tt sides.1 (Some v)) ∙ ap (λ rows. write k (Some v) (map row_pair rows)) (sym put.was)
     ∙ sym (after-allowed (rows_of old) (Put k v) (ap is_none absent))
   where
     row : Row
     row = row_at place k (Bytes v)
 
     sides : AreBelow k put.below × AreAbove k put.above
-    sides = around put.below row put.above (subst Ascends put.is rise)
+    sides = around put.below row put.above (subst RowsAscend put.is rise)
+
+-- so a row that was put in adds its pair
+pub puts_pair : (old new : PageRows) (place : ℕ) (k : FieldList) (v : List ℕ) → RowsAscend new.rows → value_at k (rows_of old) ≡ None → Inserts old new (row_at place k (Bytes v)) → PutsPair old new place k v
+puts_pair old new place k v rise absent put = record { inserts = put; absent = absent; map = put-rows old new place k v rise absent put }
 
 -- a row less is a del
-pub del-rows : (old new : PageRows) (place : ℕ) (k : FieldList) → Ascends old.rows → PlacesDiffer old.rows → HasRow old place k → Deletes old new place → rows_of new ≡ after_change (rows_of old) (Del k)
+pub del-rows : (old new : PageRows) (place : ℕ) (k : FieldList) → RowsAscend old.rows → PlacesDiffer old.rows → HasRow old place k → Deletes old new place → rows_of new ≡ after_change (rows_of old) (Del k)
 del-rows old new place k rise differ has taken =
-    ap (map pair_of) taken.is ∙ map-append pair_of taken.left taken.right ∙ ap (λ rows. rows ++ map pair_of taken.right) (sym (append-nil (map pair_of taken.left)))
+    ap (map row_pair) taken.is ∙ map-append row_pair taken.left taken.right ∙ ap (λ rows. rows ++ map row_pair taken.right) (sym (append-nil (map row_pair taken.left)))
     ∙ sym (write-between k taken.left (taken.row ∷ []) taken.right (subst (λ (j : FieldList). AreBelow j taken.left) key sides.0) (key, tt) (subst (λ (j : FieldList). AreAbove j taken.right) key sides.1) None)
-    ∙ ap (λ rows. write k None (map pair_of rows)) (sym taken.was) ∙ sym (after-allowed (rows_of old) (Del k) (ap is_some has.value))
+    ∙ ap (λ rows. write k None (map row_pair rows)) (sym taken.was) ∙ sym (after-allowed (rows_of old) (Del k) (ap is_some has.value))
   where
     sides : AreBelow taken.row.key taken.left × AreAbove taken.row.key taken.right
-    sides = around taken.left taken.row taken.right (subst Ascends taken.was rise)
+    sides = around taken.left taken.row taken.right (subst RowsAscend taken.was rise)
 
     there : find_row place old.rows ≡ Some taken.row
     there = rw (taken.was, sym taken.place_is) (find_row-split taken.left taken.row taken.right (subst PlacesDiffer taken.was differ))

@@ -15,10 +15,10 @@ use Rattle.key_tuple.proofs.TupleLemmas.{tuple_cmp-whole}
 use Rattle.map_history.specs.Map.{value_at}
 use Rattle.list_facts.proofs.Each.{each_weaker}
 use Rattle.index_page.specs.declared.spot.Spot.{Spot}
-use Rattle.index_page.specs.Page.{PageRows, Ascends, IsRowOf, IsInOrder}
-use Rattle.index_page.specs.Rows.{Row, first_row, IsAt, LacksKey}
+use Rattle.index_page.specs.Page.{PageRows, RowsAscend, IsRowOf, IsPageInOrder}
+use Rattle.index_page.specs.Rows.{Row, first_of_rows, IsAt, LacksKey}
 use Rattle.index_page.specs.Search.{AllOut, agreement, Finds}
-use Rattle.index_law.specs.State.{pair_of, rows_of}
+use Rattle.index_law.specs.State.{row_pair, rows_of}
 use Rattle.index_engine.specs.Leaf.{IsFoundAt}
 use Rattle.index_engine.proofs.LeafPlaceLemmas.{each_middle}
 use Rattle.index_engine.proofs.LeafKeyLemmas.{value-past, value-none, value-first}
@@ -63,19 +63,19 @@ out_lacks k rows out = each_weaker _ _ other rows out
     other : (x : Row) → not_below k (At x.key) ≡ false → x.key ≢ k
     other x below e = absurd (both_ways _ below (subst (λ (j : FieldList). not_below k (At j) ≡ true) (sym e) (not_below-itself k)))
 
-after_lacks : (k : FieldList) (row : Row) (rows : List Row) → length k ≡ length row.key → not_below k (At row.key) ≡ true → Ascends (row ∷ rows) → LacksKey k rows
+after_lacks : (k : FieldList) (row : Row) (rows : List Row) → length k ≡ length row.key → not_below k (At row.key) ≡ true → RowsAscend (row ∷ rows) → LacksKey k rows
 after_lacks k row rows e past rise = each_weaker _ _ other rows rise.0
   where
     other : (y : Row) → before (At row.key) (At y.key) ≡ true → y.key ≢ k
     other y above same = absurd (both_ways _ (not_below-key k row.key e past) (subst (λ (j : FieldList). before (At row.key) (At j) ≡ true) same above))
 
-ascends_right : (left right : List Row) → Ascends (left ++ right) → Ascends right
+ascends_right : (left right : List Row) → RowsAscend (left ++ right) → RowsAscend right
 ascends_right [] right rise = rise
 ascends_right (x ∷ left) right rise = ascends_right left right rise.1
 
-module _ (page : PageRows) (k : FieldList) (spot : Spot) (order : IsInOrder page) (fields : length k ≡ page.head.fields) (finds : Finds Ge k page.rows spot) where
-  after_left : value_at k (rows_of page) ≡ value_at k (map pair_of finds.right)
-  after_left = ap (λ rows. value_at k (map pair_of rows)) finds.split ∙ value-past k finds.left finds.right (out_lacks k finds.left finds.out)
+module _ (page : PageRows) (k : FieldList) (spot : Spot) (order : IsPageInOrder page) (fields : length k ≡ page.head.fields) (finds : Finds Ge k page.rows spot) where
+  after_left : value_at k (rows_of page) ≡ value_at k (map row_pair finds.right)
+  after_left = ap (λ rows. value_at k (map row_pair rows)) finds.split ∙ value-past k finds.left finds.right (out_lacks k finds.left finds.out)
 
   as_long : (row : Row) (right : List Row) → page.rows ≡ finds.left ++ row ∷ right → length k ≡ length row.key
   as_long row right split = fields ∙ sym (each_middle (IsRowOf page.head) finds.left row right (subst (AllByRecursion (IsRowOf page.head)) split order.each)).fields
@@ -84,7 +84,7 @@ module _ (page : PageRows) (k : FieldList) (spot : Spot) (order : IsInOrder page
   pub found-at : spot.up.fields ≡ length k → IsFoundAt page k spot.after
   found-at all = go finds.right finds.split after_left finds.after_at finds.up
     where
-      go : (right : List Row) → page.rows ≡ finds.left ++ right → value_at k (rows_of page) ≡ value_at k (map pair_of right) → IsAt page.rows spot.after (first_row right) → spot.up ≡ agreement k (first_row right) → IsFoundAt page k spot.after
+      go : (right : List Row) → page.rows ≡ finds.left ++ right → value_at k (rows_of page) ≡ value_at k (map row_pair right) → IsAt page.rows spot.after (first_of_rows right) → spot.up ≡ agreement k (first_of_rows right) → IsFoundAt page k spot.after
       go [] split value at up = subst (IsFoundAt page k) (sym at) value
       go (row ∷ right) split value at up =
           let same : row.key ≡ k = sym (equal_fields-whole k row.key (as_long row right split) (sym (ap (λ (m : Match). m.fields) up) ∙ all)) in
@@ -94,9 +94,9 @@ module _ (page : PageRows) (k : FieldList) (spot : Spot) (order : IsInOrder page
   pub found-nowhere : spot.up.fields ≢ length k → value_at k (rows_of page) ≡ None
   found-nowhere some = go finds.right finds.split after_left finds.past finds.up
     where
-      go : (right : List Row) → page.rows ≡ finds.left ++ right → value_at k (rows_of page) ≡ value_at k (map pair_of right) → AllByRecursion (λ (x : Row). not_below k (At x.key) ≡ true) right → spot.up ≡ agreement k (first_row right) → value_at k (rows_of page) ≡ None
+      go : (right : List Row) → page.rows ≡ finds.left ++ right → value_at k (rows_of page) ≡ value_at k (map row_pair right) → AllByRecursion (λ (x : Row). not_below k (At x.key) ≡ true) right → spot.up ≡ agreement k (first_of_rows right) → value_at k (rows_of page) ≡ None
       go [] split value past up = value
       go (row ∷ right) split value past up =
           let other : row.key ≢ k = λ same. some (ap (λ (m : Match). m.fields) up ∙ ap (equal_fields k) same ∙ equal_fields-itself k) in
-          let rest = after_lacks k row right (as_long row right split) past.0 (ascends_right finds.left (row ∷ right) (subst Ascends split order.ascend)) in
+          let rest = after_lacks k row right (as_long row right split) past.0 (ascends_right finds.left (row ∷ right) (subst RowsAscend split order.ascend)) in
           value ∙ value-none k (row ∷ right) (other, rest)

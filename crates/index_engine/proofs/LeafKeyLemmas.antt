@@ -6,7 +6,7 @@ use Rattle.key_tuple.specs.Order.{FieldList, key_cmp}
 use Rattle.key_tuple.proofs.PlaceLemmas.{total, key_exact}
 use Rattle.map_history.specs.Map.{value_at}
 use Rattle.index_page.specs.Rows.{Row, LacksKey}
-use Rattle.index_law.specs.State.{pair_of, value_in}
+use Rattle.index_law.specs.State.{row_pair, value_in}
 
 equal_is : (o : Ordering) → is_eq o ≡ true → o ≡ Equal
 equal_is Less e = absurd cc
@@ -25,22 +25,22 @@ unlike k j apart = go (is_eq (key_cmp k j)) refl
 
 module _ (k : FieldList) where
   -- rows without the key have no value for it
-  pub value-past : (left right : List Row) → LacksKey k left → value_at k (map pair_of (left ++ right)) ≡ value_at k (map pair_of right)
+  pub value-past : (left right : List Row) → LacksKey k left → value_at k (map row_pair (left ++ right)) ≡ value_at k (map row_pair right)
   value-past [] right lacks = refl
   value-past (x ∷ left) right lacks = rw (unlike k x.key lacks.0) (value-past left right lacks.1)
 
-  pub value-none : (rows : List Row) → LacksKey k rows → value_at k (map pair_of rows) ≡ None
+  pub value-none : (rows : List Row) → LacksKey k rows → value_at k (map row_pair rows) ≡ None
   value-none [] lacks = refl
   value-none (x ∷ rows) lacks = rw (unlike k x.key lacks.0) (value-none rows lacks.1)
 
-  pub none-lacks : (rows : List Row) → value_at k (map pair_of rows) ≡ None → LacksKey k rows
+  pub none-lacks : (rows : List Row) → value_at k (map row_pair rows) ≡ None → LacksKey k rows
   none-lacks [] e = tt
   none-lacks (x ∷ rows) e = go (is_eq (key_cmp k x.key)) refl e (none-lacks rows)
     where
-      go : (b : Bool) → is_eq (key_cmp k x.key) ≡ b → cond b (Some (value_in x.body)) (value_at k (map pair_of rows)) ≡ None → (value_at k (map pair_of rows) ≡ None → LacksKey k rows) → LacksKey k (x ∷ rows)
+      go : (b : Bool) → is_eq (key_cmp k x.key) ≡ b → cond b (Some (value_in x.body)) (value_at k (map row_pair rows)) ≡ None → (value_at k (map row_pair rows) ≡ None → LacksKey k rows) → LacksKey k (x ∷ rows)
       go true is f more = absurd cc
       go false is f more = (λ same. absurd (both_ways _ is (alike k x.key same)), more f)
 
   -- the first row's value, where the key is its own
-  pub value-first : (row : Row) (rows : List Row) → row.key ≡ k → value_at k (map pair_of (row ∷ rows)) ≡ Some (value_in row.body)
+  pub value-first : (row : Row) (rows : List Row) → row.key ≡ k → value_at k (map row_pair (row ∷ rows)) ≡ Some (value_in row.body)
   value-first row rows same = rw (alike k row.key same) refl

@@ -4,7 +4,7 @@ pub mod ViewLemmas
 pub mod SayLemmas
 pub mod CommitLemmas
 pub mod ChangeLemmas
-pub mod OnceLemmas
+pub mod TellLemmas
 pub mod CallLemmas
 pub mod RowLemmas
 pub mod SettingLemmas

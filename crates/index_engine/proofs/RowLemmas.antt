@@ -1,29 +1,22 @@
 -- A row that is put into a held leaf, or taken out of it, makes a change that may be committed.
-use Rattle.std.proofs.Common.{◌≡◌, ℕ, true, false, List, sym, ap, subst, ◌∙◌, refl, Option, Some, None, IsSome, rules, Result, Ok, Err, IfOk, is_none, is_some}
+use Rattle.std.proofs.Common.{◌≡◌, ℕ, true, false, List, sym, ap, subst, ◌∙◌, refl, Option, Some, None, IsSome, rules, is_none, is_some}
 use Rattle.std.specs.Option.{option_map}
 use Rattle.key_tuple.specs.Order.{FieldList}
 use Rattle.key_tuple.specs.KeyPlace.{At, before, within}
-use Rattle.key_tuple.specs.declared.error.NoMemory.{NoMemory}
 use Rattle.list_facts.proofs.Places.{same_some}
-use Rattle.map_history.specs.declared.reply.Told.{Told}
-use Rattle.map_history.specs.Map.{Pair, MapChange, Put, Del, value_at}
-use Rattle.map_history.specs.Operation.{Ask, Make}
-use Rattle.map_history.specs.Reply.{Done}
-use Rattle.map_history.specs.Report.{Replied, dashes}
-use Rattle.index_page.specs.Page.{PageRows, IsInOrder}
-use Rattle.index_page.specs.Rows.{Bytes, row_of}
+use Rattle.map_history.specs.Map.{Put, Del, value_at}
+use Rattle.index_page.specs.Page.{PageRows, IsPageInOrder}
+use Rattle.index_page.specs.Rows.{Bytes, placed_row}
 use Rattle.index_law.specs.declared.frame.Frame.{Frame}
 use Rattle.index_law.specs.Law.{IsRootLeaf, MakesChange}
-use Rattle.index_law.specs.Once.{IsQuiet, IsStill, AnswersOnce}
 use Rattle.index_law.specs.Shape.{Shape}
 use Rattle.index_law.specs.Spoken.{View}
 use Rattle.index_law.specs.State.{low_in, high_in, low_of, high_of, rows_of}
 use Rattle.index_engine.specs.Frames.{PutsRow, StandsOn, frame_without}
 use Rattle.index_engine.specs.Leaf.{HasRow, IsFoundAt, page_without}
-use Rattle.index_engine.specs.Says.{SeesFull, TellsOnce, told_made}
+use Rattle.index_engine.specs.Says.{SeesFull, OnlyLooks}
 use Rattle.index_engine.proofs.LeafChangeLemmas.{del-rows}
 use Rattle.index_engine.proofs.LeafPlaceLemmas.{without_deletes, put_without}
-use Rattle.index_engine.proofs.OnceLemmas.{quiet_then_tells, tells_then_still}
 
 -- each key is within the bounds of a root
 root_range : (shape : Shape) (i : ℕ) (f : Frame) (key : FieldList) → IsRootLeaf shape i f → within (low_of f) (high_of f) (At key) ≡ true
@@ -31,24 +24,24 @@ unfolding before
 root_range shape i f key root = λ k. within (low_in (root.bounds.0 k)) (high_in (root.bounds.1 k)) (At key)
 
 -- a row that was put into a leaf that lacked its key is a change
-pub put_makes : (shape : Shape) (i : ℕ) (f g : Frame) (place : ℕ) (key : FieldList) (value : List ℕ) → IsRootLeaf shape i f → (puts : PutsRow f g place key value) → value_at key (rows_of puts.before) ≡ None → MakesChange i (Put key value) f g
-put_makes shape i f g place key value root puts absent = let same = same_some root.page puts.before (sym root.paged ∙ puts.paged_before) in record {
+pub put_makes : (shape : Shape) (i : ℕ) (f g : Frame) (place : ℕ) (key : FieldList) (value : List ℕ) → IsRootLeaf shape i f → (puts : PutsRow f g place key value) → MakesChange i (Put key value) f g
+put_makes shape i f g place key value root puts = let same = same_some root.page puts.before (sym root.paged ∙ puts.paged_before) in record {
   before = puts.before;
   paged_before = puts.paged_before;
   after = puts.after;
   paged_after = puts.paged_after;
-  head = puts.inserts.head;
+  head = puts.puts.inserts.head;
   low = puts.range.low;
   high = puts.range.high;
   index = ap (λ (p : PageRows). p.head.index) (sym same) ∙ root.index;
   level = ap (λ (p : PageRows). p.head.level) (sym same) ∙ root.level;
   inside = root_range shape i f key root;
-  allowed = ap is_none absent;
-  made = puts.map;
+  allowed = ap is_none puts.puts.absent;
+  made = puts.puts.map;
 }
 
 -- and so is a row less
-pub del_makes : (shape : Shape) (i : ℕ) (f : Frame) (place : ℕ) (key : FieldList) (page : PageRows) → IsRootLeaf shape i f → f.page ≡ Some page → IsInOrder page → HasRow page place key → MakesChange i (Del key) f (frame_without place f)
+pub del_makes : (shape : Shape) (i : ℕ) (f : Frame) (place : ℕ) (key : FieldList) (page : PageRows) → IsRootLeaf shape i f → f.page ≡ Some page → IsPageInOrder page → HasRow page place key → MakesChange i (Del key) f (frame_without place f)
 del_makes shape i f place key page root paged order has = let same = same_some root.page page (sym root.paged ∙ paged) in record {
   before = page;
   paged_before = paged;
@@ -66,11 +59,11 @@ del_makes shape i f place key page root paged order has = let same = same_some r
 
 -- a row that was put in stands on the leaf, which without it is what it was
 pub put_stands : (f g : Frame) (place : ℕ) (key : FieldList) (value : List ℕ) → PutsRow f g place key value → StandsOn g place
-put_stands f g place key value puts = record { page = puts.after; paged = puts.paged_after; there = subst IsSome (sym puts.inserts.stands) (search rules) }
+put_stands f g place key value puts = record { page = puts.after; paged = puts.paged_after; there = subst IsSome (sym puts.puts.inserts.stands) (search rules) }
 
 pub put_leaves : (f g : Frame) (place : ℕ) (key : FieldList) (value : List ℕ) → PutsRow f g place key value → frame_without place g ≡ f
 put_leaves f g place key value puts =
-    let page = ap (option_map (page_without place)) puts.paged_after ∙ (ap Some (put_without puts.before puts.after (row_of place key (Bytes value)) puts.inserts) ∙ sym puts.paged_before) in
+    let page = ap (option_map (page_without place)) puts.paged_after ∙ (ap Some (put_without puts.before puts.after (placed_row place key (Bytes value)) puts.puts.inserts) ∙ sym puts.paged_before) in
     λ i. record { page = page i; low = puts.range.low i; high = puts.range.high i; clock = puts.range.clock i }
 
 -- a row that was found has a value
@@ -83,27 +76,10 @@ pub found_none : (page : PageRows) (key : FieldList) (o : Option ℕ) → IsFoun
 found_none page key (Some place) found none = absurd cc
 found_none page key None found none = found
 
--- a change that was made is told so, also when the leaf is given back
-pub tells_made : (i : ℕ) (change : MapChange) (row : Pair) (told : Told) (point : ℕ) (v v0 v1 : View) → told ≡ told_made point → AnswersOnce v v0 i (Make change) (Replied Done point dashes) → IsStill v0 v1 → TellsOnce v v1 i (Make change) told row
-tells_made i change row told point v v0 v1 is once still = subst (λ t. TellsOnce v v1 i (Make change) t row) (sym is)
-    (tells_then_still i (Make change) (told_made point) row v v0 v1 (record { answer = Replied Done point dashes; told_is = refl; once = once }) still)
-
--- the pass knows the same after a change of its hand
-pub quiet_same : (v v0 v1 : View) → IsQuiet v v0 → v1 ≡ v0 → IsQuiet v v1
-quiet_same v v0 v1 quiet same = subst (IsQuiet v) (sym same) quiet
-
+-- what a full list was known to be, once the hand was changed
 pub full_same : (i : ℕ) (v0 v1 : View) → SeesFull v0 i → v1 ≡ v0 → SeesFull v1 i
 full_same i v0 v1 full same = subst (λ (v : View). SeesFull v i) (sym same) full
 
 -- the number of a full list, as the pass knows it then
-pub most_same : (n : ℕ) (v v0 v1 : View) → n ≡ v.terms.max_changes → IsQuiet v v0 → v1 ≡ v0 → n ≡ v1.terms.max_changes
-most_same n v v0 v1 is quiet same = is ∙ (ap (λ t. t.max_changes) (sym quiet.numbers.terms) ∙ ap (λ (z : View). z.terms.max_changes) (sym same))
-
--- what is told at the end is the one answer of the call
-pub quiet_then_result : (i : ℕ) (ask : Ask) (row : Pair) (v v0 v1 : View) (result : Result Told NoMemory) → IsQuiet v v0 → IfOk result (λ told. TellsOnce v0 v1 i ask told row) → IfOk result (λ told. TellsOnce v v1 i ask told row)
-quiet_then_result i ask row v v0 v1 (Ok told) quiet tells = quiet_then_tells i ask told row v v0 v1 quiet tells
-quiet_then_result i ask row v v0 v1 (Err e) quiet tells = tt
-
--- a change of the hand is no step
-pub still_same : (v v0 v1 : View) → v0 ≡ v → IsStill v0 v1 → IsStill v v1
-still_same v v0 v1 same still = subst (λ (z : View). IsStill z v1) same still
+pub most_same : (i n : ℕ) (v v0 v1 : View) → n ≡ v.terms.max_changes → OnlyLooks v v0 i → v1 ≡ v0 → n ≡ v1.terms.max_changes
+most_same i n v v0 v1 is looks same = is ∙ (ap (λ t. t.max_changes) (sym looks.quiet.adds.numbers.terms) ∙ ap (λ (z : View). z.terms.max_changes) (sym same))

@@ -9,6 +9,7 @@ use Rattle.latch_law.specs.Fitting.{DidRead, MayAnswer}
 use Rattle.latch_law.specs.Rule.{Fits}
 use Rattle.latch_law.specs.Views.{holding, reading}
 use Rattle.list_facts.proofs.Places.{same_some}
+use Rattle.latch_space.specs.Has.{SameHands}
 use Rattle.latch_space.specs.Passes.{view}
 use Rattle.map_history.specs.declared.reply.Reply.{Reply}
 use Rattle.map_history.specs.declared.reply.Reply.TheVariants as words
@@ -24,16 +25,17 @@ use Rattle.map_history.specs.Told as tells
 use Rattle.index_law.specs.declared.frame.Object.TheVariants as object
 use Rattle.index_law.specs.Answers.{MadeChange, Word, Gives, LogFull, SpaceFull, Replies}
 use Rattle.index_law.specs.Law.{IsLawful}
-use Rattle.index_law.specs.Meanings.{word_of, gives, said_word}
-use Rattle.index_law.specs.Once.{IsRightBy, AnswersOnce}
+use Rattle.index_law.specs.Meanings.{reply_word, gives, said_word}
+use Rattle.index_law.specs.Once.{HasFulls, IsRightBy, AnswersOnce}
 use Rattle.index_law.specs.References.{IsReference}
-use Rattle.index_law.specs.Rightness.{IsRight, IsWord, IsAllowed, map_at}
-use Rattle.index_law.specs.Spoken.{View, printed_word, spoken, sayings}
+use Rattle.index_law.specs.Rightness.{IsRight, IsReply, IsWord, IsAllowed, map_at}
+use Rattle.index_law.specs.Spoken.{View, OwnAnswer, printed_word, sayings}
 use Rattle.index_law.specs.State.{State, Entries, changes, rows_of}
-use Rattle.index_engine.specs.Passes.{Caller}
-use Rattle.index_engine.specs.Says.{SeesFull, MaySay, TellsMost, CanSay, TellsOnce}
-use Rattle.index_engine.proofs.HoldLemmas.{root_map}
-use Rattle.index_engine.proofs.ViewLemmas.{spoken-push, one_mark, more_seen, extends_length, now_seen}
+use Rattle.index_law.specs.Trace.{SeesMore}
+use Rattle.index_engine.specs.Passes.{IndexPass}
+use Rattle.index_engine.specs.Says.{SeesFull, MaySay, TellsMost, TellsPoint, CanSay, SaysOnce, Answers}
+use Rattle.index_engine.proofs.HoldLemmas.{root_map, held_still}
+use Rattle.index_engine.proofs.ViewLemmas.{only_said, only_said_only, adds_said, one_mark, more_seen, extends_length, now_seen}
 
 -- a list is what it is after all of its changes
 map_at_end : (xs : Entries) → map_at xs (length xs) ≡ map_after (changes xs)
@@ -58,7 +60,7 @@ one_saying i n ask (Gives r) point = refl
 one_saying i n ask LogFull point = refl
 one_saying i n ask SpaceFull point = refl
 
-module _ (p : Caller) (i : ℕ) (ask : Ask) (reply : Reply) (row : Pair) (can : CanSay p i ask reply row) where
+module _ (p : IndexPass) (i : ℕ) (ask : Ask) (reply : Reply) (row : Pair) (can : CanSay p i ask reply row) where
   module _ (w : State) (law : IsLawful w) (at : get_elem? w.objects i ≡ some (object.Frame can.frame)) (xs : Entries) (listed : get_elem? w.lists i ≡ some xs) where
     rows_here : rows_of can.page ≡ map_after (changes xs)
     rows_here = root_map w i can.frame can.page xs law at can.paged listed
@@ -75,12 +77,12 @@ module _ (p : Caller) (i : ℕ) (ask : Ask) (reply : Reply) (row : Pair) (can : 
         omega (arith, whole, length-append full.list more.0, most, seen, terms)
 
     word_right : (word : Word) → MaySay (view p) i (rows_of can.page) ask word → IsWord w xs (length xs) ask word
-    word_right (Gives r) may = (ap (λ m. reply_of m ask) (map_at_end xs ∙ sym (rows_here w law held_at xs listed)) ∙ may.0, may.1)
+    word_right (Gives r) may = subst (λ m. IsReply m ask r) (rows_here w law held_at xs listed ∙ sym (map_at_end xs)) may
     word_right LogFull may = (full_here may.0, subst (λ m. IsAllowed m ask) (rows_here w law held_at xs listed ∙ sym (map_at_end xs)) may.1)
     word_right SpaceFull may = absurd may
 
   -- the answer may be given
-  pub may_answer : MayAnswer IsLawful IsRight IsReference (view p) i (said_word ask (word_of ask reply row) None dashes)
+  pub may_answer : MayAnswer IsLawful IsRight IsReference (view p) i (said_word ask (reply_word ask reply row) None dashes)
   may_answer w law fits xs listed = subst (λ o. IsRight w i (length xs) (said_word ask o None dashes)) (sym can.is_word) (record {
     list = xs;
     there = listed;
@@ -88,7 +90,7 @@ module _ (p : Caller) (i : ℕ) (ask : Ask) (reply : Reply) (row : Pair) (can : 
     said = λ speaks. word_right w law fits xs listed can.word can.may;
   })
 
-  module _ (q : Caller) (point : ℕ) (did : DidRead IsLawful IsRight IsReference (view p) i (said_word ask (word_of ask reply row) None dashes) point (view q)) where
+  module _ (q : IndexPass) (point : ℕ) (did : DidRead IsLawful IsRight IsReference (view p) i (said_word ask (reply_word ask reply row) None dashes) point (view q)) where
     abbrev most : ℕ
     most = (view p).terms.max_changes
 
@@ -108,7 +110,7 @@ module _ (p : Caller) (i : ℕ) (ask : Ask) (reply : Reply) (row : Pair) (can : 
         let terms = did.stands.fits.max_changes ∙ ap (λ (z : View). z.terms.max_changes) view_is in let at = did.point in let seen = full.full in
         omega (arith, whole, length-append full.list more.0, within, terms, at, seen)
 
-    answer_is : (r : Reply) (word : Word) → word_of ask r row ≡ Some word → MaySay (view p) i (rows_of can.page) ask word → TellsMost r most → tells.answer_of ask (record { reply = r; point = Some point; how = how.Dash; note = note.Dash }) row ≡ Some (printed_word word point dashes)
+    answer_is : (r : Reply) (word : Word) → reply_word ask r row ≡ Some word → MaySay (view p) i (rows_of can.page) ask word → TellsMost r most → tells.answer_of ask (record { reply = r; point = Some point; how = how.Dash; note = note.Dash }) row ≡ Some (printed_word word point dashes)
     answer_is words.Found word e may tell = printed_reply point (tells.said ask words.Found row) word e
     answer_is words.Absent word e may tell = printed_reply point (tells.said ask words.Absent row) word e
     answer_is words.Ok word e may tell = printed_reply point (tells.said ask words.Ok row) word e
@@ -118,38 +120,76 @@ module _ (p : Caller) (i : ℕ) (ask : Ask) (reply : Reply) (row : Pair) (can : 
         ap (λ k. Some (answers.LogFull k dashes)) (tell ∙ sym (full_point full.0)) ∙ ap (λ w. Some (printed_word w point dashes)) (same_some LogFull word e)
 
     form_is : (word : Word) → MaySay (view p) i (rows_of can.page) ask word → has_form ask (printed_word word point dashes) ≡ true
-    form_is (Gives r) may = may.2
+    form_is (Gives r) may = may.form
     form_is LogFull may = ap (λ a. has_form a (answers.LogFull point dashes)) may.1.asked
     form_is SpaceFull may = absurd may
 
     mark_is : (word : Word) (m : Mark) → MaySay (view p) i (rows_of can.page) ask word → Contains (marks_of (printed_word word point dashes)) m → (m.point ≡ point) × (m.grows ≡ 0)
-    mark_is (Gives r) m may among = let same = one_mark (record { point = point; grows = is_done r }) m among in (ap (λ (z : Mark). z.point) (sym same), ap (λ (z : Mark). z.grows) (sym same) ∙ no_change r may.1)
+    mark_is (Gives r) m may among = let same = one_mark (record { point = point; grows = is_done r }) m among in (ap (λ (z : Mark). z.point) (sym same), ap (λ (z : Mark). z.grows) (sym same) ∙ no_change r may.changes_nothing)
     mark_is LogFull m may among = let same = one_mark (record { point = point; grows = 0 }) m among in (ap (λ (z : Mark). z.point) (sym same), ap (λ (z : Mark). z.grows) (sym same))
     mark_is SpaceFull m may among = absurd may
 
     right_by : (word : Word) → MaySay (view p) i (rows_of can.page) ask word → IsRightBy most did.list ask (printed_word word point dashes)
-    right_by (Gives r) may = let none = no_change r may.1 in let at = did.point in
-        ap (λ n. reply_of (map_at did.list n) ask) (omega (arith, none, at)) ∙ (ap (λ m. reply_of m ask) (map_at_end did.list ∙ sym rows_there) ∙ may.0)
+    right_by (Gives r) may = let none = no_change r may.changes_nothing in let at = did.point in
+        ap (λ n. reply_of (map_at did.list n) ask) (omega (arith, none, at)) ∙ (ap (λ m. reply_of m ask) (map_at_end did.list ∙ sym rows_there) ∙ may.is)
     right_by LogFull may = (full_point may.0, did.point, subst (λ m. IsAllowed m ask) rows_there may.1)
     right_by SpaceFull may = absurd may
 
+    -- at a full list the point is its length
+    point_is : (r : Reply) (word : Word) → reply_word ask r row ≡ Some word → MaySay (view p) i (rows_of can.page) ask word → TellsMost r most → TellsPoint r (Some point)
+    point_is words.Found word e may tell = refl
+    point_is words.Absent word e may tell = refl
+    point_is words.Ok word e may tell = refl
+    point_is words.Duplicate word e may tell = refl
+    point_is words.SpaceFull word e may tell = absurd (subst (MaySay (view p) i (rows_of can.page) ask) (sym (same_some SpaceFull word e)) may)
+    point_is (words.LogFull n) word e may tell = ap Some (full_point (subst (MaySay (view p) i (rows_of can.page) ask) (sym (same_some LogFull word e)) may).0 ∙ sym tell)
+
+    -- nothing is space-full
+    has_room : reply ≢ words.SpaceFull
+    has_room full = subst (MaySay (view p) i (rows_of can.page) ask) (sym (same_some SpaceFull can.word (ap (λ r. reply_word ask r row) (sym full) ∙ can.is_word))) can.may
+
+    -- and no answer comes with a full
+    fulls_are : (word : Word) → MaySay (view p) i (rows_of can.page) ask word → HasFulls (printed_word word point dashes) []
+    fulls_are (Gives r) may = refl
+    fulls_are LogFull may = refl
+    fulls_are SpaceFull may = absurd may
+
+    -- what was said
+    abbrev answered : OwnAnswer
+    answered = record { index = i; point = length did.list; by = (view p).low; what = what.Answer (Replies ask can.word None dashes) }
+
+    sees : SeesMore (view p) (view q)
+    sees = more_seen (view p) i did.list did.extends (view q).seen seen_is
+
     once : AnswersOnce (view p) (view q) i ask (printed_word can.word point dashes)
     once = record {
-      numbers = record { low = ap (λ (z : View). z.low) view_is; end = ap (λ (z : View). z.end) view_is; terms = ap (λ (z : View). z.terms) view_is };
+      added = only_said (answered ∷ []);
+      adds = adds_said (view p) (view q) (answered ∷ []) (record { low = ap (λ (z : View). z.low) view_is; end = ap (λ (z : View). z.end) view_is; terms = ap (λ (z : View). z.terms) view_is })
+          (ap (λ (z : View). z.said) view_is) (ap (λ (z : View). z.refused) view_is) (ap (λ (z : View). z.references) view_is) sees;
+      given = ((refl, refl), tt);
+      said = ap (λ n. record { index = i; by = (view p).low; ask = ask; answer = printed_word can.word n dashes } ∷ []) (sym did.point) ∙ sym (one_saying i (view p).low ask can.word point);
+      fulls = fulls_are can.word can.may;
       form = form_is can.word can.may;
-      said = ap (λ (z : View). spoken z.said) view_is ∙ (spoken-push (view p).said (record { index = i; point = length did.list; by = (view p).low; what = what.Answer (Replies ask can.word None dashes) })
-          ∙ (ap (λ n. spoken (view p).said ++ record { index = i; by = (view p).low; ask = ask; answer = printed_word can.word n dashes } ∷ []) (sym did.point)
-          ∙ ap (λ z. spoken (view p).said ++ z) (sym (one_saying i (view p).low ask can.word point))));
-      seen = more_seen (view p) i did.list did.extends (view q).seen seen_is;
       least = λ m ys among seen. (let mark = mark_is can.word m can.may among in let long = extends_length (view p) i did.list did.extends (view q).seen seen_is ys seen in let at = did.point in omega (arith, mark.0, mark.1, long, at));
       most = λ m zs among seen. (let mark = mark_is can.word m can.may among in let same = ap length (now_seen (view p) i did.list did.extends (view q).seen seen_is zs seen) in let at = did.point in omega (arith, mark.0, same, at));
       right = λ zs seen. subst (λ z. IsRightBy most z ask (printed_word can.word point dashes)) (now_seen (view p) i did.list did.extends (view q).seen seen_is zs seen) (right_by can.word can.may);
     }
 
     -- what is told is the one answer
-    pub tells_once : TellsOnce (view p) (view q) i ask (record { reply = reply; point = Some point; how = how.Dash; note = note.Dash }) row
-    tells_once = record {
+    pub says_once : SaysOnce (view p) (view q) i ask (record { reply = reply; point = Some point; how = how.Dash; note = note.Dash }) row
+    unfolding once
+    says_once = record {
       answer = printed_word can.word point dashes;
-      told_is = answer_is reply can.word can.is_word can.may can.most;
+      is_told = record {
+        is = answer_is reply can.word can.is_word can.may can.most;
+        point = point_is reply can.word can.is_word can.may can.most;
+        key = can.key;
+        plain = record { dashed = refl; room = has_room };
+      };
       once = once;
+      only = only_said_only (answered ∷ []);
     }
+
+  -- and the leaf is held still
+  pub said_answers : (q : IndexPass) → (point : ℕ) → DidRead IsLawful IsRight IsReference (view p) i (said_word ask (reply_word ask reply row) None dashes) point (view q) → SameHands p q → Answers p q i ask (record { reply = reply; point = Some point; how = how.Dash; note = note.Dash }) row
+  said_answers q point did same = record { says = says_once q point did; holds = (can.frame, held_still p q i can.frame can.frame same (ap (λ (z : View). z.terms) (view_is q point did)) can.holds) }

@@ -8,13 +8,27 @@ use Rattle.atomic_table.proofs.Lists.{set_here, set_else, at_set}
 use Rattle.latch_law.specs.Fitting.{Extends}
 use Rattle.list_facts.proofs.Places.{inside}
 use Rattle.map_history.specs.LegalReport.{Mark}
-use Rattle.index_law.specs.Spoken.{View, OwnAnswer, spoken_at, spoken}
+use Rattle.index_law.specs.Spoken.{View, OwnAnswer}
 use Rattle.index_law.specs.State.{Entries}
+use Rattle.index_law.specs.Trace.{SameNumbers, SeesMore, Added, Adds, IsOnlySaid}
 
--- the last answer is printed behind the others
-pub spoken-push : (qs : List OwnAnswer) (q : OwnAnswer) → spoken (qs ++ q ∷ []) ≡ spoken qs ++ spoken_at q
-spoken-push [] q = append-nil (spoken_at q)
-spoken-push (r ∷ qs) q = ap (λ z. spoken_at r ++ z) (spoken-push qs q) ∙ sym (append_assoc (spoken_at r) (spoken qs) (spoken_at q))
+-- own answers, and nothing else
+abbrev pub only_said : List OwnAnswer → Added
+only_said qs = record { said = qs; refused = []; references = [] }
+
+-- a pass that said something more, and did nothing else, adds just that
+pub adds_said : (v v' : View) (qs : List OwnAnswer) → SameNumbers v v' → v'.said ≡ v.said ++ qs → v'.refused ≡ v.refused → v'.references ≡ v.references → SeesMore v v' → Adds v v' (only_said qs)
+adds_said v v' qs numbers said refused references seen = record {
+  numbers = numbers;
+  said = said;
+  refused = refused ∙ sym (append-nil v.refused);
+  references = references ∙ sym (append-nil v.references);
+  seen = seen;
+}
+
+-- that nothing else was done is plain then
+pub only_said_only : (qs : List OwnAnswer) → IsOnlySaid (only_said qs)
+only_said_only qs = record { refused = refl; references = refl }
 
 -- a list of one mark has that mark alone
 pub one_mark : (m n : Mark) → Contains (m ∷ []) n → m ≡ n

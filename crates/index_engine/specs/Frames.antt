@@ -2,14 +2,16 @@
 use Rattle.std.specs.Prelude.{ℕ, ◌≡◌, ◌≤◌, Some, None, IsSome, List, length}
 use Rattle.std.specs.Option.{option_map}
 use Rattle.key_tuple.specs.Order.{FieldList}
-use Rattle.map_history.specs.Map.{Put, value_at, after_change}
+use Rattle.key_tuple.specs.declared.mode.Mode.TheVariants as mode
+use Rattle.map_history.specs.Map.{value_at}
 use Rattle.index_page.specs.declared.TheConstants.{MAX_ROWS}
-use Rattle.index_page.specs.Changes.{Inserts}
+use Rattle.index_page.specs.declared.spot.Spot.{Spot}
 use Rattle.index_page.specs.Page.{PageRows}
-use Rattle.index_page.specs.Rows.{Bytes, row_of, find_row}
+use Rattle.index_page.specs.Rows.{find_row}
+use Rattle.index_page.specs.Search.{Finds}
 use Rattle.index_law.specs.declared.frame.Frame.{Frame}
 use Rattle.index_law.specs.State.{rows_of}
-use Rattle.index_engine.specs.Leaf.{page_without}
+use Rattle.index_engine.specs.Leaf.{PutsPair, page_without}
 
 -- the frame has a leaf for keys of as many fields
 pub record HasLeaf (f : Frame) (key : FieldList) : Type 0 where
@@ -18,9 +20,10 @@ pub record HasLeaf (f : Frame) (key : FieldList) : Type 0 where
   pub level : page.head.level ≡ 0
   pub fields : length key ≡ page.head.fields
 
--- the frame has a leaf that lacks the key and has room for its row
-pub record LacksRow (f : Frame) (key : FieldList) : Type 0 where
+-- the frame has a leaf that lacks the key, which belongs at the spot, and has room for its row
+pub record LacksRow (f : Frame) (key : FieldList) (spot : Spot) : Type 0 where
   pub leaf : HasLeaf f key
+  pub finds : Finds mode.Ge key leaf.page.rows spot
   pub absent : value_at key (rows_of leaf.page) ≡ None
   pub room : length leaf.page.rows ≤ MAX_ROWS
 
@@ -36,8 +39,7 @@ pub record PutsRow (f g : Frame) (place : ℕ) (key : FieldList) (value : List �
   pub paged_before : f.page ≡ Some before
   pub after : PageRows
   pub paged_after : g.page ≡ Some after
-  pub inserts : Inserts before after (row_of place key (Bytes value))
-  pub map : rows_of after ≡ after_change (rows_of before) (Put key value)
+  pub puts : PutsPair before after place key value
   pub range : SameRange f g
 
 -- a row stands at the place of the frame's page

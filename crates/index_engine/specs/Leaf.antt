@@ -2,10 +2,10 @@
 use Rattle.std.specs.Prelude.{ℕ, ◌≡◌, ◌==◌, not, Option, Some, None, List}
 use Rattle.std.specs.List.{filter}
 use Rattle.key_tuple.specs.Order.{FieldList}
-use Rattle.map_history.specs.Map.{MapChange, value_at, after_change}
+use Rattle.map_history.specs.Map.{Put, value_at, after_change}
 use Rattle.index_page.specs.Changes.{Inserts}
 use Rattle.index_page.specs.Page.{PageRows}
-use Rattle.index_page.specs.Rows.{Row, Bytes, row_of, find_row}
+use Rattle.index_page.specs.Rows.{Row, Bytes, placed_row, find_row}
 use Rattle.index_law.specs.State.{rows_of, value_in}
 
 -- the row of the key stands at the place
@@ -20,14 +20,12 @@ abbrev pub IsFoundAt : PageRows → FieldList → Option ℕ → Type 0
 IsFoundAt page key None = value_at key (rows_of page) ≡ None
 IsFoundAt page key (Some place) = HasRow page place key
 
--- the rows are those that the change makes of them
-abbrev pub IsMadeBy : PageRows → PageRows → MapChange → Type 0
-IsMadeBy before after change = rows_of after ≡ after_change (rows_of before) change
-
 -- the page without the row at a place
 abbrev pub page_without : ℕ → PageRows → PageRows
 page_without place page = record page { rows = filter (λ (x : Row). not (x.place == place)) page.rows }
 
--- the row of the key and the value was put in at the place
-abbrev pub InsertsAt : PageRows → PageRows → ℕ → FieldList → List ℕ → Type 0
-InsertsAt before after place key value = Inserts before after (row_of place key (Bytes value))
+-- the row of the key, which had none, and the value was put in at the place: as a map the leaf is what a put makes of it
+pub record PutsPair (before after : PageRows) (place : ℕ) (key : FieldList) (value : List ℕ) : Type 0 where
+  pub inserts : Inserts before after (placed_row place key (Bytes value))
+  pub absent : value_at key (rows_of before) ≡ None
+  pub map : rows_of after ≡ after_change (rows_of before) (Put key value)

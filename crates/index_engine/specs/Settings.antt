@@ -10,20 +10,20 @@ abbrev pub is_within : ℕ → ℕ → ℕ → Bool
 is_within low high n = leb low n && leb n high
 
 -- The setting is within its limits. Products of two settings are judged with the second, but that of partitions and blocks with the first.
-abbrev pub is_allowed : Sizes → ℕ → ℕ → Setting → Bool
-is_allowed sizes indexes lanes Blocks = is_within (8 * lanes + 8) 65536 sizes.blocks
-is_allowed sizes indexes lanes Pages = is_within indexes 65536 sizes.pages
-is_allowed sizes indexes lanes Parts = is_within 1 512 sizes.parts && leb (sizes.parts * sizes.blocks) 16777216
-is_allowed sizes indexes lanes Cells = leb 1 sizes.cells && leb (sizes.parts * sizes.cells) 4194304
-is_allowed sizes indexes lanes Nodes = leb (sizes.parts * sizes.nodes) 4194304
-is_allowed sizes indexes lanes FoldBits = is_within 1 64 sizes.fold_bits
-is_allowed sizes indexes lanes MaxChanges = is_within 1 8388608 sizes.max_changes
+abbrev pub fits_limits : Sizes → ℕ → ℕ → Setting → Bool
+fits_limits sizes indexes lanes Blocks = is_within (8 * lanes + 8) 65536 sizes.blocks
+fits_limits sizes indexes lanes Pages = is_within indexes 65536 sizes.pages
+fits_limits sizes indexes lanes Parts = is_within 1 512 sizes.parts && leb (sizes.parts * sizes.blocks) 16777216
+fits_limits sizes indexes lanes Cells = leb 1 sizes.cells && leb (sizes.parts * sizes.cells) 4194304
+fits_limits sizes indexes lanes Nodes = leb (sizes.parts * sizes.nodes) 4194304
+fits_limits sizes indexes lanes FoldBits = is_within 1 64 sizes.fold_bits
+fits_limits sizes indexes lanes MaxChanges = is_within 1 8388608 sizes.max_changes
 
 -- the first of some settings that isn't
-abbrev pub first_of : Sizes → ℕ → ℕ → List Setting → Option Setting
-first_of sizes indexes lanes [] = None
-first_of sizes indexes lanes (s ∷ ss) = if is_allowed sizes indexes lanes s then first_of sizes indexes lanes ss else Some s
+abbrev pub first_outside : Sizes → ℕ → ℕ → List Setting → Option Setting
+first_outside sizes indexes lanes [] = None
+first_outside sizes indexes lanes (s ∷ ss) = if fits_limits sizes indexes lanes s then first_outside sizes indexes lanes ss else Some s
 
 -- the first setting that isn't within its limits, for so many indexes and lanes
 abbrev pub first_broken : Sizes → ℕ → ℕ → Option Setting
-first_broken sizes indexes lanes = first_of sizes indexes lanes (Blocks ∷ Pages ∷ Parts ∷ Cells ∷ Nodes ∷ FoldBits ∷ MaxChanges ∷ [])
+first_broken sizes indexes lanes = first_outside sizes indexes lanes (Blocks ∷ Pages ∷ Parts ∷ Cells ∷ Nodes ∷ FoldBits ∷ MaxChanges ∷ [])

@@ -1,16 +1,13 @@
 //! The operations.
-ghost use Rattle.std.specs.Prelude.{◌≡◌, ◌≢◌, ◌<◌, None, IfOk, OnErr, OnOk};
+ghost use Rattle.std.specs.Prelude.{◌≡◌, ◌≢◌, ◌<◌, None, IfOk, OnErr};
 ghost use Rattle.map_history.specs.Map as map;
 ghost use Rattle.map_history.specs.Operation as asked;
-ghost use Rattle.map_history.specs.Told.{columns_told};
-ghost use Rattle.index_law.specs.Meanings.{row_in};
-ghost use Rattle.index_law.specs.Once.{IsQuiet};
+ghost use Rattle.index_law.specs.Meanings.{lent_row};
 ghost use Rattle.index_engine.specs.Engines.{known, IsOf, IsSame, indexes_of, FitsKey};
-ghost use Rattle.index_engine.specs.Says.{TellsOnce};
-ghost use Rattle.map_history.specs.Report.{dashes};
+ghost use Rattle.index_engine.specs.Says.{TellsOnce, GivesUp};
 
 use crate::engine::{Engine, EnginePass};
-use crate::{deleting, getting, putting};
+use crate::leaf_call::LeafCall;
 use key_tuple::{Key, NoMemory, Value};
 use map_history::{Reply, RowBuf, Told};
 use std::sync::Wait;
@@ -32,11 +29,9 @@ impl Engine {
         ensures ok { IfOk result (λ told. TellsOnce (known pass.old) (known pass.new) index
             (asked.Get key.now.tuple) told out.new) }
         ensures kept { IfOk result (λ told. told.reply ≢ Reply.Found → out.new ≡ out.old) }
-        ensures dashed { IfOk result (λ told. columns_told told ≡ dashes) }
-        ensures room { IfOk result (λ told. told.reply ≢ Reply.SpaceFull) }
-        ensures err { OnErr result (IsQuiet (known pass.old) (known pass.new)) }
+        ensures err { OnErr result (GivesUp (known pass.old) (known pass.new) index) }
     {
-        Ok(getting::get(&self.space, &mut pass.world, index, key, out, wait))
+        Ok(self.call(index, key, wait).get(&mut pass.world, out))
     }
 
     /// A new row: `Ok`, `Duplicate` where the key is there, or `LogFull` where the index has had
@@ -55,13 +50,12 @@ impl Engine {
         requires key { FitsKey self.now index key.now.tuple }
         ensures own { IsSame pass.old pass.new × IsOf self.now pass.new }
         ensures ok { IfOk result (λ told. TellsOnce (known pass.old) (known pass.new) index
-            (asked.Make (map.Put key.now.tuple value.now)) told (row_in None)) }
-        ensures dashed { IfOk result (λ told. columns_told told ≡ dashes) }
-        ensures room { IfOk result (λ told. told.reply ≢ Reply.SpaceFull) }
-        ensures err { OnErr result (IsQuiet (known pass.old) (known pass.new)) }
+            (asked.Make (map.Put key.now.tuple value.now)) told (lent_row None)) }
+        ensures err { OnErr result (GivesUp (known pass.old) (known pass.new) index) }
     {
         let most = u64::from(pass.sizes.max_changes);
-        putting::put(&self.space, &mut pass.world, index, most, key, value, wait)
+        self.call(index, key, wait)
+            .put(&mut pass.world, most, value)
     }
 
     /// A row taken out: `Ok`, `Absent` where the key isn't there, or `LogFull`. After `NoMemory`
@@ -78,11 +72,24 @@ impl Engine {
         requires key { FitsKey self.now index key.now.tuple }
         ensures own { IsSame pass.old pass.new × IsOf self.now pass.new }
         ensures ok { IfOk result (λ told. TellsOnce (known pass.old) (known pass.new) index
-            (asked.Make (map.Del key.now.tuple)) told (row_in None)) }
-        ensures dashed { IfOk result (λ told. columns_told told ≡ dashes) }
-        ensures room { IfOk result (λ told. told.reply ≢ Reply.SpaceFull) }
-        ensures err { OnErr result (IsQuiet (known pass.old) (known pass.new)) }
+            (asked.Make (map.Del key.now.tuple)) told (lent_row None)) }
+        ensures err { OnErr result (GivesUp (known pass.old) (known pass.new) index) }
     {
-        Ok(deleting::del(&self.space, &mut pass.world, index, key, wait))
+        Ok(self.call(index, key, wait).del(&mut pass.world))
+    }
+
+    /// A call on the leaf of an index.
+    fn call<'a, R>(&'a self, index: u32, key: &'a Key, wait: &'a R) -> LeafCall<'a, R>
+        requires index { index < indexes_of self.now }
+        requires key { FitsKey self.now index key.now.tuple }
+        ensures space { result.space.now ≡ self.now.space }
+        ensures about { (result.index ≡ index) × (result.key.now ≡ key.now) }
+    {
+        LeafCall {
+            space: &self.space,
+            index,
+            key,
+            wait,
+        }
     }
 }

@@ -4,39 +4,46 @@ ghost use Rattle.index_engine.specs.Frames.{LacksRow};
 ghost use Rattle.index_engine.specs.Changes.{SamePass, HoldsWith, HoldsAsBefore, PutIn};
 ghost use Rattle.index_engine.specs.Changes.{HoldsRowAt, TookOut};
 
-use crate::framed;
-use index_page::Place;
+use crate::framed::{delete_in, insert_in};
+use crate::leaf_call::LeafCall;
+use index_page::{Place, Spot};
 use index_world::{Frame, Object, WorldPass};
-use key_tuple::{Key, NoMemory, Value};
+use key_tuple::{NoMemory, Value};
 
-/// Puts a new row in and tells its place. After `NoMemory` the leaf is as before.
-pub(crate) fn put_in(
-    pass: &mut WorldPass,
-    index: u32,
-    key: &Key,
-    value: &Value,
-) -> Result<Place, NoMemory>
-    requires held { HoldsWith pass.old index (λ f. LacksRow f key.now.tuple) }
-    ensures same { SamePass pass.old pass.new }
-    ensures ok { IfOk result
-        (λ place. PutIn pass.old pass.new index place key.now.tuple value.now) }
-    ensures err { OnErr result (HoldsAsBefore pass.old pass.new index) }
-{
-    let mut frame = frame_of(pass.take_out(index));
-    let result = framed::put_in(&mut frame, key, value);
-    pass.put_back(index, Object::Frame(frame));
-    result
-}
+impl<R> LeafCall<'_, R> {
+    /// Puts the key's row in at its spot, and tells its place. After `NoMemory` the leaf is as
+    /// before.
+    pub(crate) fn insert(
+        &self,
+        pass: &mut WorldPass,
+        spot: &Spot,
+        value: &Value,
+    ) -> Result<Place, NoMemory>
+        requires held { HoldsWith pass.old self.now.index
+            (λ f. LacksRow f self.now.key.now.tuple spot.now) }
+        ensures same { SamePass pass.old pass.new }
+        ensures ok { IfOk result (λ place. PutIn pass.old pass.new self.now.index place
+            self.now.key.now.tuple value.now) }
+        ensures err { OnErr result (HoldsAsBefore pass.old pass.new self.now.index) }
+    {
+        let leaf = self.leaf();
+        let mut frame = frame_of(pass.take_out(leaf));
+        let result = insert_in(&mut frame, spot, self.key, value);
+        pass.put_back(leaf, Object::Frame(frame));
+        result
+    }
 
-/// Takes the row at a place out.
-pub(crate) fn take_out(pass: &mut WorldPass, index: u32, place: Place)
-    requires held { HoldsRowAt pass.old index place }
-    ensures same { SamePass pass.old pass.new }
-    ensures out { TookOut pass.old pass.new index place }
-{
-    let mut frame = frame_of(pass.take_out(index));
-    framed::take_out(&mut frame, place);
-    pass.put_back(index, Object::Frame(frame));
+    /// Deletes the row at a place.
+    pub(crate) fn delete(&self, pass: &mut WorldPass, place: Place)
+        requires held { HoldsRowAt pass.old self.now.index place }
+        ensures same { SamePass pass.old pass.new }
+        ensures out { TookOut pass.old pass.new self.now.index place }
+    {
+        let leaf = self.leaf();
+        let mut frame = frame_of(pass.take_out(leaf));
+        delete_in(&mut frame, place);
+        pass.put_back(leaf, Object::Frame(frame));
+    }
 }
 
 /// The frame that an object is.

@@ -2,7 +2,6 @@
 //! Nothing here keeps a list of its own: an answer is right by the world's law.
 #![tactic(auto)]
 
-mod answering;
 mod calls;
 mod changing;
 mod committing;
@@ -14,6 +13,7 @@ mod framed;
 mod getting;
 mod holding;
 mod leaf;
+mod leaf_call;
 mod opening;
 mod putting;
 mod saying;

@@ -1,55 +1,75 @@
-//! An answer is given while the leaf is held.
-ghost use Rattle.std.specs.Prelude.{◌≡◌, ◌≢◌, ◌<◌, Some, None};
+//! What is said of the leaf that is held.
+ghost use Rattle.std.specs.Prelude.{◌≡◌, ◌↔◌, IsTrue};
 ghost use Rattle.latch_space.specs.Passes.{view, IsSamePass};
 ghost use Rattle.latch_space.specs.Spaces.{IsPassOf};
 ghost use Rattle.map_history.specs.Operation.{operation_by};
-ghost use Rattle.map_history.specs.Told.{columns_told};
-ghost use Rattle.index_law.specs.Meanings.{row_in};
+ghost use Rattle.index_law.specs.Meanings.{lent_row};
 ghost use Rattle.index_engine.specs.Changes.{HoldsAsBefore};
-ghost use Rattle.index_engine.specs.Says.{CanSay, TellsOnce};
-ghost use Rattle.map_history.specs.Report.{dashes};
+ghost use Rattle.index_engine.specs.Says.{CanSay, SeesFull, OnlyLooks, Answers, told_made};
 
-use index_world::{Say, WorldPass, WorldSpace};
+use crate::leaf_call::LeafCall;
+use index_world::{Say, WorldPass};
 use map_history::{How, Note, OpRef, Reply, RowBuf, Told};
 
-/// Answers the operation at the end of the list, without a change.
-pub(crate) fn say(
-    space: &WorldSpace,
-    pass: &mut WorldPass,
-    index: u32,
-    op: OpRef<'_>,
-    reply: Reply,
-    row: Option<&RowBuf>,
-) -> Told
-    requires own { IsPassOf space.now pass.old }
-    requires index { index < space.now.terms.indexes }
-    requires held { CanSay pass.old index (operation_by op).ask reply (row_in row) }
-    ensures own { IsSamePass pass.old pass.new × IsPassOf space.now pass.new }
-    ensures held { HoldsAsBefore pass.old pass.new index }
-    ensures once { TellsOnce (view pass.old) (view pass.new) index
-        (operation_by op.entry).ask result (row_in row.entry) }
-    ensures reply { result.reply ≡ reply }
-    ensures dashed { columns_told result ≡ dashes }
-    ensures room { result.reply ≢ Reply.SpaceFull }
-{
-    let how = How::Dash;
-    let note = Note::Dash;
-    let point = space.read_point(
-        pass,
-        index,
-        &Say::Reply {
-            op,
+impl<R> LeafCall<'_, R> {
+    /// Answers the operation at the end of the list, without a change.
+    pub(crate) fn say(
+        &self,
+        pass: &mut WorldPass,
+        op: OpRef<'_>,
+        reply: Reply,
+        row: Option<&RowBuf>,
+    ) -> Told
+        requires own { IsPassOf self.now.space.now pass.old }
+        requires held { CanSay pass.old self.now.index (operation_by op).ask reply (lent_row row) }
+        ensures own { IsSamePass pass.old pass.new × IsPassOf self.now.space.now pass.new }
+        ensures did { Answers pass.old pass.new self.now.index (operation_by op.entry).ask result
+            (lent_row row.entry) }
+        ensures reply { result.reply ≡ reply }
+    {
+        let how = How::Dash;
+        let note = Note::Dash;
+        let point = self.space.read_point(
+            pass,
+            self.index,
+            &Say::Reply {
+                op,
+                reply,
+                row,
+                bound: None,
+                how,
+                note,
+            },
+        );
+        Told {
             reply,
-            row,
-            bound: None,
+            point: Some(point),
             how,
             note,
-        },
-    );
+        }
+    }
+
+    /// The list of the index has as many changes as it may. It is read while the leaf is held.
+    pub(crate) fn is_full(&self, pass: &mut WorldPass, most: u64) -> bool
+        requires own { IsPassOf self.now.space.now pass.old }
+        requires most { most ≡ self.now.space.now.terms.max_changes }
+        ensures own { IsSamePass pass.old pass.new × IsPassOf self.now.space.now pass.new }
+        ensures held { HoldsAsBefore pass.old pass.new self.now.index }
+        ensures looked { OnlyLooks (view pass.old) (view pass.new) self.now.index }
+        ensures full { IsTrue result ↔ SeesFull (view pass.new) self.now.index }
+    {
+        self.space.read_point(pass, self.index, &Say::Look) >= most
+    }
+}
+
+/// What is told of a change that was made at the point.
+pub(crate) fn made(point: u64) -> Told
+    ensures { result ≡ told_made point }
+{
     Told {
-        reply,
+        reply: Reply::Ok,
         point: Some(point),
-        how,
-        note,
+        how: How::Dash,
+        note: Note::Dash,
     }
 }

@@ -1,6 +1,6 @@
 //! The sizes of an engine and their limits.
 ghost use Rattle.std.specs.Prelude.{◌≡◌, ◌≤◌};
-ghost use Rattle.index_engine.specs.Settings.{first_broken, is_allowed};
+ghost use Rattle.index_engine.specs.Settings.{first_broken, fits_limits};
 
 use map_history::Sizes;
 
@@ -19,9 +19,9 @@ pub enum Setting {
 impl Setting {
     /// The setting is within its limits, for so many indexes and lanes. Products of two settings
     /// are judged with the second, but that of partitions and blocks with the first.
-    fn is_allowed(self, sizes: &Sizes, indexes: u32, lanes: u32) -> bool
+    fn is_within(self, sizes: &Sizes, indexes: u32, lanes: u32) -> bool
         requires { lanes ≤ 64 }
-        ensures { result ≡ is_allowed sizes.now indexes lanes self }
+        ensures { result ≡ fits_limits sizes.now indexes lanes self }
     {
         let parts = u64::from(sizes.parts);
         match self {
@@ -57,7 +57,7 @@ pub(crate) fn broken_setting(sizes: &Sizes, indexes: u32, lanes: u32) -> Option<
     ensures { result ≡ first_broken sizes.now indexes lanes }
 {
     for setting in ALL {
-        if !setting.is_allowed(sizes, indexes, lanes) {
+        if !setting.is_within(sizes, indexes, lanes) {
             return Some(setting);
         }
     }

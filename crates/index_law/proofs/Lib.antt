@@ -3,3 +3,5 @@ pub mod KeepingLemmas
 pub mod StayingLemmas
 pub mod OpeningLemmas
 pub mod OneRowLemmas
+pub mod TraceLemmas
+pub mod Laws

@@ -13,7 +13,7 @@ use Rattle.index_law.specs.declared.frame.Frame.{Frame}
 use Rattle.index_law.specs.declared.frame.Object.{Object}
 use Rattle.index_law.specs.declared.frame.Object.TheVariants as object
 use Rattle.index_law.specs.Shape.{Shape}
-use Rattle.index_law.specs.State.{Entries, changes, pair_of}
+use Rattle.index_law.specs.State.{Entries, changes, row_pair}
 use Rattle.index_law.specs.Law.{IsFrameAt, IsRootLeaf, HoldsRange, IsLawful}
 use Rattle.index_law.specs.Opening.{empty_root, AreEmptyRoots, root_head}
 
@@ -72,4 +72,4 @@ opening_is_lawful shape objects most passes fields roots = record {
 }
   where
     empty_holds : (k n : ℕ) (frame : Frame) (page : PageRows) → empty_root k n ≡ object.Frame frame → frame.page ≡ Some page → HoldsRange frame page []
-    empty_holds k n frame page same paged = let rows : page.rows ≡ [] = ap rows_in_page (sym paged) ∙ sym (ap rows_in_object same) in ap (map pair_of) rows
+    empty_holds k n frame page same paged = let rows : page.rows ≡ [] = ap rows_in_page (sym paged) ∙ sym (ap rows_in_object same) in ap (map row_pair) rows

@@ -6,6 +6,7 @@ pub mod Rightness
 pub mod References
 pub mod Meanings
 pub mod Spoken
+pub mod Trace
 pub mod Once
 pub mod Opening
 pub mod OneRow

@@ -5,7 +5,7 @@ use Rattle.map_history.specs.declared.sizes.Sizes.{Sizes}
 use Rattle.map_history.specs.Map.{Put}
 use Rattle.map_history.specs.Report.{Columns}
 use Rattle.index_page.specs.Page.{PageRows}
-use Rattle.index_page.specs.Rows.{Bytes, row_of}
+use Rattle.index_page.specs.Rows.{Bytes, placed_row}
 use Rattle.index_law.specs.declared.frame.Object.{Object}
 use Rattle.index_law.specs.declared.frame.Object.TheVariants as object
 use Rattle.index_law.specs.Shape.{shape_for}
@@ -15,7 +15,7 @@ use Rattle.index_law.specs.Opening.{root_head}
 
 -- the page of index 0 with the one row, at place 0
 abbrev pub leaf_with : FieldList → List ℕ → PageRows
-leaf_with key value = record { head = root_head 0 (length key); rows = row_of 0 key (Bytes value) ∷ [] }
+leaf_with key value = record { head = root_head 0 (length key); rows = placed_row 0 key (Bytes value) ∷ [] }
 
 -- the frame with that page
 abbrev pub frame_with : FieldList → List ℕ → Object

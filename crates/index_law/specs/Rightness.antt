@@ -1,32 +1,18 @@
 -- Which answers are right at a point of a list.
-use Rattle.std.specs.Prelude.{ℕ, ◌≡◌, ◌≢◌, ◌+◌, ◌*◌, ◌≤◌, Bool, true, false, List, length, take, sum_by, count_by}
+use Rattle.std.specs.Prelude.{ℕ, ◌≡◌, ◌≢◌, ◌≤◌, Bool, true, false, List, length, take}
 use Rattle.std.specs.List.{AllByRecursion}
 use mathlib.Core.Option.{some}
 use lib.ListN.{get_elem?}
-use Rattle.latch_law.specs.declared.knows.Entry.{Entry}
-use Rattle.map_history.specs.Map.{Map, MapChange, Put, Set, Del, is_allowed, map_after, slice}
+use Rattle.map_history.specs.Map.{Map, MapChange, is_allowed, map_after, slice, writes}
 use Rattle.map_history.specs.Operation.{Ask, Make}
-use Rattle.map_history.specs.Reply.{Done, reply_of}
-use Rattle.index_law.specs.Answers.{MadeChange, Word, Gives, LogFull, SpaceFull, Where, Free, InFrame, Image, Saying, Replies, Piece, Full, Look, speaks_at}
+use Rattle.map_history.specs.Reply.{MapReply, Done, reply_of}
+use Rattle.map_history.specs.LegalReport.{may_reply}
+use Rattle.index_law.specs.Answers.{Word, Gives, LogFull, SpaceFull, Where, Free, InFrame, Image, Saying, Replies, Piece, Full, Look, speaks_at}
 use Rattle.index_law.specs.State.{State, Entries, changes}
 
 -- the map after the first p changes of a list
 abbrev pub map_at : Entries → ℕ → Map
 map_at xs p = map_after (take p (changes xs))
-
--- the change writes a row
-abbrev pub writes : MapChange → Bool
-writes (Put k v) = true
-writes (Set k v) = true
-writes (Del k) = false
-
--- the entries of all lists that write a row
-abbrev pub rows_written : List Entries → ℕ
-rows_written lists = sum_by (λ (xs : Entries). count_by (λ (e : Entry MadeChange). writes e.change.change) xs) lists
-
--- pages are short: there are no more than two for each index and each row that was written, and one for each pass
-abbrev pub IsShort : State → Type 0
-IsShort w = w.shape.pages ≤ 2 * (w.shape.indexes + rows_written w.lists) + w.passes
 
 -- a change is asked for, and the map allows it
 pub record IsAllowed (m : Map) (ask : Ask) : Type 0 where
@@ -40,11 +26,17 @@ pub record AsksToWrite (ask : Ask) : Type 0 where
   pub asked : ask ≡ Make change
   pub row : writes change ≡ true
 
--- the word is right: the map's reply, but for `ok`, which a change alone says; a full list's refusal of what the map allows; or that pages are short
+-- the reply is one that the operation may have, is the map's, and isn't `ok`, which a change alone says
+pub record IsReply (m : Map) (ask : Ask) (reply : MapReply) : Type 0 where
+  pub form : may_reply ask reply ≡ true
+  pub is : reply_of m ask ≡ reply
+  pub changes_nothing : reply ≢ Done
+
+-- the word is right: the map's reply; a full list's refusal of what the map allows; or, of an operation that writes a row, that there is no page for it, which says nothing of how many there are
 abbrev pub IsWord : State → Entries → ℕ → Ask → Word → Type 0
-IsWord w xs p ask (Gives reply) = (reply_of (map_at xs p) ask ≡ reply) × (reply ≢ Done)
+IsWord w xs p ask (Gives reply) = IsReply (map_at xs p) ask reply
 IsWord w xs p ask LogFull = (p ≡ w.max_changes) × IsAllowed (map_at xs p) ask
-IsWord w xs p ask SpaceFull = AsksToWrite ask × IsShort w
+IsWord w xs p ask SpaceFull = AsksToWrite ask
 
 -- a page has this place
 abbrev pub is_used : Where → Bool
@@ -52,11 +44,11 @@ is_used Free = false
 is_used (InFrame block) = true
 is_used Image = true
 
--- what is said is right at the point p of the list: a reply where it speaks, a piece that has just the map's rows of its range, and a full where each page is used and pages are short
+-- what is said is right at the point p of the list: a reply where it speaks, a piece that has just the map's rows of its range, and a full that names as many places as there are pages, each one used
 abbrev pub IsSaid : State → Entries → ℕ → Saying → Type 0
 IsSaid w xs p (Replies ask word bound columns) = speaks_at bound p ≡ true → IsWord w xs p ask word
 IsSaid w xs p (Piece ask low high rows columns) = rows ≡ slice low high (map_at xs p)
-IsSaid w xs p (Full places) = (length places ≡ w.shape.pages) × AllByRecursion (λ (x : Where). is_used x ≡ true) places × IsShort w
+IsSaid w xs p (Full places) = (length places ≡ w.shape.pages) × AllByRecursion (λ (x : Where). is_used x ≡ true) places
 IsSaid w xs p Look = Unit {0}
 
 -- the index has a list with that point, and what is said is right there

@@ -24,3 +24,11 @@ no_shape = record { indexes = 0; fields = []; pages = 0; parts = 0; blocks = 0; 
 -- the shape of some sizes, for indexes with so many fields each
 abbrev pub shape_for : Sizes → List ℕ → Shape
 shape_for sizes fields = record { indexes = length fields; fields = fields; pages = sizes.pages; parts = sizes.parts; blocks = sizes.blocks; nodes = sizes.nodes; fold_bits = sizes.fold_bits }
+
+-- the object that is the frame of a block: there are no others yet
+abbrev pub frame_id : Shape → ℕ → ℕ
+frame_id shape block = block
+
+-- the object that is the leaf of an index: the frame of its number
+abbrev pub leaf_id : Shape → ℕ → ℕ
+leaf_id shape index = frame_id shape index

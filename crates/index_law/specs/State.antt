@@ -53,9 +53,9 @@ value_in (Bytes bytes) = bytes
 value_in (Child page) = []
 
 -- a row of a leaf as a row of a map
-abbrev pub pair_of : Row → Pair
-pair_of row = record { key = row.key; value = value_in row.body }
+abbrev pub row_pair : Row → Pair
+row_pair row = record { key = row.key; value = value_in row.body }
 
 -- the rows of a leaf as a map
 abbrev pub rows_of : PageRows → Map
-rows_of page = map pair_of page.rows
+rows_of page = map row_pair page.rows

@@ -1,13 +1,25 @@
 //! What callers hand to the space: a change to be made, and what is to be said at a point.
 use crate::marker::{AsMadeChange, AsSaying};
 use latch_law::Means;
+use key_tuple::{Key, Value};
 use map_history::{How, Note, OpRef, Reply, RowBuf};
+
+/// A change of the map of an index, borrowed.
+#[derive(Clone, Copy)]
+pub enum ChangeRef<'a> {
+    /// A row whose key isn't there.
+    Put { key: &'a Key, value: &'a Value },
+    /// A new value of a row that is there.
+    Set { key: &'a Key, value: &'a Value },
+    /// A row that is there, taken out.
+    Del { key: &'a Key },
+}
 
 /// A change with its columns, borrowed. It stands for an entry of a list.
 #[derive(Clone, Copy)]
 pub struct Deed<'a> {
-    /// A put, a set or a del.
-    pub op: OpRef<'a>,
+    /// What is changed.
+    pub change: ChangeRef<'a>,
     /// The first column of its answer.
     pub how: How,
     /// The second column.

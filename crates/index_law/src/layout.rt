@@ -1,6 +1,6 @@
 //! The shape of the world: how many of each there are.
 ghost use Rattle.std.specs.Prelude.{◌≡◌, ◌^◌, ◌<◌, IfOk, length};
-ghost use Rattle.index_law.specs.Shape.{shape_for};
+ghost use Rattle.index_law.specs.Shape.{shape_for, leaf_id};
 
 use key_tuple::NoMemory;
 use map_history::Sizes;
@@ -46,5 +46,11 @@ impl Layout {
             nodes: sizes.nodes,
             fold_bits: sizes.fold_bits as u8,
         })
+    }
+    /// The number of the object that is the leaf of an index.
+    pub fn leaf_id(&self, index: u32) -> u32
+        ensures { result ≡ leaf_id self.now index }
+    {
+        index
     }
 }

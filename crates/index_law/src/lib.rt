@@ -12,7 +12,7 @@ mod opening;
 mod tests;
 
 pub use marker::{AsMadeChange, AsSaying};
-pub use deed::{Deed, Say};
+pub use deed::{ChangeRef, Deed, Say};
 pub use frame::{Frame, Object};
 pub use law::{one_row_is_lawful, opens_lawfully};
 pub use layout::Layout;

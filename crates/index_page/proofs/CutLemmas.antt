@@ -9,8 +9,8 @@ use Rattle.key_tuple.specs.declared.mode.Mode.{Mode}
 use Rattle.key_tuple.specs.declared.mode.Mode.TheVariants.{Ge, G, Le, L}
 use Rattle.key_tuple.proofs.PlaceLemmas.{total, before-tied, before-itself}
 use Rattle.key_tuple.proofs.TupleLemmas.{not_below_cut, above_cut, tuple_cmp-whole}
-use Rattle.index_page.specs.Rows.{Row, first_row}
-use Rattle.index_page.specs.Page.{Ascends}
+use Rattle.index_page.specs.Rows.{Row, first_of_rows}
+use Rattle.index_page.specs.Page.{RowsAscend}
 use Rattle.index_page.specs.Search.{AllOut, AllIn}
 use Rattle.list_facts.proofs.Each.{each_weaker, each_get, each_right}
 
@@ -30,7 +30,7 @@ same_key j k e = cc
 
 module _ (p : KeyPlace → Bool) (cut : IsCut p) where
   -- what is above an admitted row is admitted
-  pub in_from : (rows : List Row) (i : ℕ) (x : Row) → Ascends rows → slice_get rows i ≡ Some x → p (At x.key) ≡ true → AllIn p (drop i rows)
+  pub in_from : (rows : List Row) (i : ℕ) (x : Row) → RowsAscend rows → slice_get rows i ≡ Some x → p (At x.key) ≡ true → AllIn p (drop i rows)
   in_from [] i x asc e t = absurd cc
   in_from (y ∷ rows) zero x asc e t =
       let is : x ≡ y = cc in
@@ -39,7 +39,7 @@ module _ (p : KeyPlace → Bool) (cut : IsCut p) where
   in_from (y ∷ rows) (suc i) x asc e t = in_from rows i x asc.1 e t
 
   -- what is below a row that is left out is left out
-  pub out_upto : (rows : List Row) (i : ℕ) (x : Row) → Ascends rows → slice_get rows i ≡ Some x → p (At x.key) ≡ false → AllOut p (take (suc i) rows)
+  pub out_upto : (rows : List Row) (i : ℕ) (x : Row) → RowsAscend rows → slice_get rows i ≡ Some x → p (At x.key) ≡ false → AllOut p (take (suc i) rows)
   out_upto [] i x asc e f = absurd cc
   out_upto (y ∷ rows) zero x asc e f = let is : x ≡ y = cc in (subst (λ (z : Row). p (At z.key) ≡ false) is f, tt)
   out_upto (y ∷ rows) (suc i) x asc e f =
@@ -75,10 +75,10 @@ pub before_key : (key k : FieldList) → length key ≡ length k → not_below k
 before_key key k long f = not-false (before (At k) (At key)) (sym (not_below-whole key k long) ∙ f)
 
 -- a whole key's row is the first that the cut before the key admits
-pub first_with_key : (key : FieldList) (left right xs ys : List Row) (row : Row) → Ascends right → AllByRecursion (λ (x : Row). length key ≡ length x.key) right → AllOut (not_below key) left → AllIn (not_below key) right → left ++ right ≡ xs ++ row ∷ ys → row.key ≡ key → first_row right ≡ Some row
-first_with_key key [] right [] ys row asc long out past e is = ap first_row e
+pub first_with_key : (key : FieldList) (left right xs ys : List Row) (row : Row) → RowsAscend right → AllByRecursion (λ (x : Row). length key ≡ length x.key) right → AllOut (not_below key) left → AllIn (not_below key) right → left ++ right ≡ xs ++ row ∷ ys → row.key ≡ key → first_of_rows right ≡ Some row
+first_with_key key [] right [] ys row asc long out past e is = ap first_of_rows e
 first_with_key key [] right (x ∷ xs) ys row asc long out past e is =
-    let up = subst Ascends e asc in
+    let up = subst RowsAscend e asc in
     let rises : before (At x.key) (At row.key) ≡ true = (each_right (λ (z : Row). before (At x.key) (At z.key) ≡ true) xs (row ∷ ys) up.0).0 in
     let fields = (subst (AllByRecursion (λ (z : Row). length key ≡ length z.key)) e long).0 in
     let admitted = (subst (AllIn (not_below key)) e past).0 in

@@ -10,12 +10,12 @@ use Rattle.key_tuple.specs.Figures.{equal_fields}
 use Rattle.key_tuple.specs.declared.mode.Match.{Match}
 use Rattle.key_tuple.specs.declared.mode.Mode.TheVariants.{Ge}
 use Rattle.index_page.specs.declared.spot.Spot.{Spot}
-use Rattle.index_page.specs.Rows.{Row, find_row, first_row, IsAt}
-use Rattle.index_page.specs.Page.{PageRows, Ascends, IsRowOf, IsInOrder}
+use Rattle.index_page.specs.Rows.{Row, find_row, first_of_rows, IsAt, LacksKey}
+use Rattle.index_page.specs.Page.{PageRows, RowsAscend, IsRowOf, IsPageInOrder}
 use Rattle.index_page.specs.Search.{AllOut, AllIn, agreement, Finds, IsPosition}
 use Rattle.index_page.specs.Laws.{HasKeyAfter, TellsKey}
 use Rattle.list_facts.proofs.Each.{each_weaker, each_right}
-use Rattle.index_page.proofs.RowLemmas.{ascends_right, find_stands, each_found, first_row-drop}
+use Rattle.index_page.proofs.RowLemmas.{ascends_right, find_stands, each_found, first_of_rows-drop}
 use Rattle.index_page.proofs.CutLemmas.{first_with_key}
 
 -- all fields of a key are equal to its own, and only to those
@@ -41,39 +41,40 @@ each_part : {A : Type 0} (P : A → Type 0) (zs : List A) → ((xs ys : List A) 
 each_part P zs h done [] e = tt
 each_part P zs h done (x ∷ xs) e = (h done xs x e, each_part P zs h (done ++ x ∷ []) xs (e ∙ sym (append_assoc done (x ∷ []) xs)))
 
-module _ (page : PageRows) (key : FieldList) (spot : Spot) (order : IsInOrder page) (long : length key ≡ page.head.fields) (some : 0 < length key) (found : Finds Ge key page.rows spot) where
+module _ (page : PageRows) (key : FieldList) (spot : Spot) (order : IsPageInOrder page) (long : length key ≡ page.head.fields) (found : Finds Ge key page.rows spot) where
   fields : AllByRecursion (λ (x : Row). length key ≡ length x.key) found.right
   fields = each_weaker (IsRowOf page.head) (λ (x : Row). length key ≡ length x.key) (λ x of. long ∙ sym of.fields) found.right (each_right (IsRowOf page.head) found.left found.right (subst (AllByRecursion (IsRowOf page.head)) found.split order.each))
 
   -- a row with the key is the one after the spot, and all its fields are equal
   its_row : (xs ys : List Row) (x : Row) → page.rows ≡ xs ++ x ∷ ys → x.key ≡ key → spot.up.fields ≡ length key
   its_row xs ys x e is =
-      let first = first_with_key key found.left found.right xs ys x (ascends_right found.left found.right (subst Ascends found.split order.ascend)) fields found.out found.past (sym found.split ∙ e) is in
+      let first = first_with_key key found.left found.right xs ys x (ascends_right found.left found.right (subst RowsAscend found.split order.ascend)) fields found.out found.past (sym found.split ∙ e) is in
       ap (λ (m : Match). m.fields) (found.up ∙ ap (agreement key) first) ∙ ap (equal_fields key) is ∙ equal_fields-itself key
 
-  there : (right : List Row) → found.right ≡ right → spot.up.fields ≡ length key → HasKeyAfter key page.rows spot
-  there [] e f =
-      let none : spot.up.fields ≡ 0 = ap (λ (m : Match). m.fields) (found.up ∙ ap (λ (zs : List Row). agreement key (first_row zs)) e) in
-      absurd (omega arith)
-  there (x ∷ right) e f =
-      let figures : spot.up.fields ≡ equal_fields key x.key = ap (λ (m : Match). m.fields) (found.up ∙ ap (λ (zs : List Row). agreement key (first_row zs)) e) in
-      let as_long : length key ≡ length x.key = (subst (AllByRecursion (λ (z : Row). length key ≡ length z.key)) e fields).0 in
-      record { row = x; after_at = subst (λ (zs : List Row). IsAt page.rows spot.after (first_row zs)) e found.after_at; key_is = sym (all_equal key x.key as_long (sym figures ∙ f)) }
+  -- so where not all of them are equal, no row has the key
+  pub lacks_key : spot.up.fields ≢ length key → LacksKey key page.rows
+  lacks_key other = each_part (λ (x : Row). x.key ≢ key) page.rows (λ xs ys x e is. other (its_row xs ys x e is)) [] page.rows refl
 
-  pub tells_key : TellsKey key page.rows spot
-  tells_key = record {
-    there = there found.right refl;
-    absent = λ other. each_part (λ (x : Row). x.key ≢ key) page.rows (λ xs ys x e is. other (its_row xs ys x e is)) [] page.rows refl;
-  }
+  there : (right : List Row) → 0 < length key → found.right ≡ right → spot.up.fields ≡ length key → HasKeyAfter key page.rows spot
+  there [] some e f =
+      let none : spot.up.fields ≡ 0 = ap (λ (m : Match). m.fields) (found.up ∙ ap (λ (zs : List Row). agreement key (first_of_rows zs)) e) in
+      absurd (omega arith)
+  there (x ∷ right) some e f =
+      let figures : spot.up.fields ≡ equal_fields key x.key = ap (λ (m : Match). m.fields) (found.up ∙ ap (λ (zs : List Row). agreement key (first_of_rows zs)) e) in
+      let as_long : length key ≡ length x.key = (subst (AllByRecursion (λ (z : Row). length key ≡ length z.key)) e fields).0 in
+      record { row = x; after_at = subst (λ (zs : List Row). IsAt page.rows spot.after (first_of_rows zs)) e found.after_at; key_is = sym (all_equal key x.key as_long (sym figures ∙ f)) }
+
+  pub tells_key : 0 < length key → TellsKey key page.rows spot
+  tells_key some = record { there = there found.right some refl; absent = lacks_key }
 
 -- the cut before the key of a row is where the row stands
-pub position_of : (page : PageRows) (place : ℕ) (row : Row) (cut : ℕ) → IsInOrder page → find_row place page.rows ≡ Some row → AllOut (not_below row.key) (take cut page.rows) → AllIn (not_below row.key) (drop cut page.rows) → IsPosition page.rows place cut
+pub position_of : (page : PageRows) (place : ℕ) (row : Row) (cut : ℕ) → IsPageInOrder page → find_row place page.rows ≡ Some row → AllOut (not_below row.key) (take cut page.rows) → AllIn (not_below row.key) (drop cut page.rows) → IsPosition page.rows place cut
 position_of page place row cut order found out past =
     let s = find_stands page.rows place row found in
     let parts : take cut page.rows ++ drop cut page.rows ≡ page.rows = take-append-drop cut page.rows in
     let suits = each_found (IsRowOf page.head) page.rows place row order.each found in
     let each = each_right (IsRowOf page.head) (take cut page.rows) (drop cut page.rows) (subst (AllByRecursion (IsRowOf page.head)) (sym parts) order.each) in
     let fields = each_weaker (IsRowOf page.head) (λ (x : Row). length row.key ≡ length x.key) (λ x of. suits.fields ∙ sym of.fields) (drop cut page.rows) each in
-    let rises = ascends_right (take cut page.rows) (drop cut page.rows) (subst Ascends (sym parts) order.ascend) in
+    let rises = ascends_right (take cut page.rows) (drop cut page.rows) (subst RowsAscend (sym parts) order.ascend) in
     let first = first_with_key row.key (take cut page.rows) (drop cut page.rows) s.left s.right row rises fields out past (parts ∙ s.split) refl in
-    record { row = row; there = sym (first_row-drop page.rows cut) ∙ first; place_is = s.place_is }
+    record { row = row; there = sym (first_of_rows-drop page.rows cut) ∙ first; place_is = s.place_is }

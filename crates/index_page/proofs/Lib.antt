@@ -4,3 +4,4 @@ pub mod KeyLemmas
 pub mod StoreLemmas
 pub mod OrderLemmas
 pub mod BesideLemmas
+pub mod SpotLemmas

@@ -5,7 +5,7 @@ use Rattle.std.specs.List.{AllByRecursion, insert, remove}
 use Rattle.key_tuple.specs.KeyPlace.{At, before, not_below}
 use Rattle.index_page.specs.declared.TheConstants.{MAX_ROWS}
 use Rattle.index_page.specs.Rows.{Row, find_row, LacksKey}
-use Rattle.index_page.specs.Page.{PageRows, Ascends, PlacesDiffer, IsRowOf, IsInOrder}
+use Rattle.index_page.specs.Page.{PageRows, RowsAscend, PlacesDiffer, IsRowOf, IsPageInOrder}
 use Rattle.index_page.specs.Search.{AllOut, AllIn, IsPosition}
 use Rattle.index_page.specs.Changes.{Inserts, Deletes}
 use Rattle.list_facts.proofs.Each.{each_left, each_right, each_append, each_both}
@@ -13,20 +13,20 @@ use Rattle.index_page.proofs.RowLemmas.{get_split, find_among}
 use Rattle.index_page.proofs.CutLemmas.{before_key, after_key}
 
 -- rising rows with one more between those below and above it
-ascends_in : (xs : List Row) (row : Row) (ys : List Row) → Ascends (xs ++ ys) → AllByRecursion (λ (x : Row). before (At x.key) (At row.key) ≡ true) xs → AllByRecursion (λ (y : Row). before (At row.key) (At y.key) ≡ true) ys → Ascends (xs ++ row ∷ ys)
+ascends_in : (xs : List Row) (row : Row) (ys : List Row) → RowsAscend (xs ++ ys) → AllByRecursion (λ (x : Row). before (At x.key) (At row.key) ≡ true) xs → AllByRecursion (λ (y : Row). before (At row.key) (At y.key) ≡ true) ys → RowsAscend (xs ++ row ∷ ys)
 ascends_in [] row ys a below above = (above, a)
 ascends_in (x ∷ xs) row ys a below above =
     let rises = λ (y : Row). before (At x.key) (At y.key) ≡ true in
     (each_append rises xs (row ∷ ys) (each_left rises xs ys a.0) (below.0, each_right rises xs ys a.0), ascends_in xs row ys a.1 below.1 above)
 
 -- and with one less
-ascends_out : (xs : List Row) (row : Row) (ys : List Row) → Ascends (xs ++ row ∷ ys) → Ascends (xs ++ ys)
+ascends_out : (xs : List Row) (row : Row) (ys : List Row) → RowsAscend (xs ++ row ∷ ys) → RowsAscend (xs ++ ys)
 ascends_out [] row ys a = a.1
 ascends_out (x ∷ xs) row ys a =
     let rises = λ (y : Row). before (At x.key) (At y.key) ≡ true in
     (each_append rises xs ys (each_left rises xs (row ∷ ys) a.0) (each_right rises xs (row ∷ ys) a.0).1, ascends_out xs row ys a.1)
 
-module _ (page : PageRows) (row : Row) (cut : ℕ) (order : IsInOrder page) where
+module _ (page : PageRows) (row : Row) (cut : ℕ) (order : IsPageInOrder page) where
   abbrev pub low : List Row
   low = take cut page.rows
 
@@ -40,7 +40,7 @@ module _ (page : PageRows) (row : Row) (cut : ℕ) (order : IsInOrder page) wher
   each = subst (AllByRecursion (IsRowOf page.head)) (sym parts) order.each
 
   -- a row whose key is new stands where the cut before its key is
-  pub inserted_order : IsRowOf page.head row → LacksKey row.key page.rows → AllOut (not_below row.key) low → AllIn (not_below row.key) high → length page.rows ≤ MAX_ROWS → PlacesDiffer (insert page.rows cut row) → IsInOrder (record { head = page.head; rows = insert page.rows cut row })
+  pub inserted_order : IsRowOf page.head row → LacksKey row.key page.rows → AllOut (not_below row.key) low → AllIn (not_below row.key) high → length page.rows ≤ MAX_ROWS → PlacesDiffer (insert page.rows cut row) → IsPageInOrder (record { head = page.head; rows = insert page.rows cut row })
   inserted_order suits lacks out past room places =
       let other = subst (AllByRecursion (λ (x : Row). x.key ≢ row.key)) (sym parts) lacks in
       let below = each_both (IsRowOf page.head) (λ (x : Row). not_below row.key (At x.key) ≡ false) (λ (x : Row). before (At x.key) (At row.key) ≡ true) (λ x of f. before_key row.key x.key (suits.fields ∙ sym of.fields) f) low (each_left (IsRowOf page.head) low high each) out in
@@ -48,7 +48,7 @@ module _ (page : PageRows) (row : Row) (cut : ℕ) (order : IsInOrder page) wher
       let above = each_both (IsRowOf page.head) (λ (x : Row). (x.key ≢ row.key) × (not_below row.key (At x.key) ≡ true)) (λ (x : Row). before (At row.key) (At x.key) ≡ true) (λ x of n. after_key row.key x.key (suits.fields ∙ sym of.fields) n.0 n.1) high (each_right (IsRowOf page.head) low high each) new in
       let long : length (low ++ row ∷ high) ≡ length page.rows + 1 = length-append low (row ∷ high) ∙ omega (arith, length-append low high, ap length parts) in
       record {
-        ascend = ascends_in low row high (subst Ascends (sym parts) order.ascend) below above;
+        ascend = ascends_in low row high (subst RowsAscend (sym parts) order.ascend) below above;
         places = places;
         each = each_append (IsRowOf page.head) low (row ∷ high) (each_left (IsRowOf page.head) low high each) (suits, each_right (IsRowOf page.head) low high each);
         few = omega arith;
@@ -56,7 +56,7 @@ module _ (page : PageRows) (row : Row) (cut : ℕ) (order : IsInOrder page) wher
         next = order.next;
       }
 
-  pub inserts : (new : PageRows) → new ≡ record { head = page.head; rows = insert page.rows cut row } → IsInOrder new → find_row row.place page.rows ≡ None → Inserts page new row
+  pub inserts : (new : PageRows) → new ≡ record { head = page.head; rows = insert page.rows cut row } → IsPageInOrder new → find_row row.place page.rows ≡ None → Inserts page new row
   inserts new is after vacant = record {
     below = low;
     above = high;
@@ -68,18 +68,18 @@ module _ (page : PageRows) (row : Row) (cut : ℕ) (order : IsInOrder page) wher
   }
 
 -- the rows without the one with a number
-module _ (page : PageRows) (place at : ℕ) (order : IsInOrder page) (position : IsPosition page.rows place at) where
+module _ (page : PageRows) (place at : ℕ) (order : IsPageInOrder page) (position : IsPosition page.rows place at) where
   around : page.rows ≡ take at page.rows ++ position.row ∷ drop (suc at) page.rows
   around = get_split page.rows at position.row position.there
 
-  pub deleted_order : PlacesDiffer (remove page.rows at) → IsInOrder (record { head = page.head; rows = remove page.rows at })
+  pub deleted_order : PlacesDiffer (remove page.rows at) → IsPageInOrder (record { head = page.head; rows = remove page.rows at })
   deleted_order places =
       let low = take at page.rows in
       let high = drop (suc at) page.rows in
       let each = subst (AllByRecursion (IsRowOf page.head)) around order.each in
       let long : length page.rows ≡ length (low ++ high) + 1 = ap length around ∙ length-append low (position.row ∷ high) ∙ omega (arith, length-append low high) in
       record {
-        ascend = ascends_out low position.row high (subst Ascends around order.ascend);
+        ascend = ascends_out low position.row high (subst RowsAscend around order.ascend);
         places = places;
         each = each_append (IsRowOf page.head) low high (each_left (IsRowOf page.head) low (position.row ∷ high) each) (each_right (IsRowOf page.head) low (position.row ∷ high) each).1;
         few = omega (arith, order.few);

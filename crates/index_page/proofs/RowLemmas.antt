@@ -3,8 +3,8 @@ use Rattle.std.proofs.Common.{◌≡◌, ◌≢◌, ℕ, zero, suc, ◌<◌, ◌
 use Rattle.std.proofs.lemmas.Bool.{ne_eqb}
 use Rattle.std.proofs.lemmas.Bool.Decides.{nat_tests}
 use Rattle.std.specs.List.{AllByRecursion, slice_get}
-use Rattle.index_page.specs.Rows.{Row, find_row, first_row, last_after, last_row, IsAt}
-use Rattle.index_page.specs.Page.{PlacesDiffer, Ascends}
+use Rattle.index_page.specs.Rows.{Row, find_row, first_of_rows, last_row_after, last_of_rows, IsAt}
+use Rattle.index_page.specs.Page.{PlacesDiffer, RowsAscend}
 use Rattle.index_page.specs.Laws.{StandsAt}
 use Rattle.list_facts.proofs.Each.{each_right}
 
@@ -20,20 +20,20 @@ get_below (y ∷ xs) zero x e = omega arith
 get_below (y ∷ xs) (suc i) x e = omega (arith, get_below xs i x e)
 
 -- the first row from a number on, and the last one up to it
-pub first_row-drop : (rows : List Row) (i : ℕ) → first_row (drop i rows) ≡ slice_get rows i
-first_row-drop [] zero = refl
-first_row-drop [] (suc i) = refl
-first_row-drop (x ∷ rows) zero = refl
-first_row-drop (x ∷ rows) (suc i) = first_row-drop rows i
+pub first_of_rows-drop : (rows : List Row) (i : ℕ) → first_of_rows (drop i rows) ≡ slice_get rows i
+first_of_rows-drop [] zero = refl
+first_of_rows-drop [] (suc i) = refl
+first_of_rows-drop (x ∷ rows) zero = refl
+first_of_rows-drop (x ∷ rows) (suc i) = first_of_rows-drop rows i
 
-last_after-take : (x : Row) (rows : List Row) (i : ℕ) → i < length (x ∷ rows) → Some (last_after x (take i rows)) ≡ slice_get (x ∷ rows) i
-last_after-take x rows zero h = refl
-last_after-take x [] (suc i) h = absurd (omega arith)
-last_after-take x (y ∷ rows) (suc i) h = last_after-take y rows i (omega arith)
+last_row_after-take : (x : Row) (rows : List Row) (i : ℕ) → i < length (x ∷ rows) → Some (last_row_after x (take i rows)) ≡ slice_get (x ∷ rows) i
+last_row_after-take x rows zero h = refl
+last_row_after-take x [] (suc i) h = absurd (omega arith)
+last_row_after-take x (y ∷ rows) (suc i) h = last_row_after-take y rows i (omega arith)
 
-pub last_row-take : (rows : List Row) (i : ℕ) → i < length rows → last_row (take (suc i) rows) ≡ slice_get rows i
-last_row-take [] i h = absurd (omega arith)
-last_row-take (x ∷ rows) i h = last_after-take x rows i h
+pub last_of_rows-take : (rows : List Row) (i : ℕ) → i < length rows → last_of_rows (take (suc i) rows) ≡ slice_get rows i
+last_of_rows-take [] i h = absurd (omega arith)
+last_of_rows-take (x ∷ rows) i h = last_row_after-take x rows i h
 
 -- the row at a place is one of the rows
 find_in_rest : (rows : List Row) (place : ℕ) (row x : Row) → StandsAt rows place row → StandsAt (x ∷ rows) place row
@@ -69,7 +69,7 @@ find_none [] place a = refl
 find_none (x ∷ rows) place a = ap (λ b. cond b (Some x) (find_row place rows)) (ne_eqb x.place place a.0) ∙ find_none rows place a.1
 
 -- parts of rising rows rise
-pub ascends_right : (left right : List Row) → Ascends (left ++ right) → Ascends right
+pub ascends_right : (left right : List Row) → RowsAscend (left ++ right) → RowsAscend right
 ascends_right [] right a = a
 ascends_right (x ∷ left) right a = ascends_right left right a.1
 

@@ -4,16 +4,16 @@ use Rattle.std.proofs.lemmas.Bool.Decides.{nat_tests}
 use Rattle.std.proofs.lemmas.List.{get_or-set_same, get_or-set_other, get_or_append_left, take-append-drop, take-map, drop-map, map-append, length_push, length-set, length-map, same_from_push}
 use Rattle.std.proofs.lemmas.List.Edits.{length-insert, length-remove}
 use Rattle.std.specs.List.{AllByRecursion, slice_get, insert, remove}
-use Rattle.index_page.specs.Rows.{Row, Bytes, row_of, find_row}
+use Rattle.index_page.specs.Rows.{Row, Bytes, placed_row, find_row}
 use Rattle.index_page.specs.Page.{PlacesDiffer}
-use Rattle.index_page.specs.Store.{PlaceLists, Content, row_in, rows_in, AllDiffer, IsStore, IsSpare}
+use Rattle.index_page.specs.Store.{PlaceLists, Content, stored_row, rows_in, AllDiffer, IsStore, IsSpare}
 use Rattle.list_facts.proofs.Each.{each_left, each_right, each_append, each_weaker}
 use Rattle.index_page.proofs.RowLemmas.{find_none, get_split, get_below}
 
 -- a place that is found is one of those listed, and its row is the one stored there
 pub record IsStored (slots : List Content) (place : ℕ) (row : Row) : Type 0 where
   pub below : place < length slots
-  pub is : row ≡ row_in slots place
+  pub is : row ≡ stored_row slots place
 
 equal : (m n : ℕ) → (m == n) ≡ true → m ≡ n
 equal m n e = grind (arith, nat_tests)
@@ -22,11 +22,11 @@ pub find_stored : (slots : List Content) (live : List ℕ) (place : ℕ) (row : 
 find_stored slots [] place row a e = absurd cc
 find_stored slots (x ∷ live) place row a e = go (x == place) refl e (find_stored slots live place row a.1)
   where
-    go : (b : Bool) → (x == place) ≡ b → cond b (Some (row_in slots x)) (find_row place (rows_in slots live)) ≡ Some row → (find_row place (rows_in slots live) ≡ Some row → IsStored slots place row) → IsStored slots place row
+    go : (b : Bool) → (x == place) ≡ b → cond b (Some (stored_row slots x)) (find_row place (rows_in slots live)) ≡ Some row → (find_row place (rows_in slots live) ≡ Some row → IsStored slots place row) → IsStored slots place row
     go true q f more =
         let same : x ≡ place = equal x place q in
-        let is : row_in slots x ≡ row = cc in
-        record { below = subst (λ (n : ℕ). n < length slots) same a.0; is = sym is ∙ ap (row_in slots) same }
+        let is : stored_row slots x ≡ row = cc in
+        record { below = subst (λ (n : ℕ). n < length slots) same a.0; is = sym is ∙ ap (stored_row slots) same }
     go false q f more = more f
 
 -- the places of stored rows differ where the listed ones do
@@ -47,7 +47,7 @@ rows_in-set slots place x [] a = refl
 rows_in-set slots place x (y ∷ live) a =
     let same : get_or (set slots place x) y (record { key = []; body = Bytes [] }) ≡ get_or slots y (record { key = []; body = Bytes [] }) = get_or-set_other slots place y x (record { key = []; body = Bytes [] }) a.0 in
     let rest = rows_in-set slots place x live a.1 in
-    let here : row_in (set slots place x) y ≡ row_in slots y = ap (λ (z : Content). row_of y z.key z.body) same in
+    let here : stored_row (set slots place x) y ≡ stored_row slots y = ap (λ (z : Content). placed_row y z.key z.body) same in
     cc
 
 -- a further slot leaves the rows
@@ -56,7 +56,7 @@ rows_in-append slots more [] a = refl
 rows_in-append slots more (y ∷ live) a =
     let same : get_or (slots ++ more) y (record { key = []; body = Bytes [] }) ≡ get_or slots y (record { key = []; body = Bytes [] }) = get_or_append_left slots more (record { key = []; body = Bytes [] }) y a.0 in
     let rest = rows_in-append slots more live a.1 in
-    let here : row_in (slots ++ more) y ≡ row_in slots y = ap (λ (z : Content). row_of y z.key z.body) same in
+    let here : stored_row (slots ++ more) y ≡ stored_row slots y = ap (λ (z : Content). placed_row y z.key z.body) same in
     cc
 
 -- an element among others: all differ where it differs from the others, which differ
@@ -148,28 +148,28 @@ grow_listed n live free l = release_listed (n + 1) live free n (record {
     below_other y n h e = absurd (omega arith)
 
 -- the rows at places after one was put in or taken out
-pub rows_in-insert : (slots : List Content) (live : List ℕ) (at p : ℕ) → rows_in slots (insert live at p) ≡ insert (rows_in slots live) at (row_in slots p)
+pub rows_in-insert : (slots : List Content) (live : List ℕ) (at p : ℕ) → rows_in slots (insert live at p) ≡ insert (rows_in slots live) at (stored_row slots p)
 rows_in-insert slots live at p =
-    let f : ℕ → Row = row_in slots in
+    let f : ℕ → Row = stored_row slots in
     let before : map f (take at live) ≡ take at (map f live) = sym (take-map f at live) in
     let after : map f (drop at live) ≡ drop at (map f live) = sym (drop-map f at live) in
     map-append f (take at live) (p ∷ drop at live) ∙ cc (before, after)
 
 pub rows_in-remove : (slots : List Content) (live : List ℕ) (at : ℕ) → rows_in slots (remove live at) ≡ remove (rows_in slots live) at
 rows_in-remove slots live at =
-    let f : ℕ → Row = row_in slots in
+    let f : ℕ → Row = stored_row slots in
     let before : map f (take at live) ≡ take at (map f live) = sym (take-map f at live) in
     let after : map f (drop (suc at) live) ≡ drop (suc at) (map f live) = sym (drop-map f (suc at) live) in
     map-append f (take at live) (drop (suc at) live) ∙ cc (before, after)
 
 -- the row at a place that was just written
-pub row_in-set : (slots : List Content) (p : ℕ) (x : Content) → p < length slots → row_in (set slots p x) p ≡ row_of p x.key x.body
-row_in-set slots p x below = ap (λ (z : Content). row_of p z.key z.body) (get_or-set_same slots p x (record { key = []; body = Bytes [] }) below)
+pub stored_row-set : (slots : List Content) (p : ℕ) (x : Content) → p < length slots → stored_row (set slots p x) p ≡ placed_row p x.key x.body
+stored_row-set slots p x below = ap (λ (z : Content). placed_row p z.key z.body) (get_or-set_same slots p x (record { key = []; body = Bytes [] }) below)
 
 -- the row at a place among all rows is the one stored there
 pub record IsFound (slots : List Content) (rows : List Row) (place : ℕ) : Type 0 where
   pub below : place < length slots
-  pub found : find_row place rows ≡ Some (row_in slots place)
+  pub found : find_row place rows ≡ Some (stored_row slots place)
 
 pub stored_at : (slots : List Content) (places : PlaceLists) (rows : List Row) (place : ℕ) → IsStore slots places → rows_in slots places.live ≡ rows → IsSome (find_row place rows) → IsFound slots rows place
 stored_at slots places rows place s view some = go (find_row place rows) refl some
@@ -223,9 +223,9 @@ module _ (slots : List Content) (places : PlaceLists) (p : ℕ) (s : IsStore slo
       let frees : length places.free ≡ length new.free + 1 = ap length free ∙ length_push new.free p in
       written_store slots new p x (listed_store slots new (subst (Listed (length slots)) all listed) (omega (arith, s.whole)))
 
-  pub claimed_rows : (x : Content) (new : PlaceLists) (at : ℕ) → new.live ≡ insert places.live at p → rows_in (set slots p x) new.live ≡ insert (rows_in slots places.live) at (row_of p x.key x.body)
+  pub claimed_rows : (x : Content) (new : PlaceLists) (at : ℕ) → new.live ≡ insert places.live at p → rows_in (set slots p x) new.live ≡ insert (rows_in slots places.live) at (placed_row p x.key x.body)
   claimed_rows x new at live =
-      ap (rows_in (set slots p x)) live ∙ rows_in-insert (set slots p x) places.live at p ∙ inserted (written_rows x) (row_in-set slots p x spare_below)
+      ap (rows_in (set slots p x)) live ∙ rows_in-insert (set slots p x) places.live at p ∙ inserted (written_rows x) (stored_row-set slots p x spare_below)
     where
       inserted : {rows rows' : List Row} {r r' : Row} → rows ≡ rows' → r ≡ r' → insert rows at r ≡ insert rows' at r'
       inserted e f = cc
@@ -259,7 +259,7 @@ module _ (slots : List Content) (places new : PlaceLists) (at p : ℕ) (s : IsSt
 -- the place of a row is read from the list of them
 pub live_at : (slots : List Content) (live xs : List ℕ) (rows : List Row) (at : ℕ) → rows_in slots live ≡ rows → at < length rows → xs ≡ live → slice_get live at ≡ Some (get_or xs at 0)
 live_at slots live xs rows at view below same =
-    let long : length (rows_in slots live) ≡ length live = length-map live (row_in slots) in
+    let long : length (rows_in slots live) ≡ length live = length-map live (stored_row slots) in
     get_or_get live at 0 (omega (arith, ap length view)) ∙ ap (λ (l : List ℕ). Some (get_or l at 0)) (sym same)
 
 -- stored rows stand at different places

@@ -1,6 +1,6 @@
 -- What stands beside a row, and what a page is after a row was put in or taken out.
 use Rattle.std.specs.Prelude.{ℕ, ◌≡◌, Option, Some, None, List, ◌∷◌, ◌++◌}
-use Rattle.index_page.specs.Rows.{Row, find_row, first_row, last_row, IsAt}
+use Rattle.index_page.specs.Rows.{Row, find_row, first_of_rows, last_of_rows, IsAt}
 use Rattle.index_page.specs.Page.{PageRows}
 
 -- the place of the row after the one at `place`
@@ -10,7 +10,7 @@ pub record NextIs (rows : List Row) (place : ℕ) (next : Option ℕ) : Type 0 w
   pub right : List Row
   pub split : rows ≡ left ++ row ∷ right
   pub place_is : row.place ≡ place
-  pub next_at : IsAt rows next (first_row right)
+  pub next_at : IsAt rows next (first_of_rows right)
 
 -- the place of the row before the one at `place`
 pub record PrevIs (rows : List Row) (place : ℕ) (prev : Option ℕ) : Type 0 where
@@ -19,7 +19,7 @@ pub record PrevIs (rows : List Row) (place : ℕ) (prev : Option ℕ) : Type 0 w
   pub right : List Row
   pub split : rows ≡ left ++ row ∷ right
   pub place_is : row.place ≡ place
-  pub prev_at : IsAt rows prev (last_row left)
+  pub prev_at : IsAt rows prev (last_of_rows left)
 
 -- the row stands among those that were there, at a place at which none stood; all else is as before
 pub record Inserts (old new : PageRows) (row : Row) : Type 0 where

@@ -23,9 +23,9 @@ abbrev pub linked : PageHead → Option ℕ → Option ℕ → PageHead
 linked head prev next = record head { prev = prev; next = next }
 
 -- the keys rise along the rows
-abbrev pub Ascends : List Row → Type 0
-Ascends [] = Unit {0}
-Ascends (x ∷ xs) = AllByRecursion (λ (y : Row). before (At x.key) (At y.key) ≡ true) xs × Ascends xs
+abbrev pub RowsAscend : List Row → Type 0
+RowsAscend [] = Unit {0}
+RowsAscend (x ∷ xs) = AllByRecursion (λ (y : Row). before (At x.key) (At y.key) ≡ true) xs × RowsAscend xs
 
 -- no two rows stand at one place
 abbrev pub PlacesDiffer : List Row → Type 0
@@ -38,9 +38,9 @@ FitsLevel level (Bytes value) = level ≡ 0
 FitsLevel level (Child number) = level ≢ 0
 
 -- a value is within the limit
-abbrev pub IsShort : RowBody → Type 0
-IsShort (Bytes value) = length value ≤ MAX_VALUE_BYTES
-IsShort (Child number) = Unit {0}
+abbrev pub HasShortValue : RowBody → Type 0
+HasShortValue (Bytes value) = length value ≤ MAX_VALUE_BYTES
+HasShortValue (Child number) = Unit {0}
 
 -- a row suits a page with this head: it has as many fields, is within the limits, and carries what the
 -- level asks for
@@ -48,12 +48,12 @@ pub record IsRowOf (head : PageHead) (row : Row) : Type 0 where
   pub fields : length row.key ≡ head.fields
   pub limits : IsWithinLimits row.key
   pub body : FitsLevel head.level row.body
-  pub short : IsShort row.body
+  pub short : HasShortValue row.body
 
 -- what holds of each page: its keys rise, its places differ, its rows suit it and are within the limit,
 -- and its neighbours are pages
-pub record IsInOrder (page : PageRows) : Type 0 where
-  pub ascend : Ascends page.rows
+pub record IsPageInOrder (page : PageRows) : Type 0 where
+  pub ascend : RowsAscend page.rows
   pub places : PlacesDiffer page.rows
   pub each : AllByRecursion (IsRowOf page.head) page.rows
   pub few : length page.rows ≤ MAX_ROWS + 1

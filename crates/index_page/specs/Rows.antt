@@ -22,8 +22,8 @@ body_by (by.Value value) = Bytes value.now
 body_by (by.Child number) = Child number
 
 -- a row with its three parts
-abbrev pub row_of : ℕ → FieldList → RowBody → Row
-row_of place key body = record { place = place; key = key; body = body }
+abbrev pub placed_row : ℕ → FieldList → RowBody → Row
+placed_row place key body = record { place = place; key = key; body = body }
 
 -- the row that stands at a place
 abbrev pub find_row : ℕ → List Row → Option Row
@@ -31,19 +31,19 @@ find_row place [] = None
 find_row place (x ∷ xs) = if x.place == place then Some x else find_row place xs
 
 -- the first of some rows
-abbrev pub first_row : List Row → Option Row
-first_row [] = None
-first_row (x ∷ xs) = Some x
+abbrev pub first_of_rows : List Row → Option Row
+first_of_rows [] = None
+first_of_rows (x ∷ xs) = Some x
 
 -- the last of a row and those after it
-abbrev pub last_after : Row → List Row → Row
-last_after x [] = x
-last_after x (y ∷ ys) = last_after y ys
+abbrev pub last_row_after : Row → List Row → Row
+last_row_after x [] = x
+last_row_after x (y ∷ ys) = last_row_after y ys
 
 -- the last of some rows
-abbrev pub last_row : List Row → Option Row
-last_row [] = None
-last_row (x ∷ xs) = Some (last_after x xs)
+abbrev pub last_of_rows : List Row → Option Row
+last_of_rows [] = None
+last_of_rows (x ∷ xs) = Some (last_row_after x xs)
 
 -- this is the place of that row among the rows; no place where there is no row
 abbrev pub IsAt : List Row → Option ℕ → Option Row → Type 0

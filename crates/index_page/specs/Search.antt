@@ -1,5 +1,5 @@
 -- What a search in a page tells.
-use Rattle.std.specs.Prelude.{ℕ, ◌≡◌, Bool, true, false, Option, Some, None, List, ◌++◌, slice_get}
+use Rattle.std.specs.Prelude.{ℕ, ◌≡◌, ◌≤◌, Bool, true, false, Option, Some, None, List, ◌++◌, length, take, drop, slice_get}
 use Rattle.std.specs.List.{AllByRecursion}
 use Rattle.key_tuple.specs.Order.{FieldList}
 use Rattle.key_tuple.specs.KeyPlace.{KeyPlace, At, cut_of}
@@ -7,7 +7,7 @@ use Rattle.key_tuple.specs.Figures.{matching}
 use Rattle.key_tuple.specs.declared.mode.Mode.{Mode}
 use Rattle.key_tuple.specs.declared.mode.Match.{Match}
 use Rattle.index_page.specs.declared.spot.Spot.{Spot}
-use Rattle.index_page.specs.Rows.{Row, first_row, last_row, IsAt}
+use Rattle.index_page.specs.Rows.{Row, first_of_rows, last_of_rows, IsAt}
 
 -- the cut leaves out each of the rows
 abbrev pub AllOut : (KeyPlace → Bool) → List Row → Type 0
@@ -30,10 +30,17 @@ pub record Finds (mode : Mode) (tuple : FieldList) (rows : List Row) (spot : Spo
   pub split : rows ≡ left ++ right
   pub out : AllOut (cut_of mode tuple) left
   pub past : AllIn (cut_of mode tuple) right
-  pub before_at : IsAt rows spot.before (last_row left)
-  pub after_at : IsAt rows spot.after (first_row right)
-  pub low : spot.low ≡ agreement tuple (last_row left)
-  pub up : spot.up ≡ agreement tuple (first_row right)
+  pub before_at : IsAt rows spot.before (last_of_rows left)
+  pub after_at : IsAt rows spot.after (first_of_rows right)
+  pub low : spot.low ≡ agreement tuple (last_of_rows left)
+  pub up : spot.up ≡ agreement tuple (first_of_rows right)
+  pub cut : spot.cut ≡ length left
+
+-- the mode's cut leaves out as many of the first rows as the number says, and admits the rest
+pub record CutsAt (mode : Mode) (tuple : FieldList) (rows : List Row) (cut : ℕ) : Type 0 where
+  pub within : cut ≤ length rows
+  pub out : AllOut (cut_of mode tuple) (take cut rows)
+  pub past : AllIn (cut_of mode tuple) (drop cut rows)
 
 -- the row with that number, if a number is given
 abbrev pub nth_row : List Row → Option ℕ → Option Row

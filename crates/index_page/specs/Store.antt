@@ -2,7 +2,7 @@
 use Rattle.std.specs.Prelude.{ℕ, ◌≡◌, ◌≢◌, ◌<◌, ◌+◌, Option, Some, None, List, [], ◌∷◌, ◌++◌, length, map, slice_index_or}
 use Rattle.std.specs.List.{AllByRecursion}
 use Rattle.key_tuple.specs.Order.{FieldList}
-use Rattle.index_page.specs.Rows.{RowBody, Bytes, Child, Row, row_of}
+use Rattle.index_page.specs.Rows.{RowBody, Bytes, Child, Row, placed_row}
 
 -- the places of rows in their order, and the vacant ones
 pub record PlaceLists : Type 0 where
@@ -20,12 +20,12 @@ body_from value None = Bytes value
 body_from value (Some number) = Child number
 
 -- the row that is stored at a place
-abbrev pub row_in : List Content → ℕ → Row
-row_in slots place = let found = slice_index_or slots place (record { key = []; body = Bytes [] }) in row_of place found.key found.body
+abbrev pub stored_row : List Content → ℕ → Row
+stored_row slots place = let found = slice_index_or slots place (record { key = []; body = Bytes [] }) in placed_row place found.key found.body
 
 -- the rows at these places
 abbrev pub rows_in : List Content → List ℕ → List Row
-rows_in slots live = map (row_in slots) live
+rows_in slots live = map (stored_row slots) live
 
 -- no number stands twice
 abbrev pub AllDiffer : List ℕ → Type 0

@@ -3,8 +3,8 @@ ghost use Rattle.std.specs.Prelude.{◌≡◌, ◌≤◌, ◌<◌, [], ◌∷◌
 ghost use Rattle.std.specs.List.{insert, remove};
 ghost use Rattle.key_tuple.specs.Limits.{IsWithinLimits};
 ghost use Rattle.index_page.specs.declared.TheConstants.{MAX_ROWS};
-ghost use Rattle.index_page.specs.Rows.{row_of, body_by, find_row};
-ghost use Rattle.index_page.specs.Page.{PlacesDiffer, IsShort};
+ghost use Rattle.index_page.specs.Rows.{placed_row, body_by, find_row};
+ghost use Rattle.index_page.specs.Page.{PlacesDiffer, HasShortValue};
 ghost use Rattle.index_page.specs.Store.{rows_in, IsStore, IsSpare};
 
 use crate::body::Body;
@@ -64,7 +64,7 @@ impl Heap {
     /// The row with that number, from 0.
     pub(crate) fn stored(&self, i: usize) -> (Place, &Record)
         requires { i < length self.now }
-        ensures { slice_get self.now i ≡ Some (row_of result.0 result.1.now.key result.1.now.body) }
+        ensures { slice_get self.now i ≡ Some (placed_row result.0 result.1.now.key result.1.now.body) }
     {
         let place = self.places.live()[i];
         (place, &self.slots[place as usize])
@@ -73,7 +73,7 @@ impl Heap {
     /// The row at that place.
     pub(crate) fn record(&self, place: Place) -> &Record
         requires { IsSome (find_row place self.now) }
-        ensures { find_row place self.now ≡ Some (row_of place result.now.key result.now.body) }
+        ensures { find_row place self.now ≡ Some (placed_row place result.now.key result.now.body) }
     {
         &self.slots[place as usize]
     }
@@ -89,10 +89,10 @@ impl Heap {
         requires key { IsWithinLimits (A.fields_of key.now) }
         requires room { length self.old ≤ MAX_ROWS }
         ensures ok { IfOk result (λ place.
-            self.new ≡ insert self.old at (row_of place (A.fields_of key.now) (body_by body.entry))) }
+            self.new ≡ insert self.old at (placed_row place (A.fields_of key.now) (body_by body.entry))) }
         ensures vacant { IfOk result (λ place. find_row place self.old ≡ None) }
         ensures differ { OnOk result (PlacesDiffer self.new) }
-        ensures short { OnOk result (IsShort (body_by body.entry)) }
+        ensures short { OnOk result (HasShortValue (body_by body.entry)) }
         ensures err { OnErr result (self.new ≡ self.old) }
     {
         let place = vacancy(self.alloc, &mut self.slots, &mut self.places)?;

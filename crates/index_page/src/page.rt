@@ -1,7 +1,7 @@
 //! A page.
 ghost use Rattle.std.specs.Prelude.{◌≡◌, [], length, Some, IfOk, IsSome};
 ghost use Rattle.index_page.specs.Rows.{find_row};
-ghost use Rattle.index_page.specs.Page.{IsNeighbour, linked, IsRowOf, IsInOrder};
+ghost use Rattle.index_page.specs.Page.{IsNeighbour, linked, IsRowOf, IsPageInOrder};
 
 use crate::head::PageHead;
 use crate::heap::Heap;
@@ -20,13 +20,13 @@ pub struct Page {
 }
 
 impl Model for Page {
-    ghost use Rattle.index_page.specs.Page.{PageRows, IsInOrder};
+    ghost use Rattle.index_page.specs.Page.{PageRows, IsPageInOrder};
 
     ghost Value = { PageRows };
 
     ghost view = { λ p. record { head = p.head; rows = p.rows } };
 
-    ghost invariant = { λ p. IsInOrder (record { head = p.head; rows = p.rows }) };
+    ghost invariant = { λ p. IsPageInOrder (record { head = p.head; rows = p.rows }) };
 }
 
 impl Page {
@@ -81,7 +81,7 @@ impl Page {
 
     /// The page is in order.
     pub fn is_in_order(&self)
-        ensures { IsInOrder self.now }
+        ensures { IsPageInOrder self.now }
     {
         let _ = &self.head;
     }

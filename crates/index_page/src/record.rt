@@ -2,7 +2,7 @@
 ghost use Rattle.std.specs.Prelude.{◌≡◌, ℕ, List, [], IfOk, OnOk};
 ghost use Rattle.key_tuple.specs.Limits.{IsWithinLimits};
 ghost use Rattle.index_page.specs.Rows.{body_by, Bytes, Child};
-ghost use Rattle.index_page.specs.Page.{IsShort};
+ghost use Rattle.index_page.specs.Page.{HasShortValue};
 
 use crate::body::Body;
 use key_tuple::{FieldBuffer, Fields};
@@ -40,7 +40,7 @@ impl Record {
         requires { IsWithinLimits (A.fields_of key.now) }
         ensures key { OnOk result (self.new.key ≡ A.fields_of key.now) }
         ensures body { OnOk result (self.new.body ≡ body_by body.entry) }
-        ensures short { OnOk result (IsShort (body_by body.entry)) }
+        ensures short { OnOk result (HasShortValue (body_by body.entry)) }
     {
         fill_key(&mut self.key, key)?;
         self.value.clear();

@@ -1,8 +1,8 @@
 //! A row of a page, lent.
 ghost use Rattle.std.specs.Prelude.{◌≡◌, ◌≢◌, ◌≤◌, length};
 ghost use Rattle.key_tuple.specs.declared.TheConstants.{MAX_VALUE_BYTES};
-ghost use Rattle.index_page.specs.Rows.{Bytes, Child, row_of};
-ghost use Rattle.index_page.specs.Page.{FitsLevel, IsShort};
+ghost use Rattle.index_page.specs.Rows.{Bytes, Child, placed_row};
+ghost use Rattle.index_page.specs.Page.{FitsLevel, HasShortValue};
 
 use crate::record::Record;
 use crate::spot::Place;
@@ -18,22 +18,22 @@ pub struct RowRef<'a> {
 }
 
 impl<'a> Model for RowRef<'a> {
-    ghost use Rattle.index_page.specs.Rows.{row_of};
-    ghost use Rattle.index_page.specs.Page.{LevelRow, FitsLevel, IsShort};
+    ghost use Rattle.index_page.specs.Rows.{placed_row};
+    ghost use Rattle.index_page.specs.Page.{LevelRow, FitsLevel, HasShortValue};
 
     ghost Value = { LevelRow };
 
-    ghost view = { λ r. record { level = r.level; row = row_of r.place r.record.now.key r.record.now.body } };
+    ghost view = { λ r. record { level = r.level; row = placed_row r.place r.record.now.key r.record.now.body } };
 
-    ghost invariant = { λ r. FitsLevel r.level r.record.now.body × IsShort r.record.now.body };
+    ghost invariant = { λ r. FitsLevel r.level r.record.now.body × HasShortValue r.record.now.body };
 }
 
 impl<'a> RowRef<'a> {
     pub(crate) fn new(stored: &'a Record, place: Place, level: u16) -> RowRef<'a>
         requires level { FitsLevel level stored.now.body }
-        requires short { IsShort stored.now.body }
+        requires short { HasShortValue stored.now.body }
         ensures level { result.level ≡ level }
-        ensures row { result.row ≡ row_of place stored.now.key stored.now.body }
+        ensures row { result.row ≡ placed_row place stored.now.key stored.now.body }
     {
         RowRef {
             record: stored,

@@ -30,6 +30,7 @@ impl Page {
             after,
             low,
             up,
+            cut,
         }
     }
 

@@ -16,4 +16,6 @@ pub struct Spot {
     pub low: Match,
     /// How far the tuple agrees with the row after.
     pub up: Match,
+    /// How many rows the cut leaves out.
+    pub(crate) cut: usize,
 }

@@ -5,7 +5,7 @@
 mod world;
 
 pub use index_law::{
-    AsMadeChange, AsSaying, Deed, Frame, Layout, Object, Say, first_objects, one_row_is_lawful,
-    opens_lawfully,
+    AsMadeChange, AsSaying, ChangeRef, Deed, Frame, Layout, Object, Say, first_objects,
+    one_row_is_lawful, opens_lawfully,
 };
 pub use world::{IndexWorld, WorldPass, WorldSpace};

@@ -3,3 +3,4 @@ pub mod Elements
 pub mod Each
 pub mod Orders
 pub mod Outcomes
+pub mod Parts

@@ -3,7 +3,7 @@ use Rattle.std.proofs.Common.{◌≡◌, ◌≢◌, inl, inr, ℕ, ◌<◌, Bool
 use Rattle.std.specs.List.{AllByRecursion}
 use Rattle.key_tuple.specs.Order.{FieldList}
 use Rattle.key_tuple.specs.KeyPlace.{KeyPlace, Start, At, End, before, IsCut}
-use Rattle.index_page.specs.Rows.{RowBody, Bytes, Child, Row, last_row, last_after}
+use Rattle.index_page.specs.Rows.{RowBody, Bytes, Child, Row, last_of_rows, last_row_after}
 use Rattle.index_page.specs.Page.{FitsLevel}
 use Rattle.tree_law.specs.TreeShape.{Pointer, In, first_from, ranges, Rise, HasCut, pointer_to}
 use Rattle.tree_law.specs.PickLaws.{CutRange, AreInner, PicksRange, RangesArePicked, DescentSteps}
@@ -51,12 +51,12 @@ rises_at [] x qs high r = r.0
 rises_at (y ∷ xs) x qs high r = rises_at xs x qs high r.1
 
 -- some rows end with their last
-ends_at : (a : Row) (xs : List Row) → (ls : List Row) × (a ∷ xs ≡ ls ++ last_after a xs ∷ [])
+ends_at : (a : Row) (xs : List Row) → (ls : List Row) × (a ∷ xs ≡ ls ++ last_row_after a xs ∷ [])
 ends_at a [] = ([], refl)
 ends_at a (b ∷ xs) = let r = ends_at b xs in (a ∷ r.0, ap (λ z. a ∷ z) r.1)
 
 -- what holds of each of some rows holds of the last
-last_of_each : (P : Row → Type 0) (a : Row) (xs : List Row) → AllByRecursion P (a ∷ xs) → P (last_after a xs)
+last_of_each : (P : Row → Type 0) (a : Row) (xs : List Row) → AllByRecursion P (a ∷ xs) → P (last_row_after a xs)
 last_of_each P a [] h = h.0
 last_of_each P a (b ∷ xs) h = last_of_each P b xs h.1
 
@@ -94,7 +94,7 @@ module _ (p : KeyPlace → Bool) (cut : IsCut p) where
       }
 
   -- the last row that the cut leaves out
-  pub pick_last : (rows left right : List Row) (high : KeyPlace) (x : Row) (n : ℕ) → rows ≡ left ++ right → last_row left ≡ Some x → x.body ≡ Child n
+  pub pick_last : (rows left right : List Row) (high : KeyPlace) (x : Row) (n : ℕ) → rows ≡ left ++ right → last_of_rows left ≡ Some x → x.body ≡ Child n
       → AllByRecursion (λ (y : Row). p (At y.key) ≡ false) left → AllByRecursion (λ (y : Row). p (At y.key) ≡ true) right → AreInner right
       → p high ≡ true → Rise (pointers_of rows) high → CutRange p rows high n
   pick_last rows [] right high x n is last body outs ins inner end rise = absurd (none_is_not x last)
@@ -102,7 +102,7 @@ module _ (p : KeyPlace → Bool) (cut : IsCut p) where
       none_is_not : (x : Row) → None ≡ Some x → ⊥
       none_is_not x e = absurd cc
   pick_last rows (a ∷ left) right high x n is last body outs ins inner end rise =
-      let same : last_after a left ≡ x = same_row (last_after a left) x last in
+      let same : last_row_after a left ≡ x = same_row (last_row_after a left) x last in
       let e = ends_at a left in
       let all : rows ≡ e.0 ++ x ∷ right = is ∙ (ap (λ z. z ++ right) (e.1 ∙ ap (λ z. e.0 ++ z ∷ []) same) ∙ append_assoc e.0 (x ∷ []) right) in
       subst (λ z. CutRange p z high n) (sym all)

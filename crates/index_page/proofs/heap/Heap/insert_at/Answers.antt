@@ -1,7 +1,7 @@
 use Rattle.std.proofs.Common.{◌≡◌, ◌≤◌, None, length, set, ap, sym, ◌∙◌, subst, arith, List}
 use Rattle.std.proofs.lemmas.List.{length-map}
 use Rattle.index_page.specs.Rows.{Row, find_row}
-use Rattle.index_page.specs.Store.{PlaceLists, row_in, rows_in, IsStore}
+use Rattle.index_page.specs.Store.{PlaceLists, stored_row, rows_in, IsStore}
 use Rattle.list_facts.proofs.Outcomes.{when_err}
 use Rattle.index_page.proofs.StoreLemmas.{spare_below, spare_others, written_store, written_rows, claimed_store, claimed_rows, find_vacant, stored_differ}
 use Rattle.index_page.proofs.heap.Heap.insert_at.Goals as goal
@@ -29,7 +29,7 @@ returns-in_err-claim-clause-err g c =
 pub invariant_of-self-2 : goal.invariant_of-self-2
 invariant_of-self-2 g c =
     let le : c.args.at ≤ length c.vacancy.new.places.live =
-    omega (arith, ap length (c.vacancy.ensures.rows ∙ c.self.view_is), length-map c.vacancy.new.places.live (row_in c.vacancy.new.slots.items)) in
+    omega (arith, ap length (c.vacancy.ensures.rows ∙ c.self.view_is), length-map c.vacancy.new.places.live (stored_row c.vacancy.new.slots.items)) in
     claimed_store c.vacancy.new.slots.items c.vacancy.new.places c.in_ok-place.place c.vacancy.ensures.store c.in_ok-place.ensures.spare c.fill.new.self c.claim.new.self c.args.at le c.in_ok-claim.ensures.live c.in_ok-claim.ensures.free
 
 pub returns-clause-vacant : goal.returns-clause-vacant

@@ -1,6 +1,6 @@
 use Rattle.std.proofs.Common.{List, sym, ap, subst}
 use Rattle.index_page.specs.Rows.{Row}
-use Rattle.index_page.specs.Page.{PageRows, IsInOrder, PlacesDiffer}
+use Rattle.index_page.specs.Page.{PageRows, IsPageInOrder, PlacesDiffer}
 use Rattle.index_page.specs.Search.{IsPosition}
 use Rattle.index_page.specs.Changes.{Deletes}
 use Rattle.index_page.proofs.OrderLemmas.{deleted_order, deletes}
@@ -14,7 +14,7 @@ pub invariant_of-self : goal.invariant_of-self
 invariant_of-self c =
     let places = subst PlacesDiffer c.remove_at.ensures.rows c.remove_at.ensures.differ in
     let order = deleted_order (record { head = c.self.inside.head; rows = c.self.inside.rows }) c.args.place c.position-at.result c.self.invariant (position c) places in
-    subst (λ (rows : List Row). IsInOrder (record { head = c.self.inside.head; rows = rows })) (sym c.remove_at.ensures.rows) order
+    subst (λ (rows : List Row). IsPageInOrder (record { head = c.self.inside.head; rows = rows })) (sym c.remove_at.ensures.rows) order
 
 pub returns : goal.returns
 returns c =

@@ -1,7 +1,7 @@
 use Rattle.std.proofs.Common.{◌≡◌, ◌+◌, length, add-one, Some, ap, subst, arith}
 use Rattle.std.specs.List.{slice_get}
-use Rattle.index_page.specs.Rows.{row_of}
-use Rattle.index_page.specs.Page.{PageRows, IsInOrder}
+use Rattle.index_page.specs.Rows.{placed_row}
+use Rattle.index_page.specs.Page.{PageRows, IsPageInOrder}
 use Rattle.index_page.proofs.RowLemmas.{get_below}
 use Rattle.index_page.proofs.BesideLemmas.{next_some, next_none}
 use Rattle.index_page.proofs.page.Page.next.Goals as goal
@@ -14,8 +14,8 @@ overflow_add-next c =
 
 pub returns-then-next-count : goal.returns-then-next-count
 returns-then-next-count c =
-    let order = subst IsInOrder c.self.view_is c.self.invariant in
-    let there = subst (λ (p : PageRows). slice_get p.rows (c.position-next.result + 1) ≡ Some (row_of c.stored.result.0 c.stored.result.1.now.key c.stored.result.1.now.body)) c.self.view_is c.stored.ensures in
+    let order = subst IsPageInOrder c.self.view_is c.self.invariant in
+    let there = subst (λ (p : PageRows). slice_get p.rows (c.position-next.result + 1) ≡ Some (placed_row c.stored.result.0 c.stored.result.1.now.key c.stored.result.1.now.body)) c.self.view_is c.stored.ensures in
     next_some c.args.self.now.rows c.args.place c.position-next.result c.position-next.ensures _ order.places (rw add-one at there)
 
 pub returns-else-next-count : goal.returns-else-next-count

@@ -1,6 +1,6 @@
 use Rattle.std.proofs.Common.{◌≡◌, Some, ap, subst, arith}
-use Rattle.index_page.specs.Page.{PageRows, IsRowOf, IsInOrder}
-use Rattle.index_page.specs.Rows.{find_row, row_of}
+use Rattle.index_page.specs.Page.{PageRows, IsRowOf, IsPageInOrder}
+use Rattle.index_page.specs.Rows.{find_row, placed_row}
 use Rattle.index_page.proofs.RowLemmas.{each_found}
 use Rattle.index_page.proofs.KeyLemmas.{position_of}
 use Rattle.index_page.proofs.page.Page.position.Goals as goal
@@ -12,6 +12,6 @@ cut-requires c =
 
 pub returns : goal.returns
 returns c =
-    let order = subst IsInOrder c.self.view_is c.self.invariant in
-    let found = subst (λ (p : PageRows). find_row c.args.place p.rows ≡ Some (row_of c.args.place c.record.result.now.key c.record.result.now.body)) c.self.view_is c.record.ensures in
+    let order = subst IsPageInOrder c.self.view_is c.self.invariant in
+    let found = subst (λ (p : PageRows). find_row c.args.place p.rows ≡ Some (placed_row c.args.place c.record.result.now.key c.record.result.now.body)) c.self.view_is c.record.ensures in
     position_of c.args.self.now c.args.place _ c.cut.result order found c.cut.ensures.out c.cut.ensures.past

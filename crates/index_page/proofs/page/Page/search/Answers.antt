@@ -1,6 +1,6 @@
 use Rattle.std.proofs.Common.{◌≡◌, length, take, drop, sym, ap, ◌∙◌, subst, arith}
-use Rattle.std.proofs.lemmas.List.{take-append-drop}
-use Rattle.index_page.specs.Rows.{first_row, IsAt}
+use Rattle.std.proofs.lemmas.List.{take-append-drop, length-take-le}
+use Rattle.index_page.specs.Rows.{first_of_rows, IsAt}
 use Rattle.index_page.specs.Page.{PageRows}
 use Rattle.index_page.specs.Search.{agreement, nth_row}
 use Rattle.index_page.proofs.BesideLemmas.{last_beside, first_beside, none_beside}
@@ -9,7 +9,7 @@ use Rattle.index_page.proofs.page.Page.search.Goals.{then-cut-len, else-cut-len}
 use Rattle.index_page.proofs.page.Page.search.Goals as goal
 
 -- the row after the cut, where there is one
-row_after : (g : Over) (c : goal.After-up-1 g) → nth_row c.args.self.now.rows c.if-cut-len.after_cut ≡ first_row (drop c.cut-cut.result c.args.self.now.rows)
+row_after : (g : Over) (c : goal.After-up-1 g) → nth_row c.args.self.now.rows c.if-cut-len.after_cut ≡ first_of_rows (drop c.cut-cut.result c.args.self.now.rows)
 row_after g c =
     elim (c.if-cut-len.branch) [
       | then-cut-len w ↦ ap (nth_row c.args.self.now.rows) w.after_cut-is ∙ first_beside c.args.self.now.rows c.cut-cut.result
@@ -32,4 +32,5 @@ returns g c =
       after_at = subst (IsAt rows c.beside-after.result.0) first c.beside-after.ensures.place;
       low = c.beside-before.ensures.figures ∙ ap (agreement tuple) last;
       up = c.beside-after.ensures.figures ∙ ap (agreement tuple) first;
+      cut = sym (length-take-le c.cut-cut.result rows c.cut-cut.ensures.within);
     }
