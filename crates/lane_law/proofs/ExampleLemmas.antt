@@ -71,6 +71,15 @@ module _ (sizes : Sizes) (w : State) (is : IsExample sizes w) where
   each_said P first second (suc zero) q e = subst P (some-injective (record { index = 0; point = 1; by = 1; what = found }) q e) second
   each_said P first second (suc (suc j)) q e = absurd (some-ne-none q (sym e))
 
+  -- the change stands at the first place alone
+  first_alone : (q : OwnAnswer) (c : MadeChange) → q.what ≡ what.TheVariants.Change c → (j : ℕ) → get_elem? (example_view w).said j ≡ some q → j ≡ 0
+  first_alone q c is zero at = refl
+  first_alone q c is (suc zero) at =
+      let same : record { index = 0; point = 1; by = 1; what = found } ≡ q = some-injective (record { index = 0; point = 1; by = 1; what = found }) q at in
+      let other : found ≡ what.TheVariants.Change c = ap (λ (z : OwnAnswer). z.what) same ∙ is in
+      absurd cc
+  first_alone q c is (suc (suc j)) at = absurd (some-ne-none q (sym at))
+
   fits : Fits IsRight IsReference w (example_view w)
   fits = record {
     shape = refl;
@@ -87,8 +96,9 @@ module _ (sizes : Sizes) (w : State) (is : IsExample sizes w) where
     seen = λ i xs at. let one = one_place [] xs i at in (made ∷ [], subst (λ (z : ℕ × Entries). get_elem? w.lists z.0 ≡ some (z.1 ++ made ∷ [])) (λ k. (sym one.0 k, one.1 k)) list_at);
     signed = each_said (λ q. (0 ≤ q.by) × (q.by < 2)) (omega arith, omega arith) (omega arith, omega arith);
     within = each_said (λ q. (xs : Entries) × (get_elem? w.lists q.index ≡ some xs) × (q.point ≤ length xs)) (made ∷ [], list_at, omega arith) (made ∷ [], list_at, omega arith);
-    so = each_said (λ q. IsSo IsRight w q.index q.point q.by q.what) (omega arith, (made ∷ [], list_at, refl)) (record { list = made ∷ []; there = list_at; point = omega arith; said = λ speaks. (refl, λ e. cc) });
+    so = each_said (λ q. IsSo IsRight w q.index q.point q.by q.what) (omega arith, (made ∷ [], list_at, refl)) (record { list = made ∷ []; there = list_at; point = omega arith; said = λ speaks. record { form = refl; is = refl; changes_nothing = λ e. cc } });
     own = λ i n e h low high. let one = entry_is i n e h.0 h.1 h.2 in (0, λ k. some (record { index = sym one.0 k; point = sym one.1 k + 1; by = (one.2 k).by; what = what.TheVariants.Change (one.2 k).change }));
+    once = λ q c is i j at_i at_j. first_alone q c is i at_i ∙ sym (first_alone q c is j at_j);
     refers_to = λ j q at. absurd (some-ne-none q (sym at));
     holds_to = λ k h at. absurd (nothing_held k h at);
   }

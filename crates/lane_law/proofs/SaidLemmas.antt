@@ -15,7 +15,7 @@ use Rattle.map_history.specs.LegalReport.{Line}
 use Rattle.index_law.specs.Answers.{MadeChange, Word, Gives, Saying, Replies, Piece, Full, Look, speaks_at}
 use Rattle.index_law.specs.Answers as word
 use Rattle.index_law.specs.State.{State, Entries}
-use Rattle.index_law.specs.Rightness.{map_at, IsShort, IsAllowed, IsRight}
+use Rattle.index_law.specs.Rightness.{map_at, IsAllowed, AsksToWrite, IsRight}
 use Rattle.index_law.specs.Spoken.{OwnAnswer, Spoken, spoken, spoken_at, spoken_saying, printed_word, sayings}
 use Rattle.lane_law.specs.Worked.{lane_sayings}
 use Rattle.lane_law.specs.Runs.{all_sayings}
@@ -47,7 +47,7 @@ pub record IsFullAt (w : State) (i point : ℕ) (ask : Ask) : Type 0 where
 abbrev pub IsAnswerSo : State → ℕ → ℕ → Ask → Answer → Type 0
 IsAnswerSo w i by ask (Replied reply point columns) = ((reply ≡ Done) × IsMadeAt w i point by ask) ⊎ ((reply ≢ Done) × IsRepliedAt w i point ask reply)
 IsAnswerSo w i by ask (LogFull n columns) = IsFullAt w i n ask
-IsAnswerSo w i by ask (SpaceFull columns) = IsShort w
+IsAnswerSo w i by ask (SpaceFull columns) = AsksToWrite ask
 IsAnswerSo w i by ask (Scanned pieces) = Unit {0}
 
 abbrev IsSpokenSo : State → Spoken → Type 0
@@ -55,9 +55,9 @@ IsSpokenSo w s = IsAnswerSo w s.index s.by s.ask s.answer
 
 -- a right word that is spoken is so
 word_so : (w : State) (i p n : ℕ) (ask : Ask) (w' : Word) (bound : Option ℕ) (columns : Columns) → IsRight w i p (Replies ask w' bound columns) → speaks_at bound p ≡ true → IsAnswerSo w i n ask (printed_word w' p columns)
-word_so w i p n ask (Gives reply) bound columns right speaks = let so = right.said speaks in inr (so.1, record { list = right.list; there = right.there; within = right.point; reply_is = so.0 })
+word_so w i p n ask (Gives reply) bound columns right speaks = let so = right.said speaks in inr (so.changes_nothing, record { list = right.list; there = right.there; within = right.point; reply_is = so.is })
 word_so w i p n ask word.LogFull bound columns right speaks = let so = right.said speaks in record { list = right.list; there = right.there; within = right.point; is_most = so.0; allowed = so.1 }
-word_so w i p n ask word.SpaceFull bound columns right speaks = (right.said speaks).1
+word_so w i p n ask word.SpaceFull bound columns right speaks = right.said speaks
 
 saying_so : (w : State) (i p n : ℕ) (a : Saying) (s : Spoken) → IsRight w i p a → Contains (spoken_saying i p n a) s → IsSpokenSo w s
 saying_so w i p n (Replies ask w' bound columns) s right c = pick (speaks_at bound p) refl c

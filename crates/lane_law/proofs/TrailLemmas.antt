@@ -1,11 +1,15 @@
 -- What is printed of the lanes is what their joined pass did.
-use Rattle.std.proofs.Common.{◌≡◌, ◌≢◌, ℕ, zero, suc, ◌+◌, ◌-◌, ◌<◌, cond, eqb, eq-eqb, ne_eqb, Some, List, [], ◌∷◌, ◌++◌, length, map, filter, refl, ap, sym, ◌∙◌, subst, arith, append-nil}
+use Rattle.std.proofs.Common.{◌≡◌, ◌≢◌, ℕ, zero, suc, ◌+◌, ◌-◌, ◌<◌, ◌≤◌, cond, eqb, eq-eqb, ne_eqb, Some, List, [], ◌∷◌, ◌++◌, length, map, filter, refl, ap, sym, ◌∙◌, subst, arith, append-nil}
 use Rattle.std.specs.List.{slice_get, AllByRecursion, flat_map, zip}
 use Rattle.std.proofs.lemmas.List.Concat.{flat_map-cons}
 use Rattle.std.proofs.lemmas.List.Elements.{filter-append}
 use lib.ListN.{get_elem?}
 use Rattle.latch_law.specs.declared.knows.Entry.{Entry}
 use Rattle.latch_law.specs.declared.knows.Statement as what
+use Rattle.latch_law.specs.Rule.{Fits}
+use Rattle.latch_law.specs.Whole.{IsEntry}
+use Rattle.index_law.specs.References.{IsReference}
+use Rattle.index_law.specs.Rightness.{IsRight}
 use Rattle.list_facts.proofs.Places.{inside, one_value, get_there, get_inside}
 use Rattle.map_history.specs.Operation.{Ask}
 use Rattle.map_history.specs.Report.{ScanPiece, Answer, Replied, LogFull, SpaceFull, Scanned, AnswerLine, ChangeLine, Report, entries_at}
@@ -127,7 +131,18 @@ module _ (run : Run) (report : Report) (w : State) (v : View) (all : RunsAll run
   trail = record {
     low = all.low;
     end = all.end;
+    passes = all.end ∙ (sym all.passes ∙ all.fits.passes);
     answers = λ lane lines told at at'. ap (those lane) all.said ∙ of_lane 0 lane lane run.lanes report.lanes lines told (omega arith) at at';
     changes = own_change;
+    once = all.fits.once;
     entered = entered;
   }
+
+-- a state that fits such a pass has no other changes
+pub whole : (run : Run) (report : Report) (v : View) (w : State) → IsTrail run report v → Fits IsRight IsReference w v → (i n : ℕ) (e : Entry MadeChange) → IsEntry w i n e → Changed v i (n + 1) e.by e.change × IsEntered report i (n + 1) e.by e.change
+whole run report v w trail fits i n e here =
+    let low : v.low ≤ e.by = omega (arith, trail.low) in
+    let high : e.by < v.end = omega (arith, fits.makers i n e here, fits.passes, trail.passes) in
+    let own = fits.own i n e here low high in
+    let made : Changed v i (n + 1) e.by e.change = record { place = own.0; there = own.1 } in
+    (made, trail.entered i (n + 1) e.by e.change made)

@@ -14,7 +14,9 @@ use Rattle.map_history.specs.Report.{Answer, Replied, LogFull, SpaceFull, Scanne
 use Rattle.map_history.specs.LegalReport.{Line, Answers, Mark, marks_of, marks_in, Precedes, has_form, is_done}
 use Rattle.index_law.specs.State.{Entries}
 use Rattle.index_law.specs.Spoken.{View, Spoken, spoken, sayings}
-use Rattle.index_law.specs.Once.{SeesMore, AnswersOnce}
+use Rattle.index_law.specs.Once.{AnswersOnce}
+use Rattle.index_law.specs.Trace.{SeesMore}
+use Rattle.index_law.proofs.TraceLemmas.{sees_more, once_said}
 use Rattle.lane_law.specs.Worked.{answered, lane_sayings, IsSeenTo, Worked}
 use Rattle.list_facts.proofs.Elements.{zip_push, all_zip_push, all_zip_length}
 use Rattle.lane_law.proofs.PairLemmas.{all_pairs_none, all_pairs_one, all_pairs_append}
@@ -27,9 +29,6 @@ worked_none v = record {
   most = λ i. All-nil (λ (m : Mark). IsSeenTo v i m.point);
   in_order = record { form = tt; order = λ i. all_pairs_none Precedes };
 }
-
-sees_more : (u v w : View) → SeesMore u v → SeesMore v w → SeesMore u w
-sees_more u v w first second j ys at = let a = first j ys at in let b = second j (ys ++ a.0) a.1 in (a.0 ++ b.0, b.1 ∙ ap some (append_assoc ys a.0 b.0))
 
 -- what was seen to a point is still
 seen_still : (v w : View) (i point : ℕ) → SeesMore v w → IsSeenTo v i point → IsSeenTo w i point
@@ -66,7 +65,7 @@ module _ (u v w : View) (lines : List Line) (answers : List AnswerLine) (line : 
   before = there v.seen line.op.index room
 
   most_here : (m : Mark) → Contains (marks_of answer) m → IsSeenTo w line.op.index m.point
-  most_here m c = let now = once.seen line.op.index before.0 before.1 in (before.0 ++ now.0, now.1, once.most m (before.0 ++ now.0) c now.1)
+  most_here m c = let now = once.adds.seen line.op.index before.0 before.1 in (before.0 ++ now.0, now.1, once.most m (before.0 ++ now.0) c now.1)
 
   most_new : (i : ℕ) (b : Bool) → eqb line.op.index i ≡ b → All (λ (m : Mark). IsSeenTo w i m.point) (cond b (marks_of answer) [])
   most_new i false e = All-nil (λ (m : Mark). IsSeenTo w i m.point)
@@ -85,15 +84,15 @@ module _ (u v w : View) (lines : List Line) (answers : List AnswerLine) (line : 
 
   pub worked_more : Worked u w (lines ++ line ∷ []) (answers ++ answered line answer ∷ [])
   worked_more = record {
-    numbers = record { low = once.numbers.low ∙ did.numbers.low; end = once.numbers.end ∙ did.numbers.end; terms = once.numbers.terms ∙ did.numbers.terms };
-    said = once.said ∙ (ap (λ (n : ℕ). spoken v.said ++ sayings line.op.index n line.op.ask answer) did.numbers.low
+    numbers = record { low = once.adds.numbers.low ∙ did.numbers.low; end = once.adds.numbers.end ∙ did.numbers.end; terms = once.adds.numbers.terms ∙ did.numbers.terms };
+    said = once_said line.op.index line.op.ask answer v w once ∙ (ap (λ (n : ℕ). spoken v.said ++ sayings line.op.index n line.op.ask answer) did.numbers.low
         ∙ (ap (λ (s : List Spoken). s ++ sayings line.op.index u.low line.op.ask answer) did.said
         ∙ (append_assoc (spoken u.said) (lane_sayings u.low lines answers) (sayings line.op.index u.low line.op.ask answer)
         ∙ ap (λ (s : List Spoken). spoken u.said ++ s) (sym (sayings_more u.low lines answers line answer long)))));
-    seen = sees_more u v w did.seen once.seen;
+    seen = sees_more u v w did.seen once.adds.seen;
     most = λ i. subst (All (λ (m : Mark). IsSeenTo w i m.point)) (sym (marks_more i lines answers line answer long))
         (All-append (λ (m : Mark). IsSeenTo w i m.point) (marks_in i (zip lines answers)) (cond (eqb line.op.index i) (marks_of answer) [])
-        (All-weaker (λ (m : Mark). IsSeenTo v i m.point) (λ (m : Mark). IsSeenTo w i m.point) (λ m. seen_still v w i m.point once.seen) (marks_in i (zip lines answers)) (did.most i))
+        (All-weaker (λ (m : Mark). IsSeenTo v i m.point) (λ (m : Mark). IsSeenTo w i m.point) (λ m. seen_still v w i m.point once.adds.seen) (marks_in i (zip lines answers)) (did.most i))
         (most_new i (eqb line.op.index i) refl));
     in_order = record {
       form = all_zip_push Answers lines answers line (answered line answer) did.in_order.form (record { same_line = refl; form = once.form });

@@ -1,7 +1,10 @@
 -- The laws of lanes.
 use Rattle.std.specs.Prelude.{ℕ, ◌≡◌, ◌+◌, ◌<◌, false, List, [], ◌∷◌, ◌++◌, length, AllPairs}
 use Rattle.std.specs.List.{AllZip}
+use Rattle.latch_law.specs.declared.knows.Entry.{Entry}
+use Rattle.latch_law.specs.Rule.{Fits}
 use Rattle.latch_law.specs.Views.{both_parts}
+use Rattle.latch_law.specs.Whole.{IsEntry}
 use mathlib.Core.Option.{some}
 use lib.ListN.{get_elem?}
 use Rattle.change_log.specs.Log.{ChangeNote, Log}
@@ -10,11 +13,14 @@ use Rattle.map_history.specs.Operation.{is_scan}
 use Rattle.map_history.specs.Report.{Answer, AnswerLine, Report}
 use Rattle.map_history.specs.LegalReport.{Line, Run, Precedes, marks_of, IsLegalButRoom}
 use Rattle.index_law.specs.State.{State, Entries}
+use Rattle.index_law.specs.Answers.{MadeChange}
+use Rattle.index_law.specs.References.{IsReference}
+use Rattle.index_law.specs.Rightness.{IsRight}
 use Rattle.index_law.specs.Spoken.{View, spoken}
 use Rattle.index_law.specs.Once.{AnswersOnce}
 use Rattle.lane_law.specs.Worked.{answered, AreInOrder, Worked}
 use Rattle.lane_law.specs.Runs.{all_sayings, HasNoScan, RunsAll, AreEntries}
-use Rattle.lane_law.specs.Trail.{IsTrail}
+use Rattle.lane_law.specs.Trail.{Changed, IsEntered, IsTrail}
 use Rattle.lane_law.specs.Merged.{notes_of, lane_notes, all_notes, HasNotes, IsNumbered, HasMerged}
 
 -- A lane that worked goes on by one line of an index that its pass knows, which is answered once.
@@ -49,3 +55,7 @@ MergedLogsAreEntries = (run : Run) (report : Report) (w : State) (v : View) (log
 -- and the joined pass of the lanes tells that what is printed is what it did
 abbrev pub PassesAreTrails : Type 0
 PassesAreTrails = (run : Run) (report : Report) (w : State) (v : View) → RunsAll run report w v → AreEntries run report w → IsTrail run report v
+
+-- in a state that fits such a pass each entry of a list is a change that it made, and is printed
+abbrev pub TrailsAreWhole : Type 0
+TrailsAreWhole = (run : Run) (report : Report) (v : View) (w : State) → IsTrail run report v → Fits IsRight IsReference w v → (i n : ℕ) (e : Entry MadeChange) → IsEntry w i n e → Changed v i (n + 1) e.by e.change × IsEntered report i (n + 1) e.by e.change

@@ -3,11 +3,12 @@ use Rattle.std.specs.Prelude.{ℕ, ◌≡◌, ◌+◌, ◌==◌, Some, List, len
 use Rattle.std.specs.List.{slice_get}
 use mathlib.Core.Option.{some}
 use lib.ListN.{get_elem?}
+use Rattle.list_facts.specs.Parts.{StandsOnce}
 use Rattle.latch_law.specs.declared.knows.Statement as what
 use Rattle.map_history.specs.Report.{AnswerLine, ChangeLine, Report, entries_at}
 use Rattle.map_history.specs.LegalReport.{Line, Run}
 use Rattle.index_law.specs.Answers.{MadeChange}
-use Rattle.index_law.specs.Spoken.{View, Spoken, spoken}
+use Rattle.index_law.specs.Spoken.{View, OwnAnswer, Spoken, spoken}
 use Rattle.lane_law.specs.Worked.{lane_sayings}
 
 -- what the pass said under one of its numbers, no looks and no fulls
@@ -36,10 +37,12 @@ pub record IsEntered (report : Report) (index point by : ℕ) (deed : MadeChange
   pub same_change : entry.change ≡ deed.change
   pub same_lane : entry.lane ≡ by + 1
 
--- The pass has the numbers of all lanes. What it said under the number of a lane is, in order, what is printed of that lane's lines; the changes that are printed are those that it made.
+-- The pass has the numbers of all lanes, which are all that its space was opened for. What it said under the number of a lane is, in order, what is printed of that lane's lines; the changes that are printed are those that it made, each said once.
 pub record IsTrail (run : Run) (report : Report) (v : View) : Type 0 where
   pub low : v.low ≡ 0
   pub end : v.end ≡ length run.lanes
+  pub passes : v.end ≡ v.terms.passes
   pub answers : (lane : ℕ) (lines : List Line) (told : List AnswerLine) → slice_get run.lanes lane ≡ Some lines → slice_get report.lanes lane ≡ Some told → spoken_by lane v ≡ lane_sayings lane lines told
   pub changes : (i n : ℕ) (entry : ChangeLine) → slice_get (entries_at report i) n ≡ Some entry → IsOwnChange v i n entry
+  pub once : (q : OwnAnswer) (deed : MadeChange) → q.what ≡ what.TheVariants.Change deed → StandsOnce v.said q
   pub entered : (i point by : ℕ) (deed : MadeChange) → Changed v i point by deed → IsEntered report i point by deed

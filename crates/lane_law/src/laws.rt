@@ -1,7 +1,7 @@
 //! The laws of lanes.
 ghost use Rattle.lane_law.specs.Example.{WorkedExample, ExampleStands};
 ghost use Rattle.lane_law.specs.Laws.{LanesGoOn, RunsJoin, LanesAreLegal, MergedLogsAreLists};
-ghost use Rattle.lane_law.specs.Laws.{MergedLogsAreEntries, PassesAreTrails};
+ghost use Rattle.lane_law.specs.Laws.{MergedLogsAreEntries, PassesAreTrails, TrailsAreWhole};
 
 /// A lane goes on line by line.
 pub fn lanes_go_on()
@@ -13,17 +13,17 @@ pub fn runs_join()
     ensures { RunsJoin }
 {}
 
-/// What lanes are told of one space is a legal report.
+/// What lanes are told of one space is a legal report, but for room.
 pub fn lanes_are_legal()
     ensures { LanesAreLegal }
 {}
 
-/// The merged logs of the lanes are the lists of changes, entry by entry.
+/// The merged logs of the lanes are the lists of changes, change by change.
 pub fn merged_logs_are_lists()
     ensures { MergedLogsAreLists }
 {}
 
-/// A report whose entries are looked up by the merged logs has the entries of the lists.
+/// A report whose entries are the merged changes has the entries of the lists.
 pub fn merged_logs_are_entries()
     ensures { MergedLogsAreEntries }
 {}
@@ -31,6 +31,11 @@ pub fn merged_logs_are_entries()
 /// What is printed of the lanes is what their joined pass did.
 pub fn passes_are_trails()
     ensures { PassesAreTrails }
+{}
+
+/// A space has no changes but those of such a pass.
+pub fn trails_are_whole()
+    ensures { TrailsAreWhole }
 {}
 
 /// Two lanes of one line each, for which all this holds.

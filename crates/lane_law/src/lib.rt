@@ -6,5 +6,5 @@ mod laws;
 
 pub use laws::{
     example_stands, lanes_are_legal, lanes_go_on, merged_logs_are_entries, merged_logs_are_lists,
-    passes_are_trails, runs_join, worked_example,
+    passes_are_trails, runs_join, trails_are_whole, worked_example,
 };

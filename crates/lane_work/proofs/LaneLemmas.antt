@@ -48,17 +48,17 @@ all_push P (y ∷ xs) x all last = (all.0, all_push P xs x all.1 last)
 -- one line more
 pub works_more : (u v w : View) (lines : List legal.Line) (texts texts' : List (List ℕ)) (log log' : Log) (line : legal.Line) (told : Told) (row : Pair) (lane : ℕ)
     → Works u v lines texts log → line.op.index < length v.seen → is_scan line.op.ask ≡ false → TellsOnce v w line.op.index line.op.ask told row → lane ≡ u.low + 1
-    → IfSome (answer_of line.op.ask told row) (λ a. texts' ≡ texts ++ answer_text line.line a ∷ []) → log'.noted ≡ log.noted ++ told_notes lane line told → columns_told told ≡ dashes → told.reply ≢ word.SpaceFull → Works u w (lines ++ line ∷ []) texts' log'
-works_more u v w lines texts texts' log log' line told row lane works room plain tells is added noted plain_columns not_full =
+    → IfSome (answer_of line.op.ask told row) (λ a. texts' ≡ texts ++ answer_text line.line a ∷ []) → log'.noted ≡ log.noted ++ told_notes lane line told → Works u w (lines ++ line ∷ []) texts' log'
+works_more u v w lines texts texts' log log' line told row lane works room plain tells is added noted =
     let answer = tells.answer in
-    let text : texts' ≡ texts ++ answer_text line.line answer ∷ [] = subst (λ o. IfSome o (λ a. texts' ≡ texts ++ answer_text line.line a ∷ [])) tells.told_is added in
-    let note : told_notes lane line told ≡ notes_of u.low line answer = ap (λ n. told_notes n line told) is ∙ noted_by u.low line told.reply told.point told.how told.note row answer tells.told_is in
+    let text : texts' ≡ texts ++ answer_text line.line answer ∷ [] = subst (λ o. IfSome o (λ a. texts' ≡ texts ++ answer_text line.line a ∷ [])) tells.is_told.is added in
+    let note : told_notes lane line told ≡ notes_of u.low line answer = ap (λ n. told_notes n line told) is ∙ noted_by u.low line told.reply told.point told.how told.note row answer tells.is_told.is in
     record {
       answers = works.answers ++ answered line answer ∷ [];
       worked = worked_more u v w lines works.answers line answer works.worked room (plain_marks line.op.ask answer plain tells.once.form) tells.once;
       printed = text ∙ (ap (λ xs. xs ++ answer_text line.line answer ∷ []) works.printed ∙ sym (map-append answer_line_text works.answers (answered line answer ∷ [])));
       noted = noted ∙ ((λ i. works.noted i ++ note i) ∙ sym (notes_more u.low lines works.answers line answer (long lines works.answers works.worked.in_order.form)));
-      dashed = all_push (λ (a : AnswerLine). HasDashes a.answer) works.answers (answered line answer) works.dashed (dashes_told line.op.ask told.reply told.point told.how told.note row answer tells.told_is plain_columns not_full);
+      dashed = all_push (λ (a : AnswerLine). HasDashes a.answer) works.answers (answered line answer) works.dashed (dashes_told line.op.ask told.reply told.point told.how told.note row answer tells.is_told.is tells.is_told.plain.dashed tells.is_told.plain.room);
     }
 
 -- the line at a place can be worked

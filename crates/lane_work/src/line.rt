@@ -1,16 +1,13 @@
 //! One line, asked of an engine.
-ghost use Rattle.std.specs.Prelude.{◌≡◌, ◌≢◌, ◌<◌, IfOk, OnErr};
-ghost use Rattle.map_history.specs.Told.{columns_told};
+ghost use Rattle.std.specs.Prelude.{IfOk, OnErr};
 ghost use Rattle.map_history.specs.Lines.{line_text};
-ghost use Rattle.index_law.specs.Once.{IsQuiet};
 ghost use Rattle.index_engine.specs.Engines.{known, IsOf, IsSame};
-ghost use Rattle.index_engine.specs.Says.{TellsOnce};
-ghost use Rattle.map_history.specs.Report.{dashes};
+ghost use Rattle.index_engine.specs.Says.{TellsOnce, GivesUp};
 ghost use Rattle.lane_work.specs.Workable.{IsWorkable};
 
 use index_engine::{Engine, EnginePass};
 use key_tuple::NoMemory;
-use map_history::{Op, Reply, RowBuf, Told};
+use map_history::{Op, RowBuf, Told};
 use script::Line;
 use std::sync::Wait;
 
@@ -27,9 +24,8 @@ pub(crate) fn work_line<R: Wait>(
     ensures own { IsSame pass.old pass.new × IsOf engine.now pass.new }
     ensures ok { IfOk result (λ told. TellsOnce (known pass.old) (known pass.new)
         (line_text line.now).op.index (line_text line.now).op.ask told row.new) }
-    ensures dashed { IfOk result (λ told. columns_told told ≡ dashes) }
-    ensures room { IfOk result (λ told. told.reply ≢ Reply.SpaceFull) }
-    ensures err { OnErr result (IsQuiet (known pass.old) (known pass.new)) }
+    ensures err { OnErr result (GivesUp (known pass.old) (known pass.new)
+        (line_text line.now).op.index) }
 {
     match &line.op {
         Op::Get { index, key } => engine.get(pass, *index, key, row, wait),

@@ -23,7 +23,7 @@ loop-line-preserved g c =
     let can = subst (IsWorkable c.args.engine.now) (sym c.line-item.is) (workable_at c.args.engine.now lines at line c.requires.lines (omega arith)) in
     let more = works_more (known c.args.pass.now) (known c.loop-line.pass) (known c.work_line.new.pass) (line_texts (take at lines)) c.loop-line.answers c.add_answer.new.self c.loop-line.log c.note.new.log
     (line_text line) c.in_ok-told.told c.work_line.new.row c.args.lane so_far.works (workable_seen c.args.engine.now c.loop-line.pass line so_far.own can) (workable_plain c.args.engine.now line can)
-    c.in_ok-told.ensures.ok c.requires.lane c.in_ok-add_answer.ensures.ok c.note.ensures.noted c.in_ok-told.ensures.dashed c.in_ok-told.ensures.room in
+    c.in_ok-told.ensures.ok c.requires.lane c.in_ok-add_answer.ensures.ok c.note.ensures.noted in
     let same : line_texts (take at lines) ++ line_text line ∷ [] ≡ line_texts (take (at + 1) lines) = ap (λ l. line_texts (take at lines) ++ line_text l ∷ []) c.line-item.is ∙ sym (lines_more lines at line (omega arith)) in
     let few = so_far.few in let one = note_fits c.args.lane (line_text line) c.in_ok-told.told in let noted = ap length c.note.ensures.noted in
     record {
