@@ -8,7 +8,7 @@ use Rattle.io_port.specs.Shelf.{Files}
 use Rattle.map_history.specs.declared.line.Line as script
 use Rattle.script.specs.Schema.{SchemaText}
 use Rattle.map_history.specs.Lines.{line_texts}
-use Rattle.change_lines.specs.Made.{lane_texts, Ascends, AllAscend}
+use Rattle.lane_threads.specs.Together.{lane_texts}
 use Rattle.ahi_cli.specs.Files.{SpellsLane}
 use Rattle.ahi_cli.proofs.FirstLemmas.{SpellsUpTo, one_lane_more}
 
@@ -27,9 +27,6 @@ name_at names i name text below here is = is ∙ ap string_bytes here ∙ sym (g
 -- the lines of one lane more
 texts_more : (lanes lanes' : List (Vec script.Line Global)) (lines : Vec script.Line Global) → lanes' ≡ lanes ++ lines ∷ [] → lane_texts lanes' ≡ lane_texts lanes ++ line_texts lines.items ∷ []
 texts_more lanes lanes' lines e = ap lane_texts e ∙ map-append (λ (l : Vec script.Line Global). line_texts l.items) lanes (lines ∷ [])
-
-pub ascend_more : (lanes lanes' : List (Vec script.Line Global)) (lines : Vec script.Line Global) → lanes' ≡ lanes ++ lines ∷ [] → AllAscend (lane_texts lanes) → Ascends (line_texts lines.items) → AllAscend (lane_texts lanes')
-ascend_more lanes lanes' lines e all one = all_more Ascends (lane_texts lanes) (lane_texts lanes') (line_texts lines.items) (texts_more lanes lanes' lines e) all one
 
 -- one lane more is spelled
 pub spelled_more : (files : Files) (schema : SchemaText) (before : ℕ) (names : List (List ℕ)) (i : ℕ) (name : List ℕ) (lanes lanes' : List (Vec script.Line Global)) (lines : Vec script.Line Global) (size bytes : ℕ) → i < length names → name ≡ get_or names i [] → lanes' ≡ lanes ++ lines ∷ [] → SpellsUpTo files schema before (take i names) (lane_texts lanes) size → (lane : SpellsLane files name schema size (line_texts lines.items)) → bytes ≡ length lane.bytes → SpellsUpTo files schema before (take (i + 1) names) (lane_texts lanes') (size + bytes)

@@ -7,7 +7,7 @@ use Rattle.script.specs.Views.{schema_text}
 use Rattle.index_engine.specs.declared.error.EngineError.{EngineError}
 use Rattle.index_engine.specs.declared.setting.Setting.{Setting}
 use Rattle.index_engine.specs.Settings.{first_broken}
-use Rattle.change_lines.specs.Made.{lane_texts}
+use Rattle.lane_threads.specs.Together.{lane_texts}
 use Rattle.ahi_cli.specs.declared.files.Script.{Script}
 use Rattle.ahi_cli.specs.declared.stop.Stop.{Stop}
 use Rattle.ahi_cli.specs.declared.stop.Stop.TheVariants as stop

@@ -3,20 +3,18 @@ use Rattle.std.specs.Prelude.{ℕ, ◌≡◌, ◌≤◌, List, length, Some, Non
 use Rattle.map_history.specs.LegalReport.{Line}
 use Rattle.script.specs.Schema.{SchemaText}
 use Rattle.script.specs.Views.{schema_text}
-use Rattle.change_lines.specs.Made.{lane_texts, AllAscend}
-use Rattle.lane_threads.specs.Together.{AllAreLinesOf}
+use Rattle.lane_threads.specs.Together.{lane_texts, AllAreLinesOf}
 use Rattle.ahi_cli.specs.declared.files.Script.{Script}
 use Rattle.ahi_cli.specs.declared.stop.Stop.{Stop}
 use Rattle.ahi_cli.specs.FirstRefusal.{sizes_stop}
 
 -- There are 1 to 64 indexes and 1 to 64 lanes. Each line asks an index for a key of its number of
--- fields, and in each lane line numbers ascend.
+-- fields.
 pub record IsScript (script : Script) : Type 0 where
   pub names : (1 ≤ length script.schema.names.items) × (length script.schema.names.items ≤ 64)
   pub fields : length script.schema.fields.items ≡ length script.schema.names.items
   pub lanes : (1 ≤ length script.lanes.items) × (length script.lanes.items ≤ 64)
   pub lines : AllAreLinesOf script.schema.fields.items script.lanes.items
-  pub ascend : AllAscend (lane_texts script.lanes.items)
 
 -- the sizes are within their limits, and of the script's lanes the bytes tell so
 pub record TellsScript (IsTold : SchemaText → List (List Line) → List ℕ → Type 0)

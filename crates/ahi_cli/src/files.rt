@@ -6,8 +6,7 @@ ghost use Rattle.script.specs.declared.TheConstants.{MAX_FILE_BYTES};
 ghost use Rattle.script.specs.Views.{schema_text};
 ghost use Rattle.map_history.specs.Lines.{line_texts};
 ghost use Rattle.lane_work.specs.Workable.{AreLinesOf};
-ghost use Rattle.lane_threads.specs.Together.{AllAreLinesOf};
-ghost use Rattle.change_lines.specs.Made.{lane_texts, Ascends, AllAscend};
+ghost use Rattle.lane_threads.specs.Together.{lane_texts, AllAreLinesOf};
 ghost use Rattle.ahi_cli.specs.Files.{failures_of, KeepsFiles, StopsLoading, StopsFile, StopsReading, SpellsSchema, SpellsLane, SpellsLanes, Spells};
 ghost use Rattle.ahi_cli.specs.Stops.{schema_stop, lane_stop, refused};
 ghost use Rattle.ahi_cli.specs.Words.{names_of, file_names};
@@ -16,7 +15,6 @@ use crate::stop::Stop;
 use crate::words::Command;
 use io_port::{Shelf, ShelfError};
 use script::{Line, MAX_FILE_BYTES, Schema, ScriptError, read_lane, read_schema};
-use script_laws::line_numbers_ascend;
 use std::alloc::Global;
 
 /// A schema and lanes.
@@ -43,7 +41,6 @@ pub fn read_script<F: Shelf>(
     // Whether or not the files are told:
     ensures lanes { IfOk result (λ s. vec_len s.lanes ≡ length command.now.lanes.now) }
     ensures lines { IfOk result (λ s. AllAreLinesOf s.schema.fields.items s.lanes.items) }
-    ensures ascend { IfOk result (λ s. AllAscend (lane_texts s.lanes.items)) }
     ensures indexes { IfOk result (λ s. (1 ≤ vec_len s.schema.names)
         × (vec_len s.schema.names ≤ 64) × (vec_len s.schema.fields ≡ vec_len s.schema.names)) }
 {
@@ -86,7 +83,6 @@ fn load_lanes<F: Shelf>(
         (map string_bytes command.now.lanes.now) (lane_texts v.items))) }
     ensures lanes { IfOk result (λ v. vec_len v ≡ length command.now.lanes.now) }
     ensures lines { IfOk result (λ v. AllAreLinesOf schema.now.fields.items v.items) }
-    ensures ascend { IfOk result (λ v. AllAscend (lane_texts v.items)) }
     ensures err { IfErr result (StopsReading (F.holds shelf.old)
         (failures_of F.Shelf shelf.old shelf.new) (file_names (names_of command.now))) }
     ensures kept { KeepsFiles F.Shelf shelf.old shelf.new }
@@ -117,13 +113,11 @@ fn load_lane<F: Shelf>(
         (line_texts r.0.items)) × (r.1 ≡ length lane.bytes))) }
     ensures fits { IfOk result (λ r. before + r.1 ≤ MAX_FILE_BYTES) }
     ensures lines { IfOk result (λ r. AreLinesOf schema.now.fields.items r.0.items) }
-    ensures ascend { IfOk result (λ r. Ascends (line_texts r.0.items)) }
     ensures err { IfErr result (StopsFile (F.holds shelf.old)
         (failures_of F.Shelf shelf.old shelf.new) file name.now
         (lane_stop file before (schema_text schema.now))) }
     ensures kept { KeepsFiles F.Shelf shelf.old shelf.new }
 {
-    line_numbers_ascend();
     let bytes = load(alloc, shelf, name, file, MAX_FILE_BYTES as u64 - before)?;
     match read_lane(alloc, &bytes, schema) {
         Ok(lines) => Ok((lines, bytes.len() as u64)),

@@ -1,8 +1,7 @@
 //! A script's lanes, run and reported.
 ghost use Rattle.std.specs.Prelude.{◌≡◌, ◌≤◌, None, length};
 ghost use Rattle.script.specs.Views.{schema_text};
-ghost use Rattle.change_lines.specs.Made.{lane_texts};
-ghost use Rattle.lane_threads.specs.Together.{RanTogether};
+ghost use Rattle.lane_threads.specs.Together.{lane_texts, RanTogether};
 ghost use Rattle.ahi_cli.specs.Ends.{Ends, output_of};
 ghost use Rattle.ahi_cli.specs.FirstRefusal.{sizes_stop};
 ghost use Rattle.ahi_cli.specs.Run.{IsReportOf, IsReportBy};
@@ -13,7 +12,7 @@ use crate::files::Script;
 use crate::run::{halted, refuse};
 use crate::status::Status;
 use crate::stop::Stop;
-use change_lines::look_up_all;
+use change_log::merge;
 use index_engine::{EngineError, EnginePass};
 use io_port::Sink;
 use lane_threads::{LanesWork, work_lanes};
@@ -60,7 +59,7 @@ pub(crate) fn run_script<R: Threads + Sync, W: Wait + Sync, K: Sink, G: Gate + S
 fn put_work<K: Sink>(
     alloc: Global,
     script: &Script,
-    work: LanesWork,
+    work: LanesWork<'_>,
     sink: &mut K,
     trail: &mut Option<EnginePass>,
 ) -> Status
@@ -80,10 +79,10 @@ fn put_work<K: Sink>(
         logs,
         pass,
     } = work;
-    let Ok(made) = look_up_all(alloc, &script.lanes, &logs, names.len() as u32) else {
+    let Ok(changes) = merge(alloc, &logs, names.len()) else {
         return Status::NoMemory;
     };
-    match put_report(alloc, sink, names, &answers, &made) {
+    match put_report(alloc, sink, names, &answers, &changes) {
         Ok(()) => {
             *trail = Some(pass);
             Status::Done

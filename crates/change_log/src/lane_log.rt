@@ -1,5 +1,5 @@
 //! What one lane notes while it works.
-use crate::entry::{Entry, Noted};
+use crate::change::LaneChange;
 use key_tuple::NoMemory;
 use std::alloc::{AllocError, Global};
 use std::marker::Model;
@@ -7,25 +7,26 @@ use std::marker::Model;
 /// The changes of one lane, of all indexes, in the order in which they were noted. A contract sees
 /// the list `noted`, and as `room` how many it was reserved for.
 #[derive(Debug, Drop)]
-pub struct LaneLog {
-    noted: Vec<Noted>,
+pub struct LaneLog<'a> {
+    noted: Vec<LaneChange<'a>>,
 }
 
-impl Model for LaneLog {
-    ghost use Rattle.std.specs.Prelude.{vec_capacity};
-    ghost use Rattle.change_log.specs.Log.{Log};
+impl<'a> Model for LaneLog<'a> {
+    ghost use Rattle.std.specs.Prelude.{vec_capacity, map};
+    ghost use Rattle.change_log.specs.Log.{Log, note_of};
 
     ghost Value = { Log };
 
-    ghost view = { λ log. record { noted = log.noted.items; room = vec_capacity log.noted } };
+    ghost view = { λ log. record { noted = map note_of log.noted.items; room = vec_capacity log.noted } };
 }
 
-impl LaneLog {
+impl<'a> LaneLog<'a> {
     ghost use Rattle.std.specs.Prelude.{◌≡◌, ◌<◌, [], ◌∷◌, ◌++◌, length, IfOk, OnOk};
-    ghost use Rattle.change_log.specs.Merge.{entries_of};
+    ghost use Rattle.change_log.specs.Log.{note_of};
+    ghost use Rattle.change_log.specs.Merge.{note_lists, Spreads};
 
-    /// An empty log with room for so many entries.
-    pub fn reserve(alloc: Global, n: usize) -> Result<LaneLog, NoMemory>
+    /// An empty log with room for so many changes.
+    pub fn reserve(alloc: Global, n: usize) -> Result<LaneLog<'a>, NoMemory>
         ensures { IfOk result (λ log. (log.noted ≡ []) × (log.room ≡ n)) }
     {
         Ok(LaneLog {
@@ -33,24 +34,42 @@ impl LaneLog {
         })
     }
 
-    /// Notes a change of an index. It takes no memory.
-    pub fn note(&mut self, index: u32, entry: Entry)
+    /// Notes a change. It takes no memory.
+    pub fn note(&mut self, change: LaneChange<'a>)
         requires { length self.old.noted < self.old.room }
-        ensures noted { self.new.noted ≡ self.old.noted ++ (record { index = index; entry = entry }) ∷ [] }
+        ensures noted { self.new.noted ≡ self.old.noted ++ note_of change.entry ∷ [] }
         ensures room { self.new.room ≡ self.old.room }
     {
-        self.noted.push_reserved(Noted { index, entry });
+        self.noted.push_reserved(change);
     }
 
-    /// Appends the log's entries of an index.
-    pub(crate) fn copy_entries(&self, index: u32, found: &mut Vec<Entry>) -> Result<(), AllocError>
-        ensures { OnOk result (found.new.items ≡ found.old.items ++ entries_of index self.now.noted) }
+    /// Puts each change behind those in the list of its index.
+    pub(crate) fn spread(&self, lists: &mut Vec<Vec<LaneChange<'a>>>) -> Result<(), AllocError>
+        ensures { OnOk result
+            (Spreads self.now.noted (note_lists lists.old.items) (note_lists lists.new.items)) }
     {
-        for noted in &self.noted {
-            if noted.index == index {
-                found.push(noted.entry)?;
-            }
+        for change in &self.noted {
+            spread_one(change, lists)?;
         }
         Ok(())
     }
+}
+
+ghost use Rattle.std.specs.Prelude.{[], ◌∷◌, OnOk};
+ghost use Rattle.change_log.specs.Log.{note_of};
+ghost use Rattle.change_log.specs.Merge.{note_lists, Spreads};
+
+/// Puts a change behind those in the list of its index, if there is one.
+fn spread_one<'a>(
+    change: &LaneChange<'a>,
+    lists: &mut Vec<Vec<LaneChange<'a>>>,
+) -> Result<(), AllocError>
+    ensures { OnOk result (Spreads (note_of change.now ∷ [])
+        (note_lists lists.old.items) (note_lists lists.new.items)) }
+{
+    let index = change.line.op.index() as usize;
+    if index < lists.len() {
+        lists[index].push(*change)?;
+    }
+    Ok(())
 }

@@ -1,13 +1,13 @@
-//! Changes as the lanes note them, and their merge by number.
+//! Changes as the lanes note them, each with its line, and their merge by number.
 //! Nothing here knows of pages or threads.
 #![tactic(auto)]
 
-mod entry;
+mod change;
 mod lane_log;
 mod merging;
 #[cfg(test)]
 mod tests;
 
-pub use entry::Entry;
+pub use change::LaneChange;
 pub use lane_log::LaneLog;
 pub use merging::merge;

@@ -1,28 +1,70 @@
 //! The merge of the lanes' logs.
-ghost use Rattle.std.specs.Prelude.{◌≡◌, IfOk};
-ghost use Rattle.change_log.specs.Merge.{entries_in, IsMerge};
+ghost use Rattle.std.specs.Prelude.{◌≡◌, IfOk, OnOk, replicate, [], map};
+ghost use Rattle.std.specs.List.{AllZip};
+ghost use Rattle.change_log.specs.Log.{note_of};
+ghost use Rattle.change_log.specs.Merge.{note_lists, AreSpread, IsSorted, AreMerges};
 
-use crate::entry::Entry;
+use crate::change::LaneChange;
 use crate::lane_log::LaneLog;
 use key_tuple::NoMemory;
 use std::alloc::{AllocError, Global};
 
-/// All entries of an index that the logs hold, by ascending number.
-pub fn merge(alloc: Global, logs: &[LaneLog], index: u32) -> Result<Vec<Entry>, NoMemory>
-    ensures { IfOk result (λ merged. IsMerge index logs.now merged.items) }
+/// For each of so many indexes, the changes of it that the logs hold, by ascending number.
+pub fn merge<'a>(
+    alloc: Global,
+    logs: &[LaneLog<'a>],
+    indexes: usize,
+) -> Result<Vec<Vec<LaneChange<'a>>>, NoMemory>
+    ensures { IfOk result (λ all. AreMerges indexes logs.now (note_lists all.items)) }
 {
-    let mut merged = gather(alloc, logs, index)?;
-    merged.sort_by_key(|entry| entry.number)?;
-    Ok(merged)
+    let lists = spread(alloc, logs, indexes)?;
+    Ok(sort_each(alloc, lists)?)
 }
 
-/// The entries in the order of the logs.
-fn gather(alloc: Global, logs: &[LaneLog], index: u32) -> Result<Vec<Entry>, AllocError>
-    ensures { IfOk result (λ found. found.items ≡ entries_in index logs.now) }
+/// The changes of each index, in the order of the logs.
+fn spread<'a>(
+    alloc: Global,
+    logs: &[LaneLog<'a>],
+    indexes: usize,
+) -> Result<Vec<Vec<LaneChange<'a>>>, AllocError>
+    ensures { IfOk result (λ lists. AreSpread indexes logs.now (note_lists lists.items)) }
 {
-    let mut found = Vec::new(alloc);
+    let mut lists = empty_lists(alloc, indexes)?;
     for log in logs {
-        log.copy_entries(index, &mut found)?;
+        log.spread(&mut lists)?;
     }
-    Ok(found)
+    Ok(lists)
+}
+
+fn empty_lists<'a>(alloc: Global, count: usize) -> Result<Vec<Vec<LaneChange<'a>>>, AllocError>
+    ensures { IfOk result (λ lists. note_lists lists.items ≡ replicate count []) }
+{
+    let mut lists = Vec::with_capacity(alloc, count)?;
+    for _ in 0..count {
+        lists.push_reserved(Vec::new(alloc));
+    }
+    Ok(lists)
+}
+
+/// Each list by ascending number.
+fn sort_each<'a>(
+    alloc: Global,
+    lists: Vec<Vec<LaneChange<'a>>>,
+) -> Result<Vec<Vec<LaneChange<'a>>>, AllocError>
+    ensures { IfOk result (λ sorted.
+        AllZip IsSorted (note_lists lists.entry.items) (note_lists sorted.items)) }
+{
+    let mut sorted = Vec::with_capacity(alloc, lists.len())?;
+    for mut list in lists {
+        sort(&mut list)?;
+        sorted.push(list)?;
+    }
+    Ok(sorted)
+}
+
+fn sort(list: &mut Vec<LaneChange<'_>>) -> Result<(), AllocError>
+    ensures { OnOk result (IsSorted (map note_of list.old.items) (map note_of list.new.items)) }
+{
+    list.sort_by_key(|change| change.number)?;
+    Ok(())
 }

@@ -1,88 +1,116 @@
 //! Worked merges.
-use crate::{Entry, LaneLog, merge};
-use key_tuple::NoMemory;
+use crate::{LaneChange, LaneLog, merge};
+use key_tuple::Key;
+use map_history::{Line, Op};
 use std::alloc::Global;
 use std::test::Fail;
 
-fn entry(number: u64, lane: u32, line: u32) -> Entry {
-    Entry { number, lane, line }
+fn key(alloc: Global) -> Option<Key> {
+    let field = Vec::from_slice(alloc, b"k").ok()?;
+    let fields = Vec::from_array(alloc, [field]).ok()?;
+    Key::try_new(alloc, fields).ok()
 }
 
-#[test]
-fn numbers_ascend(rt: HostRuntime) -> Result<(), Fail> {
-    let mut first = LaneLog::reserve(rt.alloc(), 2)?;
-    first.note(0, entry(1, 1, 4));
-    first.note(0, entry(3, 1, 5));
-    let mut second = LaneLog::reserve(rt.alloc(), 1)?;
-    second.note(0, entry(2, 2, 9));
-    let logs = [first, second];
-    let merged = merge(rt.alloc(), &logs, 0)?;
-    let expected = [entry(1, 1, 4), entry(2, 2, 9), entry(3, 1, 5)];
-    assert_eq!(rt; merged.as_slice(), expected.as_slice());
-    Ok(())
+/// Lines that take a row out of an index, by their numbers and indexes.
+fn lines(alloc: Global, numbers: &[(u32, u32)]) -> Option<Vec<Line>> {
+    let mut lines = Vec::new(alloc);
+    for (line, index) in numbers {
+        let op = Op::Del {
+            index: *index,
+            key: key(alloc)?,
+        };
+        lines.push(Line { line: *line, op }).ok()?;
+    }
+    Some(lines)
 }
 
-#[test]
-fn other_indexes_are_left_out(rt: HostRuntime) -> Result<(), Fail> {
-    let mut log = LaneLog::reserve(rt.alloc(), 3)?;
-    log.note(1, entry(1, 1, 1));
-    log.note(0, entry(1, 1, 2));
-    log.note(2, entry(1, 1, 3));
-    let logs = [log];
-    let merged = merge(rt.alloc(), &logs, 0)?;
-    assert_eq!(rt; merged.as_slice(), [entry(1, 1, 2)].as_slice());
-    let none = merge(rt.alloc(), &logs, 3)?;
-    assert!(rt; none.is_empty());
-    Ok(())
-}
-
-#[test]
-fn equal_numbers_of_two_indexes(rt: HostRuntime) -> Result<(), Fail> {
-    let mut first = LaneLog::reserve(rt.alloc(), 1)?;
-    first.note(0, entry(1, 1, 7));
-    let mut second = LaneLog::reserve(rt.alloc(), 1)?;
-    second.note(1, entry(1, 2, 8));
-    let logs = [first, second];
-    let of_first = merge(rt.alloc(), &logs, 0)?;
-    assert_eq!(rt; of_first.as_slice(), [entry(1, 1, 7)].as_slice());
-    let of_second = merge(rt.alloc(), &logs, 1)?;
-    assert_eq!(rt; of_second.as_slice(), [entry(1, 2, 8)].as_slice());
-    Ok(())
-}
-
-#[test]
-fn empty_logs(rt: HostRuntime) -> Result<(), Fail> {
-    let none: [LaneLog; 0] = [];
-    let merged = merge(rt.alloc(), &none, 0)?;
-    assert!(rt; merged.is_empty());
-    let logs = [
-        LaneLog::reserve(rt.alloc(), 0)?,
-        LaneLog::reserve(rt.alloc(), 5)?,
-    ];
-    let merged = merge(rt.alloc(), &logs, 0)?;
-    assert!(rt; merged.is_empty());
-    Ok(())
-}
-
-/// The log of a lane that made every 64th change.
-fn every_64th(alloc: Global, lane: u32, count: u32) -> Result<LaneLog, NoMemory> {
-    let mut log = LaneLog::reserve(alloc, count as usize)?;
+/// The log of a lane that made every `step`th change by one line, so many of them.
+fn log_of(alloc: Global, lane: u32, line: &Line, step: u64, count: u32) -> Option<LaneLog<'_>> {
+    let mut log = LaneLog::reserve(alloc, count as usize).ok()?;
+    let first = u64::from(lane);
     for i in 0..count {
-        log.note(0, entry(u64::from(lane) + 64 * u64::from(i), lane, i));
+        let number = first.wrapping_add(step.wrapping_mul(u64::from(i)));
+        log.note(LaneChange { number, lane, line });
     }
-    Ok(log)
+    Some(log)
+}
+
+/// The changes have these numbers, lanes and lines.
+fn are(changes: &[LaneChange<'_>], expected: &[(u64, u32, u32)]) -> bool {
+    let same = |(c, e): (&LaneChange<'_>, &(u64, u32, u32))| {
+        c.number == e.0 && c.lane == e.1 && c.line.line == e.2
+    };
+    changes.len() == expected.len() && changes.iter().zip(expected.iter()).all(same)
+}
+
+/// Lane 1 made the first and the third change of index 0, lane 2 the second, and lane 3 the third
+/// of index 1.
+fn three_logs<'a>(alloc: Global, lines: &'a [Line]) -> Option<Vec<LaneLog<'a>>> {
+    let [first, second, third] = lines else {
+        return None;
+    };
+    let one = log_of(alloc, 1, first, 2, 2)?;
+    let two = log_of(alloc, 2, second, 0, 1)?;
+    let three = log_of(alloc, 3, third, 0, 1)?;
+    Vec::from_array(alloc, [one, two, three]).ok()
+}
+
+fn three_lanes(alloc: Global) -> Option<bool> {
+    let lines = lines(alloc, &[(4, 0), (9, 0), (7, 1)])?;
+    let logs = three_logs(alloc, &lines)?;
+    let merged = merge(alloc, &logs, 3).ok()?;
+    let [zero, one, two] = merged.as_slice() else {
+        return None;
+    };
+    let both = are(zero, &[(1, 1, 4), (2, 2, 9), (3, 1, 4)]) && are(one, &[(3, 3, 7)]);
+    Some(both && two.is_empty())
 }
 
 #[test]
-fn a_million_entries(rt: HostRuntime) -> Result<(), Fail> {
-    let mut logs = Vec::new(rt.alloc());
+fn each_index_has_its_changes_by_number(rt: HostRuntime) -> Result<(), Fail> {
+    assert_eq!(rt; three_lanes(rt.alloc()), Some(true));
+    Ok(())
+}
+
+fn empty_logs(alloc: Global) -> Option<bool> {
+    let logs = [
+        LaneLog::reserve(alloc, 0).ok()?,
+        LaneLog::reserve(alloc, 5).ok()?,
+    ];
+    let merged = merge(alloc, &logs, 1).ok()?;
+    Some(merged.len() == 1 && merged.iter().all(|list| list.is_empty()))
+}
+
+#[test]
+fn empty_logs_have_no_changes(rt: HostRuntime) -> Result<(), Fail> {
+    assert_eq!(rt; empty_logs(rt.alloc()), Some(true));
+    Ok(())
+}
+
+/// The logs of 64 lanes that made every 64th change.
+fn many_logs(alloc: Global, line: &Line) -> Option<Vec<LaneLog<'_>>> {
+    let mut logs = Vec::new(alloc);
     for lane in 1..65 {
-        logs.push(every_64th(rt.alloc(), lane, 15_625)?)?;
+        logs.push(log_of(alloc, lane, line, 64, 15_625)?).ok()?;
     }
-    let merged = merge(rt.alloc(), &logs, 0)?;
-    assert_eq!(rt; merged.len(), 1_000_000);
-    for (i, entry) in merged.iter().enumerate() {
-        assert_eq!(rt; entry.number, i as u64 + 1);
-    }
+    Some(logs)
+}
+
+/// They are numbered from 1.
+fn are_counted(changes: &[LaneChange<'_>]) -> bool {
+    changes.iter().enumerate().all(|(i, c)| c.number == i as u64 + 1)
+}
+
+fn a_million(alloc: Global) -> Option<bool> {
+    let lines = lines(alloc, &[(1, 0)])?;
+    let logs = many_logs(alloc, lines.first()?)?;
+    let merged = merge(alloc, &logs, 1).ok()?;
+    let all = merged.first()?;
+    Some(all.len() == 1_000_000 && are_counted(all))
+}
+
+#[test]
+fn a_million_changes_are_merged(rt: HostRuntime) -> Result<(), Fail> {
+    assert_eq!(rt; a_million(rt.alloc()), Some(true));
     Ok(())
 }

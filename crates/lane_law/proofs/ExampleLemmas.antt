@@ -2,7 +2,7 @@
 use Rattle.std.proofs.Common.{◌≡◌, ℕ, zero, suc, ◌+◌, ◌<◌, ◌≤◌, Bool, true, false, cond, eqb, Some, None, [], ◌∷◌, ◌++◌, length, refl, ap, sym, ◌∙◌, subst, arith}
 use Rattle.std.proofs.lemmas.List.{length-replicate}
 use Rattle.std.proofs.lemmas.List.Sorted.{IsPermutation-refl, IsNonDecreasingBy-short}
-use Rattle.std.specs.List.{slice_get, AllPairs, AllZip}
+use Rattle.std.specs.List.{slice_get, AllPairs}
 use mathlib.Core.Option.{some, some-injective, some-ne-none}
 use lib.ListN.{get_elem?}
 use Rattle.latch_law.specs.declared.knows.Entry.{Entry}
@@ -11,13 +11,14 @@ use Rattle.latch_law.specs.declared.knows.Statement as what
 use Rattle.latch_law.specs.Rule.{IsSo, Fits, Holds}
 use Rattle.latch_law.proofs.Begins.{replicate_is}
 use Rattle.list_facts.proofs.Places.{none_is_not, same_some}
-use Rattle.change_log.specs.declared.entry.Entry as log
+use Rattle.change_log.specs.Log.{ChangeNote}
+use Rattle.change_log.specs.Entries.{ArePrinted}
 use Rattle.map_history.specs.declared.sizes.Sizes.{Sizes}
 use Rattle.map_history.specs.Operation.{Get}
 use Rattle.map_history.specs.Reply.{Value}
 use Rattle.map_history.specs.Report.{IndexPart, dashes}
 use Rattle.map_history.specs.Statistics.{counts_of}
-use Rattle.map_history.specs.LegalReport.{Line, Mark, Precedes, columns_at}
+use Rattle.map_history.specs.LegalReport.{Mark, Precedes, columns_at}
 use Rattle.index_law.specs.declared.frame.Object.{Object}
 use Rattle.index_law.specs.Answers.{MadeChange, Saying, Gives, Replies}
 use Rattle.index_law.specs.State.{State, Entries}
@@ -25,12 +26,12 @@ use Rattle.index_law.specs.Rightness.{IsRight}
 use Rattle.index_law.specs.References.{IsReference}
 use Rattle.index_law.specs.Spoken.{OwnAnswer}
 use Rattle.lane_law.specs.Runs.{HasNoScan, RunsAll, AreEntries}
-use Rattle.lane_law.specs.Merged.{entry_of, LinesAscend, IsLookedUp, AreLookedUp}
-use Rattle.lane_law.specs.Example.{row_made, key, value, put_line, get_line, example_run, example_report, example_logs, example_view, IsExample, IsMet}
+use Rattle.lane_law.specs.Merged.{note_at, HasMerged}
+use Rattle.lane_law.specs.Example.{row_made, key, value, put_line, example_run, example_report, example_logs, example_view, IsExample, IsMet}
 use Rattle.lane_law.proofs.PairLemmas.{all_pairs_none, all_pairs_one}
 use Rattle.lane_law.proofs.LegalLemmas.{legal}
 use Rattle.lane_law.proofs.TrailLemmas.{trail}
-use Rattle.lane_law.proofs.LookLemmas.{are_entries}
+use Rattle.lane_law.proofs.MergedLemmas.{are_entries}
 
 -- the one place of a list of one element
 one_place : {X : Type 0} (x y : X) (i : ℕ) → get_elem? (x ∷ []) i ≡ some y → (i ≡ 0) × (x ≡ y)
@@ -116,27 +117,24 @@ module _ (sizes : Sizes) (w : State) (is : IsExample sizes w) where
       counts zero part e = ap (λ (z : IndexPart). z.counts) (sym (same_some _ part e))
       counts (suc i) part e = absurd cc
 
-  looked : AreLookedUp (example_run sizes) example_report example_logs
-  looked zero part e = (
-    entry_of 0 put_line 1 ∷ [],
-    record { same = IsPermutation-refl (entry_of 0 put_line 1 ∷ []); ascending = IsNonDecreasingBy-short (λ (z : log.Entry). z.number) (entry_of 0 put_line 1 ∷ []) (omega arith) },
-    subst (λ (z : IndexPart). AllZip (IsLookedUp (example_run sizes)) (entry_of 0 put_line 1 ∷ []) z.entries) (same_some _ part e)
-        (record { lane = 0; lines = put_line ∷ []; place = 0; line = put_line; is_lane = refl; lane_there = refl; line_there = refl; is_line = refl; asked = refl; same_lane = refl; same_line = refl }, tt),
+  merges : HasMerged example_report example_logs
+  merges zero part e = (
+    note_at 0 put_line 1 ∷ [],
+    record { same = IsPermutation-refl (note_at 0 put_line 1 ∷ []); ascending = IsNonDecreasingBy-short (λ (z : ChangeNote). z.number) (note_at 0 put_line 1 ∷ []) (omega arith) },
+    subst (λ (z : IndexPart). ArePrinted (note_at 0 put_line 1 ∷ []) z.entries) (same_some _ part e) refl,
   )
-  looked (suc i) part e = absurd cc
+  merges (suc i) part e = absurd cc
 
   -- all that is asked for holds
   pub met : IsMet sizes w
   met =
       let plain : HasNoScan (example_run sizes) = ((refl, tt), ((refl, tt), tt)) in
-      let rising : LinesAscend (example_run sizes) = (all_pairs_one (λ (x y : Line). x.line < y.line) put_line, (all_pairs_one (λ (x y : Line). x.line < y.line) get_line, tt)) in
-      let entries : AreEntries (example_run sizes) example_report w = are_entries (example_run sizes) example_report w (example_view w) example_logs runs refl rising looked in
+      let entries : AreEntries (example_run sizes) example_report w = are_entries (example_run sizes) example_report w (example_view w) example_logs runs refl merges in
       record {
         plain = plain;
         runs = runs;
         notes = refl;
-        ascend = rising;
-        looked = looked;
+        merged = merges;
         legal = legal (example_run sizes) example_report w (example_view w) plain runs entries;
         trail = trail (example_run sizes) example_report w (example_view w) runs entries;
       }

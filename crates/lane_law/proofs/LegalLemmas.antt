@@ -1,24 +1,21 @@
--- The report of the lanes is legal.
-use Rattle.std.proofs.Common.{◌≡◌, false, List, [], ◌∷◌, length, map, take, ap, sym, ◌∙◌, subst, ⊎_elim, arith}
+-- The report of the lanes is legal, but for room.
+use Rattle.std.proofs.Common.{◌≡◌, false, List, [], ◌∷◌, length, take, ap, sym, ◌∙◌, subst, ⊎_elim, arith}
 use Rattle.std.proofs.lemmas.List.{length-map, take_all}
 use Rattle.std.specs.List.{AllByRecursion, AllZip}
 use Rattle.latch_law.specs.declared.knows.Entry.{Entry}
 use Rattle.map_history.specs.Map.{MapChange, is_allowed, map_after}
 use Rattle.map_history.specs.Operation.{Ask, Get, Make, Seek, Scan, is_scan}
-use Rattle.map_history.specs.Report.{ScanPiece, Replied, LogFull, SpaceFull, AnswerLine, ChangeLine, Report, entries_in, changes_at}
-use Rattle.map_history.specs.LegalReport.{Line, Run, Answers, HasReplies, RepliesAt, IsInOrder, HasScans, ScansFor, HasLogFull, IsLogFull, HasSpaceFull, IsLegalReport, rows_written}
+use Rattle.map_history.specs.Report.{ScanPiece, Replied, LogFull, AnswerLine, Report, changes_at}
+use Rattle.map_history.specs.LegalReport.{Line, Run, Answers, HasReplies, RepliesAt, IsInOrder, HasScans, ScansFor, HasLogFull, IsLogFull, IsLegalButRoom}
 use Rattle.index_law.specs.Answers.{MadeChange}
 use Rattle.index_law.specs.State.{State, changes}
-use Rattle.index_law.specs.Rightness as world
-use Rattle.index_law.specs.Rightness.{IsAllowed}
 use Rattle.index_law.specs.Spoken.{View}
 use Rattle.lane_law.specs.Worked.{AreInOrder}
 use Rattle.lane_law.specs.Runs.{HasNoScan, RunsAll, AreEntries}
 use Rattle.list_facts.proofs.Elements.{all_at, all_zip_at}
 use Rattle.lane_law.proofs.SaidLemmas.{IsRepliedAt, IsFullAt}
-use Rattle.lane_law.proofs.AnswerLemmas.{answer_so, parts_counted}
+use Rattle.lane_law.proofs.AnswerLemmas.{answer_so}
 use Rattle.lane_law.proofs.EntryLemmas.{changes_same, changes_lawful, ok_named}
-use Rattle.lane_law.proofs.RowLemmas.{rows_same}
 
 forms_of : (lanes : List (List Line)) (told : List (List AnswerLine)) → AllZip AreInOrder lanes told → AllZip (AllZip Answers) lanes told
 forms_of [] [] all = tt
@@ -66,14 +63,7 @@ module _ (run : Run) (report : Report) (w : State) (v : View) (plain : HasNoScan
             allowed = ap (λ cs. is_allowed (map_after cs) is.allowed.change) (sym whole) ∙ is.allowed.allowed;
           })
 
-  rows : rows_written report ≡ world.rows_written w.lists
-  rows = rows_same report.indexes w.lists (parts_counted run report w v all)
-      (λ i part xs at there. ap (λ o. map (λ (e : ChangeLine). e.change) (entries_in o)) (sym at) ∙ changes_same run report w v all entries i xs there)
-
-  space_full : HasSpaceFull run report
-  space_full lane place line columns a = let short = answer_so run report w v all lane place line (SpaceFull columns) a in omega (arith, short, rows, all.pages, all.indexes, all.passes)
-
-  pub legal : IsLegalReport run report
+  pub legal : IsLegalButRoom run report
   legal = record {
     form = record { lanes = forms_of run.lanes report.lanes all.lanes; names = all.names; counts = all.counts };
     changes = record {
@@ -85,5 +75,4 @@ module _ (run : Run) (report : Report) (w : State) (v : View) (plain : HasNoScan
     order_in_lane = in_order;
     scans = scans;
     log_full = log_full;
-    space_full = space_full;
   }

@@ -3,13 +3,12 @@ pub mod WorkLemmas
 pub mod SaidLemmas
 pub mod AnswerLemmas
 pub mod EntryLemmas
-pub mod RowLemmas
 pub mod LegalLemmas
 pub mod CountLemmas
 pub mod NoteLemmas
 pub mod CoverLemmas
 pub mod MergeLemmas
-pub mod LookLemmas
+pub mod MergedLemmas
 pub mod TrailLemmas
 pub mod JoinLemmas
 pub mod ExampleLemmas

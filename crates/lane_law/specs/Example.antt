@@ -7,9 +7,9 @@ use Rattle.map_history.specs.declared.sizes.Sizes.{Sizes}
 use Rattle.map_history.specs.Map.{MapChange, Put}
 use Rattle.map_history.specs.Operation.{Get, Make}
 use Rattle.map_history.specs.Reply.{Value, Done}
-use Rattle.map_history.specs.Report.{Columns, AnswerLine, Replied, Report, dashes}
+use Rattle.map_history.specs.Report.{AnswerLine, Replied, Report, dashes}
 use Rattle.map_history.specs.Statistics.{counts_of}
-use Rattle.map_history.specs.LegalReport.{Line, Run, IsLegalReport}
+use Rattle.map_history.specs.LegalReport.{Line, Run, IsLegalButRoom}
 use Rattle.index_law.specs.Answers.{MadeChange, Gives, Replies}
 use Rattle.index_law.specs.State.{State}
 use Rattle.index_law.specs.Law.{IsLawful}
@@ -18,7 +18,7 @@ use Rattle.index_law.specs.OneRow.{state_with}
 use Rattle.lane_law.specs.Worked.{answered}
 use Rattle.lane_law.specs.Trail.{IsTrail}
 use Rattle.lane_law.specs.Runs.{HasNoScan, RunsAll}
-use Rattle.lane_law.specs.Merged.{entry_of, HasNotes, LinesAscend, AreLookedUp}
+use Rattle.lane_law.specs.Merged.{note_at, HasNotes, HasMerged}
 
 -- the key `a`
 abbrev pub key : FieldList
@@ -65,7 +65,7 @@ example_report = record {
 
 -- what the two lanes noted
 abbrev pub example_logs : List Log
-example_logs = record { noted = record { index = 0; entry = entry_of 0 put_line 1 } ∷ []; room = 1 } ∷ record { noted = []; room = 1 } ∷ []
+example_logs = record { noted = note_at 0 put_line 1 ∷ []; room = 1 } ∷ record { noted = []; room = 1 } ∷ []
 
 -- a lawful state of one index whose list has the put, with nothing held
 pub record IsExample (sizes : Sizes) (w : State) : Type 0 where
@@ -96,9 +96,8 @@ pub record IsMet (sizes : Sizes) (w : State) : Type 0 where
   pub plain : HasNoScan (example_run sizes)
   pub runs : RunsAll (example_run sizes) example_report w (example_view w)
   pub notes : HasNotes (example_run sizes) example_report example_logs
-  pub ascend : LinesAscend (example_run sizes)
-  pub looked : AreLookedUp (example_run sizes) example_report example_logs
-  pub legal : IsLegalReport (example_run sizes) example_report
+  pub merged : HasMerged example_report example_logs
+  pub legal : IsLegalButRoom (example_run sizes) example_report
   pub trail : IsTrail (example_run sizes) example_report (example_view w)
 
 -- in each such state

@@ -4,19 +4,18 @@ use Rattle.std.specs.List.{AllZip}
 use Rattle.latch_law.specs.Views.{both_parts}
 use mathlib.Core.Option.{some}
 use lib.ListN.{get_elem?}
-use Rattle.change_log.specs.declared.entry.Entry.{Entry}
-use Rattle.change_log.specs.Log.{Log}
+use Rattle.change_log.specs.Log.{ChangeNote, Log}
 use Rattle.change_log.specs.Merge.{IsMerge}
 use Rattle.map_history.specs.Operation.{is_scan}
 use Rattle.map_history.specs.Report.{Answer, AnswerLine, Report}
-use Rattle.map_history.specs.LegalReport.{Line, Run, Precedes, marks_of, IsLegalReport}
+use Rattle.map_history.specs.LegalReport.{Line, Run, Precedes, marks_of, IsLegalButRoom}
 use Rattle.index_law.specs.State.{State, Entries}
 use Rattle.index_law.specs.Spoken.{View, spoken}
 use Rattle.index_law.specs.Once.{AnswersOnce}
 use Rattle.lane_law.specs.Worked.{answered, AreInOrder, Worked}
 use Rattle.lane_law.specs.Runs.{all_sayings, HasNoScan, RunsAll, AreEntries}
 use Rattle.lane_law.specs.Trail.{IsTrail}
-use Rattle.lane_law.specs.Merged.{notes_of, lane_notes, all_notes, HasNotes, LinesAscend, IsNumbered, AreLookedUp}
+use Rattle.lane_law.specs.Merged.{notes_of, lane_notes, all_notes, HasNotes, IsNumbered, HasMerged}
 
 -- A lane that worked goes on by one line of an index that its pass knows, which is answered once.
 pub record LanesGoOn : Type 0 where
@@ -35,17 +34,17 @@ pub record RunsJoin : Type 0 where
   pub noted : (n m : ℕ) (lanes lanes' : List (List Line)) (told told' : List (List AnswerLine)) → length told ≡ length lanes → m ≡ n + length lanes → all_notes n (lanes ++ lanes') (told ++ told') ≡ all_notes n lanes told ++ all_notes m lanes' told'
   pub in_order : (lanes lanes' : List (List Line)) (told told' : List (List AnswerLine)) → AllZip AreInOrder lanes told → AllZip AreInOrder lanes' told' → AllZip AreInOrder (lanes ++ lanes') (told ++ told')
 
--- what lanes without scans are told is a legal report
+-- what lanes without scans are told is a legal report, but for room
 abbrev pub LanesAreLegal : Type 0
-LanesAreLegal = (run : Run) (report : Report) (w : State) (v : View) → HasNoScan run → RunsAll run report w v → AreEntries run report w → IsLegalReport run report
+LanesAreLegal = (run : Run) (report : Report) (w : State) (v : View) → HasNoScan run → RunsAll run report w v → AreEntries run report w → IsLegalButRoom run report
 
--- where each lane noted its changes, the merged logs of an index are its list, entry by entry
+-- where each lane noted its changes, the merged logs of an index are its list, change by change
 abbrev pub MergedLogsAreLists : Type 0
-MergedLogsAreLists = (run : Run) (report : Report) (w : State) (v : View) (logs : List Log) → RunsAll run report w v → HasNotes run report logs → (i : ℕ) (xs : Entries) (merged : List Entry) → get_elem? w.lists i ≡ some xs → IsMerge i logs merged → IsNumbered run report i xs merged
+MergedLogsAreLists = (run : Run) (report : Report) (w : State) (v : View) (logs : List Log) → RunsAll run report w v → HasNotes run report logs → (i : ℕ) (xs : Entries) (merged : List ChangeNote) → get_elem? w.lists i ≡ some xs → IsMerge i logs merged → IsNumbered run report i xs merged
 
--- and where the numbers of lines ascend, the printed entries that are looked up by them are those of the lists
+-- and entries that are the merged changes are those of the lists
 abbrev pub MergedLogsAreEntries : Type 0
-MergedLogsAreEntries = (run : Run) (report : Report) (w : State) (v : View) (logs : List Log) → RunsAll run report w v → HasNotes run report logs → LinesAscend run → AreLookedUp run report logs → AreEntries run report w
+MergedLogsAreEntries = (run : Run) (report : Report) (w : State) (v : View) (logs : List Log) → RunsAll run report w v → HasNotes run report logs → HasMerged report logs → AreEntries run report w
 
 -- and the joined pass of the lanes tells that what is printed is what it did
 abbrev pub PassesAreTrails : Type 0

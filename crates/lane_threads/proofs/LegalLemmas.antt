@@ -1,32 +1,41 @@
 -- The report of lanes that worked together is legal.
-use Rattle.std.proofs.Common.{◌≡◌, ℕ, zero, suc, false, Some, List, [], ◌∷◌, length, map, sym, ap, ◌∙◌, refl, arith}
-use Rattle.std.specs.List.{AllByRecursion, slice_get, zip}
+use Rattle.std.proofs.Common.{◌≡◌, ℕ, zero, suc, false, Some, subst, List, [], ◌∷◌, length, map, sym, ap, ◌∙◌, refl, arith}
+use Rattle.std.specs.List.{AllByRecursion, AllZip, slice_get, zip}
+use Rattle.std.proofs.lemmas.List.{length-map}
 use Rattle.std.specs.Prelude.{Vec}
 use Rattle.std.specs.declared.alloc.Global.{Global}
-use Rattle.change_log.specs.Log.{Log}
-use Rattle.list_facts.proofs.Places.{same_some}
+use Rattle.change_log.specs.Log.{ChangeNote, Log}
+use Rattle.change_log.specs.Merge.{AreMerges}
+use Rattle.change_log.specs.Entries.{printed_entries, ArePrinted, AreCounted}
+use Rattle.list_facts.proofs.Places.{same_some, there, get_inside}
+use Rattle.list_facts.proofs.Elements.{map_get_from, zip_from}
+use Rattle.list_facts.proofs.Each.{each_weaker}
 use Rattle.latch_law.specs.declared.knows.Terms.{Terms}
 use Rattle.map_history.specs.declared.op.Op.{Op}
 use Rattle.map_history.specs.declared.op.Op.TheVariants as op
 use Rattle.map_history.specs.declared.sizes.Sizes.{Sizes}
-use Rattle.map_history.specs.LegalReport.{IsLegalReport}
+use Rattle.map_history.specs.LegalReport.{IsLegalReport, is_space_full}
 use Rattle.map_history.specs.LegalReport as legal
 use Rattle.map_history.specs.Operation.{is_scan, operation_of}
-use Rattle.map_history.specs.Report.{ChangeLine, IndexPart, Report}
+use Rattle.map_history.specs.Report.{Answer, Replied, LogFull, SpaceFull, Scanned, AnswerLine, ChangeLine, IndexPart, Report}
 use Rattle.map_history.specs.Statistics.{counts_of}
 use Rattle.map_history.specs.declared.line.Line.{Line}
 use Rattle.map_history.specs.Lines.{line_texts}
 use Rattle.index_law.specs.Shape.{Shape}
+use Rattle.index_law.specs.State.{Entries}
 use Rattle.index_engine.specs.declared.engine.EnginePass.{EnginePass}
 use Rattle.index_engine.specs.Engines.{known}
 use Rattle.lane_law.proofs.LegalLemmas as proved
-use Rattle.lane_law.proofs.LookLemmas.{are_entries}
-use Rattle.lane_law.specs.Merged.{LinesAscend, AreLookedUp}
+use Rattle.lane_law.proofs.MergedLemmas.{noted_printed, are_entries}
+use Rattle.lane_law.proofs.MergeLemmas.{are_lists}
+use Rattle.lane_law.proofs.TrailLemmas.{trail}
+use Rattle.lane_law.specs.Merged.{IsNumbered, HasMerged}
+use Rattle.map_history.proofs.RoomLemmas.{room-no_space_full}
 use Rattle.lane_law.specs.Reports.{part_with, report_of}
-use Rattle.lane_law.specs.Runs.{RunsAll}
+use Rattle.lane_law.specs.Runs.{RunsAll, AreEntries}
 use Rattle.lane_work.specs.Workable.{IsOpOf, AreLinesOf}
-use Rattle.change_lines.specs.Made.{lane_texts}
-use Rattle.lane_threads.specs.Together.{AllAreLinesOf, RanTogether, run_of}
+use Rattle.lane_work.specs.Works.{HasDashes}
+use Rattle.lane_threads.specs.Together.{lane_texts, AllAreLinesOf, RanTogether, AreReported, run_of}
 use Rattle.lane_threads.proofs.DashLemmas.{nothing_counted}
 
 plain_op : (fields : List ℕ) (o : Op) → IsOpOf fields o → is_scan (operation_of o).ask ≡ false
@@ -55,16 +64,47 @@ no_counts [] i part at = absurd cc
 no_counts (p ∷ parts) zero part at = ap (λ (x : IndexPart). x.counts) (sym (same_some (part_with p) part at))
 no_counts (p ∷ parts) (suc i) part at = no_counts parts i part at
 
-module _ (sizes : Sizes) (fields : List ℕ) (names : List (List ℕ)) (lanes : List (Vec Line Global)) (texts : List (List (List ℕ))) (logs : List Log) (pass : EnginePass) (entries : List (List ChangeLine))
-    (paired : length names ≡ length fields) (long : length entries ≡ length names) (all : AllAreLinesOf fields lanes) (ran : RanTogether sizes fields (lane_texts lanes) texts logs pass) where
+-- what holds at each place holds of all
+all_from : {X : Type 0} (P : X → Type 0) (xs : List X) → ((i : ℕ) (x : X) → slice_get xs i ≡ Some x → P x) → AllByRecursion P xs
+all_from P [] each = tt
+all_from P (x ∷ xs) each = (each 0 x refl, all_from P xs (λ i. each (suc i)))
+
+zip_from_each : {X Y : Type 0} (R : X → Y → Type 0) (f : X → Y) (xs : List X) → AllByRecursion (λ x. R x (f x)) xs → AllZip R xs (map f xs)
+zip_from_each R f [] all = tt
+zip_from_each R f (x ∷ xs) all = (all.0, zip_from_each R f xs all.1)
+
+-- the part at a place has the entries that stand there
+part_entries : (names : List (List ℕ)) (entries : List (List ChangeLine)) (i : ℕ) (part : IndexPart) → slice_get (map part_with (zip names entries)) i ≡ Some part → slice_get entries i ≡ Some part.entries
+part_entries names entries i part at =
+    let p = map_get_from part_with (zip names entries) i part at in
+    (zip_from names entries i p.0 p.1).1 ∙ ap (λ (z : IndexPart). Some z.entries) p.2
+
+-- no answer with dashes is that space is full
+never_full : (answers : List AnswerLine) → AllByRecursion (λ (a : AnswerLine). HasDashes a.answer) answers → AllByRecursion (λ (a : AnswerLine). is_space_full a.answer ≡ false) answers
+never_full answers all = each_weaker (λ (a : AnswerLine). HasDashes a.answer) (λ (a : AnswerLine). is_space_full a.answer ≡ false) (λ a has. pick a.answer has) answers all
+  where
+    pick : (answer : Answer) → HasDashes answer → is_space_full answer ≡ false
+    pick (Replied reply point columns) has = refl
+    pick (LogFull n columns) has = refl
+    pick (SpaceFull columns) has = absurd has
+    pick (Scanned pieces) has = absurd has
+
+module _ (sizes : Sizes) (fields : List ℕ) (names : List (List ℕ)) (lanes : List (Vec Line Global)) (texts : List (List (List ℕ))) (logs : List Log) (pass : EnginePass) (changes : List (List ChangeNote))
+    (paired : length names ≡ length fields) (all : AllAreLinesOf fields lanes) (merged : AreMerges (length names) logs changes) (ran : RanTogether sizes fields (lane_texts lanes) texts logs pass) where
   abbrev run : legal.Run
   run = run_of sizes names lanes
+
+  abbrev entries : List (List ChangeLine)
+  entries = map printed_entries changes
 
   abbrev report : Report
   report = report_of ran.answers names entries
 
+  long : length entries ≡ length names
+  long = length-map changes printed_entries ∙ merged.count
+
   -- all that is known at the end of the run
-  pub runs : RunsAll run report ran.fitted.whole (known pass)
+  runs : RunsAll run report ran.fitted.whole (known pass)
   runs = record {
     lawful = ran.fitted.is_lawful;
     fits = ran.fitted.fits;
@@ -80,7 +120,36 @@ module _ (sizes : Sizes) (fields : List ℕ) (names : List (List ℕ)) (lanes : 
     counts = λ i part at. no_counts (zip names entries) i part at ∙ sym (nothing_counted i (lane_texts lanes) ran.answers ran.dashed);
   }
 
-  -- the report is legal
-  pub legal_together : LinesAscend run → AreLookedUp run report logs → IsLegalReport run report
-  legal_together ascend looked = proved.legal run report ran.fitted.whole (known pass) (plain_lanes fields lanes all) runs
-      (are_entries run report ran.fitted.whole (known pass) logs runs ran.noted ascend looked)
+  -- the merged changes of an index are its list
+  numbered : (i : ℕ) (notes : List ChangeNote) (at : slice_get changes i ≡ Some notes) → (xs : Entries) × IsNumbered run report i xs notes
+  numbered i notes at =
+      let below = get_inside changes i notes at in
+      let lists = runs.lawful.counted.lists in
+      let indexes = runs.indexes in
+      let count = merged.count in
+      let xs = there ran.fitted.whole.lists i (omega arith) in
+      (xs.0, are_lists run report ran.fitted.whole (known pass) runs i logs ran.noted xs.0 xs.1 notes (merged.each i notes at))
+
+  -- so each is printed
+  printed : (i : ℕ) (notes : List ChangeNote) → slice_get changes i ≡ Some notes → ArePrinted notes (printed_entries notes)
+  printed i notes at = noted_printed run report i notes (numbered i notes at).1.noted
+
+  has_merged : HasMerged report logs
+  has_merged i part at =
+      let notes = map_get_from printed_entries changes i part.entries (part_entries names entries i part at) in
+      (notes.0, merged.each i notes.0 notes.1, subst (ArePrinted notes.0) notes.2 (printed i notes.0 notes.1))
+
+  in_lists : AreEntries run report ran.fitted.whole
+  in_lists = are_entries run report ran.fitted.whole (known pass) logs runs ran.noted has_merged
+
+  -- the changes are reported
+  pub reported : AreReported run report pass changes entries
+  reported = record {
+    legal = record {
+      but_room = proved.legal run report ran.fitted.whole (known pass) (plain_lanes fields lanes all) runs in_lists;
+      room = room-no_space_full run report (each_weaker (λ (told : List AnswerLine). AllByRecursion (λ (a : AnswerLine). HasDashes a.answer) told) (λ (told : List AnswerLine). AllByRecursion (λ (a : AnswerLine). is_space_full a.answer ≡ false) told) never_full ran.answers ran.dashed);
+    };
+    trail = trail run report ran.fitted.whole (known pass) runs in_lists;
+    printed = zip_from_each ArePrinted printed_entries changes (all_from (λ notes. ArePrinted notes (printed_entries notes)) changes printed);
+    counted = all_from AreCounted changes (λ i notes at. (numbered i notes at).1.numbers);
+  }

@@ -20,7 +20,7 @@ use Rattle.lane_law.specs.Worked.{AreInOrder, lane_sayings}
 use Rattle.lane_work.specs.Works.{HasDashes, Works}
 use Rattle.pass_dealing.specs.Dealt.{IsLane, AreLanes, AreFresh}
 use Rattle.pass_dealing.specs.Laws.{SayLanes}
-use Rattle.change_lines.specs.Made.{lane_texts}
+use Rattle.lane_threads.specs.Together.{lane_texts}
 use Rattle.lane_threads.specs.declared.doer.DoneLane.{DoneLane}
 use Rattle.lane_threads.specs.declared.doer.LaneDoer.{LaneDoer}
 use Rattle.lane_threads.specs.declared.doer.ReadyLane.{ReadyLane}

@@ -23,11 +23,10 @@ use Rattle.index_engine.specs.Engines.{known, IsOf, terms_for}
 use Rattle.pass_dealing.specs.Dealt.{AreLanes, AreDealt, AreFresh}
 use Rattle.pass_dealing.specs.Gathered.{Gathers}
 use Rattle.pass_dealing.specs.Laws.{LanesAreGathered}
-use Rattle.change_lines.specs.Made.{lane_texts}
 use Rattle.lane_threads.specs.declared.doer.DoneLane.{DoneLane}
 use Rattle.lane_threads.specs.declared.doer.LaneDoer.{LaneDoer}
 use Rattle.lane_threads.specs.Doing.{WorkedOnce, AreReadyFor, AreParts}
-use Rattle.lane_threads.specs.Together.{RanTogether}
+use Rattle.lane_threads.specs.Together.{lane_texts, RanTogether}
 use Rattle.lane_threads.proofs.RanLemmas.{HaveSizes, AreRan, AreTold, ran_all, told}
 
 -- a list that isn't empty has a first and a last place

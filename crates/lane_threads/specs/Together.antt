@@ -2,13 +2,16 @@
 use Rattle.std.specs.Prelude.{ℕ, ◌≡◌, Vec, List, [], length, map}
 use Rattle.std.specs.List.{AllByRecursion, AllZip, zip}
 use Rattle.std.specs.declared.alloc.Global.{Global}
-use Rattle.change_log.specs.Log.{Log}
+use Rattle.change_log.specs.Log.{ChangeNote, Log}
+use Rattle.change_log.specs.Merge.{AreMerges}
+use Rattle.change_log.specs.Entries.{printed_entries, ArePrinted, AreCounted}
 use Rattle.latch_law.specs.Fitting.{IsFitted}
 use Rattle.map_history.specs.declared.sizes.Sizes.{Sizes}
 use Rattle.map_history.specs.LegalReport.{Run, IsLegalReport}
 use Rattle.map_history.specs.LegalReport as legal
 use Rattle.map_history.specs.Report.{AnswerLine, ChangeLine, IndexPart, Report}
 use Rattle.map_history.specs.declared.line.Line.{Line}
+use Rattle.map_history.specs.Lines.{line_texts}
 use Rattle.index_law.specs.Law.{IsLawful}
 use Rattle.index_law.specs.References.{IsReference}
 use Rattle.index_law.specs.Rightness.{IsRight}
@@ -16,13 +19,17 @@ use Rattle.index_law.specs.Spoken.{spoken}
 use Rattle.index_engine.specs.declared.engine.EnginePass.{EnginePass}
 use Rattle.index_engine.specs.Engines.{known, terms_for}
 use Rattle.report_text.specs.Texts.{answer_line_text}
-use Rattle.lane_law.specs.Merged.{all_notes, LinesAscend, AreLookedUp}
+use Rattle.lane_law.specs.Merged.{all_notes}
 use Rattle.lane_law.specs.Reports.{report_of}
 use Rattle.lane_law.specs.Runs.{all_sayings}
+use Rattle.lane_law.specs.Trail.{IsTrail}
 use Rattle.lane_law.specs.Worked.{AreInOrder}
 use Rattle.lane_work.specs.Workable.{AreLinesOf}
 use Rattle.lane_work.specs.Works.{HasDashes}
-use Rattle.change_lines.specs.Made.{lane_texts}
+
+-- the lines of each lane, with their operations
+abbrev pub lane_texts : List (Vec Line Global) → List (List legal.Line)
+lane_texts lanes = map (λ (lines : Vec Line Global). line_texts lines.items) lanes
 
 -- What is known when some lanes worked an engine of these sizes together: their answers are printed so, the changes among them are noted lane by lane, and the joined pass of all lanes said these answers and nothing else. Some lawful state fits that pass.
 pub record RanTogether (sizes : Sizes) (fields : List ℕ) (lanes : List (List legal.Line)) (texts : List (List (List ℕ))) (logs : List Log) (pass : EnginePass) : Type 0 where
@@ -46,10 +53,16 @@ AllAreLinesOf fields lanes = AllByRecursion (λ (lines : Vec Line Global). AreLi
 abbrev pub run_of : Sizes → List (List ℕ) → List (Vec Line Global) → Run
 run_of sizes names lanes = record { sizes = sizes; names = names; lanes = lane_texts lanes }
 
--- a report of such a run whose entries are looked up in the lanes' logs is legal
+-- What is known of the changes that such lanes merged: they are the entries of a legal report, one of each and numbered from 1, and the joined pass did what it tells.
+pub record AreReported (run : Run) (report : Report) (pass : EnginePass) (changes : List (List ChangeNote)) (entries : List (List ChangeLine)) : Type 0 where
+  pub legal : IsLegalReport run report
+  pub trail : IsTrail run report (known pass)
+  pub printed : AllZip ArePrinted changes entries
+  pub counted : AllByRecursion AreCounted changes
+
+-- the changes that the logs of such a run merge to are reported
 abbrev pub RunsAreLegal : Type 0
-RunsAreLegal = (sizes : Sizes) (fields : List ℕ) (names : List (List ℕ)) (lanes : List (Vec Line Global)) (texts : List (List (List ℕ))) (logs : List Log) (pass : EnginePass) (entries : List (List ChangeLine))
-    → length names ≡ length fields → length entries ≡ length names → AllAreLinesOf fields lanes → (ran : RanTogether sizes fields (lane_texts lanes) texts logs pass)
-    → let run = run_of sizes names lanes in
-    let report = report_of ran.answers names entries in
-    LinesAscend run → AreLookedUp run report logs → IsLegalReport run report
+RunsAreLegal = (sizes : Sizes) (fields : List ℕ) (names : List (List ℕ)) (lanes : List (Vec Line Global)) (texts : List (List (List ℕ))) (logs : List Log) (pass : EnginePass) (changes : List (List ChangeNote))
+    → length names ≡ length fields → AllAreLinesOf fields lanes → AreMerges (length names) logs changes → (ran : RanTogether sizes fields (lane_texts lanes) texts logs pass)
+    → let entries = map printed_entries changes in
+    AreReported (run_of sizes names lanes) (report_of ran.answers names entries) pass changes entries

@@ -11,14 +11,14 @@ use std::alloc::Global;
 
 /// What lanes had and were told, in order.
 #[derive(Drop)]
-pub(crate) struct Parts {
+pub(crate) struct Parts<'a> {
     pub(crate) passes: Vec<EnginePass>,
     pub(crate) answers: Vec<Texts>,
-    pub(crate) logs: Vec<LaneLog>,
+    pub(crate) logs: Vec<LaneLog<'a>>,
 }
 
-impl LaneDoer<'_> {
-    fn done(self) -> Option<DoneLane>
+impl<'e, 'a> LaneDoer<'e, 'a> {
+    fn done(self) -> Option<DoneLane<'a>>
         ensures { result ≡ self.entry.done }
     {
         let LaneDoer { ready: _, done } = self;
@@ -27,7 +27,10 @@ impl LaneDoer<'_> {
 }
 
 /// The parts of all lanes. A lane that isn't done makes it `NoMemory`.
-pub(crate) fn take_apart(alloc: Global, doers: Vec<LaneDoer<'_>>) -> Result<Parts, NoMemory>
+pub(crate) fn take_apart<'e, 'a>(
+    alloc: Global,
+    doers: Vec<LaneDoer<'e, 'a>>,
+) -> Result<Parts<'a>, NoMemory>
     ensures { IfOk result (λ parts. AreParts doers.entry.items parts.passes.items
         parts.answers.items parts.logs.items) }
 {

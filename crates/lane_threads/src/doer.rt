@@ -8,9 +8,9 @@ use std::alloc::Global;
 
 /// A lane that can work: its lines, its pass, and its number from 1.
 #[derive(Drop)]
-pub(crate) struct ReadyLane<'a> {
+pub(crate) struct ReadyLane<'e, 'a> {
     pub(crate) alloc: Global,
-    pub(crate) engine: &'a Engine,
+    pub(crate) engine: &'e Engine,
     pub(crate) pass: EnginePass,
     pub(crate) lane: u32,
     pub(crate) lines: &'a [Line],
@@ -19,14 +19,14 @@ pub(crate) struct ReadyLane<'a> {
 
 /// A lane that has worked: its pass, and what it was told.
 #[derive(Drop)]
-pub(crate) struct DoneLane {
+pub(crate) struct DoneLane<'a> {
     pub(crate) pass: EnginePass,
-    pub(crate) work: LaneWork,
+    pub(crate) work: LaneWork<'a>,
 }
 
 /// What goes to a thread: a lane that can work, and then the same lane done, unless memory lacked.
 #[derive(Drop)]
-pub(crate) struct LaneDoer<'a> {
-    pub(crate) ready: Option<ReadyLane<'a>>,
-    pub(crate) done: Option<DoneLane>,
+pub(crate) struct LaneDoer<'e, 'a> {
+    pub(crate) ready: Option<ReadyLane<'e, 'a>>,
+    pub(crate) done: Option<DoneLane<'a>>,
 }

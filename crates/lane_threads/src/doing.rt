@@ -9,9 +9,9 @@ use lanes::{Doer, Gate};
 use std::sync::Wait;
 use std::thread::Threads;
 
-impl ReadyLane<'_> {
+impl<'e, 'a> ReadyLane<'e, 'a> {
     /// Works all lines. After `NoMemory` the pass is gone, and its number with it.
-    fn work<W: Wait, G: Gate>(self, wait: &W, gate: &G) -> Result<DoneLane, NoMemory>
+    fn work<W: Wait, G: Gate>(self, wait: &W, gate: &G) -> Result<DoneLane<'a>, NoMemory>
         ensures { IfOk result (Does self.entry) }
     {
         let ReadyLane {
@@ -26,7 +26,7 @@ impl ReadyLane<'_> {
     }
 }
 
-impl Doer for LaneDoer<'_> {
+impl Doer for LaneDoer<'_, '_> {
     ghost worked = { WorkedOnce };
 
     fn work<R: Threads + Sync, W: Wait + Sync, G: Gate>(&mut self, _rt: &R, wait: &W, gate: &G) {

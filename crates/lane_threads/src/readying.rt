@@ -13,12 +13,12 @@ use script::Line;
 use std::alloc::Global;
 
 /// A doer for each lane, with the pass at its place.
-pub(crate) fn ready_lanes<'a>(
+pub(crate) fn ready_lanes<'e, 'a>(
     alloc: Global,
-    engine: &'a Engine,
+    engine: &'e Engine,
     passes: Vec<EnginePass>,
     lanes: &'a [Vec<Line>],
-) -> Result<Vec<LaneDoer<'a>>, NoMemory>
+) -> Result<Vec<LaneDoer<'e, 'a>>, NoMemory>
     requires long { length passes.items ≡ length lanes.now }
     requires own { AreLanes engine.now 0 passes.items }
     requires lines { AllByRecursion (λ lines. AreWorkable engine.now lines.items) lanes.now }
@@ -37,7 +37,12 @@ pub(crate) fn ready_lanes<'a>(
 }
 
 /// A doer for these lines. Its lane has the number that ends its pass.
-fn ready<'a>(alloc: Global, engine: &'a Engine, pass: EnginePass, lines: &'a [Line]) -> LaneDoer<'a>
+fn ready<'e, 'a>(
+    alloc: Global,
+    engine: &'e Engine,
+    pass: EnginePass,
+    lines: &'a [Line],
+) -> LaneDoer<'e, 'a>
     requires own { IsOf engine.now pass }
     requires one { (known pass).end ≡ (known pass).low + 1 }
     requires lines { AreWorkable engine.now lines.now }

@@ -4,8 +4,7 @@ ghost use Rattle.std.specs.List.{AllByRecursion};
 ghost use Rattle.std.specs.Option.{IsSomeAnd};
 ghost use Rattle.index_engine.specs.Settings.{first_broken};
 ghost use Rattle.lane_work.specs.Workable.{AreLinesOf};
-ghost use Rattle.change_lines.specs.Made.{lane_texts};
-ghost use Rattle.lane_threads.specs.Together.{RanTogether};
+ghost use Rattle.lane_threads.specs.Together.{lane_texts, RanTogether};
 
 use crate::apart::{Parts, take_apart};
 use crate::readying::ready_lanes;
@@ -23,23 +22,23 @@ use std::thread::Threads;
 /// What lanes were told together: the printed answers of each, what each noted, and the pass of
 /// them all.
 #[derive(Drop)]
-pub struct LanesWork {
+pub struct LanesWork<'a> {
     pub answers: Vec<Texts>,
-    pub logs: Vec<LaneLog>,
+    pub logs: Vec<LaneLog<'a>>,
     pub pass: EnginePass,
 }
 
 /// Opens an engine of these sizes, and works each lane's lines in a thread of its own where one can
 /// be made. A lane that lacks memory makes the whole `NoMemory`, once all lanes have ended.
-pub fn work_lanes<R: Threads + Sync, W: Wait + Sync, G: Gate + Sync>(
+pub fn work_lanes<'a, R: Threads + Sync, W: Wait + Sync, G: Gate + Sync>(
     rt: &R,
     wait: &W,
     alloc: Global,
     sizes: &Sizes,
     fields: &[u8],
-    lanes: &[Vec<Line>],
+    lanes: &'a [Vec<Line>],
     gate: &G,
-) -> Result<LanesWork, EngineError>
+) -> Result<LanesWork<'a>, EngineError>
     requires indexes { (0 < length fields.now) × (length fields.now ≤ 64) }
     requires lanes { (0 < length lanes.now) × (length lanes.now ≤ 64) }
     requires lines { AllByRecursion (λ lines. AreLinesOf fields.now lines.items) lanes.now }

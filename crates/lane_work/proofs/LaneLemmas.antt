@@ -28,7 +28,7 @@ use Rattle.lane_law.specs.Worked.{answered}
 use Rattle.lane_law.proofs.JoinLemmas.{notes_more}
 use Rattle.lane_law.proofs.WorkLemmas.{worked_none, plain_marks, worked_more}
 use Rattle.lane_work.specs.Workable.{IsWorkable, AreWorkable}
-use Rattle.lane_work.specs.Works.{HasDashes, Works, note_of}
+use Rattle.lane_work.specs.Works.{HasDashes, Works, told_notes}
 use Rattle.lane_work.proofs.NoteLemmas.{noted_by, dashes_told}
 
 -- no line, no work
@@ -48,11 +48,11 @@ all_push P (y ∷ xs) x all last = (all.0, all_push P xs x all.1 last)
 -- one line more
 pub works_more : (u v w : View) (lines : List legal.Line) (texts texts' : List (List ℕ)) (log log' : Log) (line : legal.Line) (told : Told) (row : Pair) (lane : ℕ)
     → Works u v lines texts log → line.op.index < length v.seen → is_scan line.op.ask ≡ false → TellsOnce v w line.op.index line.op.ask told row → lane ≡ u.low + 1
-    → IfSome (answer_of line.op.ask told row) (λ a. texts' ≡ texts ++ answer_text line.line a ∷ []) → log'.noted ≡ log.noted ++ note_of lane line told → columns_told told ≡ dashes → told.reply ≢ word.SpaceFull → Works u w (lines ++ line ∷ []) texts' log'
+    → IfSome (answer_of line.op.ask told row) (λ a. texts' ≡ texts ++ answer_text line.line a ∷ []) → log'.noted ≡ log.noted ++ told_notes lane line told → columns_told told ≡ dashes → told.reply ≢ word.SpaceFull → Works u w (lines ++ line ∷ []) texts' log'
 works_more u v w lines texts texts' log log' line told row lane works room plain tells is added noted plain_columns not_full =
     let answer = tells.answer in
     let text : texts' ≡ texts ++ answer_text line.line answer ∷ [] = subst (λ o. IfSome o (λ a. texts' ≡ texts ++ answer_text line.line a ∷ [])) tells.told_is added in
-    let note : note_of lane line told ≡ notes_of u.low line answer = ap (λ n. note_of n line told) is ∙ noted_by u.low line told.reply told.point told.how told.note row answer tells.told_is in
+    let note : told_notes lane line told ≡ notes_of u.low line answer = ap (λ n. told_notes n line told) is ∙ noted_by u.low line told.reply told.point told.how told.note row answer tells.told_is in
     record {
       answers = works.answers ++ answered line answer ∷ [];
       worked = worked_more u v w lines works.answers line answer works.worked room (plain_marks line.op.ask answer plain tells.once.form) tells.once;
@@ -102,11 +102,11 @@ lines_more lines i d below = ap line_texts (take_more lines i d below) ∙ map-a
 pub same_more : (p q r : EnginePass) → IsSame p q → IsSame q r → IsSame p r
 same_more p q r a b = record { pass = (b.pass.0 ∙ a.pass.0, b.pass.1 ∙ a.pass.1); sizes = b.sizes ∙ a.sizes }
 
--- a line notes one entry, or none
-pub note_fits : (lane : ℕ) (line : legal.Line) (told : Told) → length (note_of lane line told) ≤ 1
+-- a line notes one change, or none
+pub note_fits : (lane : ℕ) (line : legal.Line) (told : Told) → length (told_notes lane line told) ≤ 1
 note_fits lane line told = pick told.reply told.point
   where
-    pick : (reply : Reply) (point : Option ℕ) → length (note_of lane line (record told { reply = reply; point = point })) ≤ 1
+    pick : (reply : Reply) (point : Option ℕ) → length (told_notes lane line (record told { reply = reply; point = point })) ≤ 1
     pick word.Ok (Some p) = omega arith
     pick word.Ok None = omega arith
     pick word.Found point = omega arith

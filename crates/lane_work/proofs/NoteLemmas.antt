@@ -12,7 +12,7 @@ use Rattle.map_history.specs.Report.{Columns, Answer, Replied, LogFull, SpaceFul
 use Rattle.map_history.specs.LegalReport.{Line}
 use Rattle.map_history.specs.Told.{said, replied_at, answer_of}
 use Rattle.lane_law.specs.Merged.{notes_of}
-use Rattle.lane_work.specs.Works.{HasDashes, note_of}
+use Rattle.lane_work.specs.Works.{HasDashes, told_notes}
 
 -- a reply without a change notes nothing
 plain_notes : (k : ℕ) (line : Line) (o : Option MapReply) (point : Option ℕ) (columns : Columns) (answer : Answer) → ((r : MapReply) → o ≡ Some r → r ≢ Done) → replied_at o point columns ≡ Some answer → [] ≡ notes_of k line answer
@@ -53,12 +53,12 @@ duplicate_never r e d = clash (same_some Duplicate r e ∙ d)
     clash h = cc
 
 -- what is told `ok` at a point notes that point
-ok_notes : (k : ℕ) (line : Line) (point : Option ℕ) (how : How) (note : Note) (answer : Answer) → replied_at (Some Done) point (record { how = how; note = note }) ≡ Some answer → note_of (k + 1) line (record { reply = word.Ok; point = point; how = how; note = note }) ≡ notes_of k line answer
+ok_notes : (k : ℕ) (line : Line) (point : Option ℕ) (how : How) (note : Note) (answer : Answer) → replied_at (Some Done) point (record { how = how; note = note }) ≡ Some answer → told_notes (k + 1) line (record { reply = word.Ok; point = point; how = how; note = note }) ≡ notes_of k line answer
 ok_notes k line None how note answer e = absurd cc
 ok_notes k line (Some p) how note answer e = ap (notes_of k line) (same_some (Replied Done p (record { how = how; note = note })) answer e)
 
 pub noted_by : (k : ℕ) (line : Line) (reply : Reply) (point : Option ℕ) (how : How) (note : Note) (row : Pair) (answer : Answer) → answer_of line.op.ask (record { reply = reply; point = point; how = how; note = note }) row ≡ Some answer
-    → note_of (k + 1) line (record { reply = reply; point = point; how = how; note = note }) ≡ notes_of k line answer
+    → told_notes (k + 1) line (record { reply = reply; point = point; how = how; note = note }) ≡ notes_of k line answer
 noted_by k line word.Found point how note row answer e = plain_notes k line (said line.op.ask word.Found row) point (record { how = how; note = note }) answer (found_never line.op.ask row) e
 noted_by k line word.Absent point how note row answer e = plain_notes k line (Some Absent) point (record { how = how; note = note }) answer absent_never e
 noted_by k line word.Ok point how note row answer e = ok_notes k line point how note answer e

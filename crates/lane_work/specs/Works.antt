@@ -1,13 +1,12 @@
 -- What a lane's work is.
 use Rattle.std.specs.Prelude.{ℕ, ◌≡◌, Option, Some, List, [], ◌∷◌, ◌++◌, map}
-use Rattle.change_log.specs.declared.entry.Noted.{Noted}
 use Rattle.map_history.specs.declared.reply.Reply.{Reply}
 use Rattle.map_history.specs.declared.reply.Reply.TheVariants as word
 use Rattle.map_history.specs.declared.reply.Told.{Told}
 use Rattle.map_history.specs.declared.line.Line.{Line}
 use Rattle.map_history.specs.Lines.{line_text}
 use Rattle.std.specs.List.{AllByRecursion}
-use Rattle.change_log.specs.Log.{Log}
+use Rattle.change_log.specs.Log.{ChangeNote, Log}
 use Rattle.map_history.specs.LegalReport as legal
 use Rattle.map_history.specs.Report.{Answer, Replied, LogFull, SpaceFull, Scanned, AnswerLine, dashes}
 use Rattle.index_law.specs.Spoken.{View}
@@ -30,14 +29,14 @@ pub record Works (v v' : View) (lines : List legal.Line) (texts : List (List ℕ
   pub noted : log.noted ≡ lane_notes v.low lines answers
   pub dashed : AllByRecursion (λ (a : AnswerLine). HasDashes a.answer) answers
 
--- the entry of a line that is told so: a change that was made
-abbrev pub note_of : ℕ → legal.Line → Told → List Noted
-note_of lane line told = by_word told.reply told.point
+-- what is noted of a line that is told so: a change that was made
+abbrev pub told_notes : ℕ → legal.Line → Told → List ChangeNote
+told_notes lane line told = by_word told.reply told.point
   where
-    by_word : Reply → Option ℕ → List Noted
-    by_word word.Ok (Some point) = record { index = line.op.index; entry = record { number = point; lane = lane; line = line.line } } ∷ []
+    by_word : Reply → Option ℕ → List ChangeNote
+    by_word word.Ok (Some point) = record { number = point; lane = lane; line = line } ∷ []
     by_word reply point = []
 
--- the log has the entry of the line behind the others
+-- the log has the change of the line behind the others
 abbrev pub NotesLine : Log → Log → ℕ → Line → Told → Type 0
-NotesLine old new lane line told = new.noted ≡ old.noted ++ note_of lane (line_text line) told
+NotesLine old new lane line told = new.noted ≡ old.noted ++ told_notes lane (line_text line) told

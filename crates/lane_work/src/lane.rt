@@ -6,7 +6,7 @@ ghost use Rattle.lane_work.specs.Workable.{AreWorkable};
 ghost use Rattle.lane_work.specs.Works.{Works, NotesLine};
 
 use crate::line::work_line;
-use change_log::{Entry, LaneLog};
+use change_log::{LaneChange, LaneLog};
 use index_engine::{Engine, EnginePass};
 use key_tuple::NoMemory;
 use lanes::Gate;
@@ -18,22 +18,22 @@ use std::sync::Wait;
 
 /// What a lane was told: its printed answers, and the changes that it made.
 #[derive(Drop)]
-pub struct LaneWork {
+pub struct LaneWork<'a> {
     pub answers: Texts,
-    pub log: LaneLog,
+    pub log: LaneLog<'a>,
 }
 
 /// Works the lines of a lane, which has this number from 1, one after another. The gate is asked
 /// before each.
-pub fn work_lane<R: Wait, G: Gate>(
+pub fn work_lane<'a, R: Wait, G: Gate>(
     alloc: Global,
     engine: &Engine,
     pass: &mut EnginePass,
     lane: u32,
-    lines: &[Line],
+    lines: &'a [Line],
     wait: &R,
     gate: &G,
-) -> Result<LaneWork, NoMemory>
+) -> Result<LaneWork<'a>, NoMemory>
     requires own { IsOf engine.now pass.old }
     requires lane { lane ≡ (known pass.old).low + 1 }
     requires lines { AreWorkable engine.now lines.now }
@@ -41,7 +41,7 @@ pub fn work_lane<R: Wait, G: Gate>(
     ensures ok { IfOk result (λ work. Works (known pass.old) (known pass.new)
         (line_texts lines.now) work.answers work.log) }
 {
-    let mut answers = Texts::new(alloc);
+    let mut answers = Texts::reserve(alloc, lines.len())?;
     let mut log = LaneLog::reserve(alloc, lines.len())?;
     let mut row = RowBuf::new(alloc)?;
     for line in lines {
@@ -54,17 +54,12 @@ pub fn work_lane<R: Wait, G: Gate>(
 }
 
 /// Notes the change of a line, if it made one.
-fn note(log: &mut LaneLog, lane: u32, line: &Line, told: &Told)
+fn note<'a>(log: &mut LaneLog<'a>, lane: u32, line: &'a Line, told: &Told)
     requires room { length log.old.noted < log.old.room }
     ensures noted { NotesLine log.old log.new lane line.now told.now }
     ensures room { log.new.room ≡ log.old.room }
 {
     if let (Reply::Ok, Some(number)) = (told.reply, told.point) {
-        let entry = Entry {
-            number,
-            lane,
-            line: line.line,
-        };
-        log.note(line.op.index(), entry);
+        log.note(LaneChange { number, lane, line });
     }
 }

@@ -7,3 +7,4 @@ pub mod WriteLemmas
 pub mod HistoryLemmas
 pub mod SearchLemmas
 pub mod DashLemmas
+pub mod RoomLemmas

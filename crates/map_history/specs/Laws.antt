@@ -5,6 +5,9 @@ use Rattle.key_tuple.specs.KeyPlace.{KeyPlace, At, before, within}
 use Rattle.map_history.specs.Map.{Pair, Map, MapChange, Ascends, slice, value_at, key_of, value_of, is_allowed, after_change, map_after, AreLawful}
 use Rattle.map_history.specs.Operation.{Ask}
 use Rattle.map_history.specs.Reply.{first_after, last_before, reply_of}
+use Rattle.map_history.specs.Report.{Report, Columns, dashes}
+use Rattle.map_history.specs.Columns.{may_stand, may_stand_later}
+use Rattle.map_history.specs.LegalReport.{Run, HasRoom, HasNoSpaceFull}
 
 -- keys rise along each map that changes make
 pub record MapsAscend : Type 0 where
@@ -56,3 +59,12 @@ pub record SearchesFind : Type 0 where
   pub last : (p : KeyPlace → Bool) (m : Map) (x : Pair) → Ascends m → last_before p m ≡ Some x → IsLast p m x
   pub last_is : (p : KeyPlace → Bool) (m : Map) (x : Pair) → Ascends m → IsLast p m x → last_before p m ≡ Some x
   pub no_last : (p : KeyPlace → Bool) (m : Map) → last_before p m ≡ None → (y : Pair) → Contains m y → p (At y.key) ≡ true
+
+-- a report in which nothing is answered `space-full` has room, however many pages there are
+abbrev pub NoSpaceFullHasRoom : Type 0
+NoSpaceFullHasRoom = (run : Run) (report : Report) → HasNoSpaceFull report → HasRoom run report
+
+-- two dashes may stand in the columns of any answer or piece
+pub record DashesStand : Type 0 where
+  pub first : (columns : Columns) → columns ≡ dashes → may_stand columns ≡ true
+  pub later : (columns : Columns) → columns ≡ dashes → may_stand_later columns ≡ true

@@ -1,8 +1,9 @@
 -- When a report is legal for a run: each point is a field of one record.
-use Rattle.std.specs.Prelude.{ℕ, ◌≡◌, ◌≢◌, ◌+◌, ◌*◌, ◌≤◌, Bool, true, false, Some, List, [], ◌∷◌, length, take, map, sum_by, count_by, if◌then◌else◌, ◌==◌}
-use Rattle.std.specs.List.{slice_get, AllZip, AllPairs, flat_map, zip}
+use Rattle.std.specs.Prelude.{ℕ, ◌≡◌, ◌≢◌, ◌+◌, ◌*◌, ◌≤◌, Bool, true, false, ◌&&◌, Some, List, [], ◌∷◌, length, take, map, sum_by, count_by, if◌then◌else◌, ◌==◌}
+use Rattle.std.specs.List.{slice_get, AllByRecursion, AllZip, AllPairs, flat_map, zip}
 use Rattle.map_history.specs.declared.sizes.Sizes.{Sizes}
-use Rattle.map_history.specs.Map.{MapChange, Put, Set, Del, map_after, is_allowed, AreLawful}
+use Rattle.map_history.specs.Columns.{may_stand, pieces_may_stand}
+use Rattle.map_history.specs.Map.{MapChange, Put, Set, Del, writes, map_after, is_allowed, AreLawful}
 use Rattle.map_history.specs.Operation.{Operation, Ask, Get, Make, Seek, Scan}
 use Rattle.map_history.specs.Reply.{MapReply, Value, Row, Done, Absent, Duplicate, reply_of}
 use Rattle.map_history.specs.Report.{Columns, ScanPiece, Answer, Replied, LogFull, SpaceFull, Scanned, AnswerLine, ChangeLine, IndexPart, Report, entries_at, changes_at}
@@ -33,13 +34,13 @@ may_reply (Seek mode tuple) (Row k v) = true
 may_reply (Seek mode tuple) Absent = true
 may_reply ask reply = false
 
--- an operation may have such an answer
+-- an operation may have such an answer, with such columns
 abbrev pub has_form : Ask → Answer → Bool
-has_form ask (Replied reply point columns) = may_reply ask reply
-has_form (Make c) (LogFull n columns) = true
-has_form (Make (Put k v)) (SpaceFull columns) = true
-has_form (Make (Set k v)) (SpaceFull columns) = true
-has_form (Scan from to limit) (Scanned pieces) = true
+has_form ask (Replied reply point columns) = may_stand columns && may_reply ask reply
+has_form (Make c) (LogFull n columns) = may_stand columns
+has_form (Make (Put k v)) (SpaceFull columns) = may_stand columns
+has_form (Make (Set k v)) (SpaceFull columns) = may_stand columns
+has_form (Scan from to limit) (Scanned pieces) = pieces_may_stand pieces
 has_form ask answer = false
 
 -- an answer line belongs to a line of the lane
@@ -163,29 +164,42 @@ HasLogFull run report = (lane place : ℕ) (line : Line) (n : ℕ) (columns : Co
 -- a put or set entry
 abbrev pub writes_row : ChangeLine → Bool
 writes_row e = writes e.change
-  where
-    writes : MapChange → Bool
-    writes (Put k v) = true
-    writes (Set k v) = true
-    writes (Del k) = false
 
 -- the put and set entries of all indexes
 abbrev pub rows_written : Report → ℕ
 rows_written report = sum_by (λ (part : IndexPart). count_by writes_row part.entries) report.indexes
 
--- Space-full: only where the pages are few for the rows that were written.
-abbrev pub HasSpaceFull : Run → Report → Type 0
-HasSpaceFull run report = (lane place : ℕ) (line : Line) (columns : Columns) → IsAnswered run report lane place line (SpaceFull columns) → run.sizes.pages ≤ 2 * (length run.names + rows_written report) + length run.lanes
+-- Room: space-full only where the pages are few for the rows that were written.
+abbrev pub HasRoom : Run → Report → Type 0
+HasRoom run report =
+    (lane place : ℕ) (line : Line) (columns : Columns) → IsAnswered run report lane place line (SpaceFull columns)
+    → run.sizes.pages ≤ 2 * (length run.names + rows_written report) + length run.lanes
 
--- a legal report of a run
-pub record IsLegalReport (run : Run) (report : Report) : Type 0 where
+-- an answer is `space-full`
+abbrev pub is_space_full : Answer → Bool
+is_space_full (Replied reply point columns) = false
+is_space_full (LogFull n columns) = false
+is_space_full (SpaceFull columns) = true
+is_space_full (Scanned pieces) = false
+
+-- no answer of a report is `space-full`
+abbrev pub HasNoSpaceFull : Report → Type 0
+HasNoSpaceFull report =
+    AllByRecursion (AllByRecursion (λ (a : AnswerLine). is_space_full a.answer ≡ false)) report.lanes
+
+-- a report of a run that is legal but for room: `space-full` may come however many pages there are
+pub record IsLegalButRoom (run : Run) (report : Report) : Type 0 where
   pub form : HasForm run report
   pub changes : HasChanges run report
   pub answers : HasReplies run report
   pub order_in_lane : IsInOrder run report
   pub scans : HasScans run report
   pub log_full : HasLogFull run report
-  pub space_full : HasSpaceFull run report
+
+-- a legal report of a run
+pub record IsLegalReport (run : Run) (report : Report) : Type 0 where
+  pub but_room : IsLegalButRoom run report
+  pub room : HasRoom run report
 
 -- bytes that spell a legal report
 pub record IsLegalBytes (run : Run) (bytes : List ℕ) : Type 0 where

@@ -6,6 +6,7 @@ pub mod Told
 pub mod Text
 pub mod Report
 pub mod Spelling
+pub mod Columns
 pub mod Scans
 pub mod Rows
 pub mod Statistics

@@ -1,5 +1,5 @@
 -- An ordered map, what may change it, and what it is after a list of changes.
-use Rattle.std.specs.Prelude.{ℕ, ◌≡◌, Bool, true, Option, Some, None, is_some, is_none, if◌then◌else◌, List, [], ◌∷◌, ◌++◌, take, slice_get}
+use Rattle.std.specs.Prelude.{ℕ, ◌≡◌, Bool, true, false, Option, Some, None, is_some, is_none, if◌then◌else◌, List, [], ◌∷◌, ◌++◌, take, slice_get}
 use Rattle.std.specs.List.{filter, AllByRecursion}
 use Rattle.std.specs.Ordering.{is_eq}
 use Rattle.key_tuple.specs.Order.{FieldList, key_cmp}
@@ -43,7 +43,13 @@ pub data MapChange : Type 0 where
   Set : FieldList → List ℕ → MapChange
   Del : FieldList → MapChange
 
--- the key that a change is about, and the value that it leaves there
+-- the change writes a row: a put or a set
+abbrev pub writes : MapChange → Bool
+writes (Put k v) = true
+writes (Set k v) = true
+writes (Del k) = false
+
+-- the key that a change is about
 abbrev pub key_of : MapChange → FieldList
 key_of (Put k v) = k
 key_of (Set k v) = k

@@ -1,5 +1,5 @@
 -- What an operation asks, in plain lists.
-use Rattle.std.specs.Prelude.{ℕ, Bool, true, false, Option}
+use Rattle.std.specs.Prelude.{ℕ, Bool, true, false, Option, Some, None}
 use Rattle.std.specs.Option.{option_copied}
 use Rattle.key_tuple.specs.Order.{FieldList}
 use Rattle.key_tuple.specs.declared.mode.Mode.{Mode}
@@ -46,6 +46,13 @@ abbrev pub change_of : change.Change → MapChange
 change_of (change.TheVariants.Put key value) = map.Put key.tuple value
 change_of (change.TheVariants.Set key value) = map.Set key.tuple value
 change_of (change.TheVariants.Del key) = map.Del key.tuple
+
+-- the change that is asked for, if one is
+abbrev pub change_asked : Ask → Option MapChange
+change_asked (Get k) = None
+change_asked (Make c) = Some c
+change_asked (Seek mode tuple) = None
+change_asked (Scan from to limit) = None
 
 -- it asks for the rows of a range
 abbrev pub is_scan : Ask → Bool

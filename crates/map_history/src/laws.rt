@@ -1,5 +1,5 @@
 //! Laws of maps, changes and replies, each the contract of a function that does nothing.
-ghost use Rattle.map_history.specs.Laws.{MapsAscend, ChangesAreLocal, SlicesChange, ListsGrow, RepliesStay, SearchesFind};
+ghost use Rattle.map_history.specs.Laws.{MapsAscend, ChangesAreLocal, SlicesChange, ListsGrow, RepliesStay, SearchesFind, NoSpaceFullHasRoom, DashesStand};
 
 /// Keys rise along each map that changes make.
 pub fn maps_ascend()
@@ -29,4 +29,14 @@ pub fn replies_stay()
 /// A search finds the first row past its cut, or the last before it.
 pub fn searches_find()
     ensures { SearchesFind }
+{}
+
+/// A report in which nothing is answered `space-full` has room.
+pub fn reports_without_full_have_room()
+    ensures { NoSpaceFullHasRoom }
+{}
+
+/// Dashes may stand in the columns of any answer or piece.
+pub fn dashes_may_stand()
+    ensures { DashesStand }
 {}

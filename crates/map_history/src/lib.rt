@@ -24,7 +24,8 @@ pub use changes::{apply, make, pairs_ascend};
 pub use columns::{How, Note};
 pub use counts::Counts;
 pub use laws::{
-    changes_are_local, lists_grow, maps_ascend, replies_stay, searches_find, slices_change,
+    changes_are_local, dashes_may_stand, lists_grow, maps_ascend, replies_stay,
+    reports_without_full_have_room, searches_find, slices_change,
 };
 pub use line::Line;
 pub use op::{Op, OpRef};

@@ -91,11 +91,13 @@ module _ (sizes : Sizes) (lines : List Line) (answers : List AnswerLine) (entrie
 
   pub is_legal : IsLegalReport (run_of sizes lines) (report_of answers entries)
   is_legal = record {
-    form = record { lanes = (all.form, tt); names = refl; counts = counts_all };
-    changes = record { lawful = lawful_all; named = names; done = done_all };
-    answers = replies_all;
-    order_in_lane = order_all;
-    scans = λ lane place line pieces h. subst (λ i. ScansFor line.op.ask (changes_at (report_of answers entries) i) pieces) (sym (on_index lane place line (Scanned pieces) h)) (fit lane place line (Scanned pieces) h).1;
-    log_full = λ lane place line n columns h. absurd (fit lane place line (LogFull n columns) h).1;
-    space_full = λ lane place line columns h. absurd (fit lane place line (SpaceFull columns) h).1;
+    but_room = record {
+      form = record { lanes = (all.form, tt); names = refl; counts = counts_all };
+      changes = record { lawful = lawful_all; named = names; done = done_all };
+      answers = replies_all;
+      order_in_lane = order_all;
+      scans = λ lane place line pieces h. subst (λ i. ScansFor line.op.ask (changes_at (report_of answers entries) i) pieces) (sym (on_index lane place line (Scanned pieces) h)) (fit lane place line (Scanned pieces) h).1;
+      log_full = λ lane place line n columns h. absurd (fit lane place line (LogFull n columns) h).1;
+    };
+    room = λ lane place line columns h. absurd (fit lane place line (SpaceFull columns) h).1;
   }

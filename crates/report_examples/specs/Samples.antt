@@ -7,7 +7,7 @@ use Rattle.map_history.specs.Map.{MapChange, Put, Set, Del}
 use Rattle.map_history.specs.Operation.{Ask, Get, Make}
 use Rattle.map_history.specs.Reply.{MapReply, Value, Done, Absent, Duplicate}
 use Rattle.map_history.specs.Report.{Columns, Replied, AnswerLine, ChangeLine, Report, dashes}
-use Rattle.map_history.specs.LegalReport.{Line, Run, IsLegalReport}
+use Rattle.map_history.specs.LegalReport.{Line, Run, IsLegalButRoom, IsLegalReport}
 
 -- statistics that count nothing
 abbrev pub no_counts : Counts
@@ -37,9 +37,9 @@ report_of answers entries = record { lanes = answers ∷ []; indexes = record { 
 abbrev pub IsLegal : List Line → List AnswerLine → List ChangeLine → Type 0
 IsLegal lines answers entries = (sizes : Sizes) → IsLegalReport (run_of sizes lines) (report_of answers entries)
 
--- it isn't, whatever the sizes
+-- it isn't, whatever the sizes and however much room there is
 abbrev pub IsIllegal : List Line → List AnswerLine → List ChangeLine → Type 0
-IsIllegal lines answers entries = (sizes : Sizes) → ¬ IsLegalReport (run_of sizes lines) (report_of answers entries)
+IsIllegal lines answers entries = (sizes : Sizes) → ¬ IsLegalButRoom (run_of sizes lines) (report_of answers entries)
 
 -- the key `a` of one field
 abbrev pub a : FieldList

@@ -1,15 +1,11 @@
--- The text of a report, from the texts of its answers and the lines that made its changes.
+-- The text of a report, from the texts of its answers and the changes of its indexes.
 use Rattle.std.specs.Prelude.{ℕ, List, [], ◌∷◌, ◌++◌, length, codes, decimal}
-use Rattle.std.specs.List.{AllByRecursion, concat, flat_map, enumerate_from, zip}
+use Rattle.std.specs.List.{concat, flat_map, enumerate_from, zip}
 use Rattle.map_history.specs.Spelling.{stats_text}
 use Rattle.map_history.specs.Statistics.{counts_of}
 use Rattle.map_history.specs.Text.{line_of}
-use Rattle.change_lines.specs.declared.made.MadeLine.{MadeLine}
-use Rattle.change_lines.specs.Printed.{AsksChange, made_text}
-
--- each line of each list asks for a change
-abbrev pub AskChanges : List (List MadeLine) → Type 0
-AskChanges made = AllByRecursion (AllByRecursion AsksChange) made
+use Rattle.change_log.specs.Log.{ChangeNote}
+use Rattle.report_text.specs.Printed.{note_text}
 
 -- the first line of a report
 abbrev pub first_line : List ℕ
@@ -36,17 +32,17 @@ abbrev pub changes_line : List ℕ → ℕ → List ℕ
 changes_line name count = line_of (codes "changes" ∷ name ∷ decimal count ∷ [])
 
 -- the changes of an index, behind the line that counts them
-abbrev pub index_text : List ℕ × List MadeLine → List ℕ
-index_text part = changes_line part.0 (length part.1) ++ flat_map made_text part.1
+abbrev pub index_text : List ℕ × List ChangeNote → List ℕ
+index_text part = changes_line part.0 (length part.1) ++ flat_map note_text part.1
 
 -- the changes of all indexes
-abbrev pub indexes_text : List (List ℕ) → List (List MadeLine) → List ℕ
-indexes_text names made = flat_map index_text (zip names made)
+abbrev pub indexes_text : List (List ℕ) → List (List ChangeNote) → List ℕ
+indexes_text names changes = flat_map index_text (zip names changes)
 
 -- the statistics of an index of this name, of which no word was counted
 abbrev pub name_stats : List ℕ → List ℕ
 name_stats name = stats_text name (counts_of [])
 
 -- the report of some lanes over indexes of these names
-abbrev pub report_text_of : List (List ℕ) → List (List (List ℕ)) → List (List MadeLine) → List ℕ
-report_text_of names answers made = first_line ++ lanes_text answers ++ indexes_text names made ++ flat_map name_stats names ++ end_line
+abbrev pub report_text_of : List (List ℕ) → List (List (List ℕ)) → List (List ChangeNote) → List ℕ
+report_text_of names answers changes = first_line ++ lanes_text answers ++ indexes_text names changes ++ flat_map name_stats names ++ end_line

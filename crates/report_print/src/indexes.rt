@@ -1,14 +1,15 @@
 //! The changes of the indexes.
 ghost use Rattle.std.specs.Prelude.{◌≡◌, map, length, string_bytes};
-ghost use Rattle.std.specs.List.{AllByRecursion, flat_map};
-ghost use Rattle.change_lines.specs.Made.{made_lists};
-ghost use Rattle.change_lines.specs.Printed.{AsksChange, made_text};
+ghost use Rattle.std.specs.List.{flat_map};
+ghost use Rattle.change_log.specs.Log.{note_of};
+ghost use Rattle.change_log.specs.Merge.{note_lists};
+ghost use Rattle.report_text.specs.Printed.{note_text};
 ghost use Rattle.report_print.specs.Prints.{PrintsTo};
-ghost use Rattle.report_print.specs.Texts.{AskChanges, changes_line, index_text, indexes_text};
+ghost use Rattle.report_print.specs.Texts.{changes_line, index_text, indexes_text};
 
 use crate::halt::Halt;
 use crate::line::put_line;
-use change_lines::{MadeLine, put_change};
+use change_log::LaneChange;
 use io_port::Sink;
 
 /// Puts the changes of all indexes, of which there is a name and a list each.
@@ -16,15 +17,14 @@ pub fn put_indexes<K: Sink>(
     sink: &mut K,
     line: &mut Vec<u8>,
     names: &[String],
-    made: &[Vec<MadeLine<'_>>],
+    changes: &[Vec<LaneChange<'_>>],
 ) -> Result<(), Halt>
-    requires counted { length made.now ≡ length names.now }
-    requires changes { AskChanges (made_lists made.now) }
+    requires { length changes.now ≡ length names.now }
     ensures { PrintsTo K.Sink sink.old sink.new
-        (indexes_text (map string_bytes names.now) (made_lists made.now)) result }
+        (indexes_text (map string_bytes names.now) (note_lists changes.now)) result }
 {
     for (i, name) in names.iter().enumerate() {
-        put_index(sink, line, name.as_str(), &made[i])?;
+        put_index(sink, line, name.as_str(), &changes[i])?;
     }
     Ok(())
 }
@@ -33,13 +33,13 @@ fn put_index<K: Sink>(
     sink: &mut K,
     line: &mut Vec<u8>,
     name: &str,
-    made: &[MadeLine<'_>],
+    changes: &[LaneChange<'_>],
 ) -> Result<(), Halt>
-    requires { AllByRecursion AsksChange made.now }
-    ensures { PrintsTo K.Sink sink.old sink.new (index_text (name.now, made.now)) result }
+    ensures { PrintsTo K.Sink sink.old sink.new
+        (index_text (name.now, map note_of changes.now)) result }
 {
-    put_changes_line(sink, line, name, made.len() as u64)?;
-    put_changes(sink, line, made)
+    put_changes_line(sink, line, name, changes.len() as u64)?;
+    put_changes(sink, line, changes)
 }
 
 fn put_changes_line<K: Sink>(
@@ -59,22 +59,25 @@ fn put_changes_line<K: Sink>(
 fn put_changes<K: Sink>(
     sink: &mut K,
     line: &mut Vec<u8>,
-    changes: &[MadeLine<'_>],
+    changes: &[LaneChange<'_>],
 ) -> Result<(), Halt>
-    requires { AllByRecursion AsksChange changes.now }
-    ensures { PrintsTo K.Sink sink.old sink.new (flat_map made_text changes.now) result }
+    ensures { PrintsTo K.Sink sink.old sink.new
+        (flat_map note_text (map note_of changes.now)) result }
 {
-    for made in changes {
-        put_made(sink, line, made)?;
+    for change in changes {
+        put_change(sink, line, change)?;
     }
     Ok(())
 }
 
-fn put_made<K: Sink>(sink: &mut K, line: &mut Vec<u8>, made: &MadeLine<'_>) -> Result<(), Halt>
-    requires { AsksChange made.now }
-    ensures { PrintsTo K.Sink sink.old sink.new (made_text made.now) result }
+fn put_change<K: Sink>(
+    sink: &mut K,
+    line: &mut Vec<u8>,
+    change: &LaneChange<'_>,
+) -> Result<(), Halt>
+    ensures { PrintsTo K.Sink sink.old sink.new (note_text (note_of change.now)) result }
 {
     line.clear();
-    put_change(line, made)?;
+    report_text::change(line, change)?;
     put_line(sink, line)
 }

@@ -6,9 +6,7 @@ ghost use Rattle.report_print.specs.Texts.{lane_line, lane_text, lanes_text};
 use crate::halt::Halt;
 use crate::line::put_line;
 use io_port::Sink;
-use key_tuple::Blank;
 use report_text::Texts;
-use report_text::Word;
 
 /// Puts the answers of all lanes, which are numbered from 1.
 pub fn put_lanes<K: Sink>(sink: &mut K, line: &mut Vec<u8>, answers: &[Texts]) -> Result<(), Halt>
@@ -36,8 +34,7 @@ fn put_lane_line<K: Sink>(sink: &mut K, line: &mut Vec<u8>, number: u64) -> Resu
     ensures { PrintsTo K.Sink sink.old sink.new (lane_line number) result }
 {
     line.clear();
-    // `lane_head` takes a u32, and a slice may have more lanes than that counts.
-    report_text::put_line::<Blank>(line, &[Word::Text("lane"), Word::Number(number)])?;
+    report_text::lane_head(line, number)?;
     put_line(sink, line)
 }
 

@@ -1,5 +1,5 @@
 //! A report of any number of lanes over some indexes, put to a sink line by line.
-//! Nothing here looks up a change, runs a lane or knows a file.
+//! Nothing here merges logs, runs a lane or knows a file.
 #![tactic(auto)]
 
 mod halt;
@@ -13,6 +13,6 @@ mod statistics;
 mod tests;
 
 pub use halt::Halt;
-pub use laws::{reports_are_spelled, reports_have_parts};
+pub use laws::reports_are_spelled;
 pub use line::put_line;
 pub use report::put_report;

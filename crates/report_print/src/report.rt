@@ -1,15 +1,15 @@
 //! A whole report.
 ghost use Rattle.std.specs.Prelude.{◌≡◌, map, length, string_bytes};
-ghost use Rattle.change_lines.specs.Made.{made_lists};
+ghost use Rattle.change_log.specs.Merge.{note_lists};
 ghost use Rattle.report_print.specs.Prints.{PrintsTo};
-ghost use Rattle.report_print.specs.Texts.{AskChanges, first_line, end_line, report_text_of};
+ghost use Rattle.report_print.specs.Texts.{first_line, end_line, report_text_of};
 
 use crate::halt::Halt;
 use crate::indexes::put_indexes;
 use crate::lanes::put_lanes;
 use crate::line::put_line;
 use crate::statistics::put_statistics;
-use change_lines::MadeLine;
+use change_log::LaneChange;
 use io_port::Sink;
 use report_text::Texts;
 use std::alloc::Global;
@@ -21,17 +21,16 @@ pub fn put_report<K: Sink>(
     sink: &mut K,
     names: &[String],
     answers: &[Texts],
-    made: &[Vec<MadeLine<'_>>],
+    changes: &[Vec<LaneChange<'_>>],
 ) -> Result<(), Halt>
-    requires counted { length made.now ≡ length names.now }
-    requires changes { AskChanges (made_lists made.now) }
+    requires { length changes.now ≡ length names.now }
     ensures { PrintsTo K.Sink sink.old sink.new
-        (report_text_of (map string_bytes names.now) answers.now (made_lists made.now)) result }
+        (report_text_of (map string_bytes names.now) answers.now (note_lists changes.now)) result }
 {
     let mut line = Vec::new(alloc);
     put_first_line(sink, &mut line)?;
     put_lanes(sink, &mut line, answers)?;
-    put_indexes(sink, &mut line, names, made)?;
+    put_indexes(sink, &mut line, names, changes)?;
     put_statistics(sink, &mut line, names)?;
     put_end(sink, &mut line)
 }

@@ -1,14 +1,14 @@
 -- What is printed of an operation.
-use Rattle.std.specs.Prelude.{ℕ, Option, Some, None, List, codes}
-use Rattle.change_log.specs.declared.entry.Entry.{Entry}
+use Rattle.std.specs.Prelude.{ℕ, Option, Some, None, List, [], codes}
+use Rattle.change_log.specs.Entries.{printed_entry}
+use Rattle.change_log.specs.Log.{ChangeNote}
 use Rattle.key_tuple.specs.Order.{FieldList}
 use Rattle.map_history.specs.declared.op.Op.{Op}
 use Rattle.map_history.specs.declared.reply.Reply.{Reply}
 use Rattle.map_history.specs.declared.reply.Reply.TheVariants as word
 use Rattle.map_history.specs.declared.reply.Told.{Told}
-use Rattle.map_history.specs.Map.{MapChange}
-use Rattle.map_history.specs.Operation.{Ask, Make, operation_of}
-use Rattle.map_history.specs.Report.{Answer}
+use Rattle.map_history.specs.Operation.{operation_of}
+use Rattle.map_history.specs.Report.{Answer, ChangeLine}
 use Rattle.map_history.specs.Spelling.{change_text}
 use Rattle.map_history.specs.Told.{answer_of}
 
@@ -16,18 +16,14 @@ use Rattle.map_history.specs.Told.{answer_of}
 abbrev pub printed_answer : Op → Told → FieldList → List ℕ → Option Answer
 printed_answer op told key value = answer_of (operation_of op).ask told (record { key = key; value = value })
 
--- the change that is asked for, if one is
-abbrev pub change_asked : Ask → Option MapChange
-change_asked (Make c) = Some c
-change_asked ask = None
+-- the line of an entry with its number, if there is one
+abbrev pub entry_text : ℕ → Option ChangeLine → List ℕ
+entry_text number None = []
+entry_text number (Some entry) = change_text number entry
 
--- the change that an operation of the program asks for, if it asks for one
-abbrev pub change_made : Op → Option MapChange
-change_made op = change_asked (operation_of op).ask
-
--- the line of a change with its entry's number, lane and line
-abbrev pub entry_text : Entry → MapChange → List ℕ
-entry_text entry c = change_text entry.number (record { lane = entry.lane; line = entry.line; change = c })
+-- the line of a change
+abbrev pub note_text : ChangeNote → List ℕ
+note_text note = entry_text note.number (printed_entry note)
 
 -- the word of a reply
 abbrev pub reply_text : Reply → List ℕ

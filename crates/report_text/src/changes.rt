@@ -1,25 +1,24 @@
 //! The line of a change.
-ghost use Rattle.std.specs.Prelude.{◌≡◌, ◌++◌, IsSome, IfSome, OnOk, OnErr};
-ghost use Rattle.report_text.specs.Printed.{change_made, entry_text};
+ghost use Rattle.std.specs.Prelude.{◌≡◌, ◌++◌, OnOk, OnErr};
+ghost use Rattle.change_log.specs.Log.{note_of};
+ghost use Rattle.report_text.specs.Printed.{note_text};
 
 use crate::line::put_line;
 use crate::word::Word;
-use change_log::Entry;
+use change_log::LaneChange;
 use key_tuple::NoMemory;
 use map_history::Op;
 
 /// Appends the line of a change: its number, the lane and the line that made it, and what it is.
-pub fn change(out: &mut Vec<u8>, entry: &Entry, op: &Op) -> Result<(), NoMemory>
-    // The operation is a put, a set or a del.
-    requires { IsSome (change_made op.now) }
-    ensures ok { OnOk result (IfSome (change_made op.now)
-        (λ c. out.new.items ≡ out.old.items ++ entry_text entry.now c)) }
+/// Nothing is appended where its line asks for no change.
+pub fn change(out: &mut Vec<u8>, change: &LaneChange<'_>) -> Result<(), NoMemory>
+    ensures ok { OnOk result (out.new.items ≡ out.old.items ++ note_text (note_of change.now)) }
     ensures err { OnErr result (out.new.items ≡ out.old.items) }
 {
-    let number = Word::Number(entry.number);
-    let lane = Word::Number(u64::from(entry.lane));
-    let line = Word::Number(u64::from(entry.line));
-    match op {
+    let number = Word::Number(change.number);
+    let lane = Word::Number(u64::from(change.lane));
+    let line = Word::Number(u64::from(change.line.line));
+    match &change.line.op {
         Op::Put { key, value, .. } => {
             let (key, value) = (Word::Key(key), Word::Value(value.as_bytes()));
             put_line(out, &[number, lane, line, Word::Text("put"), key, value])
@@ -34,6 +33,6 @@ pub fn change(out: &mut Vec<u8>, entry: &Entry, op: &Op) -> Result<(), NoMemory>
                 &[number, lane, line, Word::Text("del"), Word::Key(key)],
             )
         }
-        _ => unreachable!(),
+        Op::Get { .. } | Op::Seek { .. } | Op::Scan { .. } => Ok(()),
     }
 }

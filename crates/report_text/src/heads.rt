@@ -16,12 +16,12 @@ pub fn report_head(out: &mut Vec<u8>) -> Result<(), NoMemory>
 }
 
 /// Appends the line before the answers of a lane.
-pub fn lane_head(out: &mut Vec<u8>, lane: u32) -> Result<(), NoMemory>
+pub fn lane_head(out: &mut Vec<u8>, lane: u64) -> Result<(), NoMemory>
     ensures ok { OnOk result (out.new.items ≡ out.old.items
         ++ line_of (codes "lane" ∷ decimal lane ∷ [])) }
     ensures err { OnErr result (out.new.items ≡ out.old.items) }
 {
-    put_line::<Blank>(out, &[Word::Text("lane"), Word::Number(u64::from(lane))])
+    put_line::<Blank>(out, &[Word::Text("lane"), Word::Number(lane)])
 }
 
 /// Appends the line before the changes of an index: its name, and how many changes it has.

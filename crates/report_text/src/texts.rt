@@ -1,5 +1,5 @@
 //! The printed lines of a lane in one buffer.
-ghost use Rattle.std.specs.Prelude.{◌≡◌, ◌<◌, [], ◌∷◌, ◌++◌, IsSome, IfSome, OnOk, OnErr, length, slice_index, slice_index_or};
+ghost use Rattle.std.specs.Prelude.{◌≡◌, ◌<◌, [], ◌∷◌, ◌++◌, IsSome, IfSome, IfOk, OnOk, OnErr, length, slice_index, slice_index_or};
 ghost use Rattle.key_tuple.specs.Parts.{parts, RiseTo};
 ghost use Rattle.map_history.specs.Operation.{operation_of};
 ghost use Rattle.map_history.specs.Spelling.{answer_text};
@@ -32,14 +32,14 @@ impl Model for Texts {
 }
 
 impl Texts {
-    /// No text.
-    pub fn new(alloc: Global) -> Texts
-        ensures { result ≡ [] }
+    /// No text, with room for the ends of so many.
+    pub fn reserve(alloc: Global, n: usize) -> Result<Texts, NoMemory>
+        ensures { IfOk result (λ texts. texts ≡ []) }
     {
-        Texts {
+        Ok(Texts {
             bytes: Vec::new(alloc),
-            ends: Vec::new(alloc),
-        }
+            ends: Vec::with_capacity(alloc, n)?,
+        })
     }
 
     /// How many texts there are.

@@ -23,6 +23,3 @@ returns-in-Ok-clause-ok g c =
 
 pub returns-in-Ok-clause-lines : goal.returns-in-Ok-clause-lines
 returns-in-Ok-clause-lines g c = lines_ask (schema_text c.args.schema.now) c.in-Ok.lines.items c.args.schema.now.shape.paired c.in-Ok.ensures.lines
-
-pub returns-in-Ok-clause-ascend : goal.returns-in-Ok-clause-ascend
-returns-in-Ok-clause-ascend g c = (c.line_numbers_ascend.ensures (schema_text c.args.schema.now) _ (line_texts c.in-Ok.lines.items) c.in-Ok.ensures.ok).ascend

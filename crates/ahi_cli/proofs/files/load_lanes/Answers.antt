@@ -3,14 +3,14 @@ use Rattle.std.proofs.lemmas.List.{length-map, take_all}
 use Rattle.std.proofs.lemmas.Result.{err_from_is_err_and}
 use Rattle.std.specs.String.{string_bytes}
 use Rattle.script.specs.Views.{schema_text}
-use Rattle.change_lines.specs.Made.{lane_texts}
+use Rattle.lane_threads.specs.Together.{lane_texts}
 use Rattle.lane_work.specs.Workable.{AreLinesOf}
 use Rattle.ahi_cli.specs.Files.{failures_of, StopsFile, SpellsLanes}
 use Rattle.ahi_cli.specs.Stops.{lane_stop}
 use Rattle.ahi_cli.specs.Words.{names_of}
 use Rattle.ahi_cli.proofs.FileLemmas.{unread_lane}
 use Rattle.ahi_cli.proofs.FirstLemmas.{spells_lanes}
-use Rattle.ahi_cli.proofs.LaneLemmas.{all_more, ascend_more, name_at, spelled_more}
+use Rattle.ahi_cli.proofs.LaneLemmas.{all_more, name_at, spelled_more}
 use Rattle.ahi_cli.proofs.files.load_lanes.Goals as goal
 
 pub returns-in_err-lines-clause-err : goal.returns-in_err-lines-clause-err
@@ -36,7 +36,6 @@ loop-i-preserved g c =
       fits = read.fits;
       count = omega (arith, c.in_ok-push.ensures.len);
       lines = all_more (λ lines. AreLinesOf c.args.schema.now.fields.items lines.items) c.loop-i.lanes.items c.push.new.self.items c.in_ok-lines.lines c.in_ok-push.ensures.items old.lines read.lines;
-      ascend = ascend_more c.loop-i.lanes.items c.push.new.self.items c.in_ok-lines.lines c.in_ok-push.ensures.items old.ascend read.ascend;
       kept = (read.kept.0 ∙ old.kept.0, omega (arith, read.kept.1, old.kept.1));
     }
 

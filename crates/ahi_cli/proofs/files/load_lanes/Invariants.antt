@@ -3,8 +3,7 @@ use Rattle.std.specs.Option.{ForSome}
 use Rattle.std.specs.String.{string_bytes}
 use Rattle.script.specs.declared.TheConstants.{MAX_FILE_BYTES}
 use Rattle.script.specs.Views.{schema_text}
-use Rattle.change_lines.specs.Made.{lane_texts, AllAscend}
-use Rattle.lane_threads.specs.Together.{AllAreLinesOf}
+use Rattle.lane_threads.specs.Together.{lane_texts, AllAreLinesOf}
 use Rattle.ahi_cli.specs.Files.{KeepsFiles}
 use Rattle.ahi_cli.proofs.FirstLemmas.{SpellsUpTo}
 use Rattle.ahi_cli.proofs.files.load_lanes.Given as goal
@@ -16,6 +15,5 @@ invariant-loop-i g l = record {
   fits : l.size ≤ MAX_FILE_BYTES;
   count : length l.lanes.items ≡ l.i;
   lines : AllAreLinesOf l.schema.fields.items l.lanes.items;
-  ascend : AllAscend (lane_texts l.lanes.items);
   kept : KeepsFiles g.F.Shelf l.fn.shelf l.shelf;
 }

@@ -1,7 +1,7 @@
 use Rattle.std.proofs.Common.{◌≡◌, length, map, sym, refl, subst, arith, Ok, Err}
 use Rattle.std.specs.String.{string_bytes}
 use Rattle.script.specs.Views.{schema_text}
-use Rattle.change_lines.specs.Made.{made_lists}
+use Rattle.change_log.specs.Merge.{note_lists}
 use Rattle.report_print.specs.Prints.{PrintsTo}
 use Rattle.report_print.specs.Texts.{report_text_of}
 use Rattle.ahi_cli.specs.declared.status.Status.TheVariants.{Done}
@@ -9,45 +9,35 @@ use Rattle.ahi_cli.specs.Ends.{output_of}
 use Rattle.ahi_cli.specs.Run.{IsReportOf, IsReportBy}
 use Rattle.ahi_cli.specs.Scripts.{TellsScript, RefusesSizes}
 use Rattle.ahi_cli.proofs.EndsLemmas.{done_ends, halted_ends, leaves_pass}
-use Rattle.ahi_cli.proofs.ReportLemmas.{made_for, noted, asks, told_by}
+use Rattle.ahi_cli.proofs.ReportLemmas.{merged_for, told_by}
 use Rattle.ahi_cli.proofs.script_run.put_work.Goals as goal
-
-pub look_up_all-requires-clause-noted : goal.look_up_all-requires-clause-noted
-look_up_all-requires-clause-noted g c = rw (c.deref.ensures.value, c.deref-2.ensures.value) (noted c.args.script.now c.requires.script c.args.work.answers.items c.args.work.logs.items c.args.work.pass c.requires.ran)
-
-pub put_report-requires-clause-changes : goal.put_report-requires-clause-changes
-put_report-requires-clause-changes g c =
-    let script = c.args.script.now in
-    let count : c.len.result ≡ length script.schema.names.items = omega (arith, c.len.ensures, script.schema.names.ok.0) in
-    let all = made_for (length script.schema.names.items) c.len.result script.lanes.items c.deref.result.now c.args.work.logs.items c.deref-2.result.now (made_lists c.in-Ok.made.items) count c.deref.ensures.value c.deref-2.ensures.value c.in-Ok.ensures in
-    rw c.deref-5.ensures.value (asks script c.requires.script c.args.work.answers.items c.args.work.logs.items c.args.work.pass c.requires.ran (made_lists c.in-Ok.made.items) all)
 
 pub returns-in-Ok-put_report-clause-ends : goal.returns-in-Ok-put_report-clause-ends
 returns-in-Ok-put_report-clause-ends g c =
     let script = c.args.script.now in
     let count : c.len.result ≡ length script.schema.names.items = omega (arith, c.len.ensures, script.schema.names.ok.0) in
-    let all = made_for (length script.schema.names.items) c.len.result script.lanes.items c.deref.result.now c.args.work.logs.items c.deref-2.result.now (made_lists c.in-Ok.made.items) count c.deref.ensures.value c.deref-2.ensures.value c.in-Ok.ensures in
-    let did = told_by script c.requires.script c.args.work.answers.items c.args.work.logs.items c.args.work.pass c.requires.ran (made_lists c.in-Ok.made.items) all in
-    let text = report_text_of (schema_text script.schema).names c.args.work.answers.items (made_lists c.in-Ok.made.items) in
-    let put : PrintsTo g.K.Sink c.args.sink.now c.put_report.new.sink text (Ok tt) = rw (sym c.deref-3.ensures.value, sym c.deref-4.ensures.value, sym c.deref-5.ensures.value) c.in-Ok-put_report.ensures in
+    let merged = merged_for (length script.schema.names.items) c.len.result c.args.work.logs.items c.deref.result.now (note_lists c.in-Ok.changes.items) count c.deref.ensures.value c.in-Ok.ensures in
+    let did = told_by script c.requires.script c.args.work.answers.items c.args.work.logs.items c.args.work.pass c.requires.ran (note_lists c.in-Ok.changes.items) merged in
+    let text = report_text_of (schema_text script.schema).names c.args.work.answers.items (note_lists c.in-Ok.changes.items) in
+    let put : PrintsTo g.K.Sink c.args.sink.now c.put_report.new.sink text (Ok tt) = rw (sym c.deref-2.ensures.value, sym c.deref-3.ensures.value, sym c.deref-4.ensures.value) c.in-Ok-put_report.ensures in
     done_ends (TellsScript IsReportOf script) (RefusesSizes script) (output_of g.K.Sink c.args.sink.now c.put_report.new.sink) text Done (record { sizes = c.requires.allowed; told = did.report }) (refl, put.0, put.1)
 
 pub returns-in-Ok-put_report-clause-trail : goal.returns-in-Ok-put_report-clause-trail
 returns-in-Ok-put_report-clause-trail g c =
     let script = c.args.script.now in
     let count : c.len.result ≡ length script.schema.names.items = omega (arith, c.len.ensures, script.schema.names.ok.0) in
-    let all = made_for (length script.schema.names.items) c.len.result script.lanes.items c.deref.result.now c.args.work.logs.items c.deref-2.result.now (made_lists c.in-Ok.made.items) count c.deref.ensures.value c.deref-2.ensures.value c.in-Ok.ensures in
-    let did = told_by script c.requires.script c.args.work.answers.items c.args.work.logs.items c.args.work.pass c.requires.ran (made_lists c.in-Ok.made.items) all in
-    let text = report_text_of (schema_text script.schema).names c.args.work.answers.items (made_lists c.in-Ok.made.items) in
-    let put : PrintsTo g.K.Sink c.args.sink.now c.put_report.new.sink text (Ok tt) = rw (sym c.deref-3.ensures.value, sym c.deref-4.ensures.value, sym c.deref-5.ensures.value) c.in-Ok-put_report.ensures in
+    let merged = merged_for (length script.schema.names.items) c.len.result c.args.work.logs.items c.deref.result.now (note_lists c.in-Ok.changes.items) count c.deref.ensures.value c.in-Ok.ensures in
+    let did = told_by script c.requires.script c.args.work.answers.items c.args.work.logs.items c.args.work.pass c.requires.ran (note_lists c.in-Ok.changes.items) merged in
+    let text = report_text_of (schema_text script.schema).names c.args.work.answers.items (note_lists c.in-Ok.changes.items) in
+    let put : PrintsTo g.K.Sink c.args.sink.now c.put_report.new.sink text (Ok tt) = rw (sym c.deref-2.ensures.value, sym c.deref-3.ensures.value, sym c.deref-4.ensures.value) c.in-Ok-put_report.ensures in
     leaves_pass (λ pass. TellsScript (IsReportBy pass) script) (output_of g.K.Sink c.args.sink.now c.put_report.new.sink) c.args.work.pass text (record { sizes = c.requires.allowed; told = did }) put.0 put.1
 
 pub returns-clause-ends : goal.returns-clause-ends
 returns-clause-ends g c =
     let script = c.args.script.now in
     let count : c.len.result ≡ length script.schema.names.items = omega (arith, c.len.ensures, script.schema.names.ok.0) in
-    let all = made_for (length script.schema.names.items) c.len.result script.lanes.items c.deref.result.now c.args.work.logs.items c.deref-2.result.now (made_lists c.in-Ok.made.items) count c.deref.ensures.value c.deref-2.ensures.value c.in-Ok.ensures in
-    let did = told_by script c.requires.script c.args.work.answers.items c.args.work.logs.items c.args.work.pass c.requires.ran (made_lists c.in-Ok.made.items) all in
-    let text = report_text_of (schema_text script.schema).names c.args.work.answers.items (made_lists c.in-Ok.made.items) in
-    let put : PrintsTo g.K.Sink c.args.sink.now c.put_report.new.sink text (Err c.in-Err.halt) = subst (λ t. PrintsTo g.K.Sink c.args.sink.now c.put_report.new.sink t (Err c.in-Err.halt)) (λ i. report_text_of (map string_bytes (c.deref-3.ensures.value i)) (c.deref-4.ensures.value i) (made_lists (c.deref-5.ensures.value i))) c.in-Err.ensures in
+    let merged = merged_for (length script.schema.names.items) c.len.result c.args.work.logs.items c.deref.result.now (note_lists c.in-Ok.changes.items) count c.deref.ensures.value c.in-Ok.ensures in
+    let did = told_by script c.requires.script c.args.work.answers.items c.args.work.logs.items c.args.work.pass c.requires.ran (note_lists c.in-Ok.changes.items) merged in
+    let text = report_text_of (schema_text script.schema).names c.args.work.answers.items (note_lists c.in-Ok.changes.items) in
+    let put : PrintsTo g.K.Sink c.args.sink.now c.put_report.new.sink text (Err c.in-Err.halt) = subst (λ t. PrintsTo g.K.Sink c.args.sink.now c.put_report.new.sink t (Err c.in-Err.halt)) (λ i. report_text_of (map string_bytes (c.deref-2.ensures.value i)) (c.deref-3.ensures.value i) (note_lists (c.deref-4.ensures.value i))) c.in-Err.ensures in
     halted_ends (TellsScript IsReportOf script) (RefusesSizes script) (output_of g.K.Sink c.args.sink.now c.put_report.new.sink) text c.in-Err.halt c.halted.result c.halted.ensures (record { sizes = c.requires.allowed; told = did.report }) put

@@ -1,5 +1,5 @@
-use Rattle.lane_threads.proofs.LegalLemmas.{legal_together}
+use Rattle.lane_threads.proofs.LegalLemmas.{reported}
 use Rattle.lane_threads.proofs.laws.runs_are_legal.Goals as goal
 
 pub returns : goal.returns
-returns c sizes fields names lanes texts logs pass entries paired long all ran ascend looked = legal_together sizes fields names lanes texts logs pass entries paired long all ran ascend looked
+returns c sizes fields names lanes texts logs pass changes paired all merged ran = reported sizes fields names lanes texts logs pass changes paired all merged ran

@@ -2,7 +2,7 @@ use Rattle.std.proofs.Common.{◌≡◌, ◌∙◌, ◌+◌, ◌∷◌, [], ◌+
 use Rattle.map_history.specs.Lines.{line_text, line_texts}
 use Rattle.index_engine.specs.Engines.{known}
 use Rattle.lane_work.specs.Workable.{IsWorkable}
-use Rattle.lane_work.specs.Works.{Works, note_of}
+use Rattle.lane_work.specs.Works.{Works, told_notes}
 use Rattle.lane_work.proofs.LaneLemmas.{works_none, works_more, workable_at, workable_plain, workable_seen, lines_more, same_more, note_fits}
 use Rattle.lane_work.proofs.lane.work_lane.Goals as goal
 
@@ -11,7 +11,7 @@ pub loop-line-init : goal.loop-line-init
 loop-line-init g c = record {
   same = record { pass = (refl, refl); sizes = refl };
   own = c.requires.own;
-  works = works_none (known c.args.pass.now) c.new-answers.result c.in_ok-log.log c.new-answers.ensures c.in_ok-log.ensures.0;
+  works = works_none (known c.args.pass.now) c.in_ok-answers.answers c.in_ok-log.log c.in_ok-answers.ensures c.in_ok-log.ensures.0;
   room = c.in_ok-log.ensures.1;
   few = (let none = ap length c.in_ok-log.ensures.0 in omega (arith, none));
 }
@@ -31,5 +31,5 @@ loop-line-preserved g c =
       own = c.work_line.ensures.own.1;
       works = subst (λ ls. Works (known c.args.pass.now) (known c.work_line.new.pass) ls c.add_answer.new.self c.note.new.log) same more;
       room = c.note.ensures.room ∙ so_far.room;
-      few = omega (arith, few, one, noted, length-append c.loop-line.log.noted (note_of c.args.lane (line_text line) c.in_ok-told.told));
+      few = omega (arith, few, one, noted, length-append c.loop-line.log.noted (told_notes c.args.lane (line_text line) c.in_ok-told.told));
     }
