@@ -1,4 +1,4 @@
-//! A reader and a writer that move three bytes a call, and stop short.
+//! A reader and a writer that move three bytes a call, are interrupted before each, and stop short.
 use crate::NoMemory;
 use std::alloc::Global;
 use std::io;
@@ -10,6 +10,7 @@ pub(crate) struct Drip<'a> {
     text: &'a [u8],
     reads: u32,
     fail_from: u32,
+    is_ready: bool,
 }
 
 impl<'a> Drip<'a> {
@@ -18,6 +19,7 @@ impl<'a> Drip<'a> {
             text,
             reads: 0,
             fail_from,
+            is_ready: false,
         }
     }
 
@@ -28,6 +30,10 @@ impl<'a> Drip<'a> {
 
 impl Read for Drip<'_> {
     fn read(&mut self, buf: &mut [u8]) -> io::Result<usize> {
+        self.is_ready = !self.is_ready;
+        if self.is_ready {
+            return Err(ErrorKind::Interrupted.into());
+        }
         if self.reads >= self.fail_from {
             return Err(ErrorKind::Other.into());
         }
@@ -45,6 +51,7 @@ impl Read for Drip<'_> {
 pub(crate) struct Narrow {
     taken: Vec<u8>,
     room: usize,
+    is_ready: bool,
 }
 
 impl Narrow {
@@ -52,6 +59,7 @@ impl Narrow {
         Ok(Narrow {
             taken: Vec::with_capacity(alloc, room)?,
             room,
+            is_ready: false,
         })
     }
 
@@ -62,6 +70,10 @@ impl Narrow {
 
 impl Write for Narrow {
     fn write(&mut self, buf: &[u8]) -> io::Result<usize> {
+        self.is_ready = !self.is_ready;
+        if self.is_ready {
+            return Err(ErrorKind::Interrupted.into());
+        }
         let count = buf.len().min(3).min(self.room);
         self.taken.extend_from_slice(&buf[..count])?;
         self.room -= count;

@@ -1,0 +1,16 @@
+use Rattle.std.proofs.Common.{◌≡◌, ◌-◌, length, take, drop, arith, length-drop}
+use Rattle.std.proofs.lemmas.List.{take_all}
+use Rattle.std.proofs.Math.Seq.{take-add}
+use Rattle.std.proofs.KnownBytes.{Appends-trans}
+use Rattle.io_port.proofs.streams.write_whole.Goals as goal
+
+pub writes-preserved : goal.writes-preserved
+writes-preserved g c =
+    let bytes = c.args.bytes.now in
+    let done = c.writes.done in
+    let more = Appends-trans _ _ _ _ _ c.writes.invariant.taken c.in-Some.ensures.bytes in
+    let rest : take (length bytes - done) (drop done bytes) ≡ drop done bytes = take_all _ _ (omega (arith, length-drop done bytes)) in
+    record {
+      taken = rw (take-add done c.in-Some.taken bytes) (rw rest at more);
+      within = omega (arith, c.in-Some.ensures.bound, length-drop done bytes);
+    }

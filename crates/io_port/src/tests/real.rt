@@ -1,0 +1,58 @@
+//! Real files and the standard output.
+use crate::tests::ends::{loads, refuses};
+use crate::{FileShelf, OutSink, ShelfError, Sink};
+use std::test::Fail;
+use std::{fs, io};
+
+const PATH: &str = "io_port_test_file";
+
+#[test]
+fn a_real_file_is_loaded_whole_or_refused(rt: HostRuntime) -> Result<(), Fail> {
+    let bytes = [7u8; 10_000];
+    fs::write(&rt, PATH, bytes.as_slice())?;
+    let is_loaded = loads(&mut FileShelf::new(&rt), rt.alloc(), PATH, 10_000, &bytes)
+        && loads(&mut FileShelf::new(&rt), rt.alloc(), PATH, u64::MAX, &bytes);
+    assert!(rt; is_loaded);
+    assert!(rt; is_too_long(&rt, 9_999) && is_too_long(&rt, 0));
+    // The file is no folder, so nothing lies below it.
+    assert!(rt; cannot_load(&rt, "io_port_test_file/below"));
+    Ok(())
+}
+
+#[test]
+fn what_cannot_be_read_is_a_fault(rt: HostRuntime) {
+    // A folder is opened, and its first read fails. No path is empty or has a byte 0.
+    for name in [".", "io_port_no_such_file", "", "io_port\0file"] {
+        assert!(rt; cannot_load(&rt, name), "{name}");
+    }
+}
+
+#[test]
+fn standard_output_takes_bytes(rt: HostRuntime) {
+    assert!(rt; prints_a_line(&rt));
+}
+
+fn is_too_long(rt: &HostRuntime, limit: u64) -> bool {
+    let error = ShelfError::TooLong(limit);
+    refuses(&mut FileShelf::new(rt), rt.alloc(), PATH, limit, error)
+}
+
+fn cannot_load(rt: &HostRuntime, name: &str) -> bool {
+    refuses(
+        &mut FileShelf::new(rt),
+        rt.alloc(),
+        name,
+        9,
+        ShelfError::Failed,
+    )
+}
+
+fn prints_a_line(rt: &HostRuntime) -> bool {
+    match OutSink::new(rt.alloc(), io::writer(rt)) {
+        Ok(mut sink) => {
+            let is_put = sink.put(b"a line\n").is_ok() && sink.put(b"").is_ok();
+            sink.finish().is_ok() && is_put
+        }
+        Err(_) => false,
+    }
+}
