@@ -21,7 +21,8 @@ counts_of columns = record { numbers = map (λ (word : List ℕ). times word col
 -- words, each with the number that stands at its place in a list
 abbrev pub numbered_from : ℕ → List (List ℕ) → List ℕ → List (List ℕ × ℕ)
 numbered_from i [] numbers = []
-numbered_from i (word ∷ words) numbers = (word, slice_index_or numbers i 0) ∷ numbered_from (suc i) words numbers
+numbered_from i (word ∷ words) numbers =
+    (word, slice_index_or numbers i 0) ∷ numbered_from (suc i) words numbers
 
 -- each word of the statistics with its number
 abbrev pub statistics : Counts → List (List ℕ × ℕ)

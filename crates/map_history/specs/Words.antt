@@ -5,7 +5,7 @@ use Rattle.map_history.specs.declared.columns.How.TheVariants as how
 use Rattle.map_history.specs.declared.columns.Note.{Note}
 use Rattle.map_history.specs.declared.columns.Note.TheVariants as note
 
--- how rows were looked for: without a hash, by the hash, by a descent, or on from where a scan stood
+-- how rows were looked for: without a hash, by the hash, by a descent, or on from a scan's place
 pub data Search : Type 0 where
   Unhashed : Search
   Guess : Search
@@ -66,8 +66,8 @@ note_text n = (note_word n).text
 -- the words of the first column that are counted, in their order
 abbrev pub counted_hows : List How
 counted_hows =
-    how.Hit ∷ how.Off ∷ how.Cold ∷ how.Short ∷ how.PartBusy ∷ how.NoEntry ∷ how.BlockBusy ∷ how.Clock ∷ how.Unequal
-    ∷ how.ByClock ∷ how.ByBusy ∷ how.ByMoved ∷ how.ByLast ∷ []
+    how.Hit ∷ how.Off ∷ how.Cold ∷ how.Short ∷ how.PartBusy ∷ how.NoEntry ∷ how.BlockBusy
+    ∷ how.Clock ∷ how.Unequal ∷ how.ByClock ∷ how.ByBusy ∷ how.ByMoved ∷ how.ByLast ∷ []
 
 -- and those of the second
 abbrev pub counted_notes : List Note
