@@ -10,3 +10,4 @@ pub mod HalvesLemmas
 pub mod RoomLemmas
 pub mod PartLemmas
 pub mod AppendLemmas
+pub mod SetLemmas

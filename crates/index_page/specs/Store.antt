@@ -1,5 +1,5 @@
 -- Rows that are stored by their places.
-use Rattle.std.specs.Prelude.{ℕ, ◌≡◌, ◌≢◌, ◌<◌, ◌+◌, Option, Some, None, List, [], ◌∷◌, ◌++◌, length, map, slice_index_or}
+use Rattle.std.specs.Prelude.{ℕ, suc, ◌≡◌, ◌≢◌, ◌<◌, ◌+◌, Option, Some, None, List, [], ◌∷◌, ◌++◌, length, take, drop, map, slice_get, slice_index_or}
 use Rattle.std.specs.List.{AllByRecursion}
 use Rattle.key_tuple.specs.Order.{FieldList}
 use Rattle.index_page.specs.declared.body.Beside.{Beside}
@@ -57,3 +57,16 @@ pub record Appends (old new others : List Row) : Type 0 where
   pub rows : new ≡ old ++ moved
   pub same : SameRows others moved
   pub differ : PlacesDiffer new
+
+-- the row with this number carries a value
+pub record HasValueAt (rows : List Row) (at : ℕ) : Type 0 where
+  pub row : Row
+  pub value : List ℕ
+  pub there : slice_get rows at ≡ Some row
+  pub is : row.body ≡ Bytes value
+
+-- the row with this number carries this value, at its place; all else is as before
+pub record Rewrites (old new : List Row) (at : ℕ) (bytes : List ℕ) : Type 0 where
+  pub row : Row
+  pub there : slice_get old at ≡ Some row
+  pub is : new ≡ take at old ++ placed_row row.place row.key (Bytes bytes) ∷ drop (suc at) old

@@ -1,11 +1,11 @@
 //! Rows at their places.
-ghost use Rattle.std.specs.Prelude.{◌≡◌, ◌+◌, ◌≤◌, ◌<◌, [], ◌∷◌, ◌++◌, length, take, drop, Some, None, IfOk, OnOk, OnErr, IsSome, slice_get};
+ghost use Rattle.std.specs.Prelude.{◌≡◌, ◌+◌, ◌≤◌, ◌<◌, [], ◌∷◌, ◌++◌, length, take, drop, Some, None, IfOk, OnOk, OnErr, IsSome, IsOk, slice_get};
 ghost use Rattle.std.specs.List.{AllByRecursion, insert, remove};
 ghost use Rattle.key_tuple.specs.Limits.{IsWithinLimits};
 ghost use Rattle.index_page.specs.declared.TheConstants.{MAX_ROWS};
 ghost use Rattle.index_page.specs.Rows.{Row, placed_row, find_row};
 ghost use Rattle.index_page.specs.Page.{PlacesDiffer};
-ghost use Rattle.index_page.specs.Store.{beside_by, rows_in, IsStore, IsSpare, Appends};
+ghost use Rattle.index_page.specs.Store.{beside_by, rows_in, IsStore, IsSpare, Appends, HasValueAt, Rewrites};
 
 use crate::body::Beside;
 use crate::places::Places;
@@ -99,6 +99,19 @@ impl Heap {
         slot.fill(key, beside)?;
         self.places.claim(at, place)?;
         Ok(place)
+    }
+
+    /// Writes another value in the row with that number.
+    pub(crate) fn rewrite_at(&mut self, at: usize, bytes: &[u8]) -> Result<(), AllocError>
+        requires { HasValueAt self.old at }
+        ensures ok { OnOk result (Rewrites self.old self.new at bytes.now) }
+        ensures in_place { (has : HasValueAt self.old at) →
+            length bytes.now ≤ length has.value → IsOk result }
+        ensures err { OnErr result (self.new ≡ self.old) }
+    {
+        let place = self.places.live()[at];
+        let slot = &mut self.slots[place as usize];
+        Ok(slot.rewrite(bytes)?)
     }
 
     /// Puts the same rows as the others behind these.

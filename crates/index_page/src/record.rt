@@ -1,5 +1,5 @@
 //! One stored row.
-ghost use Rattle.std.specs.Prelude.{◌≡◌, ◌≤◌, ℕ, List, [], IfOk, OnOk};
+ghost use Rattle.std.specs.Prelude.{◌≡◌, ◌≤◌, ℕ, List, [], length, IfOk, OnOk, OnErr, IsOk};
 ghost use Rattle.key_tuple.specs.Limits.{IsWithinLimits};
 ghost use Rattle.index_page.specs.Rows.{Bytes, Child};
 ghost use Rattle.index_page.specs.Store.{beside_by};
@@ -55,6 +55,21 @@ impl Record {
             Beside::Child(number) => self.child = Some(number),
         }
         Ok(())
+    }
+
+    /// Writes another value in the place of the one before. It takes no memory where the value is no
+    /// longer than that.
+    pub(crate) fn rewrite(&mut self, bytes: &[u8]) -> Result<(), AllocError>
+        requires { (value : List ℕ) × (self.old.body ≡ Bytes value) }
+        ensures ok { OnOk result (self.new ≡ record { key = self.old.key; body = Bytes bytes.now }) }
+        ensures in_place { (value : List ℕ) → self.old.body ≡ Bytes value →
+            length bytes.now ≤ length value → IsOk result }
+        ensures err { OnErr result (self.new ≡ self.old) }
+    {
+        let more = bytes.len().saturating_sub(self.value.len());
+        self.value.reserve(more)?;
+        self.value.clear();
+        self.value.extend_from_slice(bytes)
     }
 
     /// Takes the row out and keeps its buffers.

@@ -407,6 +407,26 @@ fn many_rows_come_and_go(rt: HostRuntime) {
     assert!(rt; put_half(alloc, &mut page) && counts_up(&page));
 }
 
+/// Gives the row with that key another value: its place.
+fn set_bytes(alloc: Global, page: &mut Page, key: &[u8], value: &[u8]) -> Option<Place> {
+    let place = place_at(alloc, page, key)?;
+    let value = value_of(alloc, value)?;
+    if page.head().level != 0 {
+        return None;
+    }
+    page.set(place, &value).ok()
+}
+
+#[test]
+fn a_value_gives_way_to_another(rt: HostRuntime) {
+    let alloc = rt.alloc();
+    let mut page = lettered(alloc, b"cab").expect(&rt, "a page");
+    assert!(rt; set_bytes(alloc, &mut page, b"b", b"x") == Some(2));
+    assert!(rt; has_value(alloc, &page, b"b", b"x"));
+    assert!(rt; set_bytes(alloc, &mut page, b"b", b"longer").is_some());
+    assert!(rt; has_value(alloc, &page, b"b", b"longer") && has_letters(&page, b"abc"));
+}
+
 /// What a page is charged for a row with a key of one byte and a value of so many.
 fn charge_at(alloc: Global, count: usize) -> Option<u16> {
     let key = key_of(alloc, b"k")?;
