@@ -4,3 +4,4 @@ pub mod PlaceLemmas
 pub mod TupleLemmas
 pub mod FoldLemmas
 pub mod SizeLemmas
+pub mod PositionLemmas

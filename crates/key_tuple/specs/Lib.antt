@@ -2,6 +2,7 @@ pub mod Order
 pub mod Total
 pub mod Hashed
 pub mod KeyPlace
+pub mod Position
 pub mod Figures
 pub mod Limits
 pub mod Parts

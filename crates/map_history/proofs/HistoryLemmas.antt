@@ -1,18 +1,17 @@
 -- Maps after changes, lists of changes, and replies at their points.
-use Rattle.std.proofs.Common.{◌≡◌, ◌≢◌, ℕ, zero, suc, ◌<◌, ◌≤◌, Bool, true, false, cond, Some, List, [], ◌∷◌, ◌++◌, length, take, refl, sym, ap, ◌∙◌, arith, is_eq, is_some, is_none, length-append, Ordering, Less, Equal, Greater, inl, inr}
+use Rattle.std.proofs.Common.{◌≡◌, ◌≢◌, ℕ, zero, suc, ◌<◌, ◌≤◌, Bool, true, false, cond, Some, List, [], ◌∷◌, ◌++◌, length, take, refl, sym, ap, ◌∙◌, arith, is_some, is_none, length-append, inl, inr}
 use Rattle.std.proofs.lemmas.List.{take-append-le}
 use Rattle.std.proofs.lemmas.Bool.{cases_lt}
 use Rattle.std.proofs.lemmas.Option.{slice_get_within}
 use Rattle.std.proofs.Math.Seq.{take-append_seam}
 use Rattle.std.specs.List.{slice_get}
-use Rattle.key_tuple.specs.Order.{FieldList, key_cmp}
+use Rattle.key_tuple.specs.Order.{FieldList}
 use Rattle.key_tuple.specs.KeyPlace.{KeyPlace, At, within}
-use Rattle.key_tuple.proofs.PlaceLemmas.{key_exact}
 use Rattle.map_history.specs.Map.{Map, MapChange, Put, Set, Del, Ascends, slice, value_at, write, key_of, value_of, is_allowed, after_change, after_changes, map_after, AreLawful}
 use Rattle.map_history.specs.Operation.{Ask}
 use Rattle.map_history.specs.Reply.{reply_of}
 use Rattle.map_history.proofs.ApplyLemmas.{after-allowed}
-use Rattle.map_history.proofs.WriteLemmas.{write-ascends, value_at-write, value_at-write_other, value_at-slice, slice-write_in, slice-write_out}
+use Rattle.map_history.proofs.WriteLemmas.{write-ascends, value_at-write, value_at-write_elsewhere, value_at-slice, slice-write_in, slice-write_out}
 
 pub after_change-ascends : (m : Map) (c : MapChange) → Ascends m → Ascends (after_change m c)
 after_change-ascends m c asc = go (is_allowed m c)
@@ -21,7 +20,7 @@ after_change-ascends m c asc = go (is_allowed m c)
     go true = write-ascends (key_of c) (value_of c) m asc
     go false = asc
 
-after_changes-ascends : (m : Map) (cs : List MapChange) → Ascends m → Ascends (after_changes m cs)
+pub after_changes-ascends : (m : Map) (cs : List MapChange) → Ascends m → Ascends (after_changes m cs)
 after_changes-ascends m [] asc = asc
 after_changes-ascends m (c ∷ cs) asc = after_changes-ascends (after_change m c) cs (after_change-ascends m c asc)
 
@@ -31,23 +30,15 @@ map_after-ascends cs = after_changes-ascends [] cs tt
 pub value_at-after_change : (m : Map) (c : MapChange) → is_allowed m c ≡ true → value_at (key_of c) (after_change m c) ≡ value_of c
 value_at-after_change m c h = ap (value_at (key_of c)) (after-allowed m c h) ∙ value_at-write (key_of c) (value_of c) m
 
-differs : (j k : FieldList) → j ≢ k → is_eq (key_cmp j k) ≡ false
-differs j k ne = go (key_cmp j k) refl
-  where
-    go : (o : Ordering) → key_cmp j k ≡ o → is_eq o ≡ false
-    go Less e = refl
-    go Equal e = absurd (ne (key_exact j k e))
-    go Greater e = refl
-
 pub value_at-after_change_other : (m : Map) (c : MapChange) (k : FieldList) → k ≢ key_of c → value_at k (after_change m c) ≡ value_at k m
 value_at-after_change_other m c k ne = go (is_allowed m c)
   where
     go : (b : Bool) → value_at k (cond b (write (key_of c) (value_of c) m) m) ≡ value_at k m
-    go true = value_at-write_other (key_of c) k (value_of c) m (differs k (key_of c) ne)
+    go true = value_at-write_elsewhere (key_of c) k (value_of c) m (λ e. ne (sym e))
     go false = refl
 
 -- whether a change is allowed is read off the value at its key
-allowed-by_value : (m n : Map) (c : MapChange) → value_at (key_of c) m ≡ value_at (key_of c) n → is_allowed m c ≡ is_allowed n c
+pub allowed-by_value : (m n : Map) (c : MapChange) → value_at (key_of c) m ≡ value_at (key_of c) n → is_allowed m c ≡ is_allowed n c
 allowed-by_value m n (Put k v) e = ap is_none e
 allowed-by_value m n (Set k v) e = ap is_some e
 allowed-by_value m n (Del k) e = ap is_some e

@@ -1,8 +1,8 @@
 -- Where no answer is `space-full`, there is room.
-use Rattle.std.proofs.Common.{◌≡◌, ℕ, Bool, true, false, List, ap}
-use Rattle.std.specs.List.{slice_get, AllByRecursion}
+use Rattle.std.proofs.Common.{◌≡◌, false, ap}
+use Rattle.std.specs.List.{AllByRecursion}
 use Rattle.list_facts.proofs.Each.{each_get}
-use Rattle.map_history.specs.Report.{Columns, dashes, AnswerLine, SpaceFull}
+use Rattle.map_history.specs.Report.{AnswerLine, SpaceFull}
 use Rattle.map_history.specs.Columns.{may_stand, may_stand_later}
 use Rattle.map_history.specs.LegalReport.{is_space_full}
 use Rattle.map_history.specs.Laws.{NoSpaceFullHasRoom, DashesStand}

@@ -1,5 +1,5 @@
 -- A write: the order it keeps, the values, and its slices.
-use Rattle.std.proofs.Common.{◌≡◌, ℕ, Bool, true, false, ◌&&◌, cond, Option, Some, None, List, [], ◌∷◌, ◌++◌, refl, sym, ap, ◌∙◌, subst, arith, append-nil, is_eq, is_lt, Ordering, Less, Equal, Greater}
+use Rattle.std.proofs.Common.{◌≡◌, ◌≢◌, ℕ, Bool, true, false, ◌&&◌, cond, Option, Some, None, List, [], ◌∷◌, ◌++◌, refl, sym, ap, ◌∙◌, subst, arith, append-nil, is_eq, is_lt, Ordering, Less, Equal, Greater}
 use Rattle.std.specs.List.{filter, AllByRecursion}
 use Rattle.std.proofs.lemmas.Bool.{both_ways}
 use Rattle.std.proofs.lemmas.List.Elements.{filter-append, filter_agree}
@@ -8,17 +8,12 @@ use Rattle.std.specs.Ordering.{ordering_reverse}
 use Rattle.key_tuple.specs.Order.{FieldList, key_cmp}
 use Rattle.key_tuple.specs.KeyPlace.{KeyPlace, At, before, within}
 use Rattle.key_tuple.proofs.PlaceLemmas.{total, key_exact, before-itself, before-trans, before_upto, before_not_after}
+use Rattle.key_tuple.proofs.PositionLemmas.{within_parts}
 use Rattle.map_history.specs.Map.{Pair, Map, Ascends, slice, value_at, row_of, write}
-use Rattle.list_facts.proofs.Each.{filter_each, filter_none, each_weaker, each_all, each_filter}
+use Rattle.list_facts.proofs.Each.{filter-and, filter_each, filter_none, each_weaker, each_all, each_filter}
+use Rattle.list_facts.proofs.Orders.{is_equal}
 
 -- filters upon filters
-filter-and_step : {A : Type 0} (p q : A → Bool) (x : A) (xs : List A) → filter q (filter p xs) ≡ filter (λ x. p x && q x) xs → filter q (filter p (x ∷ xs)) ≡ filter (λ x. p x && q x) (x ∷ xs)
-filter-and_step p q x xs h = grind arith
-
-pub filter-and : {A : Type 0} (p q : A → Bool) (xs : List A) → filter q (filter p xs) ≡ filter (λ x. p x && q x) xs
-filter-and p q [] = refl
-filter-and p q (x ∷ xs) = filter-and_step p q x xs (filter-and p q xs)
-
 and_swap : (a b : Bool) → (a && b) ≡ (b && a)
 and_swap a b = grind arith
 
@@ -76,13 +71,8 @@ write-ascends k o m asc =
     both (x ∷ xs) h o = (h.0, both xs h.1 o)
 
 -- the values
-equal_is : (o : Ordering) → is_eq o ≡ true → o ≡ Equal
-equal_is Less e = absurd cc
-equal_is Equal e = refl
-equal_is Greater e = absurd cc
-
 same_key : (j k : FieldList) → is_eq (key_cmp j k) ≡ true → j ≡ k
-same_key j k e = key_exact j k (equal_is (key_cmp j k) e)
+same_key j k e = key_exact j k (is_equal (key_cmp j k) e)
 
 -- a filter by key keeps a key's value, or loses it
 pub value_at-kept : (t : KeyPlace → Bool) (k : FieldList) (m : Map) → t (At k) ≡ true → value_at k (filter (λ (e : Pair). t (At e.key)) m) ≡ value_at k m
@@ -163,10 +153,19 @@ value_at-write_other k j o m ne =
     go true e = rw (value_at-lost (λ x. before (At k) x) j m (before_not_after (At j) (At k) e), or_none) (value_at-kept (λ x. before x (At k)) j m e)
     go false e = rw (value_at-lost (λ x. before x (At k)) j m e) (value_at-kept (λ x. before (At k) x) j m (above_it j k ne e))
 
--- the slices
-within_parts : (low high x : KeyPlace) → within low high x ≡ true → (before x low ≡ false) × (before x high ≡ true)
-within_parts low high x h = grind arith
+-- keys that differ compare so
+differs : (j k : FieldList) → j ≢ k → is_eq (key_cmp j k) ≡ false
+differs j k ne = go (key_cmp j k) refl
+  where
+    go : (o : Ordering) → key_cmp j k ≡ o → is_eq o ≡ false
+    go Less e = refl
+    go Equal e = absurd (ne (key_exact j k e))
+    go Greater e = refl
 
+pub value_at-write_elsewhere : (k j : FieldList) (o : Option (List ℕ)) (m : Map) → k ≢ j → value_at j (write k o m) ≡ value_at j m
+value_at-write_elsewhere k j o m ne = value_at-write_other k j o m (differs j k (λ e. ne (sym e)))
+
+-- the slices
 slice-row_in : (low high : KeyPlace) (k : FieldList) (o : Option (List ℕ)) → within low high (At k) ≡ true → slice low high (row_of k o) ≡ row_of k o
 slice-row_in low high k None h = refl
 slice-row_in low high k (Some v) h = rw h

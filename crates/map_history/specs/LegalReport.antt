@@ -57,24 +57,33 @@ columns_of (Scanned pieces) = map (λ (p : ScanPiece). p.columns) pieces
 
 -- the columns of an index in a lane
 abbrev pub columns_in : ℕ → List (Line × AnswerLine) → List Columns
-columns_in i pairs = flat_map (λ (x : Line × AnswerLine). if x.0.op.index == i then columns_of x.1.answer else []) pairs
+columns_in i pairs =
+    flat_map (λ (x : Line × AnswerLine).
+    if x.0.op.index == i then columns_of x.1.answer else []) pairs
 
 -- and in all lanes
 abbrev pub columns_at : Run → Report → ℕ → List Columns
-columns_at run report i = flat_map (λ (x : List Line × List AnswerLine). columns_in i (zip x.0 x.1)) (zip run.lanes report.lanes)
+columns_at run report i =
+    flat_map (λ (x : List Line × List AnswerLine). columns_in i (zip x.0 x.1))
+    (zip run.lanes report.lanes)
 
 -- the line at a place of a lane, both counted from 0, has this answer
 pub record IsAnswered (run : Run) (report : Report) (lane place : ℕ) (line : Line) (answer : Answer) : Type 0 where
-  pub line_there : (lines : List Line) × (slice_get run.lanes lane ≡ Some lines) × (slice_get lines place ≡ Some line)
-  pub answer_there : (answers : List AnswerLine) × (slice_get report.lanes lane ≡ Some answers) × (slice_get answers place ≡ Some (record { line = line.line; answer = answer }))
+  pub line_there : (lines : List Line) × (slice_get run.lanes lane ≡ Some lines)
+      × (slice_get lines place ≡ Some line)
+  pub answer_there : (answers : List AnswerLine) × (slice_get report.lanes lane ≡ Some answers)
+      × (slice_get answers place ≡ Some (record { line = line.line; answer = answer }))
 
--- Form: each line has one answer, in its order and of a form of its operation; the statistics count the columns.
+-- Form: each line has one answer, in its order and of a form of its operation; the statistics count the
+-- columns.
 pub record HasForm (run : Run) (report : Report) : Type 0 where
   pub lanes : AllZip (AllZip Answers) run.lanes report.lanes
   pub names : map (λ (part : IndexPart). part.name) report.indexes ≡ run.names
-  pub counts : (i : ℕ) (part : IndexPart) → slice_get report.indexes i ≡ Some part → part.counts ≡ counts_of (columns_at run report i)
+  pub counts : (i : ℕ) (part : IndexPart) → slice_get report.indexes i ≡ Some part
+      → part.counts ≡ counts_of (columns_at run report i)
 
--- entry n of an index, counted from 0, is the operation of a line that is answered `ok` at the point n + 1
+-- entry n of an index, counted from 0, is the operation of a line that is answered `ok` at the point
+-- n + 1
 pub record NamesLine (run : Run) (report : Report) (index n : ℕ) (entry : ChangeLine) : Type 0 where
   pub lane : ℕ
   pub place : ℕ
@@ -95,12 +104,15 @@ pub record IsNamed (report : Report) (lane : ℕ) (line : Line) (point : ℕ) : 
   pub same_line : entry.line ≡ line.line
   pub same_change : line.op.ask ≡ Make entry.change
 
--- Changes: each is allowed by the map of those before it and comes from its own line, and each line that is
--- answered `ok` has its entry.
+-- Changes: each is allowed by the map of those before it and comes from its own line, and each line that
+-- is answered `ok` has its entry.
 pub record HasChanges (run : Run) (report : Report) : Type 0 where
   pub lawful : (i : ℕ) → AreLawful (changes_at report i)
-  pub named : (i n : ℕ) (entry : ChangeLine) → slice_get (entries_at report i) n ≡ Some entry → NamesLine run report i n entry
-  pub done : (lane place : ℕ) (line : Line) (point : ℕ) (columns : Columns) → IsAnswered run report lane place line (Replied Done point columns) → IsNamed report lane line point
+  pub named : (i n : ℕ) (entry : ChangeLine) → slice_get (entries_at report i) n ≡ Some entry
+      → NamesLine run report i n entry
+  pub done : (lane place : ℕ) (line : Line) (point : ℕ) (columns : Columns)
+      → IsAnswered run report lane place line (Replied Done point columns)
+      → IsNamed report lane line point
 
 -- Answers: each other reply is that of the map at its point.
 pub record RepliesAt (changes : List MapChange) (ask : Ask) (point : ℕ) (reply : MapReply) : Type 0 where
@@ -109,7 +121,10 @@ pub record RepliesAt (changes : List MapChange) (ask : Ask) (point : ℕ) (reply
 
 -- of all lines that are answered so
 abbrev pub HasReplies : Run → Report → Type 0
-HasReplies run report = (lane place : ℕ) (line : Line) (reply : MapReply) (point : ℕ) (columns : Columns) → IsAnswered run report lane place line (Replied reply point columns) → reply ≢ Done → RepliesAt (changes_at report line.op.index) line.op.ask point reply
+HasReplies run report =
+    (lane place : ℕ) (line : Line) (reply : MapReply) (point : ℕ) (columns : Columns)
+    → IsAnswered run report lane place line (Replied reply point columns) → reply ≢ Done
+    → RepliesAt (changes_at report line.op.index) line.op.ask point reply
 
 -- a point that a lane was told, and by how much the list rose there
 pub record Mark : Type 0 where
@@ -130,15 +145,20 @@ marks_of (Scanned pieces) = map (λ (p : ScanPiece). record { point = p.point; g
 
 -- the marks of an index in a lane, in their order
 abbrev pub marks_in : ℕ → List (Line × AnswerLine) → List Mark
-marks_in i pairs = flat_map (λ (x : Line × AnswerLine). if x.0.op.index == i then marks_of x.1.answer else []) pairs
+marks_in i pairs =
+    flat_map (λ (x : Line × AnswerLine).
+    if x.0.op.index == i then marks_of x.1.answer else []) pairs
 
 -- a later point isn't lower, and that of a change is higher
 abbrev pub Precedes : Mark → Mark → Type 0
 Precedes x y = x.point + y.grows ≤ y.point
 
--- Order in a lane: the points of one index never fall, and a change's is higher than every earlier one.
+-- Order in a lane: the points of one index never fall, and a change's is higher than each earlier one.
 abbrev pub IsInOrder : Run → Report → Type 0
-IsInOrder run report = (lane i : ℕ) (lines : List Line) (answers : List AnswerLine) → slice_get run.lanes lane ≡ Some lines → slice_get report.lanes lane ≡ Some answers → AllPairs Precedes (marks_in i (zip lines answers))
+IsInOrder run report =
+    (lane i : ℕ) (lines : List Line) (answers : List AnswerLine)
+    → slice_get run.lanes lane ≡ Some lines → slice_get report.lanes lane ≡ Some answers
+    → AllPairs Precedes (marks_in i (zip lines answers))
 
 -- the pieces are what an ordered map answers a scan; only a scan has pieces
 abbrev pub ScansFor : Ask → List MapChange → List ScanPiece → Type 0
@@ -147,7 +167,10 @@ ScansFor ask changes pieces = Unit {0}
 
 -- Scans: the pieces of each are what an ordered map answers.
 abbrev pub HasScans : Run → Report → Type 0
-HasScans run report = (lane place : ℕ) (line : Line) (pieces : List ScanPiece) → IsAnswered run report lane place line (Scanned pieces) → ScansFor line.op.ask (changes_at report line.op.index) pieces
+HasScans run report =
+    (lane place : ℕ) (line : Line) (pieces : List ScanPiece)
+    → IsAnswered run report lane place line (Scanned pieces)
+    → ScansFor line.op.ask (changes_at report line.op.index) pieces
 
 -- a change that the map allows, and that is refused since the list is full
 pub record IsLogFull (most : ℕ) (changes : List MapChange) (ask : Ask) (n : ℕ) : Type 0 where
@@ -159,7 +182,10 @@ pub record IsLogFull (most : ℕ) (changes : List MapChange) (ask : Ask) (n : �
 
 -- Log-full: only where the list is as long as it may be, and of a change that its map allows.
 abbrev pub HasLogFull : Run → Report → Type 0
-HasLogFull run report = (lane place : ℕ) (line : Line) (n : ℕ) (columns : Columns) → IsAnswered run report lane place line (LogFull n columns) → IsLogFull run.sizes.max_changes (changes_at report line.op.index) line.op.ask n
+HasLogFull run report =
+    (lane place : ℕ) (line : Line) (n : ℕ) (columns : Columns)
+    → IsAnswered run report lane place line (LogFull n columns)
+    → IsLogFull run.sizes.max_changes (changes_at report line.op.index) line.op.ask n
 
 -- a put or set entry
 abbrev pub writes_row : ChangeLine → Bool
@@ -172,7 +198,8 @@ rows_written report = sum_by (λ (part : IndexPart). count_by writes_row part.en
 -- Room: space-full only where the pages are few for the rows that were written.
 abbrev pub HasRoom : Run → Report → Type 0
 HasRoom run report =
-    (lane place : ℕ) (line : Line) (columns : Columns) → IsAnswered run report lane place line (SpaceFull columns)
+    (lane place : ℕ) (line : Line) (columns : Columns)
+    → IsAnswered run report lane place line (SpaceFull columns)
     → run.sizes.pages ≤ 2 * (length run.names + rows_written report) + length run.lanes
 
 -- an answer is `space-full`

@@ -3,6 +3,7 @@ pub mod Pairs
 pub mod Operation
 pub mod Reply
 pub mod Told
+pub mod Words
 pub mod Text
 pub mod Report
 pub mod Spelling

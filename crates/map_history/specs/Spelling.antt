@@ -6,7 +6,9 @@ use Rattle.map_history.specs.declared.counts.Counts.{Counts}
 use Rattle.map_history.specs.Map.{Pair, MapChange, Put, Set, Del}
 use Rattle.map_history.specs.Reply.{MapReply, Value, Row, Done, Absent, Duplicate}
 use Rattle.map_history.specs.Report.{Columns, ScanPiece, Answer, Replied, LogFull, SpaceFull, Scanned, AnswerLine, ChangeLine, IndexPart, Report}
-use Rattle.map_history.specs.Text.{field_text, key_text, point_text, line_of, how_text, note_text}
+use Rattle.map_history.specs.Statistics.{statistics}
+use Rattle.map_history.specs.Text.{field_text, key_text, point_text, line_of}
+use Rattle.map_history.specs.Words.{how_text, note_text}
 
 -- the words of a reply
 abbrev pub reply_words : MapReply → List (List ℕ)
@@ -50,18 +52,12 @@ abbrev pub change_text : ℕ → ChangeLine → List ℕ
 change_text number e = line_of (decimal number ∷ decimal e.lane ∷ decimal e.line ∷ change_words e.change)
 
 -- a statistic: its word and its number
-abbrev pub count_words : List ℕ → ℕ → List (List ℕ)
-count_words word n = word ∷ decimal n ∷ []
+abbrev pub statistic_words : List ℕ × ℕ → List (List ℕ)
+statistic_words statistic = statistic.0 ∷ decimal statistic.1 ∷ []
 
 -- the statistics of an index
 abbrev pub stats_text : List ℕ → Counts → List ℕ
-stats_text name n = line_of (codes "stats" ∷ name
-    ∷ (count_words (codes "hit") n.hit ++ count_words (codes "off") n.off ++ count_words (codes "cold") n.cold
-    ++ count_words (codes "short") n.short ++ count_words (codes "part-busy") n.part_busy ++ count_words (codes "no-entry") n.no_entry
-    ++ count_words (codes "block-busy") n.block_busy ++ count_words (codes "clock") n.clock ++ count_words (codes "unequal") n.unequal
-    ++ count_words (codes "by-clock") n.by_clock ++ count_words (codes "by-busy") n.by_busy ++ count_words (codes "by-moved") n.by_moved
-    ++ count_words (codes "by-last") n.by_last ++ count_words (codes "built") n.built ++ count_words (codes "same") n.same
-    ++ count_words (codes "arena") n.arena ++ count_words (codes "raced") n.raced ++ count_words (codes "worn") n.worn))
+stats_text name n = line_of (codes "stats" ∷ name ∷ flat_map statistic_words (statistics n))
 
 -- a lane with its number from 1, and its answers
 abbrev pub lane_text : ℕ × List AnswerLine → List ℕ

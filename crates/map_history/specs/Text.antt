@@ -1,12 +1,8 @@
 -- How bytes, keys and numbers are written.
-use Rattle.std.specs.Prelude.{ℕ, ◌+◌, ◌/◌, ◌%◌, Bool, ◌&&◌, not, ◌==◌, nat_lt, nat_le, if◌then◌else◌, List, [], ◌∷◌, ◌++◌, map, codes}
+use Rattle.std.specs.Prelude.{ℕ, ◌+◌, ◌/◌, ◌%◌, Bool, ◌&&◌, not, ◌==◌, nat_lt, nat_le, if◌then◌else◌, List, [], ◌∷◌, ◌++◌, map}
 use Rattle.std.specs.List.{flat_map, join_with_byte}
 use Rattle.std.specs.Fmt.{decimal}
 use Rattle.key_tuple.specs.Order.{FieldList}
-use Rattle.map_history.specs.declared.columns.How.{How}
-use Rattle.map_history.specs.declared.columns.How.TheVariants as how
-use Rattle.map_history.specs.declared.columns.Note.{Note}
-use Rattle.map_history.specs.declared.columns.Note.TheVariants as note
 
 -- the bytes from `!` to `}` stand for themselves, but for `%` and `,`
 abbrev pub is_plain : ℕ → Bool
@@ -36,30 +32,3 @@ point_text p = 64 ∷ decimal p
 -- some words, a space between each two, and the end of the line
 abbrev pub line_of : List (List ℕ) → List ℕ
 line_of words = join_with_byte 32 words ++ 10 ∷ []
-
--- the words of the two columns
-abbrev pub how_text : How → List ℕ
-how_text how.Dash = codes "-"
-how_text how.Hit = codes "hit"
-how_text how.Off = codes "off"
-how_text how.Cold = codes "cold"
-how_text how.Short = codes "short"
-how_text how.PartBusy = codes "part-busy"
-how_text how.NoEntry = codes "no-entry"
-how_text how.BlockBusy = codes "block-busy"
-how_text how.Clock = codes "clock"
-how_text how.Unequal = codes "unequal"
-how_text how.ByClock = codes "by-clock"
-how_text how.ByBusy = codes "by-busy"
-how_text how.ByMoved = codes "by-moved"
-how_text how.ByLast = codes "by-last"
-
--- the word of the second column
-abbrev pub note_text : Note → List ℕ
-note_text note.Dash = codes "-"
-note_text note.No = codes "no"
-note_text note.Built = codes "built"
-note_text note.Same = codes "same"
-note_text note.Arena = codes "arena"
-note_text note.Raced = codes "raced"
-note_text note.Worn = codes "worn"

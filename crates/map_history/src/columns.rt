@@ -1,4 +1,6 @@
 //! The two last columns of an answer: how it was found, and what was learnt from it.
+ghost use Rattle.std.specs.Prelude.{◌≡◌};
+ghost use Rattle.map_history.specs.Words.{how_text, note_text};
 
 /// How a search found its row.
 #[derive(Debug, Clone, Copy, PartialEq, Eq)]
@@ -50,4 +52,45 @@ pub enum Note {
     Raced,
     /// The count of events is at its end, and this one wasn't counted.
     Worn,
+}
+
+impl How {
+    /// The word as it is printed.
+    pub fn text(self) -> &'static str
+        ensures { result.now ≡ how_text self }
+    {
+        match self {
+            How::Dash => "-",
+            How::Hit => "hit",
+            How::Off => "off",
+            How::Cold => "cold",
+            How::Short => "short",
+            How::PartBusy => "part-busy",
+            How::NoEntry => "no-entry",
+            How::BlockBusy => "block-busy",
+            How::Clock => "clock",
+            How::Unequal => "unequal",
+            How::ByClock => "by-clock",
+            How::ByBusy => "by-busy",
+            How::ByMoved => "by-moved",
+            How::ByLast => "by-last",
+        }
+    }
+}
+
+impl Note {
+    /// The word as it is printed.
+    pub fn text(self) -> &'static str
+        ensures { result.now ≡ note_text self }
+    {
+        match self {
+            Note::Dash => "-",
+            Note::No => "no",
+            Note::Built => "built",
+            Note::Same => "same",
+            Note::Arena => "arena",
+            Note::Raced => "raced",
+            Note::Worn => "worn",
+        }
+    }
 }

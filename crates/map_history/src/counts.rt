@@ -1,24 +1,53 @@
 //! Statistics of an index.
+ghost use Rattle.std.specs.Prelude.{◌≡◌, [], map};
+ghost use Rattle.map_history.specs.Words.{counted_words};
+ghost use Rattle.map_history.specs.Statistics.{counts_of};
 
-/// How many answers and pieces of an index have each word in their columns.
+use crate::columns::{How, Note};
+
+/// How many words are counted.
+pub const COUNTED: usize = 18;
+
+/// How many answers and pieces of an index have each word of `counted_words` in their columns, in
+/// the order of these words.
 #[derive(Debug, Clone, Copy, PartialEq, Eq)]
 pub struct Counts {
-    pub hit: u64,
-    pub off: u64,
-    pub cold: u64,
-    pub short: u64,
-    pub part_busy: u64,
-    pub no_entry: u64,
-    pub block_busy: u64,
-    pub clock: u64,
-    pub unequal: u64,
-    pub by_clock: u64,
-    pub by_busy: u64,
-    pub by_moved: u64,
-    pub by_last: u64,
-    pub built: u64,
-    pub same: u64,
-    pub arena: u64,
-    pub raced: u64,
-    pub worn: u64,
+    pub numbers: [u64; COUNTED],
+}
+
+impl Counts {
+    /// No word was counted.
+    pub fn none() -> Counts
+        ensures { result ≡ counts_of [] }
+    {
+        Counts {
+            numbers: [0; COUNTED],
+        }
+    }
+}
+
+/// The words of the statistics, in the order of their line.
+pub fn counted_words() -> [&'static str; COUNTED]
+    ensures { map (λ word. word.now) result ≡ counted_words }
+{
+    [
+        How::Hit.text(),
+        How::Off.text(),
+        How::Cold.text(),
+        How::Short.text(),
+        How::PartBusy.text(),
+        How::NoEntry.text(),
+        How::BlockBusy.text(),
+        How::Clock.text(),
+        How::Unequal.text(),
+        How::ByClock.text(),
+        How::ByBusy.text(),
+        How::ByMoved.text(),
+        How::ByLast.text(),
+        Note::Built.text(),
+        Note::Same.text(),
+        Note::Arena.text(),
+        Note::Raced.text(),
+        Note::Worn.text(),
+    ]
 }

@@ -22,7 +22,7 @@ pub use answers::answer;
 pub use change::Change;
 pub use changes::{apply, make, pairs_ascend};
 pub use columns::{How, Note};
-pub use counts::Counts;
+pub use counts::{COUNTED, Counts, counted_words};
 pub use laws::{
     changes_are_local, dashes_may_stand, lists_grow, maps_ascend, replies_stay,
     reports_without_full_have_room, searches_find, slices_change,

@@ -1,75 +1,77 @@
+//! Calls that succeed, seeks in all modes, the largest row, and rows of one list in another.
 use super::*;
 use key_tuple::{Fields, Key, MAX_KEY_BYTES, MAX_VALUE_BYTES, Mode, Tuple, Value};
 use std::alloc::Global;
 use std::collections::BTreeMap;
-use std::process::Abort;
 use std::test::*;
 
-fn owned(alloc: Global, parts: &[&[u8]]) -> Result<Vec<Vec<u8>>, Fail> {
+fn owned(alloc: Global, parts: &[&[u8]]) -> Option<Vec<Vec<u8>>> {
     let mut fields = Vec::new(alloc);
     for part in parts {
-        fields.push(part.to_vec(alloc)?)?;
+        let field = part.to_vec(alloc).ok()?;
+        fields.push(field).ok()?;
     }
-    Ok(fields)
+    Some(fields)
 }
 
-fn key_of(rt: &impl Abort, alloc: Global, parts: &[&[u8]]) -> Result<Key, Fail> {
+fn key_of(alloc: Global, parts: &[&[u8]]) -> Option<Key> {
     let fields = owned(alloc, parts)?;
-    assert!(rt; !fields.is_empty());
-    Ok(Key::try_new(alloc, fields)?)
+    if fields.is_empty() {
+        return None;
+    }
+    Key::try_new(alloc, fields).ok()
 }
 
-fn value_of(alloc: Global, bytes: &[u8]) -> Result<Value, Fail> {
-    Ok(Value::try_new(bytes.to_vec(alloc)?)?)
+fn tuple_of(alloc: Global, parts: &[&[u8]]) -> Option<Tuple> {
+    let fields = owned(alloc, parts)?;
+    Tuple::try_new(alloc, fields).ok()
 }
 
-/// The change that an operation asks for.
-fn change_of(op: Op) -> Option<Change> {
-    match op {
-        Op::Put { key, value, .. } => Some(Change::Put { key, value }),
-        Op::Set { key, value, .. } => Some(Change::Set { key, value }),
-        Op::Del { key, .. } => Some(Change::Del { key }),
-        Op::Get { .. } | Op::Seek { .. } | Op::Scan { .. } => None,
-    }
-}
-
-/// Asks one map of the index 0, and makes a change that it allows.
-fn ask(map: &mut BTreeMap<Key, Value>, op: Op, out: &mut RowBuf) -> Result<Reply, Fail> {
-    if let Op::Scan { .. } = op {
-        return Ok(Reply::Absent);
-    }
-    let reply = answer(map, &op, out);
-    if let Some(change) = change_of(op) {
-        apply(map, &change)?;
-    }
-    Ok(reply)
+fn value_of(alloc: Global, bytes: &[u8]) -> Option<Value> {
+    let bytes = bytes.to_vec(alloc).ok()?;
+    Value::try_new(bytes).ok()
 }
 
 /// An operation on the key `a` of the index 0.
-fn op_of(rt: &impl Abort, alloc: Global, word: &str, bytes: &[u8]) -> Result<Op, Fail> {
-    let key = key_of(rt, alloc, &[b"a"])?;
+fn op_of(alloc: Global, word: &str, bytes: &[u8]) -> Option<Op> {
+    let index = 0;
+    let key = key_of(alloc, &[b"a"])?;
     let value = value_of(alloc, bytes)?;
-    Ok(match word {
-        "put" => Op::Put {
-            index: 0,
-            key,
-            value,
-        },
-        "set" => Op::Set {
-            index: 0,
-            key,
-            value,
-        },
-        "del" => Op::Del { index: 0, key },
-        _ => Op::Get { index: 0, key },
+    Some(match word {
+        "put" => Op::Put { index, key, value },
+        "set" => Op::Set { index, key, value },
+        "del" => Op::Del { index, key },
+        _ => Op::Get { index, key },
     })
 }
 
-#[test]
-fn a_row_is_put_read_and_taken_out(rt: HostRuntime) -> Result<(), Fail> {
-    let alloc = rt.alloc();
-    let mut map = BTreeMap::new(alloc);
-    let mut out = RowBuf::new(alloc)?;
+/// Asks a map, and makes the change that it allows.
+fn ask(map: &mut BTreeMap<Key, Value>, op: &Op, out: &mut RowBuf) -> Option<Reply> {
+    if let Op::Scan { .. } = op {
+        return None;
+    }
+    let reply = answer(map, op, out);
+    match make(map, op) {
+        Ok(()) => Some(reply),
+        Err(_) => None,
+    }
+}
+
+/// The operation is replied so, and leaves this value in the buffer.
+fn says(
+    alloc: Global,
+    map: &mut BTreeMap<Key, Value>,
+    out: &mut RowBuf,
+    line: (&str, &[u8], Reply, &[u8]),
+) -> bool {
+    let (word, bytes, want, left) = line;
+    match op_of(alloc, word, bytes) {
+        Some(op) => ask(map, &op, out) == Some(want) && out.value() == left,
+        None => false,
+    }
+}
+
+fn says_all(alloc: Global, map: &mut BTreeMap<Key, Value>, out: &mut RowBuf) -> bool {
     let table: [(&str, &[u8], Reply, &[u8]); 9] = [
         ("put", b"x", Reply::Ok, b""),
         ("get", b"", Reply::Found, b"x"),
@@ -81,62 +83,79 @@ fn a_row_is_put_read_and_taken_out(rt: HostRuntime) -> Result<(), Fail> {
         ("get", b"", Reply::Absent, b"y"),
         ("set", b"z", Reply::Absent, b"y"),
     ];
-    for (word, bytes, want, left) in table {
-        let op = op_of(&rt, alloc, word, bytes)?;
-        assert_eq!(rt; ask(&mut map, op, &mut out)?, want);
-        assert_eq!(rt; out.value(), left);
+    for line in table {
+        if !says(alloc, map, out, line) {
+            return false;
+        }
     }
+    true
+}
+
+#[test]
+fn a_row_is_put_read_and_taken_out(rt: HostRuntime) -> Result<(), Fail> {
+    let alloc = rt.alloc();
+    let mut map = BTreeMap::new(alloc);
+    let mut out = RowBuf::new(alloc)?;
+    assert!(rt; says_all(alloc, &mut map, &mut out));
     assert!(rt; map.is_empty());
     Ok(())
 }
 
 /// Puts a row with the key (a, second, third).
-fn put_row(
-    rt: &impl Abort,
-    alloc: Global,
-    map: &mut BTreeMap<Key, Value>,
-    fields: [&[u8]; 2],
-    value: &[u8],
-) -> Result<(), Fail> {
-    let key = key_of(rt, alloc, &[b"a", fields[0], fields[1]])?;
-    let value = value_of(alloc, value)?;
-    apply(map, &Change::Put { key, value })?;
-    Ok(())
-}
-
-fn four_rows(rt: &impl Abort, alloc: Global) -> Result<BTreeMap<Key, Value>, Fail> {
-    let mut map = BTreeMap::new(alloc);
-    put_row(rt, alloc, &mut map, [b"y", b"2"], b"s")?;
-    put_row(rt, alloc, &mut map, [b"x", b"1"], b"p")?;
-    put_row(rt, alloc, &mut map, [b"y", b"1"], b"r")?;
-    put_row(rt, alloc, &mut map, [b"x", b"2"], b"q")?;
-    Ok(map)
-}
-
-/// The value of the row that a seek finds, or none.
-fn sought(
-    alloc: Global,
-    map: &mut BTreeMap<Key, Value>,
-    mode: Mode,
-    parts: &[&[u8]],
-) -> Result<Vec<u8>, Fail> {
-    let mut out = RowBuf::new(alloc)?;
-    let tuple = Tuple::try_new(alloc, owned(alloc, parts)?)?;
-    let op = Op::Seek {
-        index: 0,
-        mode,
-        tuple,
-    };
-    match ask(map, op, &mut out)? {
-        Reply::Found => Ok(out.value().to_vec(alloc)?),
-        _ => Ok(Vec::new(alloc)),
+fn put_row(alloc: Global, map: &mut BTreeMap<Key, Value>, row: (&[u8], &[u8], &[u8])) -> bool {
+    let (second, third, bytes) = row;
+    match (
+        key_of(alloc, &[b"a", second, third]),
+        value_of(alloc, bytes),
+    ) {
+        (Some(key), Some(value)) => apply(map, &Change::Put { key, value }).is_ok(),
+        _ => false,
     }
 }
 
-#[test]
-fn seeks_find_the_rows_at_their_cuts(rt: HostRuntime) -> Result<(), Fail> {
-    let alloc = rt.alloc();
-    let mut map = four_rows(&rt, alloc)?;
+fn put_four(alloc: Global, map: &mut BTreeMap<Key, Value>) -> bool {
+    let rows: [(&[u8], &[u8], &[u8]); 4] = [
+        (b"y", b"2", b"s"),
+        (b"x", b"1", b"p"),
+        (b"y", b"1", b"r"),
+        (b"x", b"2", b"q"),
+    ];
+    for row in rows {
+        if !put_row(alloc, map, row) {
+            return false;
+        }
+    }
+    true
+}
+
+fn seek_of(alloc: Global, mode: Mode, parts: &[&[u8]]) -> Option<Op> {
+    let tuple = tuple_of(alloc, parts)?;
+    Some(Op::Seek {
+        index: 0,
+        mode,
+        tuple,
+    })
+}
+
+/// A seek finds the row with this value, or none where there is no value.
+fn finds(
+    alloc: Global,
+    map: &mut BTreeMap<Key, Value>,
+    out: &mut RowBuf,
+    line: (Mode, &[&[u8]], &[u8]),
+) -> bool {
+    let (mode, parts, value) = line;
+    let Some(op) = seek_of(alloc, mode, parts) else {
+        return false;
+    };
+    match ask(map, &op, out) {
+        Some(Reply::Found) => out.value() == value,
+        Some(Reply::Absent) => value.is_empty(),
+        _ => false,
+    }
+}
+
+fn finds_all(alloc: Global, map: &mut BTreeMap<Key, Value>, out: &mut RowBuf) -> bool {
     let table: [(Mode, &[&[u8]], &[u8]); 9] = [
         (Mode::Ge, &[b"a", b"y"], b"r"),
         (Mode::Ge, &[b"a"], b"p"),
@@ -148,66 +167,145 @@ fn seeks_find_the_rows_at_their_cuts(rt: HostRuntime) -> Result<(), Fail> {
         (Mode::L, &[b"a", b"y"], b"q"),
         (Mode::L, &[b"a"], b""),
     ];
-    for (mode, parts, value) in table {
-        let found = sought(alloc, &mut map, mode, parts)?;
-        assert_eq!(rt; found.as_slice(), value);
+    for line in table {
+        if !finds(alloc, map, out, line) {
+            return false;
+        }
     }
+    true
+}
+
+#[test]
+fn seeks_find_the_rows_at_their_cuts(rt: HostRuntime) -> Result<(), Fail> {
+    let alloc = rt.alloc();
+    let mut map = BTreeMap::new(alloc);
+    let mut out = RowBuf::new(alloc)?;
+    assert!(rt; put_four(alloc, &mut map));
+    assert!(rt; finds_all(alloc, &mut map, &mut out));
     Ok(())
+}
+
+fn takes_the_largest(alloc: Global, out: &mut RowBuf) -> bool {
+    match (
+        vec![in alloc; 7; MAX_KEY_BYTES],
+        vec![in alloc; 9; MAX_VALUE_BYTES],
+    ) {
+        (Ok(field), Ok(value)) => fills(alloc, out, &[&field], &value),
+        _ => false,
+    }
+}
+
+/// A buffer that is filled has as many fields, the last of them and the value.
+fn fills(alloc: Global, out: &mut RowBuf, parts: &[&[u8]], value: &[u8]) -> bool {
+    let Some(key) = key_of(alloc, parts) else {
+        return false;
+    };
+    if value.len() > MAX_VALUE_BYTES {
+        return false;
+    }
+    out.fill(&key, value);
+    let count = usize::from(out.count());
+    count == parts.len()
+        && count > 0
+        && out.field(out.count() - 1) == parts[count - 1]
+        && out.value() == value
 }
 
 #[test]
 fn a_buffer_takes_the_largest_row_and_a_smaller_one(rt: HostRuntime) -> Result<(), Fail> {
     let alloc = rt.alloc();
     let mut out = RowBuf::new(alloc)?;
-    let field = vec![in alloc; 7; MAX_KEY_BYTES]?;
-    let value = vec![in alloc; 9; MAX_VALUE_BYTES]?;
-    out.fill(&key_of(&rt, alloc, &[&field])?, &value);
-    assert_eq!(rt; out.count(), 1);
-    assert_eq!(rt; out.value().len(), MAX_VALUE_BYTES);
-    out.fill(&key_of(&rt, alloc, &[b"a", b"", b"b"])?, b"x");
-    assert_eq!(rt; out.count(), 3);
-    assert_eq!(rt; out.field(2), b"b".as_slice());
-    assert_eq!(rt; out.value(), b"x".as_slice());
+    assert!(rt; takes_the_largest(alloc, &mut out));
+    assert!(rt; fills(alloc, &mut out, &[b"a", b"", b"b"], b"x"));
     Ok(())
 }
 
-#[test]
-fn rows_are_kept_read_and_cut(rt: HostRuntime) -> Result<(), Fail> {
-    let alloc = rt.alloc();
+fn two_rows(alloc: Global) -> Option<Rows> {
+    let first = key_of(alloc, &[b"a", b""])?;
+    let second = key_of(alloc, &[b"b"])?;
     let mut rows = Rows::new(alloc);
-    rows.push(&key_of(&rt, alloc, &[b"a", b""])?, b"one")?;
-    rows.push(&key_of(&rt, alloc, &[b"b"])?, b"")?;
+    rows.push(&first, b"one").ok()?;
+    rows.push(&second, b"").ok()?;
+    Some(rows)
+}
+
+/// Each row of the list, pushed from there.
+fn copy_of(alloc: Global, rows: &Rows) -> Option<Rows> {
     let mut more = Rows::new(alloc);
-    more.push(&rows.row(0), rows.row(0).value())?;
-    more.push(&rows.row(1), rows.row(1).value())?;
-    more.cut(9);
-    assert_eq!(rt; more.count(), 2);
-    assert_eq!(rt; more.row(1).field(0), b"b".as_slice());
-    more.cut(1);
-    assert_eq!(rt; more.count(), 1);
-    assert_eq!(rt; more.row(0).count(), 2);
-    assert_eq!(rt; more.row(0).field(0), b"a".as_slice());
-    assert!(rt; more.row(0).field(1).is_empty());
-    assert_eq!(rt; more.row(0).value(), b"one".as_slice());
-    more.cut(0);
-    assert_eq!(rt; more.count(), 0);
-    Ok(())
+    for i in 0..rows.count() {
+        let row = rows.row(i);
+        more.push(&row, row.value()).ok()?;
+    }
+    Some(more)
+}
+
+fn has_both_rows(rows: &Rows) -> bool {
+    if rows.count() != 2 {
+        return false;
+    }
+    let row = rows.row(1);
+    row.count() == 1 && row.field(0) == b"b".as_slice()
+}
+
+fn has_the_first_alone(rows: &Rows) -> bool {
+    if rows.count() != 1 {
+        return false;
+    }
+    let row = rows.row(0);
+    row.count() == 2
+        && row.field(0) == b"a".as_slice()
+        && row.field(1).is_empty()
+        && row.value() == b"one".as_slice()
+}
+
+fn is_cut(mut rows: Rows) -> bool {
+    rows.cut(9);
+    let whole = has_both_rows(&rows);
+    rows.cut(1);
+    let first = has_the_first_alone(&rows);
+    rows.cut(0);
+    whole && first && rows.count() == 0
+}
+
+fn copies_are_cut(alloc: Global) -> bool {
+    let Some(rows) = two_rows(alloc) else {
+        return false;
+    };
+    match copy_of(alloc, &rows) {
+        Some(more) => is_cut(more),
+        None => false,
+    }
 }
 
 #[test]
-fn an_operation_is_lent(rt: HostRuntime) -> Result<(), Fail> {
-    let alloc = rt.alloc();
-    let op = Op::Scan {
+fn rows_are_kept_read_and_cut(rt: HostRuntime) {
+    assert!(rt; copies_are_cut(rt.alloc()));
+}
+
+fn scan_of(alloc: Global) -> Option<Op> {
+    let from = tuple_of(alloc, &[])?;
+    Some(Op::Scan {
         index: 3,
-        from: Tuple::try_new(alloc, Vec::new(alloc))?,
+        from,
         to: None,
         limit: 9,
+    })
+}
+
+/// A scan is lent with its index and its limit.
+fn is_lent(alloc: Global) -> bool {
+    let Some(op) = scan_of(alloc) else {
+        return false;
     };
-    let OpRef::Scan { index, limit, .. } = op.borrow() else {
-        return Ok(());
-    };
-    assert_eq!(rt; (index, limit), (3, 9));
-    Ok(())
+    match op.borrow() {
+        OpRef::Scan { index, limit, .. } => index == 3 && limit == 9,
+        _ => false,
+    }
+}
+
+#[test]
+fn an_operation_is_lent(rt: HostRuntime) {
+    assert!(rt; is_lent(rt.alloc()));
 }
 
 #[test]
@@ -218,4 +316,6 @@ fn the_laws_can_be_cited(_rt: HostRuntime) {
     lists_grow();
     replies_stay();
     searches_find();
+    reports_without_full_have_room();
+    dashes_may_stand();
 }

@@ -13,12 +13,6 @@ each_place P [] a i x e = absurd cc
 each_place P (y ∷ ys) a zero x e = let is : y ≡ x = cc in subst (P zero) is a.0
 each_place P (y ∷ ys) a (suc i) x e = each_place (λ i. P (suc i)) ys a.1 i x e
 
--- of each, wherever it stands
-pub each_got : {A : Type 0} (P : A → Type 0) (xs : List A) → AllByRecursion P xs → (i : ℕ) (x : A) → slice_get xs i ≡ Some x → P x
-each_got P [] a i x e = absurd cc
-each_got P (y ∷ ys) a zero x e = let is : y ≡ x = cc in subst P is a.0
-each_got P (y ∷ ys) a (suc i) x e = each_got P ys a.1 i x e
-
 -- of each line and its answer
 abbrev pub EachAnswer : (Line → Answer → Type 0) → List Line → List AnswerLine → Type 0
 EachAnswer P [] answers = Unit {0}

@@ -25,16 +25,16 @@ abbrev pub three_puts : List MapChange
 three_puts = Put ab (codes "1") ∷ Put a_zero (codes "2") ∷ Put a_empty (codes "3") ∷ []
 
 -- the first row in the order of keys
-abbrev pub first_row : Pair
-first_row = record { key = a_empty; value = codes "3" }
+abbrev pub low_row : Pair
+low_row = record { key = a_empty; value = codes "3" }
 
 -- the second row in the order of keys
 abbrev pub middle_row : Pair
 middle_row = record { key = a_zero; value = codes "2" }
 
 -- the last row in the order of keys
-abbrev pub last_row : Pair
-last_row = record { key = ab; value = codes "1" }
+abbrev pub high_row : Pair
+high_row = record { key = ab; value = codes "1" }
 
 -- the lane: the puts, then scan t ~~ ~~ 9
 abbrev pub puts_and_scan : List Line
@@ -54,28 +54,28 @@ piece rows = record { point = 3; rows = rows; columns = dashes }
 
 -- all three rows in one piece
 abbrev pub in_one_piece : List ScanPiece
-in_one_piece = piece (first_row ∷ middle_row ∷ last_row ∷ []) ∷ []
+in_one_piece = piece (low_row ∷ middle_row ∷ high_row ∷ []) ∷ []
 
 -- the first two rows, and then the last
 abbrev pub in_two_pieces : List ScanPiece
-in_two_pieces = piece (first_row ∷ []) ∷ piece (middle_row ∷ last_row ∷ []) ∷ []
+in_two_pieces = piece (low_row ∷ []) ∷ piece (middle_row ∷ high_row ∷ []) ∷ []
 
 -- the middle row is left out
 abbrev pub row_left_out : List ScanPiece
-row_left_out = piece (first_row ∷ last_row ∷ []) ∷ []
+row_left_out = piece (low_row ∷ high_row ∷ []) ∷ []
 
 -- the last row is left out
 abbrev pub last_left_out : List ScanPiece
-last_left_out = piece (first_row ∷ middle_row ∷ []) ∷ []
+last_left_out = piece (low_row ∷ middle_row ∷ []) ∷ []
 
 -- the second row stands in both pieces
 abbrev pub row_twice : List ScanPiece
-row_twice = piece (first_row ∷ middle_row ∷ []) ∷ piece (middle_row ∷ last_row ∷ []) ∷ []
+row_twice = piece (low_row ∷ middle_row ∷ []) ∷ piece (middle_row ∷ high_row ∷ []) ∷ []
 
 -- the piece of the last row comes first
 abbrev pub other_way_round : List ScanPiece
-other_way_round = piece (middle_row ∷ last_row ∷ []) ∷ piece (first_row ∷ []) ∷ []
+other_way_round = piece (middle_row ∷ high_row ∷ []) ∷ piece (low_row ∷ []) ∷ []
 
 -- the first two rows, which are all that a limit of two lets through
 abbrev pub first_two : List ScanPiece
-first_two = piece (first_row ∷ middle_row ∷ []) ∷ []
+first_two = piece (low_row ∷ middle_row ∷ []) ∷ []

@@ -3,28 +3,28 @@ use Rattle.std.specs.Prelude.{List, [], ◌∷◌}
 use Rattle.map_history.specs.Map.{Put, Del}
 use Rattle.map_history.specs.Reply.{Value, Done, Absent}
 use Rattle.map_history.specs.Report.{AnswerLine, ChangeLine}
-use Rattle.report_examples.specs.Samples.{told, made, a, x, y}
+use Rattle.report_examples.specs.Samples.{told, made, a_key, value_x, value_y}
 
 -- the get after the put is told the point before it
 abbrev pub early_point : List AnswerLine
-early_point = told 1 Done 1 ∷ told 2 (Value x) 0 ∷ told 3 Done 2 ∷ told 4 Absent 2 ∷ []
+early_point = told 1 Done 1 ∷ told 2 (Value value_x) 0 ∷ told 3 Done 2 ∷ told 4 Absent 2 ∷ []
 
 -- the second get is told a point that no change has
 abbrev pub late_point : List AnswerLine
-late_point = told 1 Done 1 ∷ told 2 (Value x) 1 ∷ told 3 Done 2 ∷ told 4 Absent 3 ∷ []
+late_point = told 1 Done 1 ∷ told 2 (Value value_x) 1 ∷ told 3 Done 2 ∷ told 4 Absent 3 ∷ []
 
 -- the get is told another value
 abbrev pub other_value : List AnswerLine
-other_value = told 1 Done 1 ∷ told 2 (Value y) 1 ∷ told 3 Done 2 ∷ told 4 Absent 2 ∷ []
+other_value = told 1 Done 1 ∷ told 2 (Value value_y) 1 ∷ told 3 Done 2 ∷ told 4 Absent 2 ∷ []
 
 -- the put's entry has another value
 abbrev pub other_change : List ChangeLine
-other_change = made 1 (Put a y) ∷ made 3 (Del a) ∷ []
+other_change = made 1 (Put a_key value_y) ∷ made 3 (Del a_key) ∷ []
 
 -- the del has no entry
 abbrev pub missing_change : List ChangeLine
-missing_change = made 1 (Put a x) ∷ []
+missing_change = made 1 (Put a_key value_x) ∷ []
 
 -- an entry that no line made
 abbrev pub extra_change : List ChangeLine
-extra_change = made 1 (Put a x) ∷ made 3 (Del a) ∷ made 3 (Put a x) ∷ []
+extra_change = made 1 (Put a_key value_x) ∷ made 3 (Del a_key) ∷ made 3 (Put a_key value_x) ∷ []

@@ -28,28 +28,6 @@ fn put_stats<K: Sink>(sink: &mut K, line: &mut Vec<u8>, name: &str) -> Result<()
     ensures { PrintsTo K.Sink sink.old sink.new (name_stats name.now) result }
 {
     line.clear();
-    report_text::stats(line, name, &NOTHING)?;
+    report_text::stats(line, name, &Counts::none())?;
     put_line(sink, line)
 }
-
-/// No word was counted.
-const NOTHING: Counts = Counts {
-    hit: 0,
-    off: 0,
-    cold: 0,
-    short: 0,
-    part_busy: 0,
-    no_entry: 0,
-    block_busy: 0,
-    clock: 0,
-    unequal: 0,
-    by_clock: 0,
-    by_busy: 0,
-    by_moved: 0,
-    by_last: 0,
-    built: 0,
-    same: 0,
-    arena: 0,
-    raced: 0,
-    worn: 0,
-};

@@ -1,6 +1,6 @@
 //! The words of the two last columns.
 ghost use Rattle.std.specs.Prelude.{◌≡◌};
-ghost use Rattle.map_history.specs.Text.{how_text, note_text};
+ghost use Rattle.map_history.specs.Words.{how_text, note_text};
 
 use map_history::{How, Note};
 

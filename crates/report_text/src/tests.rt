@@ -8,27 +8,6 @@ use std::test::Fail;
 
 const NONE: Blank = Blank { count: 0 };
 
-const NO_COUNTS: Counts = Counts {
-    hit: 0,
-    off: 0,
-    cold: 0,
-    short: 0,
-    part_busy: 0,
-    no_entry: 0,
-    block_busy: 0,
-    clock: 0,
-    unequal: 0,
-    by_clock: 0,
-    by_busy: 0,
-    by_moved: 0,
-    by_last: 0,
-    built: 0,
-    same: 0,
-    arena: 0,
-    raced: 0,
-    worn: 0,
-};
-
 /// What an operation is told, and the same without columns.
 macro_rules! told {
     ($reply:expr, $point:expr, $how:expr, $note:expr) => {
@@ -76,7 +55,7 @@ fn an_empty_lane(rt: HostRuntime) -> Result<(), Fail> {
     report_head(&mut out)?;
     lane_head(&mut out, 1)?;
     changes_head(&mut out, "t", 0)?;
-    stats(&mut out, "t", &NO_COUNTS)?;
+    stats(&mut out, "t", &Counts::none())?;
     report_end(&mut out)?;
     let expected = b"ahi run\n\
         lane 1\n\
@@ -90,15 +69,11 @@ fn an_empty_lane(rt: HostRuntime) -> Result<(), Fail> {
 
 #[test]
 fn counts_by_their_words(rt: HostRuntime) -> Result<(), Fail> {
-    let counts = Counts {
-        hit: 169,
-        cold: 134,
-        built: 1,
-        worn: u64::MAX,
-        ..NO_COUNTS
-    };
-    let mut out = Vec::new(rt.alloc());
-    stats(&mut out, "orders_2", &counts)?;
+    let mut counts = Counts::none();
+    counts.numbers[0] = 169;
+    counts.numbers[2] = 134;
+    counts.numbers[13] = 1;
+    counts.numbers[17] = u64::MAX;
     let expected = b"stats orders_2 hit 169 off 0 cold 134 short 0 part-busy 0 no-entry 0 \
         block-busy 0 clock 0 unequal 0 by-clock 0 by-busy 0 by-moved 0 by-last 0 built 1 same 0 \
         arena 0 raced 0 worn 18446744073709551615\n";

@@ -5,10 +5,11 @@ use Rattle.std.proofs.lemmas.Bool.Decides.{nat_tests}
 use Rattle.key_tuple.specs.Order.{FieldList}
 use Rattle.key_tuple.specs.KeyPlace.{before}
 use Rattle.map_history.specs.Map.{Map}
-use Rattle.tree_law.specs.Pages.{Record, Page, Pages, IsOrderly, HasFields, entries_of, is_own, first_page, first_pages}
+use Rattle.tree_law.specs.Pages.{Page, Pages, IsOrderly, HasFields, row_pairs, is_own, first_page, first_pages}
 use Rattle.tree_law.specs.PageMoves.{SplitsPage, halves_changes, TwoStoreys, storeys_changes, WritesPage, write_changes, ChangesOutside, outside_changes, Writes, Splits, Raises, Outside}
 use Rattle.tree_law.specs.MoveLaws.{AreReached, Opens, Moves}
-use Rattle.tree_law.specs.Example.{a, b, c, empty, row, to_page, root, leaf, fresh, table, one_map, one_height, three_rows, two_leaves, three_leaves, WorkedExample}
+use Rattle.tree_law.specs.Example.{key_a, key_b, key_c, empty, bare_row, to_page, root, leaf, fresh, table, one_map, one_height, three_rows, two_leaves, three_leaves, SplitsExample}
+use Rattle.index_page.specs.Rows.{Row}
 
 abbrev fields_of : ℕ → ℕ
 fields_of i = 1
@@ -37,33 +38,33 @@ only_first x y xs zero ne = absurd (ne refl)
 only_first x y xs (suc n) ne = refl
 
 -- a row is put on the root, which is a leaf
-abbrev one_row : List Record
-one_row = row 0 a ∷ []
+abbrev one_row : List Row
+one_row = bare_row 0 key_a ∷ []
 
-abbrev two_rows : List Record
-two_rows = row 0 a ∷ row 1 b ∷ []
+abbrev two_rows : List Row
+two_rows = bare_row 0 key_a ∷ bare_row 1 key_b ∷ []
 
-abbrev all_rows : List Record
-all_rows = row 0 a ∷ row 1 b ∷ row 2 c ∷ []
+abbrev all_rows : List Row
+all_rows = bare_row 0 key_a ∷ bare_row 1 key_b ∷ bare_row 2 key_c ∷ []
 
 rows_in_order : IsOrderly fields_of (root 0 all_rows)
 rows_in_order = record { fields = refl; keys = (refl, (refl, (refl, tt))); low = tt; high = tt; bodies = (refl, (refl, (refl, tt))); places = ((not_same 1 0 refl, (not_same 2 0 refl, tt)), ((not_same 2 1 refl, tt), (tt, tt))) }
 
-put_a : WritesPage (λ i. []) (one_map (entries_of one_row)) 0
+put_a : WritesPage (λ i. []) (one_map (row_pairs one_row)) 0
 unfolding before
-put_a = record { key = a; value = Some []; page = root 0 []; records = one_row; tree = refl; leaf = refl; has = refl; row = refl; pointers = refl; map_is = refl; maps_kept = kept }
+put_a = record { key = key_a; value = Some []; page = root 0 []; rows = one_row; tree = refl; leaf = refl; has = refl; row = refl; pointers = refl; map_is = refl; maps_kept = kept }
   where
-    kept : (i : ℕ) → i ≢ 0 → one_map (entries_of one_row) i ≡ []
+    kept : (i : ℕ) → i ≢ 0 → one_map (row_pairs one_row) i ≡ []
     kept zero ne = absurd (ne refl)
     kept (suc i) ne = refl
 
-put_b : WritesPage (one_map (entries_of one_row)) (one_map (entries_of two_rows)) 0
+put_b : WritesPage (one_map (row_pairs one_row)) (one_map (row_pairs two_rows)) 0
 unfolding before
-put_b = record { key = b; value = Some []; page = root 0 one_row; records = two_rows; tree = refl; leaf = refl; has = refl; row = refl; pointers = refl; map_is = refl; maps_kept = maps_kept _ _ }
+put_b = record { key = key_b; value = Some []; page = root 0 one_row; rows = two_rows; tree = refl; leaf = refl; has = refl; row = refl; pointers = refl; map_is = refl; maps_kept = maps_kept _ _ }
 
-put_c : WritesPage (one_map (entries_of two_rows)) (one_map three_rows) 0
+put_c : WritesPage (one_map (row_pairs two_rows)) (one_map three_rows) 0
 unfolding before
-put_c = record { key = c; value = Some []; page = root 0 two_rows; records = all_rows; tree = refl; leaf = refl; has = refl; row = refl; pointers = refl; map_is = refl; maps_kept = maps_kept _ _ }
+put_c = record { key = key_c; value = Some []; page = root 0 two_rows; rows = all_rows; tree = refl; leaf = refl; has = refl; row = refl; pointers = refl; map_is = refl; maps_kept = maps_kept _ _ }
 
 opened : (n : ℕ) → n ≢ 0 → table (root 0 one_row ∷ []) n ≡ first_pages fields_of 1 n
 opened zero ne = absurd (ne refl)
@@ -72,13 +73,13 @@ opened (suc n) ne = let e : ltb (suc n) 1 ≡ false = grind (arith, nat_tests) i
 with_rows : AreReached 1 fields_of (λ i. 0) (one_map three_rows) (table (root 0 all_rows ∷ []))
 unfolding put_a put_b put_c
 with_rows =
-    let one = Moves (λ i. 0) (λ i. 0) (λ i. []) (one_map (entries_of one_row)) (first_pages fields_of 1) (table (root 0 one_row ∷ [])) Opens (write_changes (λ i. []) (one_map (entries_of one_row)) 0 put_a)
+    let one = Moves (λ i. 0) (λ i. 0) (λ i. []) (one_map (row_pairs one_row)) (first_pages fields_of 1) (table (root 0 one_row ∷ [])) Opens (write_changes (λ i. []) (one_map (row_pairs one_row)) 0 put_a)
     (record { each = ((refl, refl), tt); others = λ n ne. opened n ne.0 }) (Writes 0 put_a refl)
     (leaves (root 0 one_row) (record { fields = refl; keys = (refl, tt); low = tt; high = tt; bodies = (refl, tt); places = (tt, tt) }), tt) in
-    let two = Moves (λ i. 0) (λ i. 0) (one_map (entries_of one_row)) (one_map (entries_of two_rows)) (table (root 0 one_row ∷ [])) (table (root 0 two_rows ∷ [])) one (write_changes (one_map (entries_of one_row)) (one_map (entries_of two_rows)) 0 put_b)
+    let two = Moves (λ i. 0) (λ i. 0) (one_map (row_pairs one_row)) (one_map (row_pairs two_rows)) (table (root 0 one_row ∷ [])) (table (root 0 two_rows ∷ [])) one (write_changes (one_map (row_pairs one_row)) (one_map (row_pairs two_rows)) 0 put_b)
     (record { each = ((refl, refl), tt); others = λ n ne. only_first _ _ [] n ne.0 }) (Writes 0 put_b refl)
     (leaves (root 0 two_rows) (record { fields = refl; keys = (refl, (refl, tt)); low = tt; high = tt; bodies = (refl, (refl, tt)); places = ((not_same 1 0 refl, tt), (tt, tt)) }), tt) in
-    Moves (λ i. 0) (λ i. 0) (one_map (entries_of two_rows)) (one_map three_rows) (table (root 0 two_rows ∷ [])) (table (root 0 all_rows ∷ [])) two (write_changes (one_map (entries_of two_rows)) (one_map three_rows) 0 put_c)
+    Moves (λ i. 0) (λ i. 0) (one_map (row_pairs two_rows)) (one_map three_rows) (table (root 0 two_rows ∷ [])) (table (root 0 all_rows ∷ [])) two (write_changes (one_map (row_pairs two_rows)) (one_map three_rows) 0 put_c)
     (record { each = ((refl, refl), tt); others = λ n ne. only_first _ _ [] n ne.0 }) (Writes 0 put_c refl)
     (leaves (root 0 all_rows) rows_in_order, tt)
 
@@ -112,7 +113,7 @@ abbrev one_leaf : Page
 one_leaf = leaf None None None None all_rows
 
 raise_root : TwoStoreys 0 1
-raise_root = record { level = 0; fields = 1; fresh = fresh 1; records = all_rows; moved = all_rows; pointer = to_page 0 empty 1; under_own = refl; under_empty = refl; same = (refl, refl, (refl, refl, (refl, refl, tt))); pointer_is = (refl, refl) }
+raise_root = record { level = 0; fields = 1; fresh = fresh 1; rows = all_rows; moved = all_rows; pointer = to_page 0 empty 1; under_own = refl; under_empty = refl; same = (refl, refl, (refl, refl, (refl, refl, tt))); pointer_is = (refl, refl) }
 
 raised_others : (x y z w : Page) (n : ℕ) → n ≢ 0 → n ≢ 1 → table (z ∷ w ∷ []) n ≡ table (x ∷ y ∷ []) n
 raised_others x y z w zero n0 n1 = absurd (n0 refl)
@@ -139,13 +140,13 @@ split_at_c = record {
     beyond = fresh 0;
     whole_prev = None;
     cut_prev = Some 2;
-    at = c;
-    lower = row 0 a ∷ row 1 b ∷ [];
-    upper = row 2 c ∷ [];
-    moved = row 7 c ∷ [];
+    at = key_c;
+    lower = bare_row 0 key_a ∷ bare_row 1 key_b ∷ [];
+    upper = bare_row 2 key_c ∷ [];
+    moved = bare_row 7 key_c ∷ [];
     fore = [];
     this = to_page 0 empty 1;
-    new = to_page 1 c 2;
+    new = to_page 1 key_c 2;
     aft = [];
     left_tree = refl;
     right_own = refl;
@@ -165,20 +166,20 @@ split_at_c = record {
 split_at_b : SplitsPage 1 3 0
 split_at_b = record {
   halves = record {
-    page = leaf None (Some 2) None (Some c) [];
+    page = leaf None (Some 2) None (Some key_c) [];
     fresh = fresh 3;
     up = root 1 [];
-    beyond = leaf None None (Some c) None (row 7 c ∷ []);
+    beyond = leaf None None (Some key_c) None (bare_row 7 key_c ∷ []);
     whole_prev = Some 1;
     cut_prev = Some 3;
-    at = b;
-    lower = row 0 a ∷ [];
-    upper = row 1 b ∷ [];
-    moved = row 7 b ∷ [];
+    at = key_b;
+    lower = bare_row 0 key_a ∷ [];
+    upper = bare_row 1 key_b ∷ [];
+    moved = bare_row 7 key_b ∷ [];
     fore = [];
     this = to_page 0 empty 1;
-    new = to_page 2 b 3;
-    aft = to_page 1 c 2 ∷ [];
+    new = to_page 2 key_b 3;
+    aft = to_page 1 key_c 2 ∷ [];
     left_tree = refl;
     right_own = refl;
     right_empty = refl;
@@ -207,7 +208,7 @@ later_others x y z q u v w r (suc (suc zero)) n1 n3 n0 n2 = absurd (n2 refl)
 later_others x y z q u v w r (suc (suc (suc zero))) n1 n3 n0 n2 = absurd (n3 refl)
 later_others x y z q u v w r (suc (suc (suc (suc n)))) n1 n3 n0 n2 = refl
 
-one_in_order : (prev next : Option ℕ) (low high : Option FieldList) (place : ℕ) (key : FieldList) → length key ≡ 1 → HasFields 1 low → HasFields 1 high → IsOrderly fields_of (leaf prev next low high (row place key ∷ []))
+one_in_order : (prev next : Option ℕ) (low high : Option FieldList) (place : ℕ) (key : FieldList) → length key ≡ 1 → HasFields 1 low → HasFields 1 high → IsOrderly fields_of (leaf prev next low high (bare_row place key ∷ []))
 one_in_order prev next low high place key e l h = record { fields = refl; keys = (e, tt); low = l; high = h; bodies = (refl, tt); places = (tt, tt) }
 
 split_first : Reached 1 three_rows two_leaves
@@ -218,10 +219,10 @@ split_first =
     Moves (one_height 1) (one_height 1) (one_map three_rows) (one_map three_rows) (table (root 1 (to_page 0 empty 1 ∷ []) ∷ one_leaf ∷ fresh 2 ∷ [])) two_leaves come (halves_changes 1 2 0 split_at_c.halves)
     (record { each = ((refl, refl), ((refl, refl), ((refl, refl), tt))); others = λ n ne. split_others _ _ _ _ _ _ n ne.0 ne.1.0 ne.1.1.0 })
     (Splits 1 2 0 split_at_c refl refl) (
-      leaves (leaf None (Some 2) None (Some c) (row 0 a ∷ row 1 b ∷ [])) (record { fields = refl; keys = (refl, (refl, tt)); low = tt; high = refl; bodies = (refl, (refl, tt)); places = ((not_same 1 0 refl, tt), (tt, tt)) }),
+      leaves (leaf None (Some 2) None (Some key_c) (bare_row 0 key_a ∷ bare_row 1 key_b ∷ [])) (record { fields = refl; keys = (refl, (refl, tt)); low = tt; high = refl; bodies = (refl, (refl, tt)); places = ((not_same 1 0 refl, tt), (tt, tt)) }),
       (
-        leaves (leaf (Some 1) None (Some c) None (row 7 c ∷ [])) (one_in_order _ _ (Some c) None 7 c refl refl tt),
-        (leaves (root 1 (to_page 0 empty 1 ∷ to_page 1 c 2 ∷ [])) (record { fields = refl; keys = (refl, (refl, tt)); low = tt; high = tt; bodies = (not_same 1 0 refl, (not_same 1 0 refl, tt)); places = ((not_same 1 0 refl, tt), (tt, tt)) }), tt),
+        leaves (leaf (Some 1) None (Some key_c) None (bare_row 7 key_c ∷ [])) (one_in_order _ _ (Some key_c) None 7 key_c refl refl tt),
+        (leaves (root 1 (to_page 0 empty 1 ∷ to_page 1 key_c 2 ∷ [])) (record { fields = refl; keys = (refl, (refl, tt)); low = tt; high = tt; bodies = (not_same 1 0 refl, (not_same 1 0 refl, tt)); places = ((not_same 1 0 refl, tt), (tt, tt)) }), tt),
       ),
     )
 
@@ -229,24 +230,24 @@ split_second : Reached 1 three_rows three_leaves
 unfolding bring split_at_b
 split_second =
     let here = table (
-    root 1 (to_page 0 empty 1 ∷ to_page 1 c 2 ∷ [])
-    ∷ leaf None (Some 2) None (Some c) (row 0 a ∷ row 1 b ∷ [])
-    ∷ leaf (Some 1) None (Some c) None (row 7 c ∷ [])
+    root 1 (to_page 0 empty 1 ∷ to_page 1 key_c 2 ∷ [])
+    ∷ leaf None (Some 2) None (Some key_c) (bare_row 0 key_a ∷ bare_row 1 key_b ∷ [])
+    ∷ leaf (Some 1) None (Some key_c) None (bare_row 7 key_c ∷ [])
     ∷ fresh 3 ∷ []) in
     let come = Moves (one_height 1) (one_height 1) (one_map three_rows) (one_map three_rows) two_leaves here split_first (outside_changes 3 (bring 3))
     (record { each = ((refl, refl), tt); others = λ n ne. brought_three _ _ _ n ne.0 }) (Outside 3 (bring 3) refl refl) (leaves (fresh 3) (fresh_in_order 3), tt) in
     Moves (one_height 1) (one_height 1) (one_map three_rows) (one_map three_rows) here three_leaves come (halves_changes 1 3 0 split_at_b.halves)
     (record { each = ((refl, refl), ((refl, refl), ((refl, refl), ((refl, refl), tt)))); others = λ n ne. later_others _ _ _ _ _ _ _ _ n ne.0 ne.1.0 ne.1.1.0 ne.1.1.1.0 })
     (Splits 1 3 0 split_at_b refl refl) (
-      leaves (leaf None (Some 3) None (Some b) (row 0 a ∷ [])) (one_in_order _ _ None (Some b) 0 a refl tt refl),
+      leaves (leaf None (Some 3) None (Some key_b) (bare_row 0 key_a ∷ [])) (one_in_order _ _ None (Some key_b) 0 key_a refl tt refl),
       (
-        leaves (leaf (Some 1) (Some 2) (Some b) (Some c) (row 7 b ∷ [])) (one_in_order _ _ (Some b) (Some c) 7 b refl refl refl),
+        leaves (leaf (Some 1) (Some 2) (Some key_b) (Some key_c) (bare_row 7 key_b ∷ [])) (one_in_order _ _ (Some key_b) (Some key_c) 7 key_b refl refl refl),
         (
-          leaves (root 1 (to_page 0 empty 1 ∷ to_page 2 b 3 ∷ to_page 1 c 2 ∷ [])) (record { fields = refl; keys = (refl, (refl, (refl, tt))); low = tt; high = tt; bodies = (not_same 1 0 refl, (not_same 1 0 refl, (not_same 1 0 refl, tt))); places = ((not_same 2 0 refl, (not_same 1 0 refl, tt)), ((not_same 1 2 refl, tt), (tt, tt))) }),
-          (leaves (leaf (Some 3) None (Some c) None (row 7 c ∷ [])) (one_in_order _ _ (Some c) None 7 c refl refl tt), tt),
+          leaves (root 1 (to_page 0 empty 1 ∷ to_page 2 key_b 3 ∷ to_page 1 key_c 2 ∷ [])) (record { fields = refl; keys = (refl, (refl, (refl, tt))); low = tt; high = tt; bodies = (not_same 1 0 refl, (not_same 1 0 refl, (not_same 1 0 refl, tt))); places = ((not_same 2 0 refl, (not_same 1 0 refl, tt)), ((not_same 1 2 refl, tt), (tt, tt))) }),
+          (leaves (leaf (Some 3) None (Some key_c) None (bare_row 7 key_c ∷ [])) (one_in_order _ _ (Some key_c) None 7 key_c refl refl tt), tt),
         ),
       ),
     )
 
-pub worked_example : WorkedExample
+pub worked_example : SplitsExample
 worked_example = record { first_split = split_first; leaf_split = split_second }

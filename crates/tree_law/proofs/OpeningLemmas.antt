@@ -2,7 +2,7 @@
 use Rattle.std.proofs.Common.{◌≡◌, ℕ, ◌<◌, Bool, true, false, cond, Some, None, [], refl, sym, ap, ◌∙◌, subst, inl, arith, lt-ltb, ltb-true, ltb}
 use Rattle.key_tuple.specs.KeyPlace.{Start, End, before}
 use Rattle.tree_law.specs.TreeShape.{Outline, Forest, Tag, tag_of, map_tag, IsSound, NextFits, PrevFits}
-use Rattle.tree_law.specs.Pages.{Page, outline, tree_page, forest, page_entries, AreLawfulPages, IsOrderly, first_page, first_pages}
+use Rattle.tree_law.specs.Pages.{Page, outline, tree_page, forest, page_pairs, AreLawfulPages, IsOrderly, first_page, first_pages}
 use Rattle.tree_law.proofs.OnePageLemmas.{page_at}
 
 module _ (fields_of : ℕ → ℕ) (indexes : ℕ) where
@@ -34,12 +34,12 @@ module _ (fields_of : ℕ → ℕ) (indexes : ℕ) where
       nexts = by_first (λ n page. NextFits trees (tag_of page) page.next) (λ n l. refl);
       prevs = by_first (λ n page. PrevFits trees (tag_of page) page.prev) (λ n l. refl);
     };
-    contents = λ n page is leaf. let f = first_is n page is in ap (λ b. page_entries (cond b (Some (first_page fields_of n)) None)) (lt-ltb n indexes f.0);
+    contents = λ n page is leaf. let f = first_is n page is in ap (λ b. page_pairs (cond b (Some (first_page fields_of n)) None)) (lt-ltb n indexes f.0);
     outside = λ n page is e. go n page (ltb n indexes) is e;
     orderly = λ n page is. order n page (ltb n indexes) is;
   }
     where
-      go : (n : ℕ) (page : Page) (b : Bool) → cond b (Some (first_page fields_of n)) None ≡ Some page → page.prev ≡ Some n → page.records ≡ []
+      go : (n : ℕ) (page : Page) (b : Bool) → cond b (Some (first_page fields_of n)) None ≡ Some page → page.prev ≡ Some n → page.rows ≡ []
       go n page true f e = absurd (let same : first_page fields_of n ≡ page = cc in cc (ap (λ (p : Page). p.prev) same, e))
       go n page false f e = absurd cc
 

@@ -1,30 +1,21 @@
 -- The pointer that a search picks has the cut in its range.
-use Rattle.std.proofs.Common.{◌≡◌, ◌≢◌, inl, inr, ℕ, Bool, true, false, Option, Some, None, List, [], ◌∷◌, ◌++◌, refl, sym, ap, subst, ◌∙◌, append_assoc}
+use Rattle.std.proofs.Common.{◌≡◌, ◌≢◌, inl, inr, ℕ, ◌<◌, Bool, true, false, Option, Some, None, List, [], ◌∷◌, ◌++◌, refl, sym, ap, subst, ◌∙◌, append_assoc, arith}
 use Rattle.std.specs.List.{AllByRecursion}
 use Rattle.key_tuple.specs.Order.{FieldList}
 use Rattle.key_tuple.specs.KeyPlace.{KeyPlace, Start, At, End, before, IsCut}
 use Rattle.index_page.specs.Rows.{RowBody, Bytes, Child, Row, last_of_rows, last_row_after}
 use Rattle.index_page.specs.Page.{FitsLevel}
-use Rattle.tree_law.specs.TreeShape.{Pointer, Range, In, first_from, ranges, Rise, pointer_to}
-use Rattle.tree_law.proofs.RecordLemmas.{pointers-append, pointer_is}
-use Rattle.tree_law.specs.Pages.{is_empty, from_place, pointers_of}
+use Rattle.tree_law.specs.TreeShape.{Pointer, In, first_from, ranges, Rise, HasCut, pointer_to}
+use Rattle.tree_law.specs.PickLaws.{CutRange, AreInner, RangesArePicked, DescentSteps}
+use Rattle.tree_law.proofs.PageRowLemmas.{tree_is, pointers-append, pointer_is}
+use Rattle.tree_law.proofs.DescentLemmas.{child_has_cut}
+use Rattle.list_facts.proofs.Each.{each_right}
+use Rattle.tree_law.specs.Pages.{is_empty, from_place, pointers_of, outline, forest, low_place, high_place}
 
 -- a row, if there is one
 abbrev the_row : Row → Option Row → Row
 the_row d None = d
 the_row d (Some x) = x
-
--- the range of a pointer that has the cut
-pub record CutRange (p : KeyPlace → Bool) (rows : List Row) (high : KeyPlace) (n : ℕ) : Type 0 where
-  pub range : Range
-  pub among : In range (ranges (pointers_of rows) high)
-  pub from : p range.from ≡ false
-  pub to : p range.to ≡ true
-  pub child : range.child ≡ n
-
--- rows of an inner page
-abbrev pub AreInner : List Row → Type 0
-AreInner rows = AllByRecursion (λ (x : Row). (n : ℕ) × (x.body ≡ Child n)) rows
 
 inner_body : (level : ℕ) → level ≢ 0 → (body : RowBody) → FitsLevel level body → (n : ℕ) × (body ≡ Child n)
 inner_body level inner (Bytes v) fits = absurd (inner fits)
@@ -125,3 +116,26 @@ module _ (p : KeyPlace → Bool) (cut : IsCut p) where
       → first_from (pointers_of (x ∷ ys)) high ≡ low → p low ≡ false → p high ≡ true → Rise (pointers_of (x ∷ ys)) high → CutRange p (x ∷ ys) high n
   pick_first x ys low high n body ins inner first out end rise =
       middle [] x ys high n body (ap p (sym (ap (λ ps. first_from ps high) (pointer_is x n (from_place x.key) ys (body, refl))) ∙ first) ∙ out) inner ins end rise
+
+pub ranges_are_picked : RangesArePicked
+ranges_are_picked p cut = record { last = pick_last p cut; first = pick_first p cut }
+
+-- the child that the picked row points to has the cut
+pub descent_steps : DescentSteps
+descent_steps indexes fields_of heights maps pages law p cut number level page is tree above low high =
+    let trees = forest pages in
+    let there = tree_is pages number page is tree in
+    let sound = law.shape.pages number (outline page) there in
+    let over : 0 < page.level = omega (arith, above) in
+    let rise = sound.rise over in
+    let begins = sound.begins over in
+    let bodies = (law.orderly number page is).bodies in
+    let inner = are_inner page.level (λ e. omega (arith, e, above)) page.rows bodies in
+    let down : (n : ℕ) → CutRange p page.rows (high_place page.high) n → HasCut trees p page.index level n =
+    λ n r. subst (HasCut trees p page.index level) r.child (child_has_cut indexes heights trees law.shape p page.index level number (outline page) there refl above r.range r.among r.from r.to) in
+    record {
+      last = λ left right x n split last body outs ins. down n (pick_last p cut page.rows left right (high_place page.high) x n split last body outs ins (each_right _ left right (subst AreInner split inner)) high rise);
+      first = λ x ys n is_first body ins.
+          down n (subst (λ rows. CutRange p rows (high_place page.high) n) (sym is_first)
+          (pick_first p cut x ys (low_place page.low) (high_place page.high) n body ins (subst AreInner is_first inner).1 (ap (λ rows. first_from (pointers_of rows) (high_place page.high)) (sym is_first) ∙ begins) low high (subst (λ rows. Rise (pointers_of rows) (high_place page.high)) is_first rise)));
+    }
