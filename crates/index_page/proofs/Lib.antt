@@ -5,3 +5,9 @@ pub mod StoreLemmas
 pub mod OrderLemmas
 pub mod BesideLemmas
 pub mod SpotLemmas
+pub mod LoadLemmas
+pub mod HalvesLemmas
+pub mod RoomLemmas
+pub mod PartLemmas
+pub mod AppendLemmas
+pub mod SetLemmas

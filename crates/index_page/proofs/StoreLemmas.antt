@@ -6,7 +6,9 @@ use Rattle.std.proofs.lemmas.List.Edits.{length-insert, length-remove}
 use Rattle.std.specs.List.{AllByRecursion, slice_get, insert, remove}
 use Rattle.index_page.specs.Rows.{Row, Bytes, placed_row, find_row}
 use Rattle.index_page.specs.Page.{PlacesDiffer}
-use Rattle.index_page.specs.Store.{PlaceLists, Content, stored_row, rows_in, AllDiffer, IsStore, IsSpare}
+use Rattle.index_page.specs.Store.{PlaceLists, Content, stored_row, rows_in, AllDiffer, IsStore, IsSpare, HasValueAt, Rewrites}
+use Rattle.list_facts.proofs.Places.{same_some}
+use Rattle.list_facts.proofs.Elements.{map_get}
 use Rattle.list_facts.proofs.Each.{each_left, each_right, each_append, each_weaker}
 use Rattle.index_page.proofs.RowLemmas.{find_none, get_split, get_below}
 
@@ -269,3 +271,43 @@ stored_differ slots places s = places_differ slots places.live (differ_left plac
     differ_left : (xs ys : List ℕ) → AllDiffer (xs ++ ys) → AllDiffer xs
     differ_left [] ys d = tt
     differ_left (x ∷ xs) ys d = (each_left (λ (y : ℕ). y ≢ x) xs ys d.0, differ_left xs ys d.1)
+
+-- the row with a number is the one stored at its place
+pub get_stored : (slots : List Content) (live : List ℕ) (at p : ℕ) → slice_get live at ≡ Some p → slice_get (rows_in slots live) at ≡ Some (stored_row slots p)
+get_stored slots live at p e = map_get (stored_row slots) live at p e
+
+-- a write at the place of a row changes that row alone
+module _ (slots : List Content) (places : PlaceLists) (at p : ℕ) (s : IsStore slots places) (there : slice_get places.live at ≡ Some p) where
+  rest : Spread (length slots) p (remove places.live at ++ places.free)
+  rest = live_apart (length slots) places.live places.free at p there (all_listed slots places s)
+
+  pub row_below : p < length slots
+  row_below = rest.here
+
+  others_differ : AllByRecursion (λ (y : ℕ). y ≢ p) (take at places.live ++ drop (suc at) places.live)
+  others_differ = each_left (λ (y : ℕ). y ≢ p) (remove places.live at) places.free rest.apart
+
+  pub written_row : (x : Content) → rows_in (set slots p x) places.live ≡ take at (rows_in slots places.live) ++ placed_row p x.key x.body ∷ drop (suc at) (rows_in slots places.live)
+  written_row x =
+      let low = take at places.live in
+      let high = drop (suc at) places.live in
+      let f : ℕ → Row = stored_row slots in
+      let split = ap (rows_in (set slots p x)) (get_split places.live at p there) ∙ map-append (stored_row (set slots p x)) low (p ∷ high) in
+      let below : rows_in (set slots p x) low ≡ take at (rows_in slots places.live) = rows_in-set slots p x low (each_left (λ (y : ℕ). y ≢ p) low high others_differ) ∙ sym (take-map f at places.live) in
+      let above : rows_in (set slots p x) high ≡ drop (suc at) (rows_in slots places.live) = rows_in-set slots p x high (each_right (λ (y : ℕ). y ≢ p) low high others_differ) ∙ sym (drop-map f (suc at) places.live) in
+      let here = stored_row-set slots p x row_below in
+      split ∙ cc (below, above, here)
+
+  -- the row of that number, written anew
+  pub rewritten : (slot x : Content) (bytes : List ℕ) → slot ≡ get_or slots p (record { key = []; body = Bytes [] }) → x ≡ record { key = slot.key; body = Bytes bytes } → Rewrites (rows_in slots places.live) (rows_in (set slots p x) places.live) at bytes
+  rewritten slot x bytes read e = record {
+    row = stored_row slots p;
+    there = get_stored slots places.live at p there;
+    is = written_row x ∙ ap (λ (z : Content). take at (rows_in slots places.live) ++ placed_row p z.key z.body ∷ drop (suc at) (rows_in slots places.live)) (e ∙ ap (λ (z : Content). record { key = z.key; body = Bytes bytes }) read);
+  }
+
+  -- and the value that it had
+  pub value_stored : (slot : Content) → slot ≡ get_or slots p (record { key = []; body = Bytes [] }) → (has : HasValueAt (rows_in slots places.live) at) → slot.body ≡ Bytes has.value
+  value_stored slot read has =
+      let same = same_some (stored_row slots p) has.row (sym (get_stored slots places.live at p there) ∙ has.there) in
+      ap (λ (z : Content). z.body) read ∙ ap (λ (r : Row). r.body) same ∙ has.is

@@ -1,6 +1,6 @@
 -- What stands beside a row, and what a page is after a row was put in or taken out.
-use Rattle.std.specs.Prelude.{ℕ, ◌≡◌, Option, Some, None, List, ◌∷◌, ◌++◌}
-use Rattle.index_page.specs.Rows.{Row, find_row, first_of_rows, last_of_rows, IsAt}
+use Rattle.std.specs.Prelude.{ℕ, ◌≡◌, Option, Some, None, List, ◌∷◌, ◌++◌, length}
+use Rattle.index_page.specs.Rows.{Bytes, Row, placed_row, find_row, first_of_rows, last_of_rows, IsAt}
 use Rattle.index_page.specs.Page.{PageRows}
 
 -- the place of the row after the one at `place`
@@ -21,6 +21,16 @@ pub record PrevIs (rows : List Row) (place : ℕ) (prev : Option ℕ) : Type 0 w
   pub place_is : row.place ≡ place
   pub prev_at : IsAt rows prev (last_of_rows left)
 
+-- the places of the rows before and after the one at `place`
+pub record IsBeside (rows : List Row) (place : ℕ) (prev next : Option ℕ) : Type 0 where
+  pub left : List Row
+  pub row : Row
+  pub right : List Row
+  pub split : rows ≡ left ++ row ∷ right
+  pub place_is : row.place ≡ place
+  pub prev_at : IsAt rows prev (last_of_rows left)
+  pub next_at : IsAt rows next (first_of_rows right)
+
 -- the row stands among those that were there, at a place at which none stood; all else is as before
 pub record Inserts (old new : PageRows) (row : Row) : Type 0 where
   pub below : List Row
@@ -39,4 +49,17 @@ pub record Deletes (old new : PageRows) (place : ℕ) : Type 0 where
   pub was : old.rows ≡ left ++ row ∷ right
   pub place_is : row.place ≡ place
   pub is : new.rows ≡ left ++ right
+  pub head : new.head ≡ old.head
+
+-- the row that stood at `place` stands at `other` with this value, and where the value before was as long,
+-- it stays; all else is as before
+pub record Sets (old new : PageRows) (place other : ℕ) (value : List ℕ) : Type 0 where
+  pub left : List Row
+  pub row : Row
+  pub right : List Row
+  pub was : old.rows ≡ left ++ row ∷ right
+  pub place_is : row.place ≡ place
+  pub is : new.rows ≡ left ++ placed_row other row.key (Bytes value) ∷ right
+  pub stands : find_row other new.rows ≡ Some (placed_row other row.key (Bytes value))
+  pub in_place : (before : List ℕ) → row.body ≡ Bytes before → length value ≡ length before → other ≡ place
   pub head : new.head ≡ old.head

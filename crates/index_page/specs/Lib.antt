@@ -4,3 +4,6 @@ pub mod Search
 pub mod Changes
 pub mod Laws
 pub mod Store
+pub mod Loads
+pub mod LoadLaws
+pub mod Moves

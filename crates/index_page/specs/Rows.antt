@@ -53,3 +53,10 @@ IsAt rows place (Some row) = (place ≡ Some row.place) × (find_row row.place r
 -- no row has this key
 abbrev pub LacksKey : FieldList → List Row → Type 0
 LacksKey key rows = AllByRecursion (λ (x : Row). x.key ≢ key) rows
+
+-- rows with the same keys that carry the same, in the same order, at whatever places
+abbrev pub SameRows : List Row → List Row → Type 0
+SameRows [] [] = Unit {0}
+SameRows [] (y ∷ ys) = ⊥
+SameRows (x ∷ xs) [] = ⊥
+SameRows (x ∷ xs) (y ∷ ys) = (x.key ≡ y.key) × (x.body ≡ y.body) × SameRows xs ys

@@ -1,16 +1,16 @@
 //! Rows that come and go.
-ghost use Rattle.std.specs.Prelude.{◌≡◌, ◌≢◌, ◌≤◌, length, IfOk, OnErr, IsSome};
+ghost use Rattle.std.specs.Prelude.{◌≡◌, ◌≢◌, ◌≤◌, ℕ, List, length, Some, IfOk, OnErr, IsSome, IsOk};
 ghost use Rattle.key_tuple.specs.Limits.{IsWithinLimits};
 ghost use Rattle.index_page.specs.declared.TheConstants.{MAX_ROWS};
-ghost use Rattle.index_page.specs.Rows.{placed_row, body_by, find_row, LacksKey};
+ghost use Rattle.index_page.specs.Rows.{Bytes, Row, placed_row, body_by, find_row, LacksKey};
 ghost use Rattle.index_page.specs.Page.{FitsLevel};
 ghost use Rattle.index_page.specs.Search.{Finds, CutsAt};
-ghost use Rattle.index_page.specs.Changes.{Inserts, Deletes};
+ghost use Rattle.index_page.specs.Changes.{Inserts, Deletes, Sets};
 
 use crate::body::Body;
 use crate::page::Page;
 use crate::spot::{Place, Spot};
-use key_tuple::{Fields, Mode, NoMemory};
+use key_tuple::{Fields, Mode, NoMemory, Value};
 
 impl Page {
     /// Puts a new row in and tells its place. Whether the key is there tells a search for it. After
@@ -63,7 +63,22 @@ impl Page {
             Inserts self.old self.new (placed_row place (A.fields_of key.now) (body_by body.entry))) }
         ensures err { OnErr result (self.new ≡ self.old) }
     {
-        Ok(self.rows.insert_at(cut, key, body)?)
+        Ok(self.rows.insert_at(cut, key, body.beside())?)
+    }
+
+    /// Gives the row at a place another value, and tells where it stands then. It is never refused
+    /// where the value is as long as the one before; after `NoMemory` the page is as before.
+    pub fn set(&mut self, place: Place, value: &Value) -> Result<Place, NoMemory>
+        requires there { IsSome (find_row place self.old.rows) }
+        requires level { self.old.head.level ≡ 0 }
+        ensures ok { IfOk result (λ other. Sets self.old self.new place other value.now) }
+        ensures in_place { (row : Row) (before : List ℕ) → find_row place self.old.rows ≡ Some row →
+            row.body ≡ Bytes before → length value.now ≡ length before → IsOk result }
+        ensures err { OnErr result (self.new ≡ self.old) }
+    {
+        let at = self.position(place);
+        self.rows.rewrite_at(at, value.as_bytes())?;
+        Ok(place)
     }
 
     /// Takes the row at a place out.

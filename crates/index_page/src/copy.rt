@@ -28,6 +28,13 @@ impl PageCopy {
     {
         Ok(PageCopy { page: None })
     }
+
+    /// Lets go of what is kept.
+    pub(crate) fn forget(&mut self)
+        ensures { self.new ≡ None }
+    {
+        self.page = None;
+    }
 }
 
 impl Page {

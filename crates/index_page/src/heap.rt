@@ -1,13 +1,13 @@
 //! Rows at their places.
-ghost use Rattle.std.specs.Prelude.{◌≡◌, ◌≤◌, ◌<◌, [], ◌∷◌, ◌++◌, length, Some, None, IfOk, OnOk, OnErr, IsSome, slice_get};
-ghost use Rattle.std.specs.List.{insert, remove};
+ghost use Rattle.std.specs.Prelude.{◌≡◌, ◌+◌, ◌≤◌, ◌<◌, [], ◌∷◌, ◌++◌, length, take, drop, Some, None, IfOk, OnOk, OnErr, IsSome, IsOk, slice_get};
+ghost use Rattle.std.specs.List.{AllByRecursion, insert, remove};
 ghost use Rattle.key_tuple.specs.Limits.{IsWithinLimits};
 ghost use Rattle.index_page.specs.declared.TheConstants.{MAX_ROWS};
-ghost use Rattle.index_page.specs.Rows.{placed_row, body_by, find_row};
-ghost use Rattle.index_page.specs.Page.{PlacesDiffer, HasShortValue};
-ghost use Rattle.index_page.specs.Store.{rows_in, IsStore, IsSpare};
+ghost use Rattle.index_page.specs.Rows.{Row, placed_row, find_row};
+ghost use Rattle.index_page.specs.Page.{PlacesDiffer};
+ghost use Rattle.index_page.specs.Store.{beside_by, rows_in, IsStore, IsSpare, Appends, HasValueAt, Rewrites};
 
-use crate::body::Body;
+use crate::body::Beside;
 use crate::places::Places;
 use crate::record::Record;
 use crate::spot::Place;
@@ -83,23 +83,61 @@ impl Heap {
         &mut self,
         at: usize,
         key: &A,
-        body: Body<'_>,
+        beside: Beside<'_>,
     ) -> Result<Place, AllocError>
         requires at { at ≤ length self.old }
         requires key { IsWithinLimits (A.fields_of key.now) }
         requires room { length self.old ≤ MAX_ROWS }
         ensures ok { IfOk result (λ place.
-            self.new ≡ insert self.old at (placed_row place (A.fields_of key.now) (body_by body.entry))) }
+            self.new ≡ insert self.old at (placed_row place (A.fields_of key.now) (beside_by beside.entry))) }
         ensures vacant { IfOk result (λ place. find_row place self.old ≡ None) }
         ensures differ { OnOk result (PlacesDiffer self.new) }
-        ensures short { OnOk result (HasShortValue (body_by body.entry)) }
         ensures err { OnErr result (self.new ≡ self.old) }
     {
         let place = vacancy(self.alloc, &mut self.slots, &mut self.places)?;
         let slot = &mut self.slots[place as usize];
-        slot.fill(key, body)?;
+        slot.fill(key, beside)?;
         self.places.claim(at, place)?;
         Ok(place)
+    }
+
+    /// Writes another value in the row with that number.
+    pub(crate) fn rewrite_at(&mut self, at: usize, bytes: &[u8]) -> Result<(), AllocError>
+        requires { HasValueAt self.old at }
+        ensures ok { OnOk result (Rewrites self.old self.new at bytes.now) }
+        ensures in_place { (has : HasValueAt self.old at) →
+            length bytes.now ≤ length has.value → IsOk result }
+        ensures err { OnErr result (self.new ≡ self.old) }
+    {
+        let place = self.places.live()[at];
+        let slot = &mut self.slots[place as usize];
+        Ok(slot.rewrite(bytes)?)
+    }
+
+    /// Puts the same rows as the others behind these.
+    pub(crate) fn append(&mut self, others: &Heap) -> Result<(), AllocError>
+        requires keys { AllByRecursion (λ (x : Row). IsWithinLimits x.key) others.now }
+        requires differ { PlacesDiffer self.old }
+        requires room { length self.old + length others.now ≤ MAX_ROWS + 1 }
+        ensures ok { OnOk result (Appends self.old self.new others.now) }
+        ensures err { OnErr result (self.new ≡ self.old) }
+    {
+        let count = self.len();
+        for i in 0..others.len() {
+            let record = others.stored(i).1;
+            if let Err(e) = self.insert_at(self.len(), record, record.beside()) {
+                self.keep_first(count);
+                return Err(e);
+            }
+        }
+        Ok(())
+    }
+
+    /// No rows yet, in the same memory.
+    pub(crate) fn anew(&self) -> Heap
+        ensures { result ≡ [] }
+    {
+        Heap::new(self.alloc)
     }
 
     /// Takes out the row with that number.
@@ -112,6 +150,26 @@ impl Heap {
         self.places.release(at);
         let slot = &mut self.slots[place as usize];
         slot.clear();
+    }
+
+    /// Takes out all rows but the first ones, so many.
+    pub(crate) fn keep_first(&mut self, count: usize)
+        requires { count ≤ length self.old }
+        ensures { self.new ≡ take count self.old }
+    {
+        while self.len() > count {
+            self.remove_at(self.len() - 1);
+        }
+    }
+
+    /// Takes out the first rows, so many.
+    pub(crate) fn drop_first(&mut self, count: usize)
+        requires { count ≤ length self.old }
+        ensures { self.new ≡ drop count self.old }
+    {
+        for _taken in 0..count {
+            self.remove_at(0);
+        }
     }
 
     /// The same rows at the same places.

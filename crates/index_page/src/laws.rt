@@ -1,5 +1,6 @@
 //! Laws of places and spots, each the contract of a function that does nothing.
 ghost use Rattle.index_page.specs.Laws.{SpotsTellKeys, PlacesTellRows};
+ghost use Rattle.index_page.specs.LoadLaws.{LoadsAddUp, RowsHaveRoom, HalvesAreNear};
 
 /// The figures of the spot before a whole key tell whether it is on the page.
 pub fn spots_tell_keys()
@@ -9,4 +10,19 @@ pub fn spots_tell_keys()
 /// Each row of a page is the one at its place.
 pub fn places_tell_rows()
     ensures { PlacesTellRows }
+{}
+
+/// Loads add up.
+pub fn loads_add_up()
+    ensures { LoadsAddUp }
+{}
+
+/// A row has room on an empty page, and a page without room for it has two rows.
+pub fn rows_have_room()
+    ensures { RowsHaveRoom }
+{}
+
+/// The halves that `split_point` tells are near half of the load.
+pub fn halves_are_near()
+    ensures { HalvesAreNear }
 {}

@@ -4,10 +4,13 @@
 
 mod body;
 mod change;
+mod charges;
 mod copy;
 mod head;
 mod heap;
 mod laws;
+mod loads;
+mod moves;
 mod page;
 mod places;
 mod record;
@@ -16,11 +19,13 @@ mod search;
 mod spot;
 #[cfg(test)]
 mod tests;
+mod walks;
 
 pub use body::Body;
+pub use charges::charge;
 pub use copy::PageCopy;
 pub use head::PageHead;
-pub use laws::{places_tell_rows, spots_tell_keys};
+pub use laws::{halves_are_near, loads_add_up, places_tell_rows, rows_have_room, spots_tell_keys};
 pub use page::Page;
 pub use row_ref::RowRef;
 pub use spot::{Place, Spot};
@@ -30,3 +35,9 @@ pub const NO_PAGE: u32 = 4_294_967_295;
 
 /// A page with more rows takes no further one.
 pub const MAX_ROWS: u32 = 8_388_608;
+
+/// The bytes of a page that its records are charged against.
+pub const PAGE_ROOM: u16 = 16_252;
+
+/// The most that a page is charged for a record.
+pub const MAX_CHARGE: u16 = 2_831;

@@ -1,10 +1,14 @@
 //! One stored row.
-ghost use Rattle.std.specs.Prelude.{◌≡◌, ℕ, List, [], IfOk, OnOk};
+ghost use Rattle.std.specs.Prelude.{◌≡◌, ◌≤◌, ℕ, List, [], length, IfOk, OnOk, OnErr, IsOk};
 ghost use Rattle.key_tuple.specs.Limits.{IsWithinLimits};
-ghost use Rattle.index_page.specs.Rows.{body_by, Bytes, Child};
+ghost use Rattle.index_page.specs.Rows.{Bytes, Child};
+ghost use Rattle.index_page.specs.Store.{beside_by};
+ghost use Rattle.index_page.specs.declared.TheConstants.{MAX_CHARGE};
 ghost use Rattle.index_page.specs.Page.{HasShortValue};
+ghost use Rattle.index_page.specs.Loads.{charge_of};
 
-use crate::body::Body;
+use crate::body::Beside;
+use crate::charges::{CHILD_SIZE, record_charge, size_with_length};
 use key_tuple::{FieldBuffer, Fields};
 use std::alloc::{AllocError, Global};
 use std::marker::Model;
@@ -36,28 +40,66 @@ impl Record {
     }
 
     /// Puts a row in the place of the one before. After an error a part of it may be there.
-    pub(crate) fn fill<A: Fields>(&mut self, key: &A, body: Body<'_>) -> Result<(), AllocError>
+    pub(crate) fn fill<A: Fields>(&mut self, key: &A, beside: Beside<'_>) -> Result<(), AllocError>
         requires { IsWithinLimits (A.fields_of key.now) }
         ensures key { OnOk result (self.new.key ≡ A.fields_of key.now) }
-        ensures body { OnOk result (self.new.body ≡ body_by body.entry) }
-        ensures short { OnOk result (HasShortValue (body_by body.entry)) }
+        ensures body { OnOk result (self.new.body ≡ beside_by beside.entry) }
     {
         fill_key(&mut self.key, key)?;
         self.value.clear();
-        match body {
-            Body::Value(value) => {
-                self.value.extend_from_slice(value.as_bytes())?;
+        match beside {
+            Beside::Value(bytes) => {
+                self.value.extend_from_slice(bytes)?;
                 self.child = None;
             }
-            Body::Child(number) => self.child = Some(number),
+            Beside::Child(number) => self.child = Some(number),
         }
         Ok(())
+    }
+
+    /// Writes another value in the place of the one before. It takes no memory where the value is no
+    /// longer than that.
+    pub(crate) fn rewrite(&mut self, bytes: &[u8]) -> Result<(), AllocError>
+        requires { (value : List ℕ) × (self.old.body ≡ Bytes value) }
+        ensures ok { OnOk result (self.new ≡ record { key = self.old.key; body = Bytes bytes.now }) }
+        ensures in_place { (value : List ℕ) → self.old.body ≡ Bytes value →
+            length bytes.now ≤ length value → IsOk result }
+        ensures err { OnErr result (self.new ≡ self.old) }
+    {
+        let more = bytes.len().saturating_sub(self.value.len());
+        self.value.reserve(more)?;
+        self.value.clear();
+        self.value.extend_from_slice(bytes)
     }
 
     /// Takes the row out and keeps its buffers.
     pub(crate) fn clear(&mut self) {
         self.key.clear();
         self.value.clear();
+    }
+
+    /// What it carries beside its key.
+    pub(crate) fn beside(&self) -> Beside<'_>
+        ensures { beside_by result ≡ self.now.body }
+    {
+        match self.child {
+            None => Beside::Value(&self.value),
+            Some(number) => Beside::Child(number),
+        }
+    }
+
+    /// What a page is charged for it.
+    pub(crate) fn charge(&self) -> u16
+        requires limits { IsWithinLimits self.now.key }
+        requires short { HasShortValue self.now.body }
+        ensures charge { result ≡ charge_of self.now.key self.now.body }
+        ensures most { result ≤ MAX_CHARGE }
+    {
+        let beside = match self.child {
+            None => size_with_length(&self.value),
+            Some(_) => CHILD_SIZE,
+        };
+        record_charge(&self.key, beside)
     }
 
     /// The value's bytes.

@@ -1,9 +1,8 @@
 //! Searches in a page, and the rows beside a row.
 ghost use Rattle.std.specs.Prelude.{◌≡◌, ◌≤◌, ◌<◌, length, take, drop, IfSome, IsSome};
 ghost use Rattle.key_tuple.specs.KeyPlace.{At, cut_of};
-ghost use Rattle.index_page.specs.Rows.{find_row, IsAt};
-ghost use Rattle.index_page.specs.Search.{AllOut, AllIn, agreement, Finds, IsPosition, nth_row};
-ghost use Rattle.index_page.specs.Changes.{NextIs, PrevIs};
+ghost use Rattle.index_page.specs.Rows.{IsAt};
+ghost use Rattle.index_page.specs.Search.{AllOut, AllIn, agreement, Finds, nth_row};
 
 use crate::page::Page;
 use crate::record::Record;
@@ -18,46 +17,19 @@ impl Page {
         ensures { Finds mode (A.fields_of tuple.now) self.now.rows result }
     {
         let cut = self.cut(tuple, mode);
-        let (before, low) = self.beside(tuple, cut.checked_sub(1));
+        let (before, low) = self.agreement(tuple, cut.checked_sub(1));
         let after_cut = if cut < self.rows.len() {
             Some(cut)
         } else {
             None
         };
-        let (after, up) = self.beside(tuple, after_cut);
+        let (after, up) = self.agreement(tuple, after_cut);
         Spot {
             before,
             after,
             low,
             up,
             cut,
-        }
-    }
-
-    /// The place of the next row, none at the last one.
-    pub fn next(&self, place: Place) -> Option<Place>
-        requires { IsSome (find_row place self.now.rows) }
-        ensures { NextIs self.now.rows place result }
-    {
-        let count = self.rows.len();
-        let next = self.position(place) + 1;
-        if next < count {
-            Some(self.rows.stored(next).0)
-        } else {
-            None
-        }
-    }
-
-    /// The place of the row before, none at the first one.
-    pub fn prev(&self, place: Place) -> Option<Place>
-        requires { IsSome (find_row place self.now.rows) }
-        ensures { PrevIs self.now.rows place result }
-    {
-        let at = self.position(place);
-        if at == 0 {
-            None
-        } else {
-            Some(self.rows.stored(at - 1).0)
         }
     }
 
@@ -81,16 +53,8 @@ impl Page {
         low
     }
 
-    /// The number of the row at a place.
-    pub(crate) fn position(&self, place: Place) -> usize
-        requires { IsSome (find_row place self.now.rows) }
-        ensures { IsPosition self.now.rows place result }
-    {
-        self.cut(self.rows.record(place), Mode::Ge)
-    }
-
     /// The place of a row by its number, and how far the tuple agrees with it.
-    fn beside<A: Fields>(&self, tuple: &A, number: Option<usize>) -> (Option<Place>, Match)
+    fn agreement<A: Fields>(&self, tuple: &A, number: Option<usize>) -> (Option<Place>, Match)
         requires fields { length (A.fields_of tuple.now) ≤ self.now.head.fields }
         requires within { IfSome number (λ i. i < length self.now.rows) }
         ensures place { IsAt self.now.rows result.0 (nth_row self.now.rows number) }

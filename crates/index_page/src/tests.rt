@@ -1,15 +1,17 @@
-//! Worked pages.
-ghost use Rattle.std.specs.Prelude.{◌<◌, IfSome, IsSome};
+//! Worked pages. A step that may fail is a function of its own, and so is a claim.
+ghost use Rattle.std.specs.Prelude.{◌≡◌, ◌<◌, [], length, IfSome, IsSome};
 ghost use Rattle.index_page.specs.Rows.{find_row};
 
-use crate::{Body, MAX_ROWS, Page, PageCopy, PageHead, Place, Spot, spots_tell_keys};
-use key_tuple::{Blank, Fields, Key, Match, Mode, NoMemory, Value};
+use crate::{Body, MAX_ROWS, Page, PageCopy, PageHead, Place, Spot, charge, spots_tell_keys};
+use key_tuple::{Blank, Fields, Key, Mode, Value};
 use std::alloc::Global;
 use std::marker::Send;
-use std::test::Fail;
 
-/// A page with keys of one field.
-fn page_of(alloc: Global, level: u16) -> Result<Page, NoMemory> {
+/// A page with no rows, for keys of one field.
+fn page_of(alloc: Global, level: u16) -> Option<Page>
+    ensures rows { IfSome result (λ page. page.rows ≡ []) }
+    ensures head { IfSome result (λ page. (page.head.level ≡ level) × (page.head.fields ≡ 1)) }
+{
     let head = PageHead {
         number: 7,
         index: 2,
@@ -18,35 +20,73 @@ fn page_of(alloc: Global, level: u16) -> Result<Page, NoMemory> {
         next: Some(9),
         fields: 1,
     };
-    Page::empty(alloc, head)
+    Page::empty(alloc, head).ok()
 }
 
-fn key_of(alloc: Global, bytes: &[u8]) -> Result<Key, Fail> {
-    Ok(Key::try_new(alloc, vec![in alloc; bytes.to_vec(alloc)?]?)?)
+fn bytes_of(alloc: Global, bytes: &[u8]) -> Option<Vec<u8>> {
+    bytes.to_vec(alloc).ok()
 }
 
-fn value_of(alloc: Global, bytes: &[u8]) -> Result<Value, Fail> {
-    Ok(Value::try_new(bytes.to_vec(alloc)?)?)
+fn one_field(alloc: Global, field: Vec<u8>) -> Option<Vec<Vec<u8>>>
+    ensures { IfSome result (λ fields. 0 < length fields.items) }
+{
+    vec![in alloc; field].ok()
 }
 
-/// Puts a row in, unless its key is there or it doesn't suit the page.
-fn put(page: &mut Page, key: &Key, body: Body<'_>) -> Result<Option<Place>, NoMemory> {
+fn fields_of(alloc: Global, bytes: &[u8]) -> Option<Vec<Vec<u8>>>
+    ensures { IfSome result (λ fields. 0 < length fields.items) }
+{
+    let field = bytes_of(alloc, bytes)?;
+    one_field(alloc, field)
+}
+
+fn key_of(alloc: Global, bytes: &[u8]) -> Option<Key> {
+    let fields = fields_of(alloc, bytes)?;
+    Key::try_new(alloc, fields).ok()
+}
+
+fn value_of(alloc: Global, bytes: &[u8]) -> Option<Value> {
+    let bytes = bytes_of(alloc, bytes)?;
+    Value::try_new(bytes).ok()
+}
+
+/// Puts a value's row in, unless its key is there or the page has children.
+fn put(page: &mut Page, key: &Key, value: &Value) -> Option<Place> {
     let head = *page.head();
-    let suits = match body {
-        Body::Value(_) => head.level == 0,
-        Body::Child(_) => head.level != 0,
-    };
-    if !suits || key.count() != head.fields || page.count() > MAX_ROWS {
-        return Ok(None);
+    if head.level != 0 || key.count() != head.fields || page.count() > MAX_ROWS {
+        return None;
     }
     let spot = page.search(key, Mode::Ge);
     if spot.up.fields == key.count() {
-        return Ok(None);
+        return None;
     }
-    page.is_in_order();
     key.tuple().is_within_limits();
-    spots_tell_keys();
-    Ok(Some(page.insert(key, body)?))
+    page.insert_at(&spot, key, Body::Value(value)).ok()
+}
+
+/// Puts a row of these bytes in: its place.
+fn put_bytes(alloc: Global, page: &mut Page, key: &[u8], value: &[u8]) -> Option<Place> {
+    match (key_of(alloc, key), value_of(alloc, value)) {
+        (Some(key), Some(value)) => put(page, &key, &value),
+        _ => None,
+    }
+}
+
+/// Puts a row in for each letter, which is its key and its value.
+fn fill(alloc: Global, page: &mut Page, letters: &[u8]) -> bool {
+    for letter in letters {
+        if put_bytes(alloc, page, &[*letter], &[*letter]).is_none() {
+            return false;
+        }
+    }
+    true
+}
+
+/// A leaf with a row for each letter, put in in this order.
+fn lettered(alloc: Global, letters: &[u8]) -> Option<Page> {
+    let mut page = page_of(alloc, 0)?;
+    let filled = fill(alloc, &mut page, letters);
+    filled.then_some(page)
 }
 
 /// The place of the first row.
@@ -64,19 +104,25 @@ fn next(page: &Page, place: Place) -> Option<Place>
     page.next(place)
 }
 
-/// The first bytes of all keys, in the order of the rows.
-fn letters(alloc: Global, page: &Page) -> Result<Vec<u8>, Fail> {
-    let mut found = Vec::new(alloc);
+/// The row has this key, of one field.
+fn has_key(page: &Page, place: Place, key: &[u8]) -> bool
+    requires { IsSome (find_row place page.now.rows) }
+{
+    let row = page.row(place);
+    row.count() == 1 && row.field(0) == key
+}
+
+/// The keys are these letters, in the order of the rows.
+fn has_letters(page: &Page, letters: &[u8]) -> bool {
     let mut at = first(page);
-    for _ in 0..page.count() {
-        let Some(place) = at else { break };
-        let row = page.row(place);
-        if row.count() > 0 {
-            found.extend_from_slice(row.field(0))?;
+    for letter in letters {
+        let Some(place) = at else { return false };
+        if !has_key(page, place, &[*letter]) {
+            return false;
         }
         at = next(page, place);
     }
-    Ok(found)
+    at.is_none()
 }
 
 /// The place of the row with that key, if it is there.
@@ -94,13 +140,168 @@ fn place_of(page: &Page, key: &Key) -> Option<Place>
     }
 }
 
+fn place_at(alloc: Global, page: &Page, key: &[u8]) -> Option<Place>
+    ensures { IfSome result (λ place. IsSome (find_row place page.now.rows)) }
+{
+    let key = key_of(alloc, key)?;
+    place_of(page, &key)
+}
+
 /// Takes the row with that key out, if it is there.
-fn take_out(page: &mut Page, key: &Key) -> bool {
-    let Some(place) = place_of(page, key) else {
-        return false;
-    };
-    page.delete(place);
-    true
+fn take_out(alloc: Global, page: &mut Page, key: &[u8]) -> bool {
+    match place_at(alloc, page, key) {
+        Some(place) => {
+            page.delete(place);
+            true
+        }
+        None => false,
+    }
+}
+
+/// The row with that key has this value.
+fn has_value(alloc: Global, page: &Page, key: &[u8], value: &[u8]) -> bool {
+    match place_at(alloc, page, key) {
+        Some(place) => page.head().level == 0 && page.row(place).value() == value,
+        None => false,
+    }
+}
+
+fn sent<T: Send>(value: T) -> T {
+    value
+}
+
+#[test]
+fn rows_ascend_whatever_the_order(rt: HostRuntime) {
+    let page = lettered(rt.alloc(), b"dbeac").expect(&rt, "a page");
+    assert!(rt; has_letters(&page, b"abcde"));
+    assert_eq!(rt; page.count(), 5);
+}
+
+#[test]
+fn a_key_that_is_there_is_found(rt: HostRuntime) {
+    let alloc = rt.alloc();
+    let mut page = lettered(alloc, b"dbeac").expect(&rt, "a page");
+    assert!(rt; put_bytes(alloc, &mut page, b"c", b"v").is_none());
+    assert!(rt; has_value(alloc, &page, b"c", b"c"));
+}
+
+/// Where a search cuts: the last row before it and the first after it, with their figures.
+type Cut = ((Option<Place>, u8, u16), (Option<Place>, u8, u16));
+
+fn cut_of(spot: &Spot) -> Cut {
+    (
+        (spot.before, spot.low.fields, spot.low.bytes),
+        (spot.after, spot.up.fields, spot.up.bytes),
+    )
+}
+
+/// Where the search for this text cuts.
+fn cut_at(alloc: Global, page: &Page, text: &[u8], mode: Mode) -> Option<Cut> {
+    let tuple = key_of(alloc, text)?;
+    if tuple.count() != page.head().fields {
+        return None;
+    }
+    Some(cut_of(&page.search(&tuple, mode)))
+}
+
+/// A leaf with the keys bc, d and ba at the places 0, 1 and 2.
+fn three_texts(alloc: Global) -> Option<Page> {
+    let mut page = page_of(alloc, 0)?;
+    let filled = put_bytes(alloc, &mut page, b"bc", b"v") == Some(0)
+        && put_bytes(alloc, &mut page, b"d", b"v") == Some(1)
+        && put_bytes(alloc, &mut page, b"ba", b"v") == Some(2);
+    filled.then_some(page)
+}
+
+#[test]
+fn spots_are_where_the_modes_cut(rt: HostRuntime) {
+    let alloc = rt.alloc();
+    let page = three_texts(alloc).expect(&rt, "a page");
+    let (ba, bc, d) = (Some(2), Some(0), Some(1));
+    let table: [(&[u8], Mode, Cut); 8] = [
+        (b"b", Mode::Ge, ((None, 0, 0), (ba, 0, 1))),
+        (b"bb", Mode::G, ((ba, 0, 1), (bc, 0, 1))),
+        (b"bc", Mode::Ge, ((ba, 0, 1), (bc, 1, 0))),
+        (b"bc", Mode::G, ((bc, 1, 0), (d, 0, 0))),
+        (b"bc", Mode::Le, ((bc, 1, 0), (d, 0, 0))),
+        (b"bc", Mode::L, ((ba, 0, 1), (bc, 1, 0))),
+        (b"d", Mode::Le, ((d, 1, 0), (None, 0, 0))),
+        (b"e", Mode::Ge, ((d, 0, 0), (None, 0, 0))),
+    ];
+    for (text, mode, cut) in table {
+        assert!(rt; cut_at(alloc, &page, text, mode) == Some(cut));
+    }
+}
+
+#[test]
+fn no_fields_tell_the_ends(rt: HostRuntime) {
+    let page = three_texts(rt.alloc()).expect(&rt, "a page");
+    let all = Blank { count: 0 };
+    assert_eq!(rt; page.search(&all, Mode::L).after, Some(2));
+    assert_eq!(rt; page.search(&all, Mode::Le).before, Some(1));
+}
+
+/// A leaf on which d with another value stands where b stood.
+fn b_gave_way_to_d(alloc: Global) -> Option<Page> {
+    let mut page = lettered(alloc, b"cab")?;
+    let old = place_at(alloc, &page, b"b");
+    let gave = take_out(alloc, &mut page, b"b")
+        && !take_out(alloc, &mut page, b"b")
+        && put_bytes(alloc, &mut page, b"d", b"new") == old;
+    gave.then_some(page)
+}
+
+#[test]
+fn a_place_is_taken_again(rt: HostRuntime) {
+    let alloc = rt.alloc();
+    let page = sent(b_gave_way_to_d(alloc).expect(&rt, "the place of b"));
+    assert!(rt; has_letters(&page, b"acd"));
+    assert!(rt; has_value(alloc, &page, b"d", b"new"));
+}
+
+#[test]
+fn other_rows_keep_their_places(rt: HostRuntime) {
+    let alloc = rt.alloc();
+    let page = b_gave_way_to_d(alloc).expect(&rt, "the place of b");
+    assert_eq!(rt; place_at(alloc, &page, b"c"), Some(0));
+    assert_eq!(rt; place_at(alloc, &page, b"a"), Some(1));
+}
+
+/// A page kept as it is.
+fn saved(alloc: Global, page: &Page) -> Option<PageCopy>
+    ensures { IfSome result (λ copy. IsSome copy) }
+{
+    let mut copy = PageCopy::new(alloc).ok()?;
+    let saved = page.save(&mut copy).is_ok();
+    saved.then_some(copy)
+}
+
+#[test]
+fn a_saved_page_comes_back(rt: HostRuntime) {
+    let alloc = rt.alloc();
+    let mut page = lettered(alloc, b"cab").expect(&rt, "a page");
+    let mut copy = saved(alloc, &page).expect(&rt, "a copy");
+    assert!(rt; take_out(alloc, &mut page, b"a") && has_letters(&page, b"bc"));
+    page.restore(&mut copy);
+    sent(copy);
+    assert!(rt; has_letters(&page, b"abc") && has_value(alloc, &page, b"a", b"a"));
+    assert_eq!(rt; place_at(alloc, &page, b"a"), Some(1));
+}
+
+/// Puts a child's row in, unless its key is there or the page has values.
+fn put_child(page: &mut Page, key: &Key, child: u32) -> Option<Place> {
+    let head = *page.head();
+    if head.level == 0 || key.count() != head.fields || page.count() > MAX_ROWS {
+        return None;
+    }
+    let spot = page.search(key, Mode::Ge);
+    if spot.up.fields == key.count() {
+        return None;
+    }
+    page.is_in_order();
+    key.tuple().is_within_limits();
+    spots_tell_keys();
+    page.insert(key, Body::Child(child)).ok()
 }
 
 /// The child under that key.
@@ -112,145 +313,28 @@ fn child_of(page: &Page, key: &Key) -> Option<u32> {
     Some(page.row(place).child())
 }
 
-/// The value under that key, or nothing.
-fn value_under(alloc: Global, page: &Page, key: &Key) -> Result<Vec<u8>, Fail> {
-    match place_of(page, key) {
-        Some(place) if page.head().level == 0 => Ok(page.row(place).value().to_vec(alloc)?),
-        _ => Ok(Vec::new(alloc)),
-    }
-}
-
-fn sent<T: Send>(value: T) -> T {
-    value
-}
-
-#[test]
-fn rows_ascend_whatever_the_order(rt: HostRuntime) -> Result<(), Fail> {
-    let alloc = rt.alloc();
-    let value = value_of(alloc, b"v")?;
-    let mut page = page_of(alloc, 0)?;
-    for text in [b"d", b"b", b"e", b"a", b"c"] {
-        let place = put(&mut page, &key_of(alloc, text)?, Body::Value(&value))?;
-        assert!(rt; place.is_some());
-    }
-    let again = put(&mut page, &key_of(alloc, b"c")?, Body::Value(&value))?;
-    assert_eq!(rt; again, None);
-    assert_eq!(rt; page.count(), 5);
-    assert_eq!(rt; letters(alloc, &page)?.as_slice(), b"abcde".as_slice());
-    Ok(())
-}
-
-fn figures(fields: u8, bytes: u16) -> Match {
-    Match { fields, bytes }
-}
-
-#[test]
-fn spots_are_where_the_modes_cut(rt: HostRuntime) -> Result<(), Fail> {
-    let alloc = rt.alloc();
-    let value = value_of(alloc, b"v")?;
-    let mut page = page_of(alloc, 0)?;
-    for text in [b"bc".as_slice(), b"d", b"ba"] {
-        put(&mut page, &key_of(alloc, text)?, Body::Value(&value))?;
-    }
-    let ba = place_of(&page, &key_of(alloc, b"ba")?);
-    let bc = place_of(&page, &key_of(alloc, b"bc")?);
-    let d = place_of(&page, &key_of(alloc, b"d")?);
-    let none = figures(0, 0);
-    let table: [(&[u8], Mode, (Option<Place>, Match), (Option<Place>, Match)); 8] = [
-        (b"b", Mode::Ge, (None, none), (ba, figures(0, 1))),
-        (b"bb", Mode::G, (ba, figures(0, 1)), (bc, figures(0, 1))),
-        (b"bc", Mode::Ge, (ba, figures(0, 1)), (bc, figures(1, 0))),
-        (b"bc", Mode::G, (bc, figures(1, 0)), (d, none)),
-        (b"bc", Mode::Le, (bc, figures(1, 0)), (d, none)),
-        (b"bc", Mode::L, (ba, figures(0, 1)), (bc, figures(1, 0))),
-        (b"d", Mode::Le, (d, figures(1, 0)), (None, none)),
-        (b"e", Mode::Ge, (d, none), (None, none)),
-    ];
-    for (text, mode, (before, low), (after, up)) in table {
-        let tuple = key_of(alloc, text)?;
-        if tuple.count() == page.head().fields {
-            let want = Spot {
-                before,
-                after,
-                low,
-                up,
-            };
-            assert_eq!(rt; page.search(&tuple, mode), want);
-        }
-    }
-    let all = Blank { count: 0 };
-    assert_eq!(rt; page.search(&all, Mode::L).after, ba);
-    assert_eq!(rt; page.search(&all, Mode::Le).before, d);
-    Ok(())
-}
-
-/// A page with the keys a, b and c.
-fn three_rows(alloc: Global) -> Result<Page, Fail> {
-    let mut page = page_of(alloc, 0)?;
-    for text in [b"c", b"a", b"b"] {
-        let value = value_of(alloc, text)?;
-        put(&mut page, &key_of(alloc, text)?, Body::Value(&value))?;
-    }
-    Ok(page)
-}
-
-#[test]
-fn a_place_is_taken_again(rt: HostRuntime) -> Result<(), Fail> {
-    let alloc = rt.alloc();
-    let mut page = sent(three_rows(alloc)?);
-    let keys = [
-        key_of(alloc, b"a")?,
-        key_of(alloc, b"b")?,
-        key_of(alloc, b"c")?,
-    ];
-    let old = [
-        place_of(&page, &keys[0]),
-        place_of(&page, &keys[1]),
-        place_of(&page, &keys[2]),
-    ];
-    assert!(rt; take_out(&mut page, &keys[1]));
-    assert!(rt; !take_out(&mut page, &keys[1]));
-    let value = value_of(alloc, b"new")?;
-    let place = put(&mut page, &key_of(alloc, b"d")?, Body::Value(&value))?;
-    assert_eq!(rt; place, old[1]);
-    assert_eq!(rt; place_of(&page, &keys[0]), old[0]);
-    assert_eq!(rt; place_of(&page, &keys[2]), old[2]);
-    assert_eq!(rt; letters(alloc, &page)?.as_slice(), b"acd".as_slice());
-    let found = value_under(alloc, &page, &key_of(alloc, b"d")?)?;
-    assert_eq!(rt; found.as_slice(), b"new".as_slice());
-    Ok(())
-}
-
-#[test]
-fn a_saved_page_comes_back(rt: HostRuntime) -> Result<(), Fail> {
-    let alloc = rt.alloc();
-    let mut page = three_rows(alloc)?;
-    let key = key_of(alloc, b"a")?;
-    let place = place_of(&page, &key);
-    let mut copy = sent(PageCopy::new(alloc)?);
-    page.save(&mut copy)?;
-    assert!(rt; take_out(&mut page, &key));
-    assert_eq!(rt; letters(alloc, &page)?.as_slice(), b"bc".as_slice());
-    page.restore(&mut copy);
-    assert_eq!(rt; letters(alloc, &page)?.as_slice(), b"abc".as_slice());
-    assert_eq!(rt; place_of(&page, &key), place);
-    let found = value_under(alloc, &page, &key)?;
-    assert_eq!(rt; found.as_slice(), b"a".as_slice());
-    Ok(())
-}
-
-#[test]
-fn an_inner_page_has_children(rt: HostRuntime) -> Result<(), Fail> {
-    let alloc = rt.alloc();
+/// A page of level 1 with one row.
+fn parent(alloc: Global, key: &Key) -> Option<Page> {
     let mut page = page_of(alloc, 1)?;
-    let value = value_of(alloc, b"v")?;
-    let key = key_of(alloc, b"m")?;
-    assert_eq!(rt; put(&mut page, &key, Body::Value(&value))?, None);
-    assert!(rt; put(&mut page, &key, Body::Child(5))?.is_some());
+    let there = put_child(&mut page, key, 5).is_some();
+    there.then_some(page)
+}
+
+#[test]
+fn an_inner_page_has_children(rt: HostRuntime) {
+    let key = key_of(rt.alloc(), b"m").expect(&rt, "a key");
+    let mut page = parent(rt.alloc(), &key).expect(&rt, "a page");
     assert_eq!(rt; child_of(&page, &key), Some(5));
     page.link(Some(3), None);
-    let head = *page.head();
-    assert_eq!(rt; (head.number, head.prev, head.next), (7, Some(3), None));
+    let head = page.head();
+    assert!(rt; head.number == 7 && head.prev == Some(3) && head.next == None);
+}
+
+#[test]
+fn a_page_begins_anew(rt: HostRuntime) {
+    let alloc = rt.alloc();
+    let key = key_of(alloc, b"m").expect(&rt, "a key");
+    let mut page = parent(alloc, &key).expect(&rt, "a page");
     page.restart(PageHead {
         number: 8,
         index: 2,
@@ -260,46 +344,206 @@ fn an_inner_page_has_children(rt: HostRuntime) -> Result<(), Fail> {
         fields: 1,
     });
     assert_eq!(rt; page.count(), 0);
-    assert!(rt; put(&mut page, &key, Body::Value(&value))?.is_some());
-    assert_eq!(rt;
-        value_under(alloc, &page, &key)?.as_slice(),
-        b"v".as_slice()
-    );
-    Ok(())
+    assert!(rt; put_bytes(alloc, &mut page, b"m", b"v").is_some());
+    assert!(rt; has_value(alloc, &page, b"m", b"v"));
 }
 
-/// A key for each number up to 1,000, in an order of its own.
-fn scattered(alloc: Global, n: u32) -> Result<Key, Fail>
+/// The numbers up to 1,000 in an order of their own.
+fn scattered(n: u32) -> [u8; 4]
     requires { n < 1000 }
 {
-    key_of(alloc, &(n * 389 % 1000).to_be_bytes())
+    (n * 389 % 1000).to_be_bytes()
+}
+
+/// Puts a row in for each number up to 1,000, each at a further place.
+fn put_all(alloc: Global, page: &mut Page) -> bool {
+    for n in 0..1000 {
+        if put_bytes(alloc, page, &scattered(n), b"v") != Some(n) {
+            return false;
+        }
+    }
+    true
+}
+
+/// Takes 500 rows out.
+fn take_half(alloc: Global, page: &mut Page) -> bool {
+    for n in 0..500 {
+        if !take_out(alloc, page, &scattered(n)) {
+            return false;
+        }
+    }
+    true
+}
+
+/// Puts them back, at the places that were left.
+fn put_half(alloc: Global, page: &mut Page) -> bool {
+    for n in 0..500 {
+        match put_bytes(alloc, page, &scattered(n), b"v") {
+            Some(place) if place < 500 => {}
+            _ => return false,
+        }
+    }
+    true
+}
+
+/// The keys are the numbers up to 1,000.
+fn counts_up(page: &Page) -> bool {
+    let mut at = first(page);
+    for n in 0..1000u32 {
+        let Some(place) = at else { return false };
+        if !has_key(page, place, &n.to_be_bytes()) {
+            return false;
+        }
+        at = next(page, place);
+    }
+    at.is_none()
 }
 
 #[test]
-fn many_rows_come_and_go(rt: HostRuntime) -> Result<(), Fail> {
+fn many_rows_come_and_go(rt: HostRuntime) {
     let alloc = rt.alloc();
-    let mut page = page_of(alloc, 0)?;
-    let value = value_of(alloc, b"v")?;
-    for n in 0..1000 {
-        let place = put(&mut page, &scattered(alloc, n)?, Body::Value(&value))?;
-        assert_eq!(rt; place, Some(n));
+    let mut page = page_of(alloc, 0).expect(&rt, "a page");
+    assert!(rt; put_all(alloc, &mut page) && take_half(alloc, &mut page) && page.count() == 500);
+    assert!(rt; put_half(alloc, &mut page) && counts_up(&page));
+}
+
+/// Gives the row with that key another value: its place.
+fn set_bytes(alloc: Global, page: &mut Page, key: &[u8], value: &[u8]) -> Option<Place> {
+    let place = place_at(alloc, page, key)?;
+    let value = value_of(alloc, value)?;
+    if page.head().level != 0 {
+        return None;
     }
-    for n in 0..500 {
-        assert!(rt; take_out(&mut page, &scattered(alloc, n)?));
+    page.set(place, &value).ok()
+}
+
+#[test]
+fn a_value_gives_way_to_another(rt: HostRuntime) {
+    let alloc = rt.alloc();
+    let mut page = lettered(alloc, b"cab").expect(&rt, "a page");
+    assert!(rt; set_bytes(alloc, &mut page, b"b", b"x") == Some(2));
+    assert!(rt; has_value(alloc, &page, b"b", b"x"));
+    assert!(rt; set_bytes(alloc, &mut page, b"b", b"longer").is_some());
+    assert!(rt; has_value(alloc, &page, b"b", b"longer") && has_letters(&page, b"abc"));
+}
+
+/// What a page is charged for a row with a key of one byte and a value of so many.
+fn charge_at(alloc: Global, count: usize) -> Option<u16> {
+    let key = key_of(alloc, b"k")?;
+    let value = value_of(alloc, &[7; 2048][..count.min(2048)])?;
+    key.tuple().is_within_limits();
+    Some(charge(&key, Body::Value(&value)))
+}
+
+#[test]
+fn a_length_above_127_takes_two_bytes(rt: HostRuntime) {
+    assert_eq!(rt; charge_at(rt.alloc(), 127), Some(136));
+    assert_eq!(rt; charge_at(rt.alloc(), 128), Some(138));
+}
+
+/// Puts rows of 1,012 bytes in until there is no room for one more.
+fn fill_up(alloc: Global, page: &mut Page) -> Option<u32> {
+    for n in 0..100 {
+        if page.free() < 1013 {
+            return Some(n);
+        }
+        put_bytes(alloc, page, &[n as u8], &[7; 1003])?;
     }
-    assert_eq!(rt; page.count(), 500);
-    for n in 0..500 {
-        let place = put(&mut page, &scattered(alloc, n)?, Body::Value(&value))?;
-        assert!(rt; place.is_some_and(|place| place < 500));
+    None
+}
+
+#[test]
+fn sixteen_rows_of_1012_bytes_have_room(rt: HostRuntime) {
+    let mut page = page_of(rt.alloc(), 0).expect(&rt, "a page");
+    assert_eq!(rt; fill_up(rt.alloc(), &mut page), Some(16));
+    assert!(rt; page.load() == 16208 && page.free() == 44);
+}
+
+/// Where a split would cut.
+fn cut_after(page: &Page) -> Option<u32> {
+    if page.count() < 2 {
+        return None;
     }
-    let found = letters(alloc, &page)?;
-    assert_eq!(rt; found.len(), 4000);
-    for n in 0..1000u32 {
-        let at = n as usize * 4;
-        assert_eq!(rt;
-            found.as_slice().get(at..at + 4),
-            Some(n.to_be_bytes().as_slice())
-        );
+    Some(page.split_point())
+}
+
+#[test]
+fn equal_rows_are_cut_in_the_middle(rt: HostRuntime) {
+    let page = lettered(rt.alloc(), b"abcdefghijklmnopqrstuvwxyzABCDEFGHIJKLMN").expect(
+        &rt, "a page",
+    );
+    assert_eq!(rt; page.count(), 40);
+    assert_eq!(rt; cut_after(&page), Some(20));
+}
+
+#[test]
+fn a_huge_row_is_cut_off(rt: HostRuntime) {
+    let mut page = lettered(rt.alloc(), b"abc").expect(&rt, "a page");
+    assert!(rt; put_bytes(rt.alloc(), &mut page, b"d", &[7; 2000]).is_some());
+    assert_eq!(rt; cut_after(&page), Some(3));
+}
+
+/// Moves the rows from that key on to an empty page.
+fn tail_of(alloc: Global, page: &mut Page, key: &[u8]) -> Option<Page> {
+    let mut to = page_of(alloc, 0)?;
+    let first = place_at(alloc, page, key)?;
+    if page.head().level != 0 || page.head().fields != 1 {
+        return None;
     }
-    Ok(())
+    let moved = page.move_tail(first, &mut to).is_ok();
+    moved.then_some(to)
+}
+
+#[test]
+fn the_tail_of_a_page_moves(rt: HostRuntime) {
+    let mut page = lettered(rt.alloc(), b"cab").expect(&rt, "a page");
+    let tail = tail_of(rt.alloc(), &mut page, b"b").expect(&rt, "its tail");
+    assert!(rt; has_letters(&page, b"a") && has_letters(&tail, b"bc"));
+}
+
+/// Moves the rows of a leaf behind none.
+fn moved(alloc: Global, page: &mut Page) -> Option<Page> {
+    let mut to = page_of(alloc, 0)?;
+    if page.head().level != 0 || page.head().fields != 1 || page.load() > 16252 {
+        return None;
+    }
+    page.is_in_order();
+    let moved = page.move_all(&mut to).is_ok();
+    moved.then_some(to)
+}
+
+#[test]
+fn all_rows_of_a_page_move(rt: HostRuntime) {
+    let mut page = lettered(rt.alloc(), b"cab").expect(&rt, "a page");
+    let to = moved(rt.alloc(), &mut page).expect(&rt, "another page");
+    assert!(rt; has_letters(&page, b"") && has_letters(&to, b"abc"));
+}
+
+/// Gives the rows new places.
+fn is_reorganised(alloc: Global, page: &mut Page) -> bool {
+    match PageCopy::new(alloc) {
+        Ok(mut copy) => page.reorganise(&mut copy).is_ok(),
+        Err(_) => false,
+    }
+}
+
+#[test]
+fn a_page_is_reorganised(rt: HostRuntime) {
+    let alloc = rt.alloc();
+    let mut page = lettered(alloc, b"cab").expect(&rt, "a page");
+    assert!(rt; take_out(alloc, &mut page, b"b") && is_reorganised(alloc, &mut page));
+    assert!(rt; has_letters(&page, b"ac") && has_value(alloc, &page, b"c", b"c"));
+}
+
+/// The places around the row with that key.
+fn around(alloc: Global, page: &Page, key: &[u8]) -> Option<(Option<Place>, Option<Place>)> {
+    let place = place_at(alloc, page, key)?;
+    Some(page.beside(place))
+}
+
+#[test]
+fn places_are_told_from_the_ends_and_around(rt: HostRuntime) {
+    let page = lettered(rt.alloc(), b"cab").expect(&rt, "a page");
+    assert!(rt; page.first() == Some(1) && page.last() == Some(0));
+    assert!(rt; around(rt.alloc(), &page, b"b") == Some((Some(1), Some(0))));
 }

@@ -8,7 +8,7 @@ use Rattle.index_page.proofs.page.Page.delete.Goals as goal
 
 -- the row stands at that number of the stored rows
 position : (c : goal.After-remove_at) → IsPosition c.self.inside.rows c.args.place c.position-at.result
-position c = subst (λ (p : PageRows). IsPosition p.rows c.args.place c.position-at.result) (sym c.self.view_is) c.position-at.ensures
+position c = subst (λ (p : PageRows). IsPosition p.rows c.args.place c.position-at.result) (sym c.self.view_is) c.position-at.ensures.row
 
 pub invariant_of-self : goal.invariant_of-self
 invariant_of-self c =

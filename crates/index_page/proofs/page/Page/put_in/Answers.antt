@@ -1,4 +1,5 @@
 use Rattle.std.proofs.Common.{◌≤◌, List, length, take, drop, sym, ap, ◌∙◌, subst}
+use Rattle.std.specs.List.{insert}
 use Rattle.key_tuple.specs.KeyPlace.{not_below}
 use Rattle.index_page.specs.declared.TheConstants.{MAX_ROWS}
 use Rattle.index_page.specs.Rows.{Row, placed_row, body_by, LacksKey}
@@ -10,6 +11,7 @@ use Rattle.index_page.proofs.page.Page.put_in.Goals as goal
 
 pub invariant_of-self-2 : goal.invariant_of-self-2
 invariant_of-self-2 g c =
+    let ok = c.in_ok-insert_at.ensures.ok ∙ ap (λ b. insert c.self.inside.rows c.args.cut (placed_row c.in_ok-insert_at.field-0 (g.A.Fields.fields_of c.args.key.now) b)) c.beside.ensures.body in
     let key = g.A.Fields.fields_of c.args.key.now in
     let page : PageRows = record { head = c.self.inside.head; rows = c.self.inside.rows } in
     let was = sym c.self.view_is in
@@ -17,19 +19,20 @@ invariant_of-self-2 g c =
       fields = c.requires.fields ∙ ap (λ (p : PageRows). p.head.fields) was;
       limits = c.requires.limits;
       body = subst (λ (p : PageRows). FitsLevel p.head.level (body_by c.args.body)) was c.requires.body;
-      short = c.in_ok-insert_at.ensures.short;
+      short = c.beside.ensures.short;
     } in
     let lacks = subst (λ (p : PageRows). LacksKey key p.rows) was c.requires.absent in
     let out = subst (λ (p : PageRows). AllOut (not_below key) (take c.args.cut p.rows)) was c.requires.cut.out in
     let past = subst (λ (p : PageRows). AllIn (not_below key) (drop c.args.cut p.rows)) was c.requires.cut.past in
     let room = subst (λ (p : PageRows). length p.rows ≤ MAX_ROWS) was c.requires.room in
-    let places = subst PlacesDiffer c.in_ok-insert_at.ensures.ok c.in_ok-insert_at.ensures.differ in
+    let places = subst PlacesDiffer ok c.in_ok-insert_at.ensures.differ in
     let order = inserted_order page _ c.args.cut c.self.invariant suits lacks out past room places in
-    subst (λ (rows : List Row). IsPageInOrder (record { head = c.self.inside.head; rows = rows })) (sym c.in_ok-insert_at.ensures.ok) order
+    subst (λ (rows : List Row). IsPageInOrder (record { head = c.self.inside.head; rows = rows })) (sym ok) order
 
 pub returns-clause-ok : goal.returns-clause-ok
 returns-clause-ok g c =
+    let ok = c.in_ok-insert_at.ensures.ok ∙ ap (λ b. insert c.self.inside.rows c.args.cut (placed_row c.in_ok-insert_at.field-0 (g.A.Fields.fields_of c.args.key.now) b)) c.beside.ensures.body in
     let row = placed_row c.in_ok-insert_at.field-0 (g.A.Fields.fields_of c.args.key.now) (body_by c.args.body) in
-    let after = ap (λ (rows : List Row). record { head = c.self.inside.head; rows = rows }) c.in_ok-insert_at.ensures.ok in
+    let after = ap (λ (rows : List Row). record { head = c.self.inside.head; rows = rows }) ok in
     let made = inserts (record { head = c.self.inside.head; rows = c.self.inside.rows }) row c.args.cut c.self.invariant _ after (invariant_of-self-2 g c) c.in_ok-insert_at.ensures.vacant in
     subst (λ (p : PageRows). Inserts p (record { head = c.self.inside.head; rows = c.insert_at.new.self }) row) c.self.view_is made

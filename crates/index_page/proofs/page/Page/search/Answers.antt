@@ -28,9 +28,9 @@ returns g c =
       split = sym (take-append-drop c.cut-cut.result rows);
       out = c.cut-cut.ensures.out;
       past = c.cut-cut.ensures.past;
-      before_at = subst (IsAt rows c.beside-before.result.0) last c.beside-before.ensures.place;
-      after_at = subst (IsAt rows c.beside-after.result.0) first c.beside-after.ensures.place;
-      low = c.beside-before.ensures.figures ∙ ap (agreement tuple) last;
-      up = c.beside-after.ensures.figures ∙ ap (agreement tuple) first;
+      before_at = subst (IsAt rows c.agreement-before.result.0) last c.agreement-before.ensures.place;
+      after_at = subst (IsAt rows c.agreement-after.result.0) first c.agreement-after.ensures.place;
+      low = c.agreement-before.ensures.figures ∙ ap (agreement tuple) last;
+      up = c.agreement-after.ensures.figures ∙ ap (agreement tuple) first;
       cut = sym (length-take-le c.cut-cut.result rows c.cut-cut.ensures.within);
     }

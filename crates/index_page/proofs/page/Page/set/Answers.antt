@@ -1,0 +1,33 @@
+use Rattle.std.proofs.Common.{◌≡◌, ℕ, true, false, Some, List, length, is_ok, sym, ap, ◌∙◌, subst, arith}
+use Rattle.index_page.specs.Rows.{find_row}
+use Rattle.index_page.specs.Page.{PageRows}
+use Rattle.index_page.specs.Search.{IsPosition}
+use Rattle.index_page.specs.Store.{HasValueAt, Rewrites}
+use Rattle.index_page.proofs.SetLemmas.{value_at, value_of, rewritten_order, sets}
+use Rattle.index_page.proofs.page.Page.set.Goals as goal
+
+pub rewrite_at-requires : goal.rewrite_at-requires
+rewrite_at-requires c =
+    let position = subst (λ (p : PageRows). IsPosition p.rows c.args.place c.position-at.result) (sym c.self.view_is) c.position-at.ensures.row in
+    value_at c.self.inside.head c.self.inside.rows c.args.place c.position-at.result c.self.invariant position (ap (λ (p : PageRows). p.head.level) c.self.view_is ∙ c.requires.level)
+
+pub returns-in_err-rewrite_at-clause-in_place : goal.returns-in_err-rewrite_at-clause-in_place
+returns-in_err-rewrite_at-clause-in_place c =
+    let position = subst (λ (p : PageRows). IsPosition p.rows c.args.place c.position-at.result) (sym c.self.view_is) c.position-at.ensures.row in
+    λ row before found is long.
+    let here = subst (λ (p : PageRows). find_row c.args.place p.rows ≡ Some row) (sym c.self.view_is) found in
+    let has = value_of c.self.inside.rows c.args.place c.position-at.result row before c.self.invariant.places position here is in
+    let ok = c.rewrite_at.ensures.in_place has.0 (omega (arith, ap length has.1, ap length c.as_bytes.ensures.bytes, long)) in
+    let never : true ≡ false = sym ok ∙ ap is_ok c.in_err-rewrite_at.was in
+    absurd cc
+
+pub invariant_of-self-2 : goal.invariant_of-self-2
+invariant_of-self-2 c =
+    let put = subst (λ (b : List ℕ). Rewrites c.self.inside.rows c.rewrite_at.new.self c.position-at.result b) c.as_bytes.ensures.bytes c.in_ok-rewrite_at.ensures.ok in
+    rewritten_order c.self.inside.head c.self.inside.rows c.rewrite_at.new.self c.position-at.result c.args.value.now c.self.invariant put (ap (λ (p : PageRows). p.head.level) c.self.view_is ∙ c.requires.level) c.as_bytes.ensures.short
+
+pub returns-clause-ok : goal.returns-clause-ok
+returns-clause-ok c =
+    let put = subst (λ (b : List ℕ). Rewrites c.self.inside.rows c.rewrite_at.new.self c.position-at.result b) c.as_bytes.ensures.bytes c.in_ok-rewrite_at.ensures.ok in
+    let put_here = subst (λ (p : PageRows). Rewrites p.rows c.rewrite_at.new.self c.position-at.result c.args.value.now) c.self.view_is put in
+    sets c.args.self.now _ c.args.place c.position-at.result c.args.value.now c.position-at.ensures.row put_here (invariant_of-self-2 c) (ap (λ (p : PageRows). p.head) c.self.view_is)

@@ -1,7 +1,0 @@
-use Rattle.std.proofs.Common.{IfSome, IsSome}
-use Rattle.index_page.specs.Rows.{find_row}
-use Rattle.index_page.proofs.tests.letters.Given as goal
-
--- a row stands at the place
-abbrev pub invariant-loop : goal.invariant-loop
-invariant-loop l = IfSome l.at (λ place. IsSome (find_row place l.page.rows))
