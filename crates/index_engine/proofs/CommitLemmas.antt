@@ -13,7 +13,7 @@ use Rattle.latch_law.proofs.Lists.{learnt_at, known_at, known_back}
 use Rattle.list_facts.proofs.Places.{inside}
 use Rattle.latch_space.specs.declared.committing.LogFull.{LogFull}
 use Rattle.latch_space.specs.Has.{Has, Learnt, Foreknows, SameHands}
-use Rattle.latch_space.specs.Commits.{Ends, Changes, Foretells}
+use Rattle.latch_space.specs.Commits.{EndsCommit, Changes, Foretells}
 use Rattle.latch_space.specs.Passes.{view, values, count, known_values, IsWhole}
 use Rattle.latch_space.proofs.Pointwise.{whole_values, values_set}
 use Rattle.map_history.specs.Map.{MapChange, map_after, is_allowed, AreLawful}
@@ -167,12 +167,12 @@ module _ (p : IndexPass) (i : ℕ) where
     }
 
     -- how the commit ended
-    pub commit_ends : (deed : MadeChange) → i < length (view p).seen → deed ≡ record { change = change; columns = dashes } → (result : Result ℕ LogFull) → Ends IsLawful IsRight IsReference (view p) i (values p) deed result (view q) → Changes p result q → Commits p i change result q
+    pub commit_ends : (deed : MadeChange) → i < length (view p).seen → deed ≡ record { change = change; columns = dashes } → (result : Result ℕ LogFull) → EndsCommit IsLawful IsRight IsReference (view p) i (values p) deed result (view q) → Changes p result q → Commits p i change result q
     commit_ends deed room deed_is (Ok point) did learns = did_write deed deed_is (values p) point did learns
     commit_ends deed room deed_is (Err full) was same = full_then full.0 room was same
 
     -- and one ahead of its change
     pub ahead_ends : (deed : MadeChange) → i < length (view p).seen → deed ≡ record { change = change; columns = dashes } → (next : Frame) (vs : List (Option Object)) → get_elem? vs i ≡ some (Some (object.Frame next))
-        → (result : Result ℕ LogFull) → Ends IsLawful IsRight IsReference (view p) i vs deed result (view q) → Foretells vs p result q → WritesAhead p i change next result q
+        → (result : Result ℕ LogFull) → EndsCommit IsLawful IsRight IsReference (view p) i vs deed result (view q) → Foretells vs p result q → WritesAhead p i change next result q
     ahead_ends deed room deed_is next vs at (Ok point) did knows = did_write_ahead deed deed_is vs point did next at knows
     ahead_ends deed room deed_is next vs at (Err full) was same = full_then full.0 room was same

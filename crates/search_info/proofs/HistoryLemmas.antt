@@ -17,8 +17,8 @@ use Rattle.search_info.specs.declared.knows.Fate.{Fate}
 use Rattle.search_info.specs.declared.knows.Fate.TheVariants.{Counted, Raced, Worn}
 use Rattle.search_info.specs.declared.knows.Opening.{Opening}
 use Rattle.search_info.specs.declared.knows.Try.{Try}
-use Rattle.search_info.specs.History.{Start, History, known_after, IsEntry, IsBeginning, WasKnown, IsHistory}
-use Rattle.search_info.specs.Rule.{IsSoBy, IsSo}
+use Rattle.search_info.specs.History.{Start, History, known_after, IsListed, IsBeginning, WasKnown, IsHistory}
+use Rattle.search_info.specs.Rule.{IsTrueWithFate, IsTrueTry}
 use Rattle.list_facts.proofs.Places.{inside, one_value, at_end, empty_list}
 
 after_snoc : (info : Info) (xs : List Entry) (e : Entry) → info_after info (map (λ (z : Entry). z.event) (xs ++ e ∷ [])) ≡ learn (info_after info (map (λ (z : Entry). z.event) xs)) e.event
@@ -65,22 +65,22 @@ module _ (lists : History) (i : ℕ) (xs : List Entry) (e : Entry) (list : get_e
   pub grown_known : (starts : List Start) (j : ℕ) (info : Info) → WasKnown starts lists j info → WasKnown starts grown j info
   grown_known starts j info w = (w.0, w.1, w.2, grown_begins j w.1 w.3, w.4)
 
-  pub grown_entry : (j n : ℕ) (q : Entry) → IsEntry lists j n q → IsEntry grown j n q
+  pub grown_entry : (j n : ℕ) (q : Entry) → IsListed lists j n q → IsListed grown j n q
   grown_entry j n q entry = dite (ℕ_discrete j i)
       (λ is. let same : xs ≡ entry.0 = one_value lists i xs entry.0 list (ap (get_elem? lists) (sym is) ∙ entry.1) in
       (xs ++ e ∷ [], ap (get_elem? grown) is ∙ grown_here, at_longer xs (e ∷ []) n q (ap (λ (z : List Entry). get_elem? z n) same ∙ entry.2)))
       (λ isnt. (entry.0, set_else lists i j (xs ++ e ∷ []) isnt ∙ entry.1, entry.2))
 
-  pub entry_grown : (j n : ℕ) (q : Entry) → IsEntry grown j n q → IsEntry lists j n q ⊎ ((j ≡ i) × (n ≡ length xs) × (e ≡ q))
+  pub entry_grown : (j n : ℕ) (q : Entry) → IsListed grown j n q → IsListed lists j n q ⊎ ((j ≡ i) × (n ≡ length xs) × (e ≡ q))
   entry_grown j n q entry = ⊎_elim
       (λ (p : (j ≡ i) × (xs ++ e ∷ [] ≡ entry.0)). ⊎_elim (λ (old : get_elem? xs n ≡ some q). inl (xs, ap (get_elem? lists) p.0 ∙ list, old)) (λ (new : (n ≡ length xs) × (e ≡ q)). inr (p.0, new.0, new.1))
       (at_end xs e q n (ap (λ (z : List Entry). get_elem? z n) p.1 ∙ entry.2)))
       (λ (p : (j ≢ i) × (get_elem? lists j ≡ some entry.0)). inl (entry.0, p.1, entry.2)) (at_set lists i j (xs ++ e ∷ []) entry.0 entry.1)
 
-  pub grown_so : (starts : List Start) (q : Try) → IsSo starts lists q → IsSo starts grown q
+  pub grown_so : (starts : List Start) (q : Try) → IsTrueTry starts lists q → IsTrueTry starts grown q
   grown_so starts q so = by_fate q.fate so
     where
-      by_fate : (f : Fate) → IsSoBy starts lists q f → IsSoBy starts grown q f
+      by_fate : (f : Fate) → IsTrueWithFate starts lists q f → IsTrueWithFate starts grown q f
       by_fate (Counted place) h = grown_entry q.index place _ h
       by_fate (Raced read found) h = (grown_known starts q.index read h.0, grown_known starts q.index found h.1, h.2)
       by_fate Worn h = (h.0, grown_known starts q.index h.0 h.1, h.2)
@@ -90,7 +90,7 @@ module _ (lists : History) (i : ℕ) (xs : List Entry) (e : Entry) (list : get_e
     all = length-set lists i (xs ++ e ∷ []) ∙ h.all;
     starts = h.starts;
     makers = λ j n q entry. ⊎_elim (h.makers j n q) (λ (new : (j ≡ i) × (n ≡ length xs) × (e ≡ q)). subst (λ (z : Entry). z.by < o.passes) new.2 by) (entry_grown j n q entry);
-    events = λ j n q z entry at_z. ⊎_elim (λ (old : IsEntry lists j n q). h.events j n q z old at_z)
+    events = λ j n q z entry at_z. ⊎_elim (λ (old : IsListed lists j n q). h.events j n q z old at_z)
         (λ (new : (j ≡ i) × (n ≡ length xs) × (e ≡ q)). let same : s ≡ z = one_value o.starts i s z at (ap (get_elem? o.starts) (sym new.0) ∙ at_z) in
         subst (λ (y : Start × Entry). IsEventOf y.0.1 y.1.event) (λ k. (same k, new.2 k)) event) (entry_grown j n q entry);
     infos = λ j z ys at_z at_ys. ⊎_elim

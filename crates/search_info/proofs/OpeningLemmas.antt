@@ -10,15 +10,15 @@ use Rattle.search_info.specs.declared.knows.Entry.{Entry}
 use Rattle.search_info.specs.declared.knows.Knows.{Knows}
 use Rattle.search_info.specs.declared.knows.Opening.{Opening}
 use Rattle.search_info.specs.declared.law.Settings.{Settings}
-use Rattle.search_info.specs.History.{Start, History, AreStarts, IsEntry, IsHistory, known_after}
-use Rattle.search_info.specs.Rule.{Kept, Fits, opening_of, first_view, first_knows, first_words, times_made}
+use Rattle.search_info.specs.History.{Start, History, AreStarts, IsListed, IsHistory, known_after}
+use Rattle.search_info.specs.Rule.{KeptWords, FitsHistory, opening_of, knows_first, first_knows, first_words, times_made}
 use Rattle.list_facts.proofs.Places.{replicate_is, single, there, reads}
 
 module _ (o : Opening) (starts : AreStarts o.starts) where
   abbrev Empty : History
   Empty = replicate (length o.starts) []
 
-  no_entry : (i n : ℕ) (e : Entry) → IsEntry Empty i n e → ⊥
+  no_entry : (i n : ℕ) (e : Entry) → IsListed Empty i n e → ⊥
   no_entry i n e entry = some-ne-none e (sym (ap (λ (z : List Entry). get_elem? z n) (replicate_is (length o.starts) i [] entry.0 entry.1) ∙ entry.2))
 
   pub first_history : IsHistory o Empty
@@ -30,7 +30,7 @@ module _ (o : Opening) (starts : AreStarts o.starts) where
     infos = λ i s xs at list. subst (λ (z : List Entry). IsInfoOf s.1 (known_after s z)) (replicate_is (length o.starts) i [] xs list) (starts i s at).info;
   }
 
-  pub first_fits : Fits Empty (first_knows o)
+  pub first_fits : FitsHistory Empty (first_knows o)
   first_fits = record {
     history = first_history;
     all = length-replicate (length o.starts) [];
@@ -42,15 +42,15 @@ module _ (o : Opening) (starts : AreStarts o.starts) where
     once = λ i n xs list _ _. ap (times_made n) (replicate_is (length o.starts) i [] xs list);
   }
 
-pub begins : (t : Settings) → AreStarts t.starts.items → Kept t (opening (first_words t.starts.items) [] (first_view t))
+pub begins : (t : Settings) → AreStarts t.starts.items → KeptWords t (opening (first_words t.starts.items) [] (knows_first t))
 begins t starts = let o : Opening = opening_of t in record {
   lists = replicate (length t.starts.items) [];
   history = first_history o starts;
   words = λ i s xs at list. subst (λ (z : List Entry). get_elem? (first_words t.starts.items) i ≡ some (word_of (known_after s z))) (replicate_is (length t.starts.items) i [] xs list)
       (at_longer (map (λ (z : Start). word_of z.0) t.starts.items) (0 ∷ []) i (word_of s.0) (at_map (λ (z : Start). word_of z.0) t.starts.items i s at));
-  same = λ j v e _. ap (λ (z : Knows). z.opening) (sym (single (first_view t) v j e).1);
-  each = λ j v e _. subst (Fits (replicate (length t.starts.items) [])) (single (first_view t) v j e).1 (first_fits o starts);
-  apart = λ i j u v differ e f _ _. absurd (differ ((single (first_view t) u i e).0 ∙ sym (single (first_view t) v j f).0));
+  same = λ j v e _. ap (λ (z : Knows). z.opening) (sym (single (knows_first t) v j e).1);
+  each = λ j v e _. subst (FitsHistory (replicate (length t.starts.items) [])) (single (knows_first t) v j e).1 (first_fits o starts);
+  apart = λ i j u v differ e f _ _. absurd (differ ((single (knows_first t) u i e).0 ∙ sym (single (knows_first t) v j f).0));
 }
 
 pub start_fits : (starts : List Start) (i : ℕ) (d : Start) → AreStarts starts → i < length starts → FitsWord (get_or starts i d).0

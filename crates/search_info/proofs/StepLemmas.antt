@@ -24,9 +24,9 @@ use Rattle.search_info.specs.declared.knows.Knows.{Knows}
 use Rattle.search_info.specs.declared.knows.Opening.{Opening}
 use Rattle.search_info.specs.declared.knows.Try.{Try}
 use Rattle.search_info.specs.declared.law.Settings.{Settings}
-use Rattle.search_info.specs.History.{Start, History, known_after, IsEntry, IsHistory}
-use Rattle.search_info.specs.Rule.{Kept, Fits, IsSo, opening_of, is_counted, times_counted, times_made, counted_try}
-use Rattle.search_info.specs.Steps.{KeepsNumbers, Extends, with_seen, with_try, entry_of, counting, loading, loaded, Hits, Misses, exchanged}
+use Rattle.search_info.specs.History.{Start, History, known_after, IsListed, IsHistory}
+use Rattle.search_info.specs.Rule.{KeptWords, FitsHistory, IsTrueTry, opening_of, is_counted, times_counted, times_made, counted_try}
+use Rattle.search_info.specs.Steps.{KeepsNumbers, BeginsWithSeen, seeing, with_try, event_entry, counting, loading, loaded, Hits, Misses, exchanged}
 use Rattle.list_facts.proofs.Places.{inside, there, reads, one_value, same_some}
 use Rattle.search_info.proofs.HistoryLemmas.{known_snoc, beginning_info, same_word, grown, grown_here, grown_begins, entry_grown, grown_so, grown_history}
 
@@ -44,18 +44,18 @@ made_snoc : (n : ℕ) (xs : List Entry) (e : Entry) → times_made n (xs ++ e �
 made_snoc n xs e = counted_snoc (λ (z : Entry). z.by == n) xs e
 
 -- a step of one seat, whose numbers stay
-rebuilt : (t : Settings) (s : State ℕ Knows) (r : Kept t s) (id : ℕ) (v v' : Knows) (lists' : History) (words' : List ℕ) (homes' : List (maybe.Option ℕ))
+rebuilt : (t : Settings) (s : State ℕ Knows) (r : KeptWords t s) (id : ℕ) (v v' : Knows) (lists' : History) (words' : List ℕ) (homes' : List (maybe.Option ℕ))
     → get_elem? s.views id ≡ some v → v.low < v.end → v'.opening ≡ v.opening → v'.low ≡ v.low → v'.end ≡ v.end
     → IsHistory (opening_of t) lists'
     → ((i : ℕ) (start : Start) (xs : List Entry) → get_elem? t.starts.items i ≡ some start → get_elem? lists' i ≡ some xs → get_elem? words' i ≡ some (word_of (known_after start xs)))
-    → ((u : Knows) → Fits r.lists u → u.opening ≡ opening_of t → (u.end ≤ v.low) ⊎ (v.end ≤ u.low) → Fits lists' u)
-    → Fits lists' v' → Kept t record { words = words'; homes = homes'; views = set s.views id v' }
+    → ((u : Knows) → FitsHistory r.lists u → u.opening ≡ opening_of t → (u.end ≤ v.low) ⊎ (v.end ≤ u.low) → FitsHistory lists' u)
+    → FitsHistory lists' v' → KeptWords t record { words = words'; homes = homes'; views = set s.views id v' }
 rebuilt t s r id v v' lists' words' homes' at live opening low end history words others fits = record {
   lists = lists';
   history = history;
   words = words;
   same = λ j u e live_u. ⊎_elim (λ (p : (j ≡ id) × (v' ≡ u)). subst (λ (z : Knows). z.opening ≡ opening_of t) p.1 (opening ∙ r.same id v at live)) (λ (p : (j ≢ id) × (get_elem? s.views j ≡ some u)). r.same j u p.1 live_u) (at_set s.views id j v' u e);
-  each = λ j u e live_u. ⊎_elim (λ (p : (j ≡ id) × (v' ≡ u)). subst (Fits lists') p.1 fits)
+  each = λ j u e live_u. ⊎_elim (λ (p : (j ≡ id) × (v' ≡ u)). subst (FitsHistory lists') p.1 fits)
       (λ (p : (j ≢ id) × (get_elem? s.views j ≡ some u)). others u (r.each j u p.1 live_u) (r.same j u p.1 live_u) (r.apart j id u v p.0 p.1 at live_u live)) (at_set s.views id j v' u e);
   apart = λ i j u x differ at_i at_j live_i live_j. ⊎_elim
       (λ (p : (i ≡ id) × (v' ≡ u)). ⊎_elim (λ (q : (j ≡ id) × (v' ≡ x)). absurd (differ (p.0 ∙ sym q.0)))
@@ -67,10 +67,10 @@ rebuilt t s r id v v' lists' words' homes' at live opening low end history words
 }
 
 -- what the pass has seen of a list begins it
-extends_of : (lists : History) (v : Knows) (i : ℕ) (xs : List Entry) → Fits lists v → get_elem? lists i ≡ some xs → Extends v i xs
+extends_of : (lists : History) (v : Knows) (i : ℕ) (xs : List Entry) → FitsHistory lists v → get_elem? lists i ≡ some xs → BeginsWithSeen v i xs
 extends_of lists v i xs f list ys at = let more = f.seen i ys at in (more.0, one_value lists i (ys ++ more.0) xs more.1 list)
 
-seen_fits : (lists : History) (v : Knows) (i : ℕ) (xs : List Entry) → Fits lists v → get_elem? lists i ≡ some xs → Fits lists (with_seen v i xs)
+seen_fits : (lists : History) (v : Knows) (i : ℕ) (xs : List Entry) → FitsHistory lists v → get_elem? lists i ≡ some xs → FitsHistory lists (seeing v i xs)
 seen_fits lists v i xs f list = record {
   history = f.history;
   all = length-set v.seen i xs ∙ f.all;
@@ -83,23 +83,23 @@ seen_fits lists v i xs f list = record {
 }
 
 -- a try that was not counted
-try_fits : (lists : History) (v : Knows) (i : ℕ) (event : Event) (fate : Fate) → Fits lists v → v.low < v.end → is_counted fate ≡ false
-    → IsSo v.opening.starts lists record { index = i; event = event; by = v.low; fate = fate } → Fits lists (with_try v i event fate)
+try_fits : (lists : History) (v : Knows) (i : ℕ) (event : Event) (fate : Fate) → FitsHistory lists v → v.low < v.end → is_counted fate ≡ false
+    → IsTrueTry v.opening.starts lists record { index = i; event = event; by = v.low; fate = fate } → FitsHistory lists (with_try v i event fate)
 try_fits lists v i event fate f live isnt so = let q : Try = record { index = i; event = event; by = v.low; fate = fate } in record {
   history = f.history;
   all = f.all;
   numbers = f.numbers;
   seen = f.seen;
   mine = λ j x at. ⊎_elim (f.mine j x) (λ (h : q ≡ x). subst (λ (z : Try). (v.low ≤ z.by) × (z.by < v.end)) h (omega arith, live)) (at_snoc v.tries q x j at);
-  so = λ j x at. ⊎_elim (f.so j x) (λ (h : q ≡ x). subst (IsSo v.opening.starts lists) h so) (at_snoc v.tries q x j at);
+  so = λ j x at. ⊎_elim (f.so j x) (λ (h : q ≡ x). subst (IsTrueTry v.opening.starts lists) h so) (at_snoc v.tries q x j at);
   own = λ j n e entry lo hi. let h = f.own j n e entry lo hi in (h.0, at_longer v.tries (q ∷ []) h.0 _ h.1);
   once = λ j n xs list lo hi. tries_snoc j n v.tries q ∙ (ap (λ (b : Bool). times_counted j n v.tries + cond (b && (i == j) && (v.low == n)) 1 0) isnt ∙ (add-zero (times_counted j n v.tries) ∙ f.once j n xs list lo hi));
 }
 
 -- the pass whose event was counted
-counting_fits : (lists : History) (v : Knows) (i : ℕ) (xs : List Entry) (event : Event) (list : get_elem? lists i ≡ some xs) → Fits lists v → v.low < v.end
-    → IsHistory v.opening (grown lists i xs (entry_of v event) list) → Fits (grown lists i xs (entry_of v event) list) (counting v i xs event)
-counting_fits lists v i xs event list f live history = let e : Entry = entry_of v event in let after : History = grown lists i xs e list in let here = grown_here lists i xs e list in
+counting_fits : (lists : History) (v : Knows) (i : ℕ) (xs : List Entry) (event : Event) (list : get_elem? lists i ≡ some xs) → FitsHistory lists v → v.low < v.end
+    → IsHistory v.opening (grown lists i xs (event_entry v event) list) → FitsHistory (grown lists i xs (event_entry v event) list) (counting v i xs event)
+counting_fits lists v i xs event list f live history = let e : Entry = event_entry v event in let after : History = grown lists i xs e list in let here = grown_here lists i xs e list in
     let q : Try = record { index = i; event = event; by = v.low; fate = Counted (length xs) } in record {
       history = history;
       all = length-set v.seen i (xs ++ e ∷ []) ∙ f.all;
@@ -108,8 +108,8 @@ counting_fits lists v i xs event list f live history = let e : Entry = entry_of 
           (λ (p : (j ≢ i) × (get_elem? v.seen j ≡ some ys)). grown_begins lists i xs e list j ys (f.seen j ys p.1)) (at_set v.seen i j (xs ++ e ∷ []) ys at);
       mine = λ j x at. ⊎_elim (f.mine j x) (λ (h : q ≡ x). subst (λ (z : Try). (v.low ≤ z.by) × (z.by < v.end)) h (omega arith, live)) (at_snoc v.tries q x j at);
       so = λ j x at. ⊎_elim (λ (old : get_elem? v.tries j ≡ some x). grown_so lists i xs e list v.opening.starts x (f.so j x old))
-          (λ (h : q ≡ x). subst (IsSo v.opening.starts after) h (xs ++ e ∷ [], here, at_last xs e (length xs) refl)) (at_snoc v.tries q x j at);
-      own = λ j n x entry lo hi. ⊎_elim (λ (old : IsEntry lists j n x). let h = f.own j n x old lo hi in (h.0, at_longer v.tries (q ∷ []) h.0 _ h.1))
+          (λ (h : q ≡ x). subst (IsTrueTry v.opening.starts after) h (xs ++ e ∷ [], here, at_last xs e (length xs) refl)) (at_snoc v.tries q x j at);
+      own = λ j n x entry lo hi. ⊎_elim (λ (old : IsListed lists j n x). let h = f.own j n x old lo hi in (h.0, at_longer v.tries (q ∷ []) h.0 _ h.1))
           (λ (new : (j ≡ i) × (n ≡ length xs) × (e ≡ x)). (length v.tries, at_last v.tries q (length v.tries) refl ∙ (λ k. some (counted_try (sym new.0 k) (sym new.1 k) (new.2 k))))) (entry_grown lists i xs e list j n x entry);
       once = λ j n ys at lo hi. tries_snoc j n v.tries q ∙ ⊎_elim
           (λ (p : (j ≡ i) × (xs ++ e ∷ [] ≡ ys)). let was : times_counted j n v.tries ≡ times_made n xs = f.once j n xs (ap (get_elem? lists) p.0 ∙ list) lo hi in
@@ -119,8 +119,8 @@ counting_fits lists v i xs event list f live history = let e : Entry = entry_of 
     }
 
 -- any other pass
-others_fit : (lists : History) (u : Knows) (i : ℕ) (xs : List Entry) (e : Entry) (list : get_elem? lists i ≡ some xs) → Fits lists u → (u.end ≤ e.by) ⊎ (e.by < u.low)
-    → IsHistory u.opening (grown lists i xs e list) → Fits (grown lists i xs e list) u
+others_fit : (lists : History) (u : Knows) (i : ℕ) (xs : List Entry) (e : Entry) (list : get_elem? lists i ≡ some xs) → FitsHistory lists u → (u.end ≤ e.by) ⊎ (e.by < u.low)
+    → IsHistory u.opening (grown lists i xs e list) → FitsHistory (grown lists i xs e list) u
 others_fit lists u i xs e list f far history = let not_mine : (n : ℕ) → u.low ≤ n → n < u.end → e.by ≢ n = λ n lo hi is. ⊎_elim (λ (h : u.end ≤ e.by). omega arith) (λ (h : e.by < u.low). omega arith) far in record {
   history = history;
   all = f.all;
@@ -128,7 +128,7 @@ others_fit lists u i xs e list f far history = let not_mine : (n : ℕ) → u.lo
   seen = λ j ys at. grown_begins lists i xs e list j ys (f.seen j ys at);
   mine = f.mine;
   so = λ j q at. grown_so lists i xs e list u.opening.starts q (f.so j q at);
-  own = λ j n x entry lo hi. ⊎_elim (λ (old : IsEntry lists j n x). f.own j n x old lo hi) (λ (new : (j ≡ i) × (n ≡ length xs) × (e ≡ x)). absurd (not_mine x.by lo hi (ap (λ (z : Entry). z.by) new.2))) (entry_grown lists i xs e list j n x entry);
+  own = λ j n x entry lo hi. ⊎_elim (λ (old : IsListed lists j n x). f.own j n x old lo hi) (λ (new : (j ≡ i) × (n ≡ length xs) × (e ≡ x)). absurd (not_mine x.by lo hi (ap (λ (z : Entry). z.by) new.2))) (entry_grown lists i xs e list j n x entry);
   once = λ j n ys at lo hi. ⊎_elim
       (λ (p : (j ≡ i) × (xs ++ e ∷ [] ≡ ys)). f.once j n xs (ap (get_elem? lists) p.0 ∙ list) lo hi ∙ (sym (add-zero (times_made n xs)) ∙ ((λ k. times_made n xs + cond (sym (ne_eqb e.by n (not_mine n lo hi)) k) 1 0) ∙ (sym (made_snoc n xs e) ∙ ap (times_made n) p.1))))
       (λ (p : (j ≢ i) × (get_elem? lists j ≡ some ys)). f.once j n ys p.1 lo hi) (at_set lists i j (xs ++ e ∷ []) ys at);
@@ -148,25 +148,25 @@ loading_keeps asked v i s xs v' told = let k = loading_same asked v i s xs in su
 
 pub exchange_keeps : (v : Knows) (i : ℕ) (s : Start) (xs : List Entry) (event : Event) (old found : ℕ) (v' : Knows) → (found ≡ old → Hits v i xs event v') → (found ≢ old → Misses v i s xs event found v') → KeepsNumbers v v'
 exchange_keeps v i s xs event old found v' hit miss = dite (ℕ_discrete found old)
-    (λ is. let h = hit is in subst (KeepsNumbers v) (sym h.did) record { opening = refl; low = refl; end = refl; lists = length-set v.seen i (xs ++ entry_of v event ∷ []) })
-    (λ isnt. let m = miss isnt in subst (KeepsNumbers v) (sym m.did) record { opening = refl; low = refl; end = refl; lists = refl })
+    (λ is. let h = hit is in subst (KeepsNumbers v) (sym h.view) record { opening = refl; low = refl; end = refl; lists = length-set v.seen i (xs ++ event_entry v event ∷ []) })
+    (λ isnt. let m = miss isnt in subst (KeepsNumbers v) (sym m.view) record { opening = refl; low = refl; end = refl; lists = refl })
 
 module _ (t : Settings) where
   -- a step after which the lists are as they were
-  unmoved : (s : State ℕ Knows) (r : Kept t s) (id : ℕ) (v v' : Knows) (words' : List ℕ) → get_elem? s.views id ≡ some v → v.low < v.end → v'.opening ≡ v.opening → v'.low ≡ v.low → v'.end ≡ v.end → words' ≡ s.words
-      → Fits r.lists v' → Kept t record { words = words'; homes = s.homes; views = set s.views id v' }
+  unmoved : (s : State ℕ Knows) (r : KeptWords t s) (id : ℕ) (v v' : Knows) (words' : List ℕ) → get_elem? s.views id ≡ some v → v.low < v.end → v'.opening ≡ v.opening → v'.low ≡ v.low → v'.end ≡ v.end → words' ≡ s.words
+      → FitsHistory r.lists v' → KeptWords t record { words = words'; homes = s.homes; views = set s.views id v' }
   unmoved s r id v v' words' at live opening low end words fits = rebuilt t s r id v v' r.lists words' s.homes at live opening low end r.history
       (λ i start xs at_start at_xs. ap (λ (l : List ℕ). get_elem? l i) words ∙ r.words i start xs at_start at_xs) (λ u f _ _. f) fits
 
-  loading_fits : (lists : History) (asked : Option Event) (v : Knows) (i : ℕ) (s : Start) (xs : List Entry) → Fits lists v → v.low < v.end → get_elem? v.opening.starts i ≡ some s → get_elem? lists i ≡ some xs → Fits lists (loading asked v i s xs)
+  loading_fits : (lists : History) (asked : Option Event) (v : Knows) (i : ℕ) (s : Start) (xs : List Entry) → FitsHistory lists v → v.low < v.end → get_elem? v.opening.starts i ≡ some s → get_elem? lists i ≡ some xs → FitsHistory lists (loading asked v i s xs)
   loading_fits lists None v i s xs f live start list = seen_fits lists v i xs f list
   loading_fits lists (Some event) v i s xs f live start list = let seen = seen_fits lists v i xs f list in
-      either_way (Fits lists) ((known_after s xs).events == 4294967295) _ _
-      (λ worn. try_fits lists (with_seen v i xs) i event Worn seen live refl (known_after s xs, (s, xs, start, ([], list ∙ ap some (sym (append-nil xs))), refl), is_at (known_after s xs).events 4294967295 worn))
+      either_way (FitsHistory lists) ((known_after s xs).events == 4294967295) _ _
+      (λ worn. try_fits lists (seeing v i xs) i event Worn seen live refl (known_after s xs, (s, xs, start, ([], list ∙ ap some (sym (append-nil xs))), refl), is_at (known_after s xs).events 4294967295 worn))
       (λ _. seen)
 
   pub loads : (asked : Option Event) (slots id : ℕ) (me : Me ℕ Knows) (i : ℕ) (start : Start) → me.0.low < me.0.end → get_elem? me.0.opening.starts i ≡ some start
-      → Allows (Kept t) slots id me i (λ n. n) (loaded asked (step slots i 0 0 maybe.none) me)
+      → Allows (KeptWords t) slots id me i (λ n. n) (loaded asked (step slots i 0 0 maybe.none) me)
   loads asked slots id me i start live is_start s r _ at _ = let v : Knows = me.0 in let f = r.each id v at live in let same = r.same id v at live in
       let xs = there r.lists i (let within = inside v.opening.starts i start is_start in omega (arith, f.history.all)) in
       let v' : Knows = loading asked v i start xs.0 in let fits = loading_fits r.lists asked v i start xs.0 f live is_start xs.1 in let keeps_all = loading_same asked v i start xs.0 in
@@ -183,7 +183,7 @@ module _ (t : Settings) where
             extends = extends_of r.lists v i xs.0 f xs.1;
             word_is = reads s.words i (word_of (known_after start xs.0)) 0 (r.words i start xs.0 at_start xs.1);
             stands = record { lists = r.lists; fits = fits; list = xs.1 };
-            told = refl;
+            view = refl;
           },
           refl,
         ),
@@ -200,7 +200,7 @@ module _ (t : Settings) where
 
   pub exchanges : (asked : Option Event) (slots id : ℕ) (me : Me ℕ Knows) (i old new : ℕ) (event : Event) (start : Start) (xs : List Entry) → asked ≡ Some event → me.0.low < me.0.end → get_elem? me.0.opening.starts i ≡ some start → get_elem? me.0.seen i ≡ some xs
       → old ≡ word_of (known_after start xs) → new ≡ word_of (learn (known_after start xs) event) → IsEventOf start.1 event → (known_after start xs).events < 4294967295
-      → Allows (Kept t) slots id me i (λ n. either (eqb n old) new n) (exchanged asked (step slots i old new maybe.none) me)
+      → Allows (KeptWords t) slots id me i (λ n. either (eqb n old) new n) (exchanged asked (step slots i old new maybe.none) me)
   exchanges asked slots id me i old new event start xs is live is_start is_seen old_is new_is fair room s r _ at _ =
       let v : Knows = me.0 in let f = r.each id v at live in let same = r.same id v at live in let more = f.seen i xs is_seen in let found : ℕ = get_or s.words i 0 in
       let at_start : get_elem? t.starts.items i ≡ some start = ap (λ (o : Opening). get_elem? o.starts i) (sym same) ∙ is_start in
@@ -209,14 +209,14 @@ module _ (t : Settings) where
       let was = beginning_info v.opening r.lists i start xs f.history is_start more in dite (ℕ_discrete found old)
       (λ hit. let none : more.0 ≡ [] = same_word start xs more.0 was (f.history.infos i start (xs ++ more.0) is_start more.1) (sym found_is ∙ (hit ∙ old_is)) in
       let list : get_elem? r.lists i ≡ some xs = more.1 ∙ ap some (ap (λ (z : List Entry). xs ++ z) none ∙ append-nil xs) in
-      let e : Entry = entry_of v event in let after : History = grown r.lists i xs e list in let v' : Knows = counting v i xs event in
+      let e : Entry = event_entry v event in let after : History = grown r.lists i xs e list in let v' : Knows = counting v i xs event in
       let history : IsHistory v.opening after = grown_history r.lists i xs e list v.opening start f.history is_start (let most = f.numbers in omega arith) fair room in
       let fits = counting_fits r.lists v i xs event list f live history in
       let history' : IsHistory (opening_of t) after = subst (λ (o : Opening). IsHistory o after) same history in (
         v',
         keeps,
         tt,
-        subst (λ b. Kept t (stepped s i (either b new found) id me.1 v' keeps)) (sym (eq-eqb found old hit))
+        subst (λ b. KeptWords t (stepped s i (either b new found) id me.1 v' keeps)) (sym (eq-eqb found old hit))
             (rebuilt t s r id v v' after (set s.words i new) s.homes at live refl refl refl history'
             (λ j other ys at_other at_ys. ⊎_elim
             (λ (p : (j ≡ i) × (xs ++ e ∷ [] ≡ ys)). let one : start ≡ other = one_value t.starts.items i start other at_start (ap (get_elem? t.starts.items) (sym p.0) ∙ at_other) in
@@ -225,14 +225,14 @@ module _ (t : Settings) where
             (λ u g is_same far. others_fit r.lists u i xs e list g (⊎_elim (λ (h : u.end ≤ v.low). inl h) (λ (h : v.end ≤ u.low). inr (omega arith)) far) (subst (λ (o : Opening). IsHistory o after) (sym is_same) history'))
             fits),
         told_so asked slots id me (v', me.1) i old new found event start xs is is_start is_seen
-            (λ _. record { stands = record { lists = after; fits = fits; list = grown_here r.lists i xs e list }; told = refl }, λ miss. absurd (miss hit), refl),
+            (λ _. record { stands = record { lists = after; fits = fits; list = grown_here r.lists i xs e list }; view = refl }, λ miss. absurd (miss hit), refl),
       ))
       (λ miss. let read : Info = known_after start xs in let now : Info = known_after start (xs ++ more.0) in let v' : Knows = with_try v i event (Raced read now) in
       let fits = try_fits r.lists v i event (Raced read now) f live refl ((start, xs, is_start, more, refl), (start, xs ++ more.0, is_start, ([], more.1 ∙ ap some (sym (append-nil (xs ++ more.0)))), refl), (λ same_info. miss (found_is ∙ (ap word_of (sym same_info) ∙ sym old_is)))) in (
         v',
         keeps,
         tt,
-        subst (λ b. Kept t (stepped s i (either b new found) id me.1 v' keeps)) (sym (ne_eqb found old miss)) (unmoved s r id v v' (set s.words i found) at live refl refl refl (set-get_or s.words i 0) fits),
+        subst (λ b. KeptWords t (stepped s i (either b new found) id me.1 v' keeps)) (sym (ne_eqb found old miss)) (unmoved s r id v v' (set s.words i found) at live refl refl refl (set-get_or s.words i 0) fits),
         told_so asked slots id me (v', me.1) i old new found event start xs is is_start is_seen
-            (λ hit. absurd (miss hit), λ _. record { more = more.0; word_is = found_is; stands = record { lists = r.lists; fits = fits; list = more.1 }; told = refl }, refl),
+            (λ hit. absurd (miss hit), λ _. record { more = more.0; word_is = found_is; stands = record { lists = r.lists; fits = fits; list = more.1 }; view = refl }, refl),
       ))

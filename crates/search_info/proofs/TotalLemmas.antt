@@ -8,7 +8,7 @@ use Rattle.search_info.specs.declared.knows.Entry.{Entry}
 use Rattle.search_info.specs.declared.knows.Knows.{Knows}
 use Rattle.search_info.specs.declared.knows.Try.{Try}
 use Rattle.search_info.specs.History.{History}
-use Rattle.search_info.specs.Rule.{Fits, is_counted, times_counted, times_made, tries_counted}
+use Rattle.search_info.specs.Rule.{FitsHistory, is_counted, times_counted, times_made, tries_counted}
 use Rattle.search_info.specs.Passes.{HasAllNumbers}
 use Rattle.search_info.proofs.PartLemmas.{count_cons}
 
@@ -55,7 +55,7 @@ count_all [] = refl
 count_all (x ∷ xs) = let one = count_cons (λ _. true) x xs in let rest = count_all xs in omega arith
 
 -- the counted tries of an index are as many as its events
-pub all_tried : (lists : History) (v : Knows) (i : ℕ) (xs : List Entry) → Fits lists v → HasAllNumbers v → get_elem? lists i ≡ some xs → tries_counted i v.tries ≡ length xs
+pub all_tried : (lists : History) (v : Knows) (i : ℕ) (xs : List Entry) → FitsHistory lists v → HasAllNumbers v → get_elem? lists i ≡ some xs → tries_counted i v.tries ≡ length xs
 all_tried lists v i xs f all list = let n : ℕ = v.opening.passes in
     by_numbers (λ (q : Try). is_counted q.fate && (q.index == i)) (λ q. q.by) n v.tries (λ j q at. let mine = f.mine j q at in let end = all.1 in omega arith)
     ∙ (upto_same n (λ k. times_counted i k v.tries) (λ k. times_made k xs) (λ k h. f.once i k xs list (let low = all.0 in omega arith) (let end = all.1 in omega arith))

@@ -14,7 +14,7 @@ use Rattle.search_info.specs.declared.knows.Knows.{Knows}
 use Rattle.search_info.specs.declared.outcome.Learn.{Learn}
 use Rattle.search_info.specs.declared.outcome.Learn.TheVariants.{Learnt, Raced, Worn}
 use Rattle.search_info.specs.History.{Start, IsStart, known_after}
-use Rattle.search_info.specs.Steps.{StandsIn, with_try, Hits}
+use Rattle.search_info.specs.Steps.{StandsInHistory, with_try, Hits}
 
 -- the pass has just loaded this word, of the list that it has seen, and one event more can be counted
 pub record HasRead (v : Knows) (i : ℕ) (event : Event) (word : ℕ) (before : Info) : Type 0 where
@@ -33,8 +33,8 @@ pub record HasRead (v : Knows) (i : ℕ) (event : Event) (word : ℕ) (before : 
 pub record Overtakes (v : Knows) (i : ℕ) (s : Start) (xs : List Entry) (event : Event) (read found : Info) (v' : Knows) : Type 0 where
   pub more : List Entry
   pub found_is : found ≡ known_after s (xs ++ more)
-  pub stands : StandsIn v' i (xs ++ more)
-  pub told : v' ≡ with_try v i event (Overtaken read found)
+  pub stands : StandsInHistory v' i (xs ++ more)
+  pub view : v' ≡ with_try v i event (Overtaken read found)
 
 -- what came of the exchange
 abbrev pub ExchangeTells : Knows → ℕ → Event → Info → Learn → Knows → Type 0

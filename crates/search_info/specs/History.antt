@@ -32,8 +32,8 @@ abbrev pub known_after : Start → List Entry → Info
 known_after s xs = info_after s.0 (map (λ e. e.event) xs)
 
 -- the event n of the list of an index
-abbrev pub IsEntry : History → ℕ → ℕ → Entry → Type 0
-IsEntry lists i n e = (xs : List Entry) × (get_elem? lists i ≡ some xs) × (get_elem? xs n ≡ some e)
+abbrev pub IsListed : History → ℕ → ℕ → Entry → Type 0
+IsListed lists i n e = (xs : List Entry) × (get_elem? lists i ≡ some xs) × (get_elem? xs n ≡ some e)
 
 -- the list of an index begins so
 abbrev pub IsBeginning : History → ℕ → List Entry → Type 0
@@ -48,6 +48,6 @@ WasKnown starts lists i info = (s : Start) × (xs : List Entry) × (get_elem? st
 pub record IsHistory (o : Opening) (lists : History) : Type 0 where
   pub all : length lists ≡ length o.starts
   pub starts : AreStarts o.starts
-  pub makers : (i n : ℕ) (e : Entry) → IsEntry lists i n e → e.by < o.passes
-  pub events : (i n : ℕ) (e : Entry) (s : Start) → IsEntry lists i n e → get_elem? o.starts i ≡ some s → IsEventOf s.1 e.event
+  pub makers : (i n : ℕ) (e : Entry) → IsListed lists i n e → e.by < o.passes
+  pub events : (i n : ℕ) (e : Entry) (s : Start) → IsListed lists i n e → get_elem? o.starts i ≡ some s → IsEventOf s.1 e.event
   pub infos : (i : ℕ) (s : Start) (xs : List Entry) → get_elem? o.starts i ≡ some s → get_elem? lists i ≡ some xs → IsInfoOf s.1 (known_after s xs)

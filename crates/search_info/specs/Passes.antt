@@ -16,8 +16,8 @@ use Rattle.search_info.specs.Rule.{opening_of}
 pub use Rattle.search_info.specs.Rule.{first_knows}
 
 -- what the pass knows
-abbrev pub view : LearnPass → Knows
-view p = p.seat.me.0
+abbrev pub knowledge : LearnPass → Knows
+knowledge p = p.seat.me.0
 
 -- the pass has all numbers
 abbrev pub HasAllNumbers : Knows → Type 0
@@ -28,8 +28,8 @@ abbrev pub opening : Learner → Opening
 opening l = opening_of l.settings
 
 -- what is fixed by opening a learner with these infos, numbers of fields and number of passes
-abbrev pub opened : List Info → List ℕ → ℕ → Opening
-opened first unique passes = record { starts = zip first unique; passes = passes }
+abbrev pub opened_with : List Info → List ℕ → ℕ → Opening
+opened_with first unique passes = record { starts = zip first unique; passes = passes }
 
 -- it is a seat at this learner's table
 abbrev pub IsSeatOf : Learner → Seat ℕ Knows → Type 0
@@ -40,12 +40,12 @@ abbrev pub IsSameSeat : Seat ℕ Knows → Seat ℕ Knows → Type 0
 IsSameSeat s s' = (s'.table_id ≡ s.table_id) × (s'.id ≡ s.id)
 
 -- it is a pass of this learner
-abbrev pub IsPassOf : Learner → LearnPass → Type 0
-IsPassOf l p = IsSeatOf l p.seat
+abbrev pub IsLearnPassOf : Learner → LearnPass → Type 0
+IsLearnPassOf l p = IsSeatOf l p.seat
 
 -- it is the same pass, later
-abbrev pub IsSamePass : LearnPass → LearnPass → Type 0
-IsSamePass p q = IsSameSeat p.seat q.seat
+abbrev pub IsSameLearnPass : LearnPass → LearnPass → Type 0
+IsSameLearnPass p q = IsSameSeat p.seat q.seat
 
 -- the index exists, and has so many fields
 abbrev pub HasUnique : Learner → ℕ → ℕ → Type 0

@@ -12,7 +12,7 @@ use Rattle.search_info.specs.declared.knows.Knows.{Knows}
 use Rattle.search_info.specs.declared.knows.Opening.{Opening}
 use Rattle.search_info.specs.declared.knows.Try.{Try}
 use Rattle.search_info.specs.declared.law.Settings.{Settings}
-use Rattle.search_info.specs.History.{Start, History, IsEntry, IsBeginning, WasKnown, IsHistory, known_after}
+use Rattle.search_info.specs.History.{Start, History, IsListed, IsBeginning, WasKnown, IsHistory, known_after}
 
 -- what the settings of the table open with
 abbrev pub opening_of : Settings → Opening
@@ -23,8 +23,8 @@ abbrev pub first_knows : Opening → Knows
 first_knows o = record { opening = o; low = 0; end = o.passes; seen = replicate (length o.starts) []; tries = [] }
 
 -- and so by the settings of the table
-abbrev pub first_view : Settings → Knows
-first_view t = first_knows (opening_of t)
+abbrev pub knows_first : Settings → Knows
+knows_first t = first_knows (opening_of t)
 
 -- the words at the start
 abbrev pub first_words : List Start → List ℕ
@@ -50,14 +50,14 @@ times_made n xs = count_by (λ e. e.by == n) xs
 
 -- a try is so: counted, it is the event at its place; raced, the index knew two different things;
 -- worn, its event count was at its last value
-abbrev pub IsSoBy : List Start → History → Try → Fate → Type 0
-IsSoBy starts lists q (Counted place) = IsEntry lists q.index place record { event = q.event; by = q.by }
-IsSoBy starts lists q (Raced read found) = WasKnown starts lists q.index read × WasKnown starts lists q.index found × (read ≢ found)
-IsSoBy starts lists q Worn = (info : Info) × WasKnown starts lists q.index info × (info.events ≡ 4294967295)
+abbrev pub IsTrueWithFate : List Start → History → Try → Fate → Type 0
+IsTrueWithFate starts lists q (Counted place) = IsListed lists q.index place record { event = q.event; by = q.by }
+IsTrueWithFate starts lists q (Raced read found) = WasKnown starts lists q.index read × WasKnown starts lists q.index found × (read ≢ found)
+IsTrueWithFate starts lists q Worn = (info : Info) × WasKnown starts lists q.index info × (info.events ≡ 4294967295)
 
 -- a try is so, with its own fate
-abbrev pub IsSo : List Start → History → Try → Type 0
-IsSo starts lists q = IsSoBy starts lists q q.fate
+abbrev pub IsTrueTry : List Start → History → Try → Type 0
+IsTrueTry starts lists q = IsTrueWithFate starts lists q q.fate
 
 -- the try that an entry at a place is
 abbrev pub counted_try : ℕ → ℕ → Entry → Try
@@ -65,22 +65,22 @@ counted_try i n e = record { index = i; event = e.event; by = e.by; fate = Count
 
 -- what a pass knows is so: it has seen a beginning of each list, its tries are so, and its counted
 -- tries are exactly the events that carry its numbers, each once
-pub record Fits (lists : History) (v : Knows) : Type 0 where
+pub record FitsHistory (lists : History) (v : Knows) : Type 0 where
   pub history : IsHistory v.opening lists
   pub all : length v.seen ≡ length v.opening.starts
   pub numbers : v.end ≤ v.opening.passes
   pub seen : (i : ℕ) (xs : List Entry) → get_elem? v.seen i ≡ some xs → IsBeginning lists i xs
   pub mine : (j : ℕ) (q : Try) → get_elem? v.tries j ≡ some q → (v.low ≤ q.by) × (q.by < v.end)
-  pub so : (j : ℕ) (q : Try) → get_elem? v.tries j ≡ some q → IsSo v.opening.starts lists q
-  pub own : (i n : ℕ) (e : Entry) → IsEntry lists i n e → v.low ≤ e.by → e.by < v.end → (j : ℕ) × (get_elem? v.tries j ≡ some (counted_try i n e))
+  pub so : (j : ℕ) (q : Try) → get_elem? v.tries j ≡ some q → IsTrueTry v.opening.starts lists q
+  pub own : (i n : ℕ) (e : Entry) → IsListed lists i n e → v.low ≤ e.by → e.by < v.end → (j : ℕ) × (get_elem? v.tries j ≡ some (counted_try i n e))
   pub once : (i n : ℕ) (xs : List Entry) → get_elem? lists i ≡ some xs → v.low ≤ n → n < v.end → times_counted i n v.tries ≡ times_made n xs
 
 -- each word is what its index knows from one list, all that the passes know is so, and no two have a
 -- number in common
-pub record Kept (t : Settings) (s : State ℕ Knows) : Type 0 where
+pub record KeptWords (t : Settings) (s : State ℕ Knows) : Type 0 where
   pub lists : History
   pub history : IsHistory (opening_of t) lists
   pub words : (i : ℕ) (start : Start) (xs : List Entry) → get_elem? t.starts.items i ≡ some start → get_elem? lists i ≡ some xs → get_elem? s.words i ≡ some (word_of (known_after start xs))
   pub same : (j : ℕ) (v : Knows) → get_elem? s.views j ≡ some v → v.low < v.end → v.opening ≡ opening_of t
-  pub each : (j : ℕ) (v : Knows) → get_elem? s.views j ≡ some v → v.low < v.end → Fits lists v
+  pub each : (j : ℕ) (v : Knows) → get_elem? s.views j ≡ some v → v.low < v.end → FitsHistory lists v
   pub apart : (i j : ℕ) (u v : Knows) → ¬ (i ≡ j) → get_elem? s.views i ≡ some u → get_elem? s.views j ≡ some v → u.low < u.end → v.low < v.end → (u.end ≤ v.low) ⊎ (v.end ≤ u.low)

@@ -12,12 +12,12 @@ use Rattle.search_info.specs.declared.knows.Fate.{Fate}
 use Rattle.search_info.specs.declared.knows.Fate.TheVariants.{Counted, Raced, Worn}
 use Rattle.search_info.specs.declared.knows.Knows.{Knows}
 use Rattle.search_info.specs.History.{Start, History, known_after}
-use Rattle.search_info.specs.Rule.{Fits}
+use Rattle.search_info.specs.Rule.{FitsHistory}
 
 -- some history that fits the pass has just this list of the index
-pub record StandsIn (v : Knows) (i : ℕ) (xs : List Entry) : Type 0 where
+pub record StandsInHistory (v : Knows) (i : ℕ) (xs : List Entry) : Type 0 where
   pub lists : History
-  pub fits : Fits lists v
+  pub fits : FitsHistory lists v
   pub list : get_elem? lists i ≡ some xs
 
 -- the pass has its numbers, and a beginning of as many lists
@@ -28,40 +28,40 @@ pub record KeepsNumbers (v v' : Knows) : Type 0 where
   pub lists : length v'.seen ≡ length v.seen
 
 -- the list begins with what the pass has seen of it
-abbrev pub Extends : Knows → ℕ → List Entry → Type 0
-Extends v i xs = (ys : List Entry) → get_elem? v.seen i ≡ some ys → (zs : List Entry) × (ys ++ zs ≡ xs)
+abbrev pub BeginsWithSeen : Knows → ℕ → List Entry → Type 0
+BeginsWithSeen v i xs = (ys : List Entry) → get_elem? v.seen i ≡ some ys → (zs : List Entry) × (ys ++ zs ≡ xs)
 
 -- a list more seen
-abbrev pub with_seen : Knows → ℕ → List Entry → Knows
-with_seen v i xs = record v { seen = slice_set v.seen i xs }
+abbrev pub seeing : Knows → ℕ → List Entry → Knows
+seeing v i xs = record v { seen = slice_set v.seen i xs }
 
 -- one try more
 abbrev pub with_try : Knows → ℕ → Event → Fate → Knows
 with_try v i event fate = record v { tries = v.tries ++ record { index = i; event = event; by = v.low; fate = fate } ∷ [] }
 
 -- the entry of an event, in the name of a pass
-abbrev pub entry_of : Knows → Event → Entry
-entry_of v event = record { event = event; by = v.low }
+abbrev pub event_entry : Knows → Event → Entry
+event_entry v event = record { event = event; by = v.low }
 
 -- the event was counted behind the list xs
 abbrev pub counting : Knows → ℕ → List Entry → Event → Knows
-counting v i xs event = with_try (with_seen v i (xs ++ entry_of v event ∷ [])) i event (Counted (length xs))
+counting v i xs event = with_try (seeing v i (xs ++ event_entry v event ∷ [])) i event (Counted (length xs))
 
 -- the list xs was loaded, for an event or for none: a worn try where no more events can be counted
 abbrev pub loading : Option Event → Knows → ℕ → Start → List Entry → Knows
-loading None v i s xs = with_seen v i xs
+loading None v i s xs = seeing v i xs
 loading (Some event) v i s xs =
-    if (known_after s xs).events == 4294967295 then with_try (with_seen v i xs) i event Worn else with_seen v i xs
+    if (known_after s xs).events == 4294967295 then with_try (seeing v i xs) i event Worn else seeing v i xs
 
 -- a load found the word of a list that begins with all that the pass had seen
 pub record Loaded (asked : Option Event) (v : Knows) (i word : ℕ) (v' : Knows) : Type 0 where
   pub start : Start
   pub is_start : get_elem? v.opening.starts i ≡ some start
   pub list : List Entry
-  pub extends : Extends v i list
+  pub extends : BeginsWithSeen v i list
   pub word_is : word ≡ word_of (known_after start list)
-  pub stands : StandsIn v' i list
-  pub told : v' ≡ loading asked v i start list
+  pub stands : StandsInHistory v' i list
+  pub view : v' ≡ loading asked v i start list
 
 -- the same of a step of the table
 abbrev pub loaded : Option Event → Step ℕ → Me ℕ Knows → ℕ → Me ℕ Knows → Type 0
@@ -69,15 +69,15 @@ loaded asked st m found m' = Loaded asked m.0 st.word found m'.0 × (m'.1 ≡ m.
 
 -- an exchange after a load of the list xs: the event was counted
 pub record Hits (v : Knows) (i : ℕ) (xs : List Entry) (event : Event) (v' : Knows) : Type 0 where
-  pub stands : StandsIn v' i (xs ++ entry_of v event ∷ [])
-  pub told : v' ≡ counting v i xs event
+  pub stands : StandsInHistory v' i (xs ++ event_entry v event ∷ [])
+  pub view : v' ≡ counting v i xs event
 
 -- a longer list stood there, and the try raced
 pub record Misses (v : Knows) (i : ℕ) (s : Start) (xs : List Entry) (event : Event) (word : ℕ) (v' : Knows) : Type 0 where
   pub more : List Entry
   pub word_is : word ≡ word_of (known_after s (xs ++ more))
-  pub stands : StandsIn v' i (xs ++ more)
-  pub told : v' ≡ with_try v i event (Raced (known_after s xs) (known_after s (xs ++ more)))
+  pub stands : StandsInHistory v' i (xs ++ more)
+  pub view : v' ≡ with_try v i event (Raced (known_after s xs) (known_after s (xs ++ more)))
 
 -- the same of a step of the table: by the word that it found
 abbrev pub exchanged : Option Event → Step ℕ → Me ℕ Knows → ℕ → Me ℕ Knows → Type 0

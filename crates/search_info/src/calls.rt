@@ -3,8 +3,8 @@ ghost use Rattle.std.specs.Prelude.{◌<◌, ◌≤◌, length};
 ghost use Rattle.learning.specs.declared.event.Event.TheVariants as kind;
 ghost use Rattle.key_tuple.specs.Fold.{asked_fields};
 ghost use Rattle.learning.specs.Bounds.{AreFiguresOf};
-ghost use Rattle.search_info.specs.Outcomes.{Recommends, CountsAll, Tells, TellsBlock, descent_of};
-ghost use Rattle.search_info.specs.Passes.{view, opening, IsPassOf, IsSamePass, HasUnique, IsEventAt};
+ghost use Rattle.search_info.specs.Outcomes.{Recommends, CountsAll, TellsLearn, TellsBlock, descent_of};
+ghost use Rattle.search_info.specs.Passes.{knowledge, opening, IsLearnPassOf, IsSameLearnPass, HasUnique, IsEventAt};
 
 use crate::learner::Learner;
 use crate::outcome::Learn;
@@ -15,11 +15,11 @@ use std::marker::Brand;
 impl Learner {
     /// What an index has learnt.
     pub fn recommend(&self, pass: &mut LearnPass, index: u32) -> Info
-        requires own { IsPassOf self.now pass.old }
+        requires own { IsLearnPassOf self.now pass.old }
         requires index { index < length (opening self.now).starts }
-        ensures own { IsSamePass pass.old pass.new × IsPassOf self.now pass.new }
-        ensures did { Recommends (view pass.old) index result (view pass.new) }
-        ensures all { CountsAll (view pass.new) index result }
+        ensures own { IsSameLearnPass pass.old pass.new × IsLearnPassOf self.now pass.new }
+        ensures did { Recommends (knowledge pass.old) index result (knowledge pass.new) }
+        ensures all { CountsAll (knowledge pass.new) index result }
     {
         let found = self.load_at::<Brand>(&mut pass.seat, index as usize, &None);
         unpack(found)
@@ -27,20 +27,20 @@ impl Learner {
 
     /// Counts that the hash answered a search.
     pub fn after_hit(&self, pass: &mut LearnPass, index: u32) -> Learn
-        requires own { IsPassOf self.now pass.old }
+        requires own { IsLearnPassOf self.now pass.old }
         requires index { index < length (opening self.now).starts }
-        ensures own { IsSamePass pass.old pass.new × IsPassOf self.now pass.new }
-        ensures did { Tells (view pass.old) index kind.Hit result (view pass.new) }
+        ensures own { IsSameLearnPass pass.old pass.new × IsLearnPassOf self.now pass.new }
+        ensures did { TellsLearn (knowledge pass.old) index kind.Hit result (knowledge pass.new) }
     {
         self.after(pass, index, &Event::Hit)
     }
 
     /// Counts that the hash was asked and could not answer.
     pub fn after_miss(&self, pass: &mut LearnPass, index: u32) -> Learn
-        requires own { IsPassOf self.now pass.old }
+        requires own { IsLearnPassOf self.now pass.old }
         requires index { index < length (opening self.now).starts }
-        ensures own { IsSamePass pass.old pass.new × IsPassOf self.now pass.new }
-        ensures did { Tells (view pass.old) index kind.Miss result (view pass.new) }
+        ensures own { IsSameLearnPass pass.old pass.new × IsLearnPassOf self.now pass.new }
+        ensures did { TellsLearn (knowledge pass.old) index kind.Miss result (knowledge pass.new) }
     {
         self.after(pass, index, &Event::Miss)
     }
@@ -56,13 +56,13 @@ impl Learner {
         block: &mut BlockFigures,
         rows: u16,
     ) -> Learn
-        requires own { IsPassOf self.now pass.old }
+        requires own { IsLearnPassOf self.now pass.old }
         requires unique { HasUnique self.now index unique }
         requires figures { AreFiguresOf unique figures.now }
         requires advice { asked_fields block.old.advice ≤ unique }
-        ensures own { IsSamePass pass.old pass.new × IsPassOf self.now pass.new }
+        ensures own { IsSameLearnPass pass.old pass.new × IsLearnPassOf self.now pass.new }
         ensures did { let d = descent_of unique figures.now block.old rows in
-            Tells (view pass.old) index (kind.Descent d) result (view pass.new) }
+            TellsLearn (knowledge pass.old) index (kind.Descent d) result (knowledge pass.new) }
         ensures block { TellsBlock (descent_of unique figures.now block.old rows) result block.new }
     {
         let descent = Descent {
@@ -79,10 +79,10 @@ impl Learner {
     }
 
     fn after(&self, pass: &mut LearnPass, index: u32, event: &Event) -> Learn
-        requires own { IsPassOf self.now pass.old }
+        requires own { IsLearnPassOf self.now pass.old }
         requires event { IsEventAt self.now index event.now }
-        ensures own { IsSamePass pass.old pass.new × IsPassOf self.now pass.new }
-        ensures did { Tells (view pass.old) index event.now result (view pass.new) }
+        ensures own { IsSameLearnPass pass.old pass.new × IsLearnPassOf self.now pass.new }
+        ensures did { TellsLearn (knowledge pass.old) index event.now result (knowledge pass.new) }
     {
         let word = self.load_at::<Brand>(&mut pass.seat, index as usize, &Some(*event));
         let before = unpack(word);

@@ -1,5 +1,5 @@
 //! The rule of the learner's table.
-ghost use Rattle.search_info.specs.Rule.{Kept, first_view};
+ghost use Rattle.search_info.specs.Rule.{KeptWords, knows_first};
 
 use crate::knows::Knows;
 use atomic_table::TableRule;
@@ -16,7 +16,7 @@ pub struct Settings {
 pub struct Law;
 
 impl TableRule<u64, Knows, Settings> for Law {
-    ghost holds = { Kept };
+    ghost holds = { KeptWords };
 
-    ghost first = { first_view };
+    ghost first = { knows_first };
 }

@@ -2,7 +2,7 @@
 ghost use Rattle.std.specs.Prelude.{◌≡◌, ◌^◌, ◌<◌, length, IfOk};
 ghost use Rattle.std.specs.List.{zip};
 ghost use Rattle.search_info.specs.History.{AreStarts};
-ghost use Rattle.search_info.specs.Passes.{view, opening, IsPassOf, HasUnique, opened, first_knows};
+ghost use Rattle.search_info.specs.Passes.{knowledge, opening, IsLearnPassOf, HasUnique, opened_with, first_knows};
 ghost use Rattle.search_info.specs.Rule.{first_words};
 
 use crate::law::Settings;
@@ -26,12 +26,12 @@ impl Learner {
         requires each { length unique.now ≡ length first.now }
         requires starts { AreStarts (zip first.now unique.now) }
         requires one { 0 < passes }
-        ensures opening { IfOk result (λ r. opening r.0 ≡ opened first.now unique.now passes) }
-        ensures own { IfOk result (λ r. IsPassOf r.0 r.1) }
-        ensures pass { IfOk result (λ r. view r.1 ≡ first_knows (opening r.0)) }
+        ensures opening { IfOk result (λ r. opening r.0 ≡ opened_with first.now unique.now passes) }
+        ensures own { IfOk result (λ r. IsLearnPassOf r.0 r.1) }
+        ensures pass { IfOk result (λ r. knowledge r.1 ≡ first_knows (opening r.0)) }
     {
         let starts = pairs(alloc, first, unique)?;
-        let words = words_of(alloc, starts.as_slice())?;
+        let words = first_words_of(alloc, starts.as_slice())?;
         let settings = Settings { starts, passes };
         let (table, seat) = Table::of_words(alloc, words.as_slice(), &settings)?;
         let pass = LearnPass {
@@ -70,7 +70,7 @@ fn pairs(alloc: Global, first: &[Info], unique: &[u8]) -> Result<Vec<(Info, u8)>
 }
 
 /// The opening words, and one more for the steps that belong to no index.
-fn words_of(alloc: Global, starts: &[(Info, u8)]) -> Result<Vec<u64>, AllocError>
+fn first_words_of(alloc: Global, starts: &[(Info, u8)]) -> Result<Vec<u64>, AllocError>
     requires { AreStarts starts.now }
     ensures { IfOk result (λ v. v.items ≡ first_words starts.now) }
 {

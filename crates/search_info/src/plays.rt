@@ -1,7 +1,7 @@
 //! What each step on the table tells.
 ghost use Rattle.std.specs.Prelude.{Option, None};
 ghost use Rattle.learning.specs.declared.event.Event.{Event};
-ghost use Rattle.search_info.specs.Parts.{left_part, right_part, both_parts, spent_part};
+ghost use Rattle.search_info.specs.Parts.{lower_part, upper_part, joined_parts, no_part};
 ghost use Rattle.search_info.specs.Steps.{loaded, exchanged};
 
 use crate::knows::Knows;
@@ -37,15 +37,15 @@ impl<X: Asks> Play<u64, Knows> for Exchanges<X> {
 pub(crate) struct Cut;
 
 impl Split<Knows> for Cut {
-    ghost left = { left_part };
+    ghost left = { lower_part };
 
-    ghost right = { right_part };
+    ghost right = { upper_part };
 }
 
 pub(crate) struct Glue;
 
 impl Join<Knows> for Glue {
-    ghost both = { both_parts };
+    ghost both = { joined_parts };
 
-    ghost spent = { spent_part };
+    ghost spent = { no_part };
 }

@@ -1,7 +1,7 @@
 //! The steps on the table: a load, and an exchange after it.
 ghost use Rattle.std.specs.Prelude.{◌≡◌, ◌<◌, length, Some};
 ghost use Rattle.search_info.specs.Exchanges.{HasRead, ExchangeTells};
-ghost use Rattle.search_info.specs.Passes.{view, opening, IsPassOf, IsSamePass, IsSeatOf, IsSameSeat};
+ghost use Rattle.search_info.specs.Passes.{knowledge, opening, IsLearnPassOf, IsSameLearnPass, IsSeatOf, IsSameSeat};
 ghost use Rattle.search_info.specs.Steps.{Loaded, HitTells, MissTells, MayExchange, KeepsNumbers};
 
 use crate::knows::Knows;
@@ -66,10 +66,10 @@ impl Learner {
         word: u64,
         before: &Info,
     ) -> Learn
-        requires own { IsPassOf self.now pass.old }
-        requires read { HasRead (view pass.old) index event.now word before.now }
-        ensures own { IsSamePass pass.old pass.new × IsPassOf self.now pass.new }
-        ensures did { ExchangeTells (view pass.old) index event.now before.now result (view pass.new) }
+        requires own { IsLearnPassOf self.now pass.old }
+        requires read { HasRead (knowledge pass.old) index event.now word before.now }
+        ensures own { IsSameLearnPass pass.old pass.new × IsLearnPassOf self.now pass.new }
+        ensures did { ExchangeTells (knowledge pass.old) index event.now before.now result (knowledge pass.new) }
     {
         let after = learn(before, event);
         let build = should_build(before, event);

@@ -1,4 +1,4 @@
-use Rattle.std.proofs.Common.{◌≡◌, ap, ◌∙◌, refl, List, [], ◌∷◌}
+use Rattle.std.proofs.Common.{ap, ◌∙◌, refl, List}
 use Rattle.std.specs.List.{zip}
 use lib.ListN.{get_elem?}
 use Rattle.search_info.specs.declared.knows.Opening.{Opening}
@@ -6,6 +6,5 @@ use Rattle.search_info.specs.History.{Start}
 use Rattle.search_info.proofs.tests.open_one.Goals as goal
 
 pub returns : goal.returns
-returns c = let e = c.in_ok-learner.ensures.opening in
-    let starts : c.in_ok-learner.learner.settings.starts.items ≡ (c.args.first.now, 1) ∷ [] = ap (λ (o : Opening). o.starts) e ∙ (λ k. zip (c.as_slice.ensures k) (c.as_slice-2.ensures k)) in
-    record { own = (c.in_ok-learner.ensures.own, ((c.args.first.now, 1), ap (λ (l : List Start). get_elem? l 0) starts, refl)) }
+returns c = let starts = ap (λ (o : Opening). o.starts) c.in-Ok.ensures.opening ∙ (λ k. zip (c.as_slice.ensures k) (c.as_slice-2.ensures k)) in
+    record { own = (c.in-Ok.ensures.own, ((c.args.first.now, 1), ap (λ (l : List Start). get_elem? l 0) starts, refl)) }

@@ -13,4 +13,4 @@ load-requires g c = let s = there c.args.self.now.settings.starts.items c.args.i
 )
 
 pub returns-clause-same : goal.returns-clause-same
-returns-clause-same g c = let l = c.load.ensures.2.0 in loading_keeps g.X.Asks.event c.args.seat.now.me.0 c.args.index l.start l.list c.load.new.seat.me.0 l.did
+returns-clause-same g c = let l = c.load.ensures.2.0 in loading_keeps g.X.Asks.event c.args.seat.now.me.0 c.args.index l.start l.list c.load.new.seat.me.0 l.view
