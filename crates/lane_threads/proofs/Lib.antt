@@ -5,3 +5,7 @@ pub mod DashLemmas
 pub mod RanLemmas
 pub mod LegalLemmas
 pub mod TogetherLemmas
+pub mod ListLemmas
+pub mod GatherLemmas
+pub mod DealLemmas
+pub mod SayLemmas

@@ -18,8 +18,8 @@ use Rattle.report_text.specs.Texts.{answer_line_text}
 use Rattle.lane_law.specs.Merged.{lane_notes, all_notes}
 use Rattle.lane_law.specs.Worked.{AreInOrder, lane_sayings}
 use Rattle.lane_work.specs.Works.{HasDashes, Works}
-use Rattle.pass_dealing.specs.Dealt.{IsLane, AreLanes, AreFresh}
-use Rattle.pass_dealing.specs.Laws.{SayLanes}
+use Rattle.lane_threads.specs.Dealt.{IsLane, AreLanes, AreFresh}
+use Rattle.lane_threads.specs.Said.{SayLanes}
 use Rattle.lane_threads.specs.Together.{lane_texts}
 use Rattle.lane_threads.specs.declared.doer.DoneLane.{DoneLane}
 use Rattle.lane_threads.specs.declared.doer.LaneDoer.{LaneDoer}

@@ -20,9 +20,9 @@ use Rattle.index_law.specs.Spoken.{View}
 use Rattle.index_engine.specs.declared.engine.Engine.{Engine}
 use Rattle.index_engine.specs.declared.engine.EnginePass.{EnginePass}
 use Rattle.index_engine.specs.Engines.{known, IsOf, terms_for}
-use Rattle.pass_dealing.specs.Dealt.{AreLanes, AreDealt, AreFresh}
-use Rattle.pass_dealing.specs.Gathered.{Gathers}
-use Rattle.pass_dealing.specs.Laws.{LanesAreGathered}
+use Rattle.lane_threads.specs.Dealt.{AreLanes, AreDealt, AreFresh}
+use Rattle.lane_threads.specs.Gathered.{Gathers}
+use Rattle.lane_threads.proofs.SayLemmas.{all_gathered}
 use Rattle.lane_threads.specs.declared.doer.DoneLane.{DoneLane}
 use Rattle.lane_threads.specs.declared.doer.LaneDoer.{LaneDoer}
 use Rattle.lane_threads.specs.Doing.{WorkedOnce, AreReadyFor, AreParts}
@@ -40,7 +40,7 @@ last_place (x ∷ []) some_there = (0, x, refl, refl)
 last_place (x ∷ y ∷ xs) some_there = let rest = last_place (y ∷ xs) (omega arith) in let long = rest.3 in (suc rest.0, rest.1, rest.2, omega (arith, long))
 
 module _ (engine : Engine) (sizes : Sizes) (fields : List ℕ) (lanes : List (List legal.Line)) (done : List DoneLane) (whole : EnginePass)
-    (gathered : LanesAreGathered) (opened : engine.space.terms ≡ terms_for sizes fields (length lanes)) (some_lanes : 0 < length lanes)
+    (opened : engine.space.terms ≡ terms_for sizes fields (length lanes)) (some_lanes : 0 < length lanes)
     (ran : AreRan engine sizes 0 lanes done) (gathers : Gathers engine (map (λ (d : DoneLane). d.pass) done) whole) (fitted : IsFitted IsLawful IsRight IsReference (known whole)) where
   all_told : AreTold engine sizes 0 lanes done
   all_told = told engine sizes 0 lanes done ran
@@ -64,7 +64,7 @@ module _ (engine : Engine) (sizes : Sizes) (fields : List ℕ) (lanes : List (Li
         dashed = all_told.dashed;
         noted = logs_noted done ∙ all_told.noted;
         in_order = all_told.in_order;
-        said = gathered engine 0 passes whole lanes all_told.answers gathers all_told.says;
+        said = all_gathered engine 0 passes whole lanes all_told.answers gathers all_told.says;
         low = gathers.low first.0 first.1 ∙ (all_told.own 0 first.0 first.1).low;
         end = omega (arith, end, long, as_many);
         terms = gathers.own.1 ∙ opened;
@@ -125,9 +125,9 @@ module _ (engine : Engine) (sizes : Sizes) (fields : List ℕ) (lanes : List (Ve
           absurd (omega (arith, gone, long, done, texts_long))
 
       -- and this is known of the joined one
-      pub together : (whole : EnginePass) → LanesAreGathered → 0 < length lanes → Gathers engine passes whole → IsFitted IsLawful IsRight IsReference (known whole) → RanTogether sizes fields (lane_texts lanes) texts logs whole
-      together whole gathered some_lanes gathers fitted =
+      pub together : (whole : EnginePass) → 0 < length lanes → Gathers engine passes whole → IsFitted IsLawful IsRight IsReference (known whole) → RanTogether sizes fields (lane_texts lanes) texts logs whole
+      together whole some_lanes gathers fitted =
           let terms : engine.space.terms ≡ terms_for sizes fields (length (lane_texts lanes)) = terms_are ∙ ap (λ (n : ℕ). terms_for sizes fields n) (sym texts_long) in
-          let those = joined engine sizes fields (lane_texts lanes) parts.done whole gathered terms (omega (arith, some_lanes, texts_long)) ran (subst (λ (ps : List EnginePass). Gathers engine ps whole) parts.passes_are gathers) fitted in
+          let those = joined engine sizes fields (lane_texts lanes) parts.done whole terms (omega (arith, some_lanes, texts_long)) ran (subst (λ (ps : List EnginePass). Gathers engine ps whole) parts.passes_are gathers) fitted in
           subst (λ (ts : List (List (List ℕ))). RanTogether sizes fields (lane_texts lanes) ts logs whole) (sym parts.texts_are)
           (subst (λ (ls : List Log). RanTogether sizes fields (lane_texts lanes) (map (λ (d : DoneLane). d.work.answers) parts.done) ls whole) (sym parts.logs_are) those)

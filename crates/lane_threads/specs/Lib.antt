@@ -1,3 +1,6 @@
+pub mod Dealt
+pub mod Gathered
+pub mod Said
 pub mod Together
 pub mod Ready
 pub mod Doing

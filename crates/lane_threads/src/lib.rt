@@ -3,8 +3,10 @@
 #![tactic(auto)]
 
 mod apart;
+mod dealing;
 mod doer;
 mod doing;
+mod gathering;
 mod laws;
 mod readying;
 #[cfg(test)]

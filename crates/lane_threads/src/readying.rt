@@ -3,7 +3,7 @@ ghost use Rattle.std.specs.Prelude.{◌≡◌, ◌+◌, length, IfOk};
 ghost use Rattle.std.specs.List.{AllByRecursion};
 ghost use Rattle.index_engine.specs.Engines.{known, IsOf};
 ghost use Rattle.lane_work.specs.Workable.{AreWorkable};
-ghost use Rattle.pass_dealing.specs.Dealt.{AreLanes};
+ghost use Rattle.lane_threads.specs.Dealt.{AreLanes};
 ghost use Rattle.lane_threads.specs.Doing.{IsReadyFor, AreReadyFor};
 
 use crate::doer::{LaneDoer, ReadyLane};

@@ -7,13 +7,14 @@ ghost use Rattle.lane_work.specs.Workable.{AreLinesOf};
 ghost use Rattle.lane_threads.specs.Together.{lane_texts, RanTogether};
 
 use crate::apart::{Parts, take_apart};
+use crate::dealing::deal;
+use crate::gathering::gather;
 use crate::readying::ready_lanes;
 use change_log::LaneLog;
 use index_engine::{Engine, EngineError, EnginePass};
 use lanes::{Gate, run_lanes};
 use map_history::Sizes;
 use report_text::Texts;
-use pass_dealing::{deal, gather, lanes_are_gathered, lanes_are_in_row};
 use script::Line;
 use std::alloc::Global;
 use std::sync::Wait;
@@ -59,8 +60,6 @@ pub fn work_lanes<'a, R: Threads + Sync, W: Wait + Sync, G: Gate + Sync>(
         answers,
         logs,
     } = take_apart(alloc, worked)?;
-    lanes_are_in_row();
-    lanes_are_gathered();
     let Some(pass) = gather(&engine, passes) else {
         unreachable!()
     };

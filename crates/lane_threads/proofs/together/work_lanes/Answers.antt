@@ -1,3 +1,4 @@
+use Rattle.lane_threads.proofs.SayLemmas.{in_row}
 use Rattle.lane_threads.proofs.ReadyLemmas.{all_workable}
 use Rattle.lane_threads.proofs.TogetherLemmas.{terms_are, first_fresh, lanes_dealt, as_many_dealt, lanes_worked, not_empty, together}
 use Rattle.lane_threads.proofs.together.work_lanes.Goals as goal
@@ -17,7 +18,7 @@ pub gather-requires-clause-own : goal.gather-requires-clause-own
 gather-requires-clause-own g c =
     let engine = c.in_ok-engine.engine in let sizes = c.args.sizes.now in let fields = c.args.fields.now in let lanes = c.args.lanes.now in
     let parts = c.in_ok-passes-2.field-0 in let opened = c.in_ok-engine.ensures.ok in
-    (c.lanes_are_in_row.ensures engine 0 parts.passes.items (lanes_worked engine sizes fields lanes c.in_ok-engine.pass opened c.in_ok-passes.passes.items c.in_ok-passes.ensures.ok
+    (in_row engine 0 parts.passes.items (lanes_worked engine sizes fields lanes c.in_ok-engine.pass opened c.in_ok-passes.passes.items c.in_ok-passes.ensures.ok
     (c.in_ok-passes.ensures.fresh (first_fresh engine sizes fields lanes c.in_ok-engine.pass opened)) c.in_ok-doers.doers.items c.run_lanes-worked.result.items parts.passes.items parts.answers.items parts.logs.items
     c.in_ok-doers.ensures c.run_lanes-worked.ensures c.in_ok-passes-2.ensures)).0
 
@@ -25,7 +26,7 @@ pub gather-requires-clause-row : goal.gather-requires-clause-row
 gather-requires-clause-row g c =
     let engine = c.in_ok-engine.engine in let sizes = c.args.sizes.now in let fields = c.args.fields.now in let lanes = c.args.lanes.now in
     let parts = c.in_ok-passes-2.field-0 in let opened = c.in_ok-engine.ensures.ok in
-    (c.lanes_are_in_row.ensures engine 0 parts.passes.items (lanes_worked engine sizes fields lanes c.in_ok-engine.pass opened c.in_ok-passes.passes.items c.in_ok-passes.ensures.ok
+    (in_row engine 0 parts.passes.items (lanes_worked engine sizes fields lanes c.in_ok-engine.pass opened c.in_ok-passes.passes.items c.in_ok-passes.ensures.ok
     (c.in_ok-passes.ensures.fresh (first_fresh engine sizes fields lanes c.in_ok-engine.pass opened)) c.in_ok-doers.doers.items c.run_lanes-worked.result.items parts.passes.items parts.answers.items parts.logs.items
     c.in_ok-doers.ensures c.run_lanes-worked.ensures c.in_ok-passes-2.ensures)).1
 
@@ -43,4 +44,4 @@ returns-clause-ok g c =
     let parts = c.in_ok-passes-2.field-0 in let opened = c.in_ok-engine.ensures.ok in
     together engine sizes fields lanes c.in_ok-engine.pass opened c.in_ok-passes.passes.items c.in_ok-passes.ensures.ok
     (c.in_ok-passes.ensures.fresh (first_fresh engine sizes fields lanes c.in_ok-engine.pass opened)) c.in_ok-doers.doers.items c.run_lanes-worked.result.items parts.passes.items parts.answers.items parts.logs.items
-    c.in_ok-doers.ensures c.run_lanes-worked.ensures c.in_ok-passes-2.ensures c.in-Some.pass c.lanes_are_gathered.ensures c.requires.lanes.0 c.in-Some.ensures c.fits.ensures
+    c.in_ok-doers.ensures c.run_lanes-worked.ensures c.in_ok-passes-2.ensures c.in-Some.pass c.requires.lanes.0 c.in-Some.ensures c.fits.ensures

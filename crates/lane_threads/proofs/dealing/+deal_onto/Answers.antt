@@ -1,7 +1,7 @@
 use Rattle.std.proofs.Common.{◌≡◌, ◌+◌, arith}
 use Rattle.index_engine.specs.Engines.{known}
-use Rattle.pass_dealing.proofs.DealLemmas.{added_one, cut_ok}
-use Rattle.pass_dealing.proofs.dealing.+deal_onto.Goals as goal
+use Rattle.lane_threads.proofs.DealLemmas.{added_one, cut_ok}
+use Rattle.lane_threads.proofs.dealing.+deal_onto.Goals as goal
 
 -- src/dealing.rt:27:1
 pub returns-in_ok-deal_onto : goal.returns-in_ok-deal_onto

@@ -1,28 +1,16 @@
--- The laws of lanes' passes.
+-- What the passes of lanes said.
 use Rattle.std.specs.Prelude.{ℕ, ◌≡◌, ◌+◌, List, length}
 use mathlib.Core.Option.{some}
 use lib.ListN.{get_elem?}
 use Rattle.map_history.specs.Report.{AnswerLine}
 use Rattle.map_history.specs.LegalReport.{Line}
 use Rattle.index_law.specs.Spoken.{spoken}
-use Rattle.index_engine.specs.declared.engine.Engine.{Engine}
 use Rattle.index_engine.specs.declared.engine.EnginePass.{EnginePass}
 use Rattle.index_engine.specs.Engines.{known}
 use Rattle.lane_law.specs.Worked.{lane_sayings}
-use Rattle.lane_law.specs.Runs.{all_sayings}
-use Rattle.pass_dealing.specs.Dealt.{AreLanes}
-use Rattle.pass_dealing.specs.Gathered.{ArePassesOf, AreInRow, Gathers}
 
 -- there are as many lanes as passes, and each pass said what the lines of its lane were answered, the first as the lane n
 pub record SayLanes (n : ℕ) (passes : List EnginePass) (lanes : List (List Line)) (told : List (List AnswerLine)) : Type 0 where
   pub lanes_long : length lanes ≡ length passes
   pub told_long : length told ≡ length passes
   pub each : (k : ℕ) (p : EnginePass) (lines : List Line) (answers : List AnswerLine) → get_elem? passes k ≡ some p → get_elem? lanes k ≡ some lines → get_elem? told k ≡ some answers → spoken (known p).said ≡ lane_sayings (n + k) lines answers
-
--- passes of one number each, in order, can be gathered
-abbrev pub LanesAreInRow : Type 0
-LanesAreInRow = (engine : Engine) (n : ℕ) (passes : List EnginePass) → AreLanes engine n passes → ArePassesOf engine passes × AreInRow passes
-
--- where each pass said what its lane was answered, the pass that they make said what all lanes were
-abbrev pub LanesAreGathered : Type 0
-LanesAreGathered = (engine : Engine) (n : ℕ) (passes : List EnginePass) (whole : EnginePass) (lanes : List (List Line)) (told : List (List AnswerLine)) → Gathers engine passes whole → SayLanes n passes lanes told → spoken (known whole).said ≡ all_sayings n lanes told

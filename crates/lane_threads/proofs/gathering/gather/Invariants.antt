@@ -1,7 +1,7 @@
 use Rattle.std.proofs.Common.{◌≡◌, List, ◌∷◌, ◌++◌}
 use Rattle.index_engine.specs.declared.engine.EnginePass.{EnginePass}
-use Rattle.pass_dealing.specs.Gathered.{Gathers}
-use Rattle.pass_dealing.proofs.gathering.gather.Given as goal
+use Rattle.lane_threads.specs.Gathered.{Gathers}
+use Rattle.lane_threads.proofs.gathering.gather.Given as goal
 
 -- the passes behind those that are left are gathered
 abbrev pub invariant-loop-lower : goal.invariant-loop-lower

@@ -8,8 +8,8 @@ use Rattle.index_law.specs.Spoken.{View, OwnAnswer}
 use Rattle.index_engine.specs.declared.engine.Engine.{Engine}
 use Rattle.index_engine.specs.declared.engine.EnginePass.{EnginePass}
 use Rattle.index_engine.specs.Engines.{known, IsOf}
-use Rattle.pass_dealing.specs.Dealt.{said_by, IsSigned, IsLane, AreLanes, IsShare, AreDealt, AddsDealt}
-use Rattle.pass_dealing.proofs.ListLemmas.{at_either, within}
+use Rattle.lane_threads.specs.Dealt.{said_by, IsSigned, IsLane, AreLanes, IsShare, AreDealt, AddsDealt}
+use Rattle.lane_threads.proofs.ListLemmas.{at_either, within}
 
 -- each answer has a number from low up to end
 abbrev IsBetween : ℕ → ℕ → List OwnAnswer → Type 0

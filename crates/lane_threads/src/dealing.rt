@@ -1,7 +1,7 @@
 //! Dealing out a pass.
 ghost use Rattle.std.specs.Prelude.{◌≡◌, [], IfOk};
 ghost use Rattle.index_engine.specs.Engines.{known, IsOf};
-ghost use Rattle.pass_dealing.specs.Dealt.{AreDealt, AreFresh, AddsDealt};
+ghost use Rattle.lane_threads.specs.Dealt.{AreDealt, AreFresh, AddsDealt};
 
 use index_engine::{Engine, EnginePass};
 use key_tuple::NoMemory;
@@ -9,7 +9,7 @@ use std::alloc::Global;
 
 /// A pass for each number of this one, in order. After `NoMemory` the pass is gone, and its numbers
 /// with it.
-pub fn deal(alloc: Global, engine: &Engine, pass: EnginePass) -> Result<Vec<EnginePass>, NoMemory>
+pub(crate) fn deal(alloc: Global, engine: &Engine, pass: EnginePass) -> Result<Vec<EnginePass>, NoMemory>
     requires own { IsOf engine.now pass }
     ensures ok { IfOk result (λ passes. AreDealt engine.now pass passes.items) }
     ensures fresh { (known pass).said ≡ [] → IfOk result (λ passes. AreFresh passes.items) }

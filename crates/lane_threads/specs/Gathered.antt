@@ -2,7 +2,7 @@
 use Rattle.std.specs.Prelude.{ℕ, ◌≡◌, ◌+◌, List, [], ◌∷◌, length, flat_map}
 use mathlib.Core.Option.{some}
 use lib.ListN.{get_elem?}
-use Rattle.latch_law.specs.Views.{longer}
+use Rattle.list_facts.specs.Parts.{longer}
 use Rattle.index_law.specs.Spoken.{OwnAnswer}
 use Rattle.index_law.specs.State.{Entries}
 use Rattle.index_engine.specs.declared.engine.Engine.{Engine}

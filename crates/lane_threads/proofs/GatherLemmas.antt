@@ -3,13 +3,14 @@ use Rattle.std.proofs.Common.{◌≡◌, ℕ, zero, suc, ◌+◌, List, [], ◌�
 use Rattle.std.proofs.lemmas.List.{append-nil}
 use mathlib.Core.Option.{some, some-injective, some-ne-none}
 use lib.ListN.{get_elem?}
-use Rattle.latch_law.specs.Views.{longer, both_parts}
+use Rattle.latch_law.specs.Views.{both_parts}
+use Rattle.list_facts.specs.Parts.{longer}
 use Rattle.index_law.specs.Spoken.{View, OwnAnswer}
 use Rattle.index_law.specs.State.{Entries}
 use Rattle.index_engine.specs.declared.engine.Engine.{Engine}
 use Rattle.index_engine.specs.declared.engine.EnginePass.{EnginePass}
 use Rattle.index_engine.specs.Engines.{known, IsOf}
-use Rattle.pass_dealing.specs.Gathered.{Gathers}
+use Rattle.lane_threads.specs.Gathered.{Gathers}
 
 longer_none : (xs : List Entries) → longer xs [] ≡ xs
 longer_none [] = refl

@@ -1,6 +1,6 @@
 use Rattle.std.proofs.Common.{◌-◌}
 use Rattle.index_engine.specs.Engines.{known}
-use Rattle.pass_dealing.proofs.dealing.+deal_onto.Given as goal
+use Rattle.lane_threads.proofs.dealing.+deal_onto.Given as goal
 
 abbrev pub decreases-deal_onto : goal.decreases-deal_onto
 decreases-deal_onto l = (known l.pass).end - (known l.pass).low

@@ -2,9 +2,9 @@ use Rattle.std.proofs.Common.{◌≡◌, ◌+◌, ◌∙◌, List, [], ◌∷◌
 use mathlib.Core.Option.{some}
 use lib.ListN.{get_elem?}
 use Rattle.index_engine.specs.declared.engine.EnginePass.{EnginePass}
-use Rattle.pass_dealing.proofs.ListLemmas.{at_length, after_length, taken_off}
-use Rattle.pass_dealing.proofs.GatherLemmas.{gathers_one, gathers_more}
-use Rattle.pass_dealing.proofs.gathering.gather.Goals as goal
+use Rattle.lane_threads.proofs.ListLemmas.{at_length, after_length, taken_off}
+use Rattle.lane_threads.proofs.GatherLemmas.{gathers_one, gathers_more}
+use Rattle.lane_threads.proofs.gathering.gather.Goals as goal
 
 -- src/gathering.rt:15:5
 pub loop-lower-init : goal.loop-lower-init

@@ -2,17 +2,18 @@
 use Rattle.std.proofs.Common.{◌≡◌, ℕ, suc, ◌+◌, List, [], ◌∷◌, ◌++◌, refl, ap, sym, ◌∙◌, subst, arith, append_assoc}
 use Rattle.map_history.specs.Report.{AnswerLine}
 use Rattle.map_history.specs.LegalReport.{Line}
-use Rattle.index_law.specs.Spoken.{OwnAnswer, Spoken, spoken, spoken_at}
+use Rattle.index_law.specs.Spoken.{spoken}
+use Rattle.index_law.proofs.TraceLemmas.{spoken-append}
 use Rattle.index_engine.specs.declared.engine.EnginePass.{EnginePass}
 use Rattle.index_engine.specs.Engines.{known}
 use Rattle.lane_law.specs.Worked.{lane_sayings}
 use Rattle.lane_law.specs.Runs.{all_sayings}
-use Rattle.pass_dealing.specs.Gathered.{all_said}
-use Rattle.pass_dealing.specs.Laws.{SayLanes}
-
-spoken_append : (xs ys : List OwnAnswer) → spoken (xs ++ ys) ≡ spoken xs ++ spoken ys
-spoken_append [] ys = refl
-spoken_append (x ∷ xs) ys = ap (λ (s : List Spoken). spoken_at x ++ s) (spoken_append xs ys) ∙ sym (append_assoc (spoken_at x) (spoken xs) (spoken ys))
+use Rattle.lane_threads.specs.Dealt.{AreLanes}
+use Rattle.lane_threads.specs.Gathered.{ArePassesOf, AreInRow, all_said, Gathers}
+use Rattle.index_engine.specs.declared.engine.Engine.{Engine}
+use mathlib.Core.Option.{some}
+use lib.ListN.{get_elem?}
+use Rattle.lane_threads.specs.Said.{SayLanes}
 
 -- all but the first said what their lanes were answered
 say_rest : (n : ℕ) (p : EnginePass) (l : List Line) (t : List AnswerLine) (passes : List EnginePass) (lanes : List (List Line)) (told : List (List AnswerLine)) → SayLanes n (p ∷ passes) (l ∷ lanes) (t ∷ told) → SayLanes (n + 1) passes lanes told
@@ -32,4 +33,12 @@ said_all n (p ∷ passes) (l ∷ lanes) (t ∷ told) say =
     let same : n + 0 ≡ n = omega arith in
     let first : spoken (known p).said ≡ lane_sayings n l t = subst (λ (k : ℕ). spoken (known p).said ≡ lane_sayings k l t) same (say.each 0 p l t refl refl refl) in
     let others = said_all (n + 1) passes lanes told (say_rest n p l t passes lanes told say) in
-    spoken_append (known p).said (all_said passes) ∙ (λ i. first i ++ others i)
+    spoken-append (known p).said (all_said passes) ∙ (λ i. first i ++ others i)
+
+-- and so is what the pass that they make said
+pub all_gathered : (engine : Engine) (n : ℕ) (passes : List EnginePass) (whole : EnginePass) (lanes : List (List Line)) (told : List (List AnswerLine)) → Gathers engine passes whole → SayLanes n passes lanes told → spoken (known whole).said ≡ all_sayings n lanes told
+all_gathered engine n passes whole lanes told gathers say = ap spoken gathers.said ∙ said_all n passes lanes told say
+
+-- passes of one number each, in order, can be gathered
+pub in_row : (engine : Engine) (n : ℕ) (passes : List EnginePass) → AreLanes engine n passes → ArePassesOf engine passes × AreInRow passes
+in_row engine n passes lanes = (λ k p at. (lanes k p at).own, λ k p q at next. let end = (lanes k p at).end in let low = (lanes (k + 1) q next).low in omega (arith, end, low))

@@ -1,4 +1,0 @@
-pub mod ListLemmas
-pub mod GatherLemmas
-pub mod DealLemmas
-pub mod SayLemmas

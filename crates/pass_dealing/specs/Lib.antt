@@ -1,3 +1,0 @@
-pub mod Dealt
-pub mod Gathered
-pub mod Laws
