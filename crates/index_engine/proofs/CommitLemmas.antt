@@ -34,7 +34,7 @@ use Rattle.index_law.specs.Rightness.{IsRight, map_at}
 use Rattle.index_law.specs.Spoken.{View, OwnAnswer}
 use Rattle.index_law.specs.State.{Entries, changes}
 use Rattle.index_engine.specs.Passes.{IndexPass, HoldsLeaf}
-use Rattle.index_engine.specs.Commits.{IsWritten, DidWrite, DidWriteAhead, IsFullThen, Commits, WritesAhead}
+use Rattle.index_engine.specs.Commits.{IsCommitted, DidWrite, DidWriteAhead, IsFullThen, Commits, WritesAhead}
 use Rattle.index_engine.proofs.HoldLemmas.{held_still}
 use Rattle.index_engine.proofs.ViewLemmas.{only_said, only_said_only, adds_said, one_mark, more_seen, extends_length, now_seen}
 
@@ -123,7 +123,7 @@ module _ (p : IndexPass) (i : ℕ) where
         right = λ zs seen. subst (λ z. IsRightBy (view p).terms.max_changes z (Make change) (Replied Done point dashes)) (now_seen (view p) i longer extends (view q).seen seen_is zs seen) right_by;
       }
 
-      written : IsWritten p q i change point
+      written : IsCommitted p q i change point
       unfolding once
       written = record { once = once; only = only_said_only (answered ∷ []) }
 

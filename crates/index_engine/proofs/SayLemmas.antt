@@ -33,7 +33,7 @@ use Rattle.index_law.specs.Spoken.{View, OwnAnswer, printed_word, sayings}
 use Rattle.index_law.specs.State.{State, Entries, changes, rows_of}
 use Rattle.index_law.specs.Trace.{SeesMore}
 use Rattle.index_engine.specs.Passes.{IndexPass}
-use Rattle.index_engine.specs.Says.{SeesFull, MaySay, TellsMost, TellsPoint, CanSay, SaysOnce, Answers}
+use Rattle.index_engine.specs.Says.{SeesFull, MaySay, TellsMost, TellsPoint, CanSay, SaysOnce, AnswersHolding}
 use Rattle.index_engine.proofs.HoldLemmas.{root_map, held_still}
 use Rattle.index_engine.proofs.ViewLemmas.{only_said, only_said_only, adds_said, one_mark, more_seen, extends_length, now_seen}
 
@@ -191,5 +191,5 @@ module _ (p : IndexPass) (i : ℕ) (ask : Ask) (reply : Reply) (row : Pair) (can
     }
 
   -- and the leaf is held still
-  pub said_answers : (q : IndexPass) → (point : ℕ) → DidRead IsLawful IsRight IsReference (view p) i (said_word ask (reply_word ask reply row) None dashes) point (view q) → SameHands p q → Answers p q i ask (record { reply = reply; point = Some point; how = how.Dash; note = note.Dash }) row
+  pub said_answers : (q : IndexPass) → (point : ℕ) → DidRead IsLawful IsRight IsReference (view p) i (said_word ask (reply_word ask reply row) None dashes) point (view q) → SameHands p q → AnswersHolding p q i ask (record { reply = reply; point = Some point; how = how.Dash; note = note.Dash }) row
   said_answers q point did same = record { says = says_once q point did; holds = (can.frame, held_still p q i can.frame can.frame same (ap (λ (z : View). z.terms) (view_is q point did)) can.holds) }

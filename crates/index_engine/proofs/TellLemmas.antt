@@ -22,9 +22,9 @@ use Rattle.index_law.specs.Shape.{leaf_id}
 use Rattle.index_law.specs.Spoken.{View, OwnAnswer}
 use Rattle.index_law.specs.Trace.{Takes, GivesBack}
 use Rattle.index_law.proofs.TraceLemmas.{quiet_both, quiet_then_once, only_both, whole_quiet, whole_once}
-use Rattle.index_engine.specs.Commits.{IsWritten}
+use Rattle.index_engine.specs.Commits.{IsCommitted}
 use Rattle.index_engine.specs.Passes.{IndexPass, leaf_of}
-use Rattle.index_engine.specs.Says.{SeesFull, TellsOnce, GivesUp, SaysOnce, OnlyLooks, Answers, StaysSilent, told_made}
+use Rattle.index_engine.specs.Says.{SeesFull, TellsOnce, GivesUp, SaysOnce, OnlyLooks, AnswersHolding, StaysSilent, told_made}
 use Rattle.index_engine.proofs.HoldLemmas.{held_same}
 use Rattle.index_engine.proofs.ViewLemmas.{only_said, only_said_only, adds_said, more_seen}
 
@@ -51,7 +51,7 @@ pub says_same : (v v0 v1 : View) (i : ℕ) (ask : Ask) (told : Told) (row : Pair
 says_same v v0 v1 i ask told row says same = subst (λ (z : View). SaysOnce v z i ask told row) (sym same) says
 
 -- a change that was written is told so
-pub says_made : (p q : IndexPass) (i : ℕ) (change : MapChange) (row : Pair) (told : Told) (point : ℕ) → told ≡ told_made point → IsWritten p q i change point → SaysOnce (view p) (view q) i (Make change) told row
+pub says_made : (p q : IndexPass) (i : ℕ) (change : MapChange) (row : Pair) (told : Told) (point : ℕ) → told ≡ told_made point → IsCommitted p q i change point → SaysOnce (view p) (view q) i (Make change) told row
 says_made p q i change row told point is written = subst (λ t. SaysOnce (view p) (view q) i (Make change) t row) (sym is) (record {
   answer = Replied Done point dashes;
   is_told = record { is = refl; point = refl; key = tt; plain = record { dashed = refl; room = λ e. absurd cc } };
@@ -70,7 +70,7 @@ module _ (p p0 p1 p2 : IndexPass) (i : ℕ) (took : Takes (view p) (view p0) (le
       record { quiet = whole.0; took = whole.1 }
 
   -- the same of a call that may want memory
-  pub tells_if : (ask : Ask) (row : Pair) (result : Result Told NoMemory) → IfOk result (λ told. Answers p0 p1 i ask told row) → IfOk result (λ told. TellsOnce (view p) (view p2) i ask told row)
+  pub tells_if : (ask : Ask) (row : Pair) (result : Result Told NoMemory) → IfOk result (λ told. AnswersHolding p0 p1 i ask told row) → IfOk result (λ told. TellsOnce (view p) (view p2) i ask told row)
   tells_if ask row (Ok told) answers = tells_once ask told row answers.says
   tells_if ask row (Err e) answers = tt
 

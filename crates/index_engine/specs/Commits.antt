@@ -27,19 +27,19 @@ pub record CanWriteAhead (p : IndexPass) (i : ℕ) (change : MapChange) (next : 
   pub makes : MakesChange i change known next
 
 -- the change is in its list, by the pass's name and at the point, and nothing else was said
-pub record IsWritten (p q : IndexPass) (i : ℕ) (change : MapChange) (point : ℕ) : Type 0 where
+pub record IsCommitted (p q : IndexPass) (i : ℕ) (change : MapChange) (point : ℕ) : Type 0 where
   pub once : AnswersOnce (view p) (view q) i (Make change) (Replied Done point dashes)
   pub only : IsOnlySaid once.added
 
 -- the change is written, and the leaf is known to be what it is
 pub record DidWrite (p q : IndexPass) (i : ℕ) (change : MapChange) (point : ℕ) : Type 0 where
   pub leaf : (f g : Frame) → HoldsLeaf p i f g → MakesChange i change f g → HoldsLeaf q i g g
-  pub written : IsWritten p q i change point
+  pub written : IsCommitted p q i change point
 
 -- the change is written ahead, and the leaf is known to be the next one, which it isn't yet
 pub record DidWriteAhead (p q : IndexPass) (i : ℕ) (change : MapChange) (next : Frame) (point : ℕ) : Type 0 where
   pub leaf : (f g : Frame) → HoldsLeaf p i f g → MakesChange i change f next → HoldsLeaf q i next g
-  pub written : IsWritten p q i change point
+  pub written : IsCommitted p q i change point
 
 -- the list is full, which was seen, and nothing else has changed
 pub record IsFullThen (p q : IndexPass) (i n : ℕ) : Type 0 where

@@ -106,7 +106,7 @@ abbrev pub HoldsKnown : IndexPass → ℕ → Type 0
 HoldsKnown p i = (f : Frame) × HoldsLeaf p i f f
 
 -- the pass has answered once, and holds the leaf as it is known to be
-pub record Answers (p q : IndexPass) (i : ℕ) (ask : Ask) (told : Told) (row : Pair) : Type 0 where
+pub record AnswersHolding (p q : IndexPass) (i : ℕ) (ask : Ask) (told : Told) (row : Pair) : Type 0 where
   pub says : SaysOnce (view p) (view q) i ask told row
   pub holds : HoldsKnown q i
 

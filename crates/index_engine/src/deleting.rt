@@ -7,7 +7,7 @@ ghost use Rattle.map_history.specs.Operation.{Make};
 ghost use Rattle.index_law.specs.Meanings.{lent_row};
 ghost use Rattle.index_engine.specs.Changes.{HoldsOldRow};
 ghost use Rattle.index_engine.specs.Passes.{HoldsFresh};
-ghost use Rattle.index_engine.specs.Says.{CanSay, Answers, TellsOnce};
+ghost use Rattle.index_engine.specs.Says.{CanSay, AnswersHolding, TellsOnce};
 
 use crate::committing::Becomes;
 use crate::leaf::search;
@@ -41,7 +41,7 @@ impl<R: Wait> LeafCall<'_, R> {
         requires own { IsPassOf self.now.space.now pass.old }
         requires held { HoldsFresh pass.old self.now.index }
         ensures own { IsSamePass pass.old pass.new × IsPassOf self.now.space.now pass.new }
-        ensures did { Answers pass.old pass.new self.now.index
+        ensures did { AnswersHolding pass.old pass.new self.now.index
             (Make (map.Del self.now.key.now.tuple)) result (lent_row None) }
     {
         match search(self.page(pass), self.key).1 {
@@ -56,7 +56,7 @@ impl<R: Wait> LeafCall<'_, R> {
         requires own { IsPassOf self.now.space.now pass.old }
         requires held { HoldsOldRow pass.old self.now.index place self.now.key.now.tuple X.leaf }
         ensures own { IsSamePass pass.old pass.new × IsPassOf self.now.space.now pass.new }
-        ensures did { Answers pass.old pass.new self.now.index
+        ensures did { AnswersHolding pass.old pass.new self.now.index
             (Make (map.Del self.now.key.now.tuple)) result (lent_row None) }
     {
         match self.write_ahead::<X>(pass, ChangeRef::Del { key: self.key }) {
@@ -70,13 +70,13 @@ impl<R: Wait> LeafCall<'_, R> {
 }
 
 impl<R> LeafCall<'_, R> {
-    /// Answers the del without a change.
+    /// AnswersHolding the del without a change.
     fn say_of_del(&self, pass: &mut WorldPass, reply: Reply) -> Told
         requires own { IsPassOf self.now.space.now pass.old }
         requires held { CanSay pass.old self.now.index (Make (map.Del self.now.key.now.tuple)) reply
             (lent_row None) }
         ensures own { IsSamePass pass.old pass.new × IsPassOf self.now.space.now pass.new }
-        ensures did { Answers pass.old pass.new self.now.index
+        ensures did { AnswersHolding pass.old pass.new self.now.index
             (Make (map.Del self.now.key.now.tuple)) result (lent_row None) }
     {
         let op = OpRef::Del {

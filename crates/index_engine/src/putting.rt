@@ -7,7 +7,7 @@ ghost use Rattle.map_history.specs.Operation.{Make};
 ghost use Rattle.index_law.specs.Meanings.{lent_row};
 ghost use Rattle.index_engine.specs.Changes.{HoldsNewRow};
 ghost use Rattle.index_engine.specs.Passes.{HoldsFresh};
-ghost use Rattle.index_engine.specs.Says.{Answers, StaysSilent, TellsOnce, GivesUp};
+ghost use Rattle.index_engine.specs.Says.{AnswersHolding, StaysSilent, TellsOnce, GivesUp};
 
 use crate::leaf::search;
 use crate::leaf_call::LeafCall;
@@ -49,7 +49,7 @@ impl<R: Wait> LeafCall<'_, R> {
         requires most { most ≡ self.now.space.now.terms.max_changes }
         requires held { HoldsFresh pass.old self.now.index }
         ensures own { IsSamePass pass.old pass.new × IsPassOf self.now.space.now pass.new }
-        ensures ok { IfOk result (λ told. Answers pass.old pass.new self.now.index
+        ensures ok { IfOk result (λ told. AnswersHolding pass.old pass.new self.now.index
             (Make (map.Put self.now.key.now.tuple value.now)) told (lent_row None)) }
         ensures err { OnErr result (StaysSilent pass.old pass.new self.now.index) }
     {
@@ -74,7 +74,7 @@ impl<R: Wait> LeafCall<'_, R> {
         requires own { IsPassOf self.now.space.now pass.old }
         requires held { HoldsNewRow pass.old self.now.index place self.now.key.now.tuple value.now }
         ensures own { IsSamePass pass.old pass.new × IsPassOf self.now.space.now pass.new }
-        ensures did { Answers pass.old pass.new self.now.index
+        ensures did { AnswersHolding pass.old pass.new self.now.index
             (Make (map.Put self.now.key.now.tuple value.now)) result (lent_row None) }
     {
         let key = self.key;

@@ -5,14 +5,14 @@ ghost use Rattle.latch_space.specs.Spaces.{IsPassOf};
 ghost use Rattle.map_history.specs.Operation.{operation_by};
 ghost use Rattle.index_law.specs.Meanings.{lent_row};
 ghost use Rattle.index_engine.specs.Changes.{HoldsAsBefore};
-ghost use Rattle.index_engine.specs.Says.{CanSay, SeesFull, OnlyLooks, Answers, told_made};
+ghost use Rattle.index_engine.specs.Says.{CanSay, SeesFull, OnlyLooks, AnswersHolding, told_made};
 
 use crate::leaf_call::LeafCall;
 use index_world::{Say, WorldPass};
 use map_history::{How, Note, OpRef, Reply, RowBuf, Told};
 
 impl<R> LeafCall<'_, R> {
-    /// Answers the operation at the end of the list, without a change.
+    /// AnswersHolding the operation at the end of the list, without a change.
     pub(crate) fn say(
         &self,
         pass: &mut WorldPass,
@@ -23,7 +23,7 @@ impl<R> LeafCall<'_, R> {
         requires own { IsPassOf self.now.space.now pass.old }
         requires held { CanSay pass.old self.now.index (operation_by op).ask reply (lent_row row) }
         ensures own { IsSamePass pass.old pass.new × IsPassOf self.now.space.now pass.new }
-        ensures did { Answers pass.old pass.new self.now.index (operation_by op.entry).ask result
+        ensures did { AnswersHolding pass.old pass.new self.now.index (operation_by op.entry).ask result
             (lent_row row.entry) }
         ensures reply { result.reply ≡ reply }
     {

@@ -23,7 +23,7 @@ use Rattle.index_law.specs.State.{State, Entries, changes, low_in, high_in, low_
 use Rattle.latch_law.specs.Views.{knowns}
 use Rattle.index_law.specs.Rightness.{IsRight}
 use Rattle.index_law.specs.References.{IsReference}
-use Rattle.index_law.specs.Law.{IsFrameAt, AreCounted, IsRootLeaf, AreRooted, AreLawfulLists, HoldsRange, AreContents, IsLawful, KeepsRows, BecomesAt, IsMade, Follows, MayFollow}
+use Rattle.index_law.specs.Law.{IsFrameAt, AreAsMany, IsRootLeaf, AreRooted, AreLawfulLists, HoldsRange, AreContents, IsLawful, KeepsRows, BecomesAt, IsMade, Follows, MayFollow}
 use Rattle.index_law.proofs.FollowingLemmas.{KeepsPage, allowed_in_range, same_frame, rows_keep, change_keeps, root_stays, objects_after, shape_after}
 
 module _ (name : ℕ) (w w' : State) (law : IsLawful w) (moves : Moves IsRight IsReference MayFollow name w w') where
@@ -82,7 +82,7 @@ module _ (name : ℕ) (w w' : State) (law : IsLawful w) (moves : Moves IsRight I
       pick (inr held) = range_kept held.0 z q xs k (keep held.0 z held.1) held.2 paged level there
 
   -- a step leaves all counts, if it leaves that of the lists
-  counted_after : length w'.lists ≡ length w.lists → AreCounted w'.shape w'.objects w'.lists
+  counted_after : length w'.lists ≡ length w.lists → AreAsMany w'.shape w'.objects w'.lists
   counted_after same = let shape = shape_after name w w' moves.news moves.change moves.is_changed in let objects = objects_after name w w' moves.news moves.change moves.is_changed in record {
     frames = ap length objects ∙ (length-overlay moves.news w.objects ∙ (law.counted.frames ∙ ap (λ z. z.indexes) (sym shape)));
     fields = ap (λ z. length z.fields) shape ∙ (law.counted.fields ∙ ap (λ z. z.indexes) (sym shape));

@@ -20,7 +20,7 @@ abbrev pub IsFrameAt : List Object → ℕ → Frame → Type 0
 IsFrameAt objects k frame = get_elem? objects k ≡ some (object.Frame frame)
 
 -- there are as many frames, numbers of fields and lists as indexes
-pub record AreCounted (shape : Shape) (objects : List Object) (entries : List Entries) : Type 0 where
+pub record AreAsMany (shape : Shape) (objects : List Object) (entries : List Entries) : Type 0 where
   pub frames : length objects ≡ shape.indexes
   pub fields : length shape.fields ≡ shape.indexes
   pub lists : length entries ≡ shape.indexes
@@ -54,7 +54,7 @@ AreContents objects lists = (k : ℕ) (frame : Frame) (page : PageRows) (xs : En
 
 -- a lawful state: all is counted, each frame has its root, each list is lawful, and each leaf holds what its list makes
 pub record IsLawful (w : State) : Type 0 where
-  pub counted : AreCounted w.shape w.objects w.lists
+  pub counted : AreAsMany w.shape w.objects w.lists
   pub rooted : AreRooted w.shape w.objects
   pub lists : AreLawfulLists w.lists
   pub contents : AreContents w.objects w.lists

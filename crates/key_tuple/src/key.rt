@@ -127,9 +127,9 @@ impl Ord for Key {
 
 impl Hash for Key {
     ghost use Rattle.std.specs.Hash.{on_Alike};
-    ghost use Rattle.key_tuple.specs.Hashed.{writes, writes_alike};
+    ghost use Rattle.key_tuple.specs.Hashed.{hash_writes, writes_alike};
 
-    ghost hash_input = { λ k. writes k.tuple };
+    ghost hash_input = { λ k. hash_writes k.tuple };
 
     ghost respects_eq = { (on_Alike (λ k. k.tuple) writes_alike).fed };
 

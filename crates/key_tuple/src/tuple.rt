@@ -143,9 +143,9 @@ impl Ord for Tuple {
 }
 
 impl Hash for Tuple {
-    ghost use Rattle.key_tuple.specs.Hashed.{writes, writes_alike};
+    ghost use Rattle.key_tuple.specs.Hashed.{hash_writes, writes_alike};
 
-    ghost hash_input = { writes };
+    ghost hash_input = { hash_writes };
 
     ghost respects_eq = { writes_alike.fed };
 

@@ -9,7 +9,7 @@ use Rattle.map_history.specs.Spelling.{spell, change_text, changes_text, stats_t
 use Rattle.report_text.specs.Texts.{answer_line_text}
 use Rattle.change_log.specs.Log.{ChangeNote}
 use Rattle.change_log.specs.Entries.{printed_entry, ArePrinted, AreCounted}
-use Rattle.report_text.specs.Printed.{entry_text, note_text}
+use Rattle.report_text.specs.Printed.{entry_text, change_note_text}
 use Rattle.list_facts.proofs.Elements.{all_zip_length}
 use Rattle.report_print.specs.Texts as text
 use Rattle.report_print.specs.Texts.{first_line, end_line, lane_line, lanes_text, changes_line, index_text, indexes_text, name_stats, report_text_of}
@@ -23,12 +23,12 @@ lanes_spelled k (lane ∷ answers) =
     λ j. lane_line (k + 1) ++ answers_are j ++ lanes_spelled (k + 1) answers j
 
 -- a change that is printed
-note_spelled : (note : ChangeNote) (number : ℕ) (entry : ChangeLine) → note.number ≡ number → printed_entry note ≡ Some entry → note_text note ≡ change_text number entry
+note_spelled : (note : ChangeNote) (number : ℕ) (entry : ChangeLine) → note.number ≡ number → printed_entry note ≡ Some entry → change_note_text note ≡ change_text number entry
 note_spelled note number entry counted printed = λ j. entry_text (counted j) (printed j)
 
 -- the changes from the number k + 1 on
 changes_spelled : (k : ℕ) (notes : List ChangeNote) (entries : List ChangeLine) → ArePrinted notes entries → ((n : ℕ) (note : ChangeNote) → slice_get notes n ≡ Some note → note.number ≡ k + (n + 1))
-    → flat_map note_text notes ≡ flat_map (λ (e : ℕ × ChangeLine). change_text (e.0 + 1) e.1) (enumerate_from k entries)
+    → flat_map change_note_text notes ≡ flat_map (λ (e : ℕ × ChangeLine). change_text (e.0 + 1) e.1) (enumerate_from k entries)
 changes_spelled k [] [] printed counted = refl
 changes_spelled k [] (e ∷ entries) printed counted = absurd cc
 changes_spelled k (note ∷ notes) [] printed counted = absurd cc

@@ -8,7 +8,7 @@ use Rattle.script.specs.Grammar.{lines_of}
 use Rattle.script.specs.Lane.{line_meaning, lane_from, lane_of, line_said}
 use Rattle.script.specs.Schema.{SchemaText}
 use Rattle.script.proofs.LaneSteps.{step, no_lines}
-use Rattle.script_laws.specs.LaneLaws.{LinesAreTold, TextSays, IsTold}
+use Rattle.script_laws.specs.LaneLaws.{LinesAreTold, TextSays, IsToldOf}
 
 -- the line is said by the texts, whose first has number n
 record IsSaid (s : SchemaText) (n : ℕ) (texts : List (List ℕ)) (line : Line) : Type 0 where
@@ -54,13 +54,13 @@ from_has s n (text ∷ texts) lines h (suc place) op says =
     subst (λ (ls : List Line). Contains ls (record { line = suc place + n; op = op })) x.whole
     (Contains-append_right (line_said n x.said) x.more _ (subst (λ (k : ℕ). Contains x.more (record { line = k; op = op })) number later))
 
-said_is_told : (s : SchemaText) (texts : List (List ℕ)) (line : Line) → IsSaid s 1 texts line → IsTold s texts line
+said_is_told : (s : SchemaText) (texts : List (List ℕ)) (line : Line) → IsSaid s 1 texts line → IsToldOf s texts line
 said_is_told s texts line h = record { place = h.place; number = omega (arith, h.number); says = h.says }
 
 -- each line of a lane is said at its number
-pub told : (s : SchemaText) (bytes : List ℕ) (lines : List Line) → lane_of s bytes ≡ Ok lines → All (IsTold s (lines_of bytes)) lines
+pub told : (s : SchemaText) (bytes : List ℕ) (lines : List Line) → lane_of s bytes ≡ Ok lines → All (IsToldOf s (lines_of bytes)) lines
 unfolding lane_of
-told s bytes lines h = All-weaker (IsSaid s 1 (lines_of bytes)) (IsTold s (lines_of bytes)) (said_is_told s (lines_of bytes)) lines (from_said s 1 (lines_of bytes) lines h)
+told s bytes lines h = All-weaker (IsSaid s 1 (lines_of bytes)) (IsToldOf s (lines_of bytes)) (said_is_told s (lines_of bytes)) lines (from_said s 1 (lines_of bytes) lines h)
 
 pub lines_are_told : LinesAreTold
 unfolding lane_of

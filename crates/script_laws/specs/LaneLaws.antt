@@ -15,7 +15,7 @@ pub record TextSays (schema : SchemaText) (texts : List (List ℕ)) (place : ℕ
   pub said : line_meaning schema text ≡ Ok (Some op)
 
 -- a line of the lane is said at its number, counted from 1
-pub record IsTold (schema : SchemaText) (texts : List (List ℕ)) (line : Line) : Type 0 where
+pub record IsToldOf (schema : SchemaText) (texts : List (List ℕ)) (line : Line) : Type 0 where
   pub place : ℕ
   pub number : line.line ≡ place + 1
   pub says : TextSays schema texts place line.op
@@ -24,7 +24,7 @@ pub record IsTold (schema : SchemaText) (texts : List (List ℕ)) (line : Line) 
 pub record LinesAreTold : Type 0 where
   pub each :
       (schema : SchemaText) (bytes : List ℕ) (lines : List Line) → lane_of schema bytes ≡ Ok lines
-      → AllByRecursion (IsTold schema (lines_of bytes)) lines
+      → AllByRecursion (IsToldOf schema (lines_of bytes)) lines
   pub all :
       (schema : SchemaText) (bytes : List ℕ) (lines : List Line) → lane_of schema bytes ≡ Ok lines
       → (place : ℕ) (op : Operation) → TextSays schema (lines_of bytes) place op
