@@ -56,7 +56,7 @@ fn say_why(rt: &HostRuntime, status: Status, words: &[String], told: &[u8]) {
         return;
     }
     let bytes = refused_bytes(rt, words, told);
-    if let Ok(text) = explain(rt.alloc(), status, words, told, bytes.as_deref()) {
+    if let Ok(text) = explain(rt.alloc(), status.number(), words, told, bytes.as_deref()) {
         let _said = eprintln!(rt; "{text}");
     }
 }

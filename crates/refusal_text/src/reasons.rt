@@ -4,7 +4,6 @@ use crate::lines::{line_of, shown, word_of};
 use crate::sizes::wanted;
 use crate::told::{Told, read};
 use crate::usage::wrong_use;
-use ahi_cli::Status;
 use std::alloc::{AllocError, Global};
 
 /// The number of the file whose line is refused by the line that was put, if one is: 0 for the
@@ -16,25 +15,21 @@ pub fn refused_file(told: &[u8]) -> Option<usize> {
     }
 }
 
-/// Why a run of these words ended so, when `told` was put first. Of a file whose line is refused
+/// Why a run of these words ended with the status of this number, when `told` was put first. Of a file whose line is refused
 /// `bytes` has the bytes, where they can be read again. Nothing is said of a run that is done.
 pub fn explain(
     alloc: Global,
-    status: Status,
+    status: u8,
     words: &[String],
     told: &[u8],
     bytes: Option<&[u8]>,
 ) -> Result<String, AllocError> {
     match status {
-        Status::Done => Ok(String::new(alloc)),
-        Status::Usage => wrong_use(alloc, words),
-        Status::SinkFault => {
-            String::from_str(alloc, "the standard output didn't take all that was put")
-        }
-        Status::NoMemory => String::from_str(alloc, "there was no memory"),
-        Status::Script | Status::ShelfFault | Status::TooLarge => {
-            explain_line(alloc, words, told, bytes)
-        }
+        0 => Ok(String::new(alloc)),
+        2 => wrong_use(alloc, words),
+        4 => String::from_str(alloc, "the standard output didn't take all that was put"),
+        6 => String::from_str(alloc, "there was no memory"),
+        _ => explain_line(alloc, words, told, bytes),
     }
 }
 

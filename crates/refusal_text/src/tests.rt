@@ -1,6 +1,5 @@
 //! What is said of each refusal: of the words, each code, each setting and each other status.
 use crate::{FirstLine, explain, refused_file};
-use ahi_cli::Status;
 use io_port::{MemorySink, Sink};
 use std::alloc::Global;
 
@@ -23,71 +22,55 @@ const WORDS: &[(&[&str], &str)] = &[
 ];
 
 /// The line of a run that ends so, whatever its files have, and what is said.
-const ENDS: &[(Status, &str, &str)] = &[
-    (Status::Done, "ahi run\n", ""),
+const ENDS: &[(u8, &str, &str)] = &[
+    (0, "ahi run\n", ""),
+    (3, "shelf 0\n", "s: it isn't there, or can't be read"),
+    (3, "shelf 2\n", "l2: it isn't there, or can't be read"),
     (
-        Status::ShelfFault,
-        "shelf 0\n",
-        "s: it isn't there, or can't be read",
-    ),
-    (
-        Status::ShelfFault,
-        "shelf 2\n",
-        "l2: it isn't there, or can't be read",
-    ),
-    (
-        Status::TooLarge,
+        5,
         "too-large 1\n",
         "l1: with it the files have more than 67,108,864 bytes together",
     ),
     (
-        Status::SinkFault,
+        4,
         "ahi run\n",
         "the standard output didn't take all that was put",
     ),
-    (Status::NoMemory, "", "there was no memory"),
+    (6, "", "there was no memory"),
     (
-        Status::TooLarge,
+        5,
         "sizes pages\n",
         "pages is to be as many as there are indexes or more, and at most 65,536",
     ),
     (
-        Status::TooLarge,
+        5,
         "sizes parts\n",
         "parts is to be 1 to 512, and parts times blocks at most 16,777,216",
     ),
     (
-        Status::TooLarge,
+        5,
         "sizes cells\n",
         "cells is to be 1 or more, and parts times cells at most 4,194,304",
     ),
     (
-        Status::TooLarge,
+        5,
         "sizes nodes\n",
         "parts times nodes is to be at most 4,194,304",
     ),
+    (5, "sizes fold_bits\n", "fold_bits is to be 1 to 64"),
     (
-        Status::TooLarge,
-        "sizes fold_bits\n",
-        "fold_bits is to be 1 to 64",
-    ),
-    (
-        Status::TooLarge,
+        5,
         "sizes max_changes\n",
         "max_changes is to be 1 to 8,388,608",
     ),
+    (1, "script 1 7 1\n", "l1, line 7: it isn't in the grammar"),
     (
-        Status::Script,
-        "script 1 7 1\n",
-        "l1, line 7: it isn't in the grammar",
-    ),
-    (
-        Status::Script,
+        1,
         "script 1 7 2\n",
         "l1, line 7: no index of the schema has its name",
     ),
     (
-        Status::Script,
+        1,
         "script 1 7 3\n",
         "l1, line 7: its key or its value has too many bytes",
     ),
@@ -188,7 +171,7 @@ fn strings(alloc: Global, words: &[&str]) -> Option<Vec<String>> {
 /// Whether this is said of a run.
 fn is_said(
     alloc: Global,
-    status: Status,
+    status: u8,
     words: &[&str],
     told: &[u8],
     bytes: Option<&[u8]>,
@@ -206,7 +189,7 @@ fn is_said(
 /// The place of the first words of which another thing is said.
 fn other_words(alloc: Global) -> Option<usize> {
     for (place, (words, said)) in WORDS.iter().enumerate() {
-        if !is_said(alloc, Status::Usage, words, b"usage", None, said) {
+        if !is_said(alloc, 2, words, b"usage", None, said) {
             return Some(place);
         }
     }
@@ -236,14 +219,7 @@ fn each_end_is_said_in_words(rt: HostRuntime) {
 /// The place of the first line of which another thing is said.
 fn other_line(alloc: Global) -> Option<usize> {
     for (place, (told, bytes, said)) in LINES.iter().enumerate() {
-        if !is_said(
-            alloc,
-            Status::Script,
-            RUN,
-            told.as_bytes(),
-            Some(bytes),
-            said,
-        ) {
+        if !is_said(alloc, 1, RUN, told.as_bytes(), Some(bytes), said) {
             return Some(place);
         }
     }
@@ -261,7 +237,7 @@ fn said_of_lanes(alloc: Global, lanes: usize) -> Option<String> {
     for _ in 0..lanes {
         words.push(String::from_str(alloc, "l").ok()?).ok()?;
     }
-    explain(alloc, Status::TooLarge, &words, b"sizes blocks\n", None).ok()
+    explain(alloc, 5, &words, b"sizes blocks\n", None).ok()
 }
 
 fn blocks_are_said(alloc: Global, lanes: usize, wanted: &str) -> bool {
@@ -286,14 +262,7 @@ fn said_of_put(alloc: Global, key: usize, value: usize) -> Option<String> {
     line.extend_from_slice(b" ").ok()?;
     line.resize(line.len().checked_add(value)?, b'v').ok()?;
     let words = strings(alloc, RUN)?;
-    explain(
-        alloc,
-        Status::Script,
-        &words,
-        b"script 1 1 3\n",
-        Some(&line),
-    )
-    .ok()
+    explain(alloc, 1, &words, b"script 1 1 3\n", Some(&line)).ok()
 }
 
 fn is_long(alloc: Global, key: usize, value: usize, part: &str) -> bool {
