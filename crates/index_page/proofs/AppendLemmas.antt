@@ -1,5 +1,5 @@
 -- Rows put behind others.
-use Rattle.std.proofs.Common.{◌≡◌, ◌≢◌, ℕ, zero, suc, ◌+◌, ◌<◌, ◌≤◌, true, Some, List, [], ◌∷◌, ◌++◌, refl, sym, ap, ◌∙◌, subst, add-one, arith, length, length-append, append-nil, append_assoc, take, drop}
+use Rattle.std.proofs.Common.{◌≡◌, ℕ, zero, suc, ◌+◌, ◌≤◌, true, Some, List, [], ◌∷◌, ◌++◌, refl, sym, ap, ◌∙◌, subst, add-one, arith, length, length-append, append-nil, append_assoc, take}
 use Rattle.std.proofs.Math.Seq.{take-length, drop-length, take-append_seam}
 use Rattle.std.specs.List.{AllByRecursion, slice_get, insert}
 use Rattle.key_tuple.specs.KeyPlace.{At, before}
@@ -8,7 +8,7 @@ use Rattle.key_tuple.specs.Limits.{IsWithinLimits}
 use Rattle.index_page.specs.declared.TheConstants.{MAX_ROWS}
 use Rattle.index_page.specs.declared.head.PageHead.{PageHead}
 use Rattle.index_page.specs.Rows.{RowBody, Row, SameRows}
-use Rattle.index_page.specs.Page.{PageRows, IsNeighbour, FitsLevel, HasShortValue, RowsAscend, PlacesDiffer, IsRowOf, IsPageInOrder}
+use Rattle.index_page.specs.Page.{IsNeighbour, FitsLevel, HasShortValue, RowsAscend, PlacesDiffer, IsRowOf, IsPageInOrder}
 use Rattle.index_page.specs.Store.{Appends}
 use Rattle.index_page.specs.Loads.{load_of}
 use Rattle.list_facts.proofs.Each.{each_append}

@@ -5,7 +5,7 @@ use Rattle.std.specs.List.{AllByRecursion, slice_get}
 use Rattle.key_tuple.specs.KeyPlace.{At, before}
 use Rattle.index_page.specs.declared.TheConstants.{MAX_ROWS}
 use Rattle.index_page.specs.declared.head.PageHead.{PageHead}
-use Rattle.index_page.specs.Rows.{Row, RowBody, Bytes, Child, SameRows}
+use Rattle.index_page.specs.Rows.{Row, SameRows}
 use Rattle.index_page.specs.Page.{PageRows, IsNeighbour, FitsLevel, RowsAscend, PlacesDiffer, IsRowOf, IsPageInOrder}
 use Rattle.index_page.specs.Search.{IsPosition}
 use Rattle.index_page.specs.Moves.{MovesTail}

@@ -1,5 +1,5 @@
 -- The largest charge of a row, and pages without room.
-use Rattle.std.proofs.Common.{◌≡◌, ℕ, ◌+◌, ◌<◌, ◌≤◌, List, [], ◌∷◌, length, subst, arith}
+use Rattle.std.proofs.Common.{◌+◌, ◌<◌, ◌≤◌, List, [], ◌∷◌, length, arith}
 use Rattle.std.specs.List.{AllByRecursion}
 use Rattle.key_tuple.specs.Order.{FieldList}
 use Rattle.key_tuple.specs.Limits.{IsWithinLimits}
@@ -10,7 +10,7 @@ use Rattle.index_page.specs.declared.head.PageHead.{PageHead}
 use Rattle.index_page.specs.Rows.{RowBody, Bytes, Child, Row}
 use Rattle.index_page.specs.Page.{PageRows, HasShortValue, IsRowOf, IsPageInOrder}
 use Rattle.index_page.specs.Loads.{charge_of, load_of}
-use Rattle.index_page.proofs.LoadLemmas.{row_charge, load_of-cons}
+use Rattle.index_page.proofs.LoadLemmas.{load_of-cons}
 
 charge_limited : (key : FieldList) (body : RowBody) → IsWithinLimits key → HasShortValue body → charge_of key body ≤ MAX_CHARGE
 charge_limited key (Bytes value) limits short = omega (arith, row_limited key value MAX_FIELDS MAX_KEY_BYTES MAX_VALUE_BYTES limits.few limits.short short)

@@ -1,5 +1,5 @@
 -- The cut of a spot.
-use Rattle.std.proofs.Common.{◌≡◌, ℕ, List, length, length-append, take, drop, sym, ap, subst, arith}
+use Rattle.std.proofs.Common.{◌≡◌, List, length, length-append, take, drop, sym, ap, subst, arith}
 use Rattle.std.proofs.Math.Seq.{take-append_seam, drop-append_seam}
 use Rattle.key_tuple.specs.Order.{FieldList}
 use Rattle.key_tuple.specs.KeyPlace.{cut_of}

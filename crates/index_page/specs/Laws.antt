@@ -21,7 +21,10 @@ pub record TellsKey (key : FieldList) (rows : List Row) (spot : Spot) : Type 0 w
 
 -- the spot before a whole key tells whether it is there
 abbrev pub SpotsTellKeys : Type 0
-SpotsTellKeys = (page : PageRows) (key : FieldList) (spot : Spot) → IsPageInOrder page → length key ≡ page.head.fields → 0 < length key → Finds Ge key page.rows spot → TellsKey key page.rows spot
+SpotsTellKeys =
+    (page : PageRows) (key : FieldList) (spot : Spot) → IsPageInOrder page
+    → length key ≡ page.head.fields → 0 < length key
+    → Finds Ge key page.rows spot → TellsKey key page.rows spot
 
 -- the row at a place, between those before and after it
 pub record StandsAt (rows : List Row) (place : ℕ) (row : Row) : Type 0 where
@@ -32,5 +35,7 @@ pub record StandsAt (rows : List Row) (place : ℕ) (row : Row) : Type 0 where
 
 -- each row of a page is the one at its place, and the row at a place is one of the rows
 pub record PlacesTellRows : Type 0 where
-  pub found : (page : PageRows) (left : List Row) (row : Row) (right : List Row) → IsPageInOrder page → page.rows ≡ left ++ row ∷ right → find_row row.place page.rows ≡ Some row
-  pub stands : (rows : List Row) (place : ℕ) (row : Row) → find_row place rows ≡ Some row → StandsAt rows place row
+  pub found : (page : PageRows) (left : List Row) (row : Row) (right : List Row) → IsPageInOrder page
+      → page.rows ≡ left ++ row ∷ right → find_row row.place page.rows ≡ Some row
+  pub stands : (rows : List Row) (place : ℕ) (row : Row) → find_row place rows ≡ Some row
+      → StandsAt rows place row

@@ -29,7 +29,9 @@ beside_by (by.Child number) = Child number
 
 -- the row that is stored at a place
 abbrev pub stored_row : List Content → ℕ → Row
-stored_row slots place = let found = slice_index_or slots place (record { key = []; body = Bytes [] }) in placed_row place found.key found.body
+stored_row slots place =
+    let found = slice_index_or slots place (record { key = []; body = Bytes [] }) in
+    placed_row place found.key found.body
 
 -- the rows at these places
 abbrev pub rows_in : List Content → List ℕ → List Row

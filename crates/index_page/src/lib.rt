@@ -9,6 +9,8 @@ mod copy;
 mod head;
 mod heap;
 mod laws;
+#[cfg(test)]
+mod load_tests;
 mod loads;
 mod moves;
 mod page;

@@ -1,4 +1,4 @@
-use Rattle.std.proofs.Common.{◌≡◌, length, take}
+use Rattle.std.proofs.Common.{take}
 use Rattle.index_page.specs.Store.{Appends}
 use Rattle.index_page.proofs.heap.Heap.append.Given as goal
 

@@ -1,5 +1,5 @@
 use Rattle.std.proofs.Common.{suc, ◌+◌, ◌-◌, ◌/◌, add-one, sym, ap, ◌∙◌, subst, arith, take, drop, List}
-use Rattle.key_tuple.specs.KeyPlace.{cut_of}
+use Rattle.key_tuple.specs.KeyPlace.{At, cut_of}
 use Rattle.index_page.specs.Rows.{Row}
 use Rattle.index_page.specs.Page.{PageRows}
 use Rattle.index_page.specs.Search.{AllOut, AllIn}
@@ -11,7 +11,7 @@ loop-low-preserved-then-is_past g c =
     let tuple = g.A.Fields.fields_of c.args.tuple.now in
     let p = cut_of c.args.mode tuple in
     let middle = c.loop-low.low + (c.loop-low.high - c.loop-low.low) / 2 in
-    let admitted = in_from p (mode_cuts c.args.mode tuple) c.self.inside.rows middle _ c.self.invariant.ascend c.stored.ensures (sym c.is_past.ensures ∙ c.if-is_past.true) in
+    let admitted = in_from p (mode_cuts c.args.mode tuple) c.self.inside.rows middle _ c.self.invariant.ascend c.stored.ensures (sym {b = p (At c.stored.result.1.now.key)} c.is_past.ensures ∙ c.if-is_past.true) in
     record {
       ordered = omega arith;
       within = omega arith;
@@ -24,7 +24,7 @@ loop-low-preserved g c =
     let tuple = g.A.Fields.fields_of c.args.tuple.now in
     let p = cut_of c.args.mode tuple in
     let middle = c.loop-low.low + (c.loop-low.high - c.loop-low.low) / 2 in
-    let left_out = out_upto p (mode_cuts c.args.mode tuple) c.self.inside.rows middle _ c.self.invariant.ascend c.stored.ensures (sym c.is_past.ensures ∙ c.if-is_past.false) in
+    let left_out = out_upto p (mode_cuts c.args.mode tuple) c.self.inside.rows middle _ c.self.invariant.ascend c.stored.ensures (sym {b = p (At c.stored.result.1.now.key)} c.is_past.ensures ∙ c.if-is_past.false) in
     record {
       ordered = omega arith;
       within = c.loop-low.invariant.within;

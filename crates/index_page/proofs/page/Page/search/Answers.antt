@@ -30,7 +30,7 @@ returns g c =
       past = c.cut-cut.ensures.past;
       before_at = subst (IsAt rows c.agreement-before.result.0) last c.agreement-before.ensures.place;
       after_at = subst (IsAt rows c.agreement-after.result.0) first c.agreement-after.ensures.place;
-      low = c.agreement-before.ensures.figures ∙ ap (agreement tuple) last;
-      up = c.agreement-after.ensures.figures ∙ ap (agreement tuple) first;
+      low = ◌∙◌ {b = agreement tuple (nth_row rows c.checked_sub.result)} c.agreement-before.ensures.figures (ap (agreement tuple) last);
+      up = ◌∙◌ {b = agreement tuple (nth_row rows c.if-cut-len.after_cut)} c.agreement-after.ensures.figures (ap (agreement tuple) first);
       cut = sym (length-take-le c.cut-cut.result rows c.cut-cut.ensures.within);
     }

@@ -2,7 +2,7 @@ use Rattle.std.proofs.Common.{◌≡◌, ℕ, true, false, Some, List, length, i
 use Rattle.index_page.specs.Rows.{find_row}
 use Rattle.index_page.specs.Page.{PageRows}
 use Rattle.index_page.specs.Search.{IsPosition}
-use Rattle.index_page.specs.Store.{HasValueAt, Rewrites}
+use Rattle.index_page.specs.Store.{Rewrites}
 use Rattle.index_page.proofs.SetLemmas.{value_at, value_of, rewritten_order, sets}
 use Rattle.index_page.proofs.page.Page.set.Goals as goal
 
