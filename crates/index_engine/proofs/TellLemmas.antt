@@ -1,5 +1,5 @@
 -- One answer stays one when nothing is answered before it, and when the leaf is taken before and given back after.
-use Rattle.std.proofs.Common.{◌≡◌, ⊎_elim, ℕ, ◌<◌, ◌≤◌, true, false, Bool, [], ◌∷◌, length, length-append, sym, ap, subst, ◌∙◌, arith, refl, Result, Ok, Err, IfOk, OnErr}
+use Rattle.std.proofs.Common.{◌≡◌, ⊎_elim, ℕ, ◌<◌, ◌≤◌, true, false, [], ◌∷◌, length, sym, ap, subst, ◌∙◌, arith, refl, Result, Ok, Err, IfOk, OnErr}
 use Rattle.std.proofs.lemmas.Bool.Decides.{leb_tells}
 use mathlib.Core.Option.{some, some-injective}
 use lib.Dec.{leb}
@@ -18,7 +18,6 @@ use Rattle.index_law.specs.Answers.{Look}
 use Rattle.index_law.specs.Law.{IsLawful}
 use Rattle.index_law.specs.References.{IsReference}
 use Rattle.index_law.specs.Rightness.{IsRight}
-use Rattle.index_law.specs.Shape.{leaf_id}
 use Rattle.index_law.specs.Spoken.{View, OwnAnswer}
 use Rattle.index_law.specs.Trace.{Takes, GivesBack}
 use Rattle.index_law.proofs.TraceLemmas.{quiet_both, quiet_then_once, only_both, whole_quiet, whole_once}

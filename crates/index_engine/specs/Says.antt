@@ -2,7 +2,7 @@
 use Rattle.std.specs.Prelude.{ℕ, ◌≡◌, ◌≢◌, Option, Some, None, IsSome, length}
 use mathlib.Core.Option.{some}
 use lib.ListN.{get_elem?}
-use Rattle.latch_space.specs.Passes.{view, IsSamePass}
+use Rattle.latch_space.specs.Passes.{view}
 use Rattle.map_history.specs.declared.columns.How.TheVariants as how
 use Rattle.map_history.specs.declared.columns.Note.TheVariants as note
 use Rattle.map_history.specs.declared.reply.Reply.{Reply}

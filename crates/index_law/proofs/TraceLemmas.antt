@@ -1,17 +1,11 @@
 -- What calls add, one behind the other.
-use Rattle.std.proofs.Common.{◌≡◌, ℕ, ◌+◌, List, [], ◌∷◌, ◌++◌, append-nil, append_assoc, length, length-append, sym, ap, subst, ◌∙◌, arith, Contains}
-use Rattle.std.specs.List.{AllByRecursion}
+use Rattle.std.proofs.Common.{◌≡◌, ℕ, List, [], ◌∷◌, ◌++◌, append-nil, append_assoc, length-append, sym, ap, subst, ◌∙◌, arith}
 use mathlib.Core.Option.{some}
 use lib.ListN.{get_elem?}
-use Rattle.latch_law.specs.declared.knows.Holding.{Holding}
 use Rattle.latch_law.specs.Whole.{reference}
 use Rattle.map_history.specs.Operation.{Ask}
-use Rattle.map_history.specs.Report.{Answer, Replied, LogFull, SpaceFull, Scanned}
-use Rattle.map_history.specs.LegalReport.{Mark}
-use Rattle.index_law.specs.declared.frame.Object.{Object}
-use Rattle.index_law.specs.Answers.{Where}
+use Rattle.map_history.specs.Report.{Answer}
 use Rattle.index_law.specs.Spoken.{View, OwnAnswer, spoken_at, spoken, sayings}
-use Rattle.index_law.specs.State.{Entries}
 use Rattle.index_law.specs.Trace.{SameNumbers, SeesMore, Added, Adds, IsOnlySaid, Takes, GivesBack, TookAlone, AreGivenAt, full_places, fulls}
 use Rattle.index_law.specs.Once.{IsQuiet, HasFulls, IsRightBy, AnswersOnce}
 
@@ -121,24 +115,30 @@ module _ (v v0 v1 v2 : View) (k : ℕ) (takes : Takes v v0 k) (gives : GivesBack
 
   -- a whole call in which nothing was answered
   pub whole_quiet : (i : ℕ) (quiet : IsQuiet v0 v1 i) → IsOnlySaid quiet.added → (q : IsQuiet v v2 i) × TookAlone v v2 k q.added
-  whole_quiet i quiet only = (record {
-    added = whole quiet.added.said;
-    adds = whole_adds quiet.added quiet.adds only;
-    given = subst (λ n. AreGivenAt i n quiet.added.said) low_before quiet.given;
-    said = quiet.said;
-    fulls = quiet.fulls;
-  }, took quiet.added.said)
+  whole_quiet i quiet only = (
+    record {
+      added = whole quiet.added.said;
+      adds = whole_adds quiet.added quiet.adds only;
+      given = subst (λ n. AreGivenAt i n quiet.added.said) low_before quiet.given;
+      said = quiet.said;
+      fulls = quiet.fulls;
+    },
+    took quiet.added.said,
+  )
 
   -- a whole call in which its operation was answered once
   pub whole_once : (i : ℕ) (ask : Ask) (answer : Answer) (once : AnswersOnce v0 v1 i ask answer) → IsOnlySaid once.added → (o : AnswersOnce v v2 i ask answer) × TookAlone v v2 k o.added
-  whole_once i ask answer once only = (record {
-    added = whole once.added.said;
-    adds = whole_adds once.added once.adds only;
-    given = subst (λ n. AreGivenAt i n once.added.said) low_before once.given;
-    said = once.said ∙ ap (λ n. sayings i n ask answer) low_before;
-    fulls = once.fulls;
-    form = once.form;
-    least = λ m ys among at. once.least m ys among (ap (λ z. get_elem? z i) seen_before ∙ at);
-    most = λ m zs among at. once.most m zs among (ap (λ z. get_elem? z i) (sym seen_after) ∙ at);
-    right = λ zs at. subst (λ t. IsRightBy t.max_changes zs ask answer) terms_before (once.right zs (ap (λ z. get_elem? z i) (sym seen_after) ∙ at));
-  }, took once.added.said)
+  whole_once i ask answer once only = (
+    record {
+      added = whole once.added.said;
+      adds = whole_adds once.added once.adds only;
+      given = subst (λ n. AreGivenAt i n once.added.said) low_before once.given;
+      said = once.said ∙ ap (λ n. sayings i n ask answer) low_before;
+      fulls = once.fulls;
+      form = once.form;
+      least = λ m ys among at. once.least m ys among (ap (λ z. get_elem? z i) seen_before ∙ at);
+      most = λ m zs among at. once.most m zs among (ap (λ z. get_elem? z i) (sym seen_after) ∙ at);
+      right = λ zs at. subst (λ t. IsRightBy t.max_changes zs ask answer) terms_before (once.right zs (ap (λ z. get_elem? z i) (sym seen_after) ∙ at));
+    },
+    took once.added.said,
+  )

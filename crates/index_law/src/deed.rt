@@ -1,7 +1,7 @@
 //! What callers hand to the space: a change to be made, and what is to be said at a point.
 use crate::marker::{AsMadeChange, AsSaying};
-use latch_law::Means;
 use key_tuple::{Key, Value};
+use latch_law::Means;
 use map_history::{How, Note, OpRef, Reply, RowBuf};
 
 /// A change of the map of an index, borrowed.

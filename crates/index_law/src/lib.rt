@@ -11,9 +11,9 @@ mod opening;
 #[cfg(test)]
 mod tests;
 
-pub use marker::{AsMadeChange, AsSaying};
 pub use deed::{ChangeRef, Deed, Say};
 pub use frame::{Frame, Object};
 pub use law::{one_row_is_lawful, opens_lawfully};
 pub use layout::Layout;
+pub use marker::{AsMadeChange, AsSaying};
 pub use opening::first_objects;

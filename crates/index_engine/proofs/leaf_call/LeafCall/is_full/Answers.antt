@@ -1,6 +1,5 @@
 use Rattle.std.proofs.Common.{ap, ◌∙◌, sym, arith}
 use Rattle.latch_space.proofs.Pointwise.{sees_each}
-use Rattle.index_engine.proofs.HoldLemmas.{held_still}
 use Rattle.index_engine.proofs.TellLemmas.{looks, look_full, full_look}
 use Rattle.index_engine.proofs.leaf_call.LeafCall.is_full.Goals as goal
 
