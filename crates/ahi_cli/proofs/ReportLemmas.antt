@@ -13,7 +13,7 @@ use Rattle.map_history.specs.Statistics.{counts_of}
 use Rattle.script.specs.Schema.{SchemaText}
 use Rattle.script.specs.Views.{schema_text}
 use Rattle.index_engine.specs.declared.engine.EnginePass.{EnginePass}
-use Rattle.lane_law.specs.Reports.{part_with, report_of}
+use Rattle.lane_law.specs.Reports.{part_with, report_with}
 use Rattle.lane_threads.specs.Together.{lane_texts, RanTogether, AreReported}
 use Rattle.lane_threads.proofs.LegalLemmas.{reported}
 use Rattle.report_print.specs.Texts.{report_text_of}
@@ -44,7 +44,7 @@ module _ (script : Script) (is : IsScript script) (texts : List (List (List ℕ)
   entries = map printed_entries changes
 
   abbrev report : Report
-  report = report_of ran.answers schema.names entries
+  report = report_with ran.answers schema.names entries
 
   -- there is a list for each name
   pub counted : length changes ≡ length schema.names

@@ -20,5 +20,5 @@ abbrev pub ArePrinted : List ChangeNote → List ChangeLine → Type 0
 ArePrinted notes entries = map printed_entry notes ≡ map Some entries
 
 -- the changes are numbered from 1, in their order
-abbrev pub AreCounted : List ChangeNote → Type 0
-AreCounted notes = (n : ℕ) (note : ChangeNote) → slice_get notes n ≡ Some note → note.number ≡ n + 1
+abbrev pub AreCountedUp : List ChangeNote → Type 0
+AreCountedUp notes = (n : ℕ) (note : ChangeNote) → slice_get notes n ≡ Some note → note.number ≡ n + 1

@@ -26,7 +26,7 @@ use Rattle.index_law.specs.References.{IsReference}
 use Rattle.index_law.specs.Spoken.{OwnAnswer}
 use Rattle.lane_law.specs.Runs.{HasNoScan, RunsAll, AreEntries}
 use Rattle.lane_law.specs.Merged.{note_at, HasMerged}
-use Rattle.lane_law.specs.Example.{row_made, key, value, put_line, example_run, example_report, example_logs, example_view, IsExample, IsMet}
+use Rattle.lane_law.specs.Example.{row_made, key, value, line_of_put, example_run, example_report, example_logs, example_view, IsExample, IsMet}
 use Rattle.lane_law.proofs.PairLemmas.{all_pairs_none, all_pairs_one}
 use Rattle.lane_law.proofs.LegalLemmas.{legal}
 use Rattle.lane_law.proofs.TrailLemmas.{trail}
@@ -128,9 +128,9 @@ module _ (sizes : Sizes) (w : State) (is : IsExample sizes w) where
 
   merges : HasMerged example_report example_logs
   merges zero part e = (
-    note_at 0 put_line 1 ∷ [],
-    record { same = IsPermutation-refl (note_at 0 put_line 1 ∷ []); ascending = IsNonDecreasingBy-short (λ (z : ChangeNote). z.number) (note_at 0 put_line 1 ∷ []) (omega arith) },
-    subst (λ (z : IndexPart). ArePrinted (note_at 0 put_line 1 ∷ []) z.entries) (same_some _ part e) refl,
+    note_at 0 line_of_put 1 ∷ [],
+    record { same = IsPermutation-refl (note_at 0 line_of_put 1 ∷ []); ascending = IsNonDecreasingBy-short (λ (z : ChangeNote). z.number) (note_at 0 line_of_put 1 ∷ []) (omega arith) },
+    subst (λ (z : IndexPart). ArePrinted (note_at 0 line_of_put 1 ∷ []) z.entries) (same_some _ part e) refl,
   )
   merges (suc i) part e = absurd cc
 

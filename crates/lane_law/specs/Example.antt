@@ -29,43 +29,43 @@ abbrev pub value : List ℕ
 value = 98 ∷ []
 
 -- the row that is put
-abbrev pub row : MapChange
-row = Put key value
+abbrev pub put_row : MapChange
+put_row = Put key value
 
 -- the same, as an entry of the list has it
 abbrev pub row_made : MadeChange
-row_made = record { change = row; columns = dashes }
+row_made = record { change = put_row; columns = dashes }
 
 -- the first lane's line
-abbrev pub put_line : Line
-put_line = record { line = 2; op = record { index = 0; ask = Make row } }
+abbrev pub line_of_put : Line
+line_of_put = record { line = 2; op = record { index = 0; ask = Make put_row } }
 
 -- the second lane's line
-abbrev pub get_line : Line
-get_line = record { line = 1; op = record { index = 0; ask = Get key } }
+abbrev pub line_of_get : Line
+line_of_get = record { line = 1; op = record { index = 0; ask = Get key } }
 
 -- the index `i`, and the two lanes
 abbrev pub example_run : Sizes → Run
-example_run sizes = record { sizes = sizes; names = (105 ∷ []) ∷ []; lanes = (put_line ∷ []) ∷ (get_line ∷ []) ∷ [] }
+example_run sizes = record { sizes = sizes; names = (105 ∷ []) ∷ []; lanes = (line_of_put ∷ []) ∷ (line_of_get ∷ []) ∷ [] }
 
 -- what the put is told, and what the get
 abbrev pub told_put : AnswerLine
-told_put = answered put_line (Replied Done 1 dashes)
+told_put = answered line_of_put (Replied Done 1 dashes)
 
 -- it finds the row at the point of the put
 abbrev pub told_get : AnswerLine
-told_get = answered get_line (Replied (Value value) 1 dashes)
+told_get = answered line_of_get (Replied (Value value) 1 dashes)
 
 -- the report of the two lanes
 abbrev pub example_report : Report
 example_report = record {
   lanes = (told_put ∷ []) ∷ (told_get ∷ []) ∷ [];
-  indexes = record { name = 105 ∷ []; entries = record { lane = 1; line = 2; change = row } ∷ []; counts = counts_of (dashes ∷ dashes ∷ []) } ∷ [];
+  indexes = record { name = 105 ∷ []; entries = record { lane = 1; line = 2; change = put_row } ∷ []; counts = counts_of (dashes ∷ dashes ∷ []) } ∷ [];
 }
 
 -- what the two lanes noted
 abbrev pub example_logs : List Log
-example_logs = record { noted = note_at 0 put_line 1 ∷ []; room = 1 } ∷ record { noted = []; room = 1 } ∷ []
+example_logs = record { noted = note_at 0 line_of_put 1 ∷ []; room = 1 } ∷ record { noted = []; room = 1 } ∷ []
 
 -- a lawful state of one index whose list has the put, with nothing held
 pub record IsExample (sizes : Sizes) (w : State) : Type 0 where
@@ -101,8 +101,8 @@ pub record IsMet (sizes : Sizes) (w : State) : Type 0 where
   pub trail : IsTrail (example_run sizes) example_report (example_view w)
 
 -- in each such state
-abbrev pub WorkedExample : Type 0
-WorkedExample = (sizes : Sizes) (w : State) → IsExample sizes w → IsMet sizes w
+abbrev pub LanesExample : Type 0
+LanesExample = (sizes : Sizes) (w : State) → IsExample sizes w → IsMet sizes w
 
 -- where a list may have a change, there is such a state
 abbrev pub ExampleStands : Type 0

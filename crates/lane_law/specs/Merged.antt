@@ -3,7 +3,7 @@ use Rattle.std.specs.Prelude.{ℕ, ◌≡◌, ◌+◌, Some, List, [], ◌∷◌
 use Rattle.std.specs.List.{slice_get, flat_map, zip}
 use Rattle.change_log.specs.Log.{ChangeNote, Log}
 use Rattle.change_log.specs.Merge.{IsMerge}
-use Rattle.change_log.specs.Entries.{ArePrinted, AreCounted}
+use Rattle.change_log.specs.Entries.{ArePrinted, AreCountedUp}
 use Rattle.map_history.specs.Map.{MapChange}
 use Rattle.map_history.specs.Operation.{Make}
 use Rattle.map_history.specs.Reply.{Done}
@@ -47,7 +47,7 @@ pub record IsNoted (run : Run) (report : Report) (i : ℕ) (note : ChangeNote) :
 -- the merged changes are as many as those of the list, numbered from 1, and each is noted
 pub record IsNumbered (run : Run) (report : Report) (i : ℕ) (xs : Entries) (merged : List ChangeNote) : Type 0 where
   pub long : length merged ≡ length xs
-  pub numbers : AreCounted merged
+  pub numbers : AreCountedUp merged
   pub noted : (n : ℕ) (note : ChangeNote) → slice_get merged n ≡ Some note → IsNoted run report i note
 
 -- each index has as its entries the changes that the logs merge to

@@ -9,5 +9,5 @@ abbrev pub part_with : List ℕ × List ChangeLine → IndexPart
 part_with part = record { name = part.0; entries = part.1; counts = counts_of [] }
 
 -- the report of lanes with these answers over indexes of these names and entries
-abbrev pub report_of : List (List AnswerLine) → List (List ℕ) → List (List ChangeLine) → Report
-report_of answers names entries = record { lanes = answers; indexes = map part_with (zip names entries) }
+abbrev pub report_with : List (List AnswerLine) → List (List ℕ) → List (List ChangeLine) → Report
+report_with answers names entries = record { lanes = answers; indexes = map part_with (zip names entries) }

@@ -1,5 +1,5 @@
 //! The laws of lanes.
-ghost use Rattle.lane_law.specs.Example.{WorkedExample, ExampleStands};
+ghost use Rattle.lane_law.specs.Example.{LanesExample, ExampleStands};
 ghost use Rattle.lane_law.specs.Laws.{LanesGoOn, RunsJoin, LanesAreLegal, MergedLogsAreLists};
 ghost use Rattle.lane_law.specs.Laws.{MergedLogsAreEntries, PassesAreTrails, TrailsAreWhole};
 
@@ -40,7 +40,7 @@ pub fn trails_are_whole()
 
 /// Two lanes of one line each, for which all this holds.
 pub fn worked_example()
-    ensures { WorkedExample }
+    ensures { LanesExample }
 {}
 
 /// There is a state for these two lanes.

@@ -6,7 +6,7 @@ use Rattle.std.specs.Prelude.{Vec}
 use Rattle.std.specs.declared.alloc.Global.{Global}
 use Rattle.change_log.specs.Log.{ChangeNote, Log}
 use Rattle.change_log.specs.Merge.{AreMerges}
-use Rattle.change_log.specs.Entries.{printed_entries, ArePrinted, AreCounted}
+use Rattle.change_log.specs.Entries.{printed_entries, ArePrinted, AreCountedUp}
 use Rattle.list_facts.proofs.Places.{same_some, there, get_inside}
 use Rattle.list_facts.proofs.Elements.{map_get_from, zip_from}
 use Rattle.list_facts.proofs.Each.{each_weaker}
@@ -31,11 +31,11 @@ use Rattle.lane_law.proofs.MergeLemmas.{are_lists}
 use Rattle.lane_law.proofs.TrailLemmas.{trail}
 use Rattle.lane_law.specs.Merged.{IsNumbered, HasMerged}
 use Rattle.map_history.proofs.RoomLemmas.{room-no_space_full}
-use Rattle.lane_law.specs.Reports.{part_with, report_of}
+use Rattle.lane_law.specs.Reports.{part_with, report_with}
 use Rattle.lane_law.specs.Runs.{RunsAll, AreEntries}
 use Rattle.lane_work.specs.Workable.{IsOpOf, AreLinesOf}
 use Rattle.lane_work.specs.Works.{HasDashes}
-use Rattle.lane_threads.specs.Together.{lane_texts, AllAreLinesOf, RanTogether, AreReported, run_of}
+use Rattle.lane_threads.specs.Together.{lane_texts, AllAreLinesOf, RanTogether, AreReported, lanes_run}
 use Rattle.lane_threads.proofs.DashLemmas.{nothing_counted}
 
 plain_op : (fields : List ℕ) (o : Op) → IsOpOf fields o → is_scan (operation_of o).ask ≡ false
@@ -92,13 +92,13 @@ never_full answers all = each_weaker (λ (a : AnswerLine). HasDashes a.answer) (
 module _ (sizes : Sizes) (fields : List ℕ) (names : List (List ℕ)) (lanes : List (Vec Line Global)) (texts : List (List (List ℕ))) (logs : List Log) (pass : EnginePass) (changes : List (List ChangeNote))
     (paired : length names ≡ length fields) (all : AllAreLinesOf fields lanes) (merged : AreMerges (length names) logs changes) (ran : RanTogether sizes fields (lane_texts lanes) texts logs pass) where
   abbrev run : legal.Run
-  run = run_of sizes names lanes
+  run = lanes_run sizes names lanes
 
   abbrev entries : List (List ChangeLine)
   entries = map printed_entries changes
 
   abbrev report : Report
-  report = report_of ran.answers names entries
+  report = report_with ran.answers names entries
 
   long : length entries ≡ length names
   long = length-map changes printed_entries ∙ merged.count
@@ -151,5 +151,5 @@ module _ (sizes : Sizes) (fields : List ℕ) (names : List (List ℕ)) (lanes : 
     };
     trail = trail run report ran.fitted.whole (known pass) runs in_lists;
     printed = zip_from_each ArePrinted printed_entries changes (all_from (λ notes. ArePrinted notes (printed_entries notes)) changes printed);
-    counted = all_from AreCounted changes (λ i notes at. (numbered i notes at).1.numbers);
+    counted = all_from AreCountedUp changes (λ i notes at. (numbered i notes at).1.numbers);
   }

@@ -4,7 +4,7 @@ use Rattle.std.specs.List.{AllByRecursion, AllZip, zip}
 use Rattle.std.specs.declared.alloc.Global.{Global}
 use Rattle.change_log.specs.Log.{ChangeNote, Log}
 use Rattle.change_log.specs.Merge.{AreMerges}
-use Rattle.change_log.specs.Entries.{printed_entries, ArePrinted, AreCounted}
+use Rattle.change_log.specs.Entries.{printed_entries, ArePrinted, AreCountedUp}
 use Rattle.latch_law.specs.Fitting.{IsFitted}
 use Rattle.map_history.specs.declared.sizes.Sizes.{Sizes}
 use Rattle.map_history.specs.LegalReport.{Run, IsLegalReport}
@@ -20,7 +20,7 @@ use Rattle.index_engine.specs.declared.engine.EnginePass.{EnginePass}
 use Rattle.index_engine.specs.Engines.{known, terms_for}
 use Rattle.report_text.specs.Texts.{answer_line_text}
 use Rattle.lane_law.specs.Merged.{all_notes}
-use Rattle.lane_law.specs.Reports.{report_of}
+use Rattle.lane_law.specs.Reports.{report_with}
 use Rattle.lane_law.specs.Runs.{all_sayings}
 use Rattle.lane_law.specs.Trail.{IsTrail}
 use Rattle.lane_law.specs.Worked.{AreInOrder}
@@ -50,19 +50,19 @@ abbrev pub AllAreLinesOf : List ℕ → List (Vec Line Global) → Type 0
 AllAreLinesOf fields lanes = AllByRecursion (λ (lines : Vec Line Global). AreLinesOf fields lines.items) lanes
 
 -- the run of these lanes over indexes of these names
-abbrev pub run_of : Sizes → List (List ℕ) → List (Vec Line Global) → Run
-run_of sizes names lanes = record { sizes = sizes; names = names; lanes = lane_texts lanes }
+abbrev pub lanes_run : Sizes → List (List ℕ) → List (Vec Line Global) → Run
+lanes_run sizes names lanes = record { sizes = sizes; names = names; lanes = lane_texts lanes }
 
 -- What is known of the changes that such lanes merged: they are the entries of a legal report, one of each and numbered from 1, and the joined pass did what it tells.
 pub record AreReported (run : Run) (report : Report) (pass : EnginePass) (changes : List (List ChangeNote)) (entries : List (List ChangeLine)) : Type 0 where
   pub legal : IsLegalReport run report
   pub trail : IsTrail run report (known pass)
   pub printed : AllZip ArePrinted changes entries
-  pub counted : AllByRecursion AreCounted changes
+  pub counted : AllByRecursion AreCountedUp changes
 
 -- the changes that the logs of such a run merge to are reported
 abbrev pub RunsAreLegal : Type 0
 RunsAreLegal = (sizes : Sizes) (fields : List ℕ) (names : List (List ℕ)) (lanes : List (Vec Line Global)) (texts : List (List (List ℕ))) (logs : List Log) (pass : EnginePass) (changes : List (List ChangeNote))
     → length names ≡ length fields → AllAreLinesOf fields lanes → AreMerges (length names) logs changes → (ran : RanTogether sizes fields (lane_texts lanes) texts logs pass)
     → let entries = map printed_entries changes in
-    AreReported (run_of sizes names lanes) (report_of ran.answers names entries) pass changes entries
+    AreReported (lanes_run sizes names lanes) (report_with ran.answers names entries) pass changes entries

@@ -9,7 +9,11 @@ use std::alloc::Global;
 
 /// A pass for each number of this one, in order. After `NoMemory` the pass is gone, and its numbers
 /// with it.
-pub(crate) fn deal(alloc: Global, engine: &Engine, pass: EnginePass) -> Result<Vec<EnginePass>, NoMemory>
+pub(crate) fn deal(
+    alloc: Global,
+    engine: &Engine,
+    pass: EnginePass,
+) -> Result<Vec<EnginePass>, NoMemory>
     requires own { IsOf engine.now pass }
     ensures ok { IfOk result (λ passes. AreDealt engine.now pass passes.items) }
     ensures fresh { (known pass).said ≡ [] → IfOk result (λ passes. AreFresh passes.items) }

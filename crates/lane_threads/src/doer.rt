@@ -3,7 +3,7 @@ ghost use Rattle.lane_threads.specs.Ready.{IsReady};
 
 use index_engine::{Engine, EnginePass};
 use lane_work::LaneWork;
-use script::Line;
+use map_history::Line;
 use std::alloc::Global;
 
 /// A lane that can work: its lines, its pass, and its number from 1.

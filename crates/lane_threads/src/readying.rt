@@ -9,7 +9,7 @@ ghost use Rattle.lane_threads.specs.Doing.{IsReadyFor, AreReadyFor};
 use crate::doer::{LaneDoer, ReadyLane};
 use index_engine::{Engine, EnginePass};
 use key_tuple::NoMemory;
-use script::Line;
+use map_history::Line;
 use std::alloc::Global;
 
 /// A doer for each lane, with the pass at its place.

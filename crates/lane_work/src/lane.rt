@@ -10,9 +10,8 @@ use change_log::{LaneChange, LaneLog};
 use index_engine::{Engine, EnginePass};
 use key_tuple::NoMemory;
 use lanes::Gate;
-use map_history::{Reply, RowBuf, Told};
+use map_history::{Line, Reply, RowBuf, Told};
 use report_text::Texts;
-use script::Line;
 use std::alloc::Global;
 use std::sync::Wait;
 

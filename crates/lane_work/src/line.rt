@@ -7,8 +7,7 @@ ghost use Rattle.lane_work.specs.Workable.{IsWorkable};
 
 use index_engine::{Engine, EnginePass};
 use key_tuple::NoMemory;
-use map_history::{Op, RowBuf, Told};
-use script::Line;
+use map_history::{Line, Op, RowBuf, Told};
 use std::sync::Wait;
 
 /// Asks the engine what a line asks for. A found row is put in `row`.

@@ -5,8 +5,7 @@ use crate::work_lane;
 use index_engine::Engine;
 use key_tuple::{Key, KeyError, Value};
 use lanes::NoGate;
-use map_history::{Op, Sizes};
-use script::Line;
+use map_history::{Line, Op, Sizes};
 use std::alloc::Global;
 use std::test::Fail;
 

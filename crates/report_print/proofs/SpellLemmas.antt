@@ -8,27 +8,27 @@ use Rattle.map_history.specs.Report.{AnswerLine, ChangeLine, IndexPart}
 use Rattle.map_history.specs.Spelling.{spell, change_text, changes_text, stats_text, lane_text}
 use Rattle.report_text.specs.Texts.{answer_line_text}
 use Rattle.change_log.specs.Log.{ChangeNote}
-use Rattle.change_log.specs.Entries.{printed_entry, ArePrinted, AreCounted}
-use Rattle.report_text.specs.Printed.{entry_text, change_note_text}
+use Rattle.change_log.specs.Entries.{printed_entry, ArePrinted, AreCountedUp}
+use Rattle.report_text.specs.Printed.{entry_text, noted_text}
 use Rattle.list_facts.proofs.Elements.{all_zip_length}
 use Rattle.report_print.specs.Texts as text
 use Rattle.report_print.specs.Texts.{first_line, end_line, lane_line, lanes_text, changes_line, index_text, indexes_text, name_stats, report_text_of}
-use Rattle.lane_law.specs.Reports.{part_with, report_of}
+use Rattle.lane_law.specs.Reports.{part_with, report_with}
 
 -- the lanes from the number k + 1 on
-lanes_spelled : (k : ℕ) (answers : List (List AnswerLine)) → flat_map text.lane_text (enumerate_from (k + 1) (map (map answer_line_text) answers)) ≡ flat_map lane_text (enumerate_from k answers)
+lanes_spelled : (k : ℕ) (answers : List (List AnswerLine)) → flat_map text.lane_answers (enumerate_from (k + 1) (map (map answer_line_text) answers)) ≡ flat_map lane_text (enumerate_from k answers)
 lanes_spelled k [] = refl
 lanes_spelled k (lane ∷ answers) =
     let answers_are = concat_is (map answer_line_text lane) ∙ flat_map-map (λ (t : List ℕ). t) answer_line_text lane in
     λ j. lane_line (k + 1) ++ answers_are j ++ lanes_spelled (k + 1) answers j
 
 -- a change that is printed
-note_spelled : (note : ChangeNote) (number : ℕ) (entry : ChangeLine) → note.number ≡ number → printed_entry note ≡ Some entry → change_note_text note ≡ change_text number entry
+note_spelled : (note : ChangeNote) (number : ℕ) (entry : ChangeLine) → note.number ≡ number → printed_entry note ≡ Some entry → noted_text note ≡ change_text number entry
 note_spelled note number entry counted printed = λ j. entry_text (counted j) (printed j)
 
 -- the changes from the number k + 1 on
 changes_spelled : (k : ℕ) (notes : List ChangeNote) (entries : List ChangeLine) → ArePrinted notes entries → ((n : ℕ) (note : ChangeNote) → slice_get notes n ≡ Some note → note.number ≡ k + (n + 1))
-    → flat_map change_note_text notes ≡ flat_map (λ (e : ℕ × ChangeLine). change_text (e.0 + 1) e.1) (enumerate_from k entries)
+    → flat_map noted_text notes ≡ flat_map (λ (e : ℕ × ChangeLine). change_text (e.0 + 1) e.1) (enumerate_from k entries)
 changes_spelled k [] [] printed counted = refl
 changes_spelled k [] (e ∷ entries) printed counted = absurd cc
 changes_spelled k (note ∷ notes) [] printed counted = absurd cc
@@ -43,12 +43,12 @@ printed_long : (notes : List ChangeNote) (entries : List ChangeLine) → ArePrin
 printed_long notes entries printed = sym (length-map notes printed_entry) ∙ (ap length printed ∙ length-map entries (λ (e : ChangeLine). Some e))
 
 -- an index
-index_spelled : (name : List ℕ) (notes : List ChangeNote) (entries : List ChangeLine) → ArePrinted notes entries → AreCounted notes → index_text (name, notes) ≡ changes_text (part_with (name, entries))
+index_spelled : (name : List ℕ) (notes : List ChangeNote) (entries : List ChangeLine) → ArePrinted notes entries → AreCountedUp notes → index_text (name, notes) ≡ changes_text (part_with (name, entries))
 index_spelled name notes entries printed counted =
     let rest = changes_spelled 0 notes entries printed (λ n note at. let is = counted n note at in omega arith) in
     λ j. changes_line name (printed_long notes entries printed j) ++ rest j
 
-indexes_spelled : (names : List (List ℕ)) (changes : List (List ChangeNote)) (entries : List (List ChangeLine)) → AllZip ArePrinted changes entries → AllByRecursion AreCounted changes → indexes_text names changes ≡ flat_map changes_text (map part_with (zip names entries))
+indexes_spelled : (names : List (List ℕ)) (changes : List (List ChangeNote)) (entries : List (List ChangeLine)) → AllZip ArePrinted changes entries → AllByRecursion AreCountedUp changes → indexes_text names changes ≡ flat_map changes_text (map part_with (zip names entries))
 indexes_spelled [] changes entries printed counted = refl
 indexes_spelled (name ∷ names) [] [] printed counted = refl
 indexes_spelled (name ∷ names) [] (list ∷ entries) printed counted = absurd printed
@@ -62,8 +62,8 @@ statistics_spelled (name ∷ names) [] long = absurd (omega (arith, long))
 statistics_spelled (name ∷ names) (list ∷ entries) long = ap (λ t. name_stats name ++ t) (statistics_spelled names entries (omega (arith, long)))
 
 -- and all of it
-pub report_spelled : (names : List (List ℕ)) (answers : List (List AnswerLine)) (changes : List (List ChangeNote)) (entries : List (List ChangeLine)) → length changes ≡ length names → AllZip ArePrinted changes entries → AllByRecursion AreCounted changes
-    → report_text_of names (map (map answer_line_text) answers) changes ≡ spell (report_of answers names entries)
+pub report_spelled : (names : List (List ℕ)) (answers : List (List AnswerLine)) (changes : List (List ChangeNote)) (entries : List (List ChangeLine)) → length changes ≡ length names → AllZip ArePrinted changes entries → AllByRecursion AreCountedUp changes
+    → report_text_of names (map (map answer_line_text) answers) changes ≡ spell (report_with answers names entries)
 report_spelled names answers changes entries long printed counted =
     let statistics = statistics_spelled names entries (all_zip_length ArePrinted changes entries printed ∙ long) in
     λ j. first_line ++ lanes_spelled 0 answers j ++ indexes_spelled names changes entries printed counted j ++ statistics j ++ end_line

@@ -5,7 +5,7 @@ use Rattle.map_history.specs.Spelling.{stats_text}
 use Rattle.map_history.specs.Statistics.{counts_of}
 use Rattle.map_history.specs.Text.{line_of}
 use Rattle.change_log.specs.Log.{ChangeNote}
-use Rattle.report_text.specs.Printed.{change_note_text}
+use Rattle.report_text.specs.Printed.{noted_text}
 
 -- the first line of a report
 abbrev pub first_line : List ℕ
@@ -20,12 +20,12 @@ abbrev pub lane_line : ℕ → List ℕ
 lane_line number = line_of (codes "lane" ∷ decimal number ∷ [])
 
 -- the answers of a lane, behind the line with its number
-abbrev pub lane_part : ℕ × List (List ℕ) → List ℕ
-lane_part lane = lane_line lane.0 ++ concat lane.1
+abbrev pub lane_answers : ℕ × List (List ℕ) → List ℕ
+lane_answers lane = lane_line lane.0 ++ concat lane.1
 
 -- the answers of all lanes, which are numbered from 1
 abbrev pub lanes_text : List (List (List ℕ)) → List ℕ
-lanes_text answers = flat_map lane_part (enumerate_from 1 answers)
+lanes_text answers = flat_map lane_answers (enumerate_from 1 answers)
 
 -- the line before the changes of an index
 abbrev pub changes_line : List ℕ → ℕ → List ℕ
@@ -33,7 +33,7 @@ changes_line name count = line_of (codes "changes" ∷ name ∷ decimal count �
 
 -- the changes of an index, behind the line that counts them
 abbrev pub index_text : List ℕ × List ChangeNote → List ℕ
-index_text part = changes_line part.0 (length part.1) ++ flat_map change_note_text part.1
+index_text part = changes_line part.0 (length part.1) ++ flat_map noted_text part.1
 
 -- the changes of all indexes
 abbrev pub indexes_text : List (List ℕ) → List (List ChangeNote) → List ℕ

@@ -3,7 +3,7 @@ ghost use Rattle.std.specs.Prelude.{◌≡◌, map, length, string_bytes};
 ghost use Rattle.std.specs.List.{flat_map};
 ghost use Rattle.change_log.specs.Log.{note_of};
 ghost use Rattle.change_log.specs.Merge.{note_lists};
-ghost use Rattle.report_text.specs.Printed.{change_note_text};
+ghost use Rattle.report_text.specs.Printed.{noted_text};
 ghost use Rattle.report_print.specs.Prints.{PrintsTo};
 ghost use Rattle.report_print.specs.Texts.{changes_line, index_text, indexes_text};
 
@@ -62,7 +62,7 @@ fn put_changes<K: Sink>(
     changes: &[LaneChange<'_>],
 ) -> Result<(), Halt>
     ensures { PrintsTo K.Sink sink.old sink.new
-        (flat_map change_note_text (map note_of changes.now)) result }
+        (flat_map noted_text (map note_of changes.now)) result }
 {
     for change in changes {
         put_change(sink, line, change)?;
@@ -75,7 +75,7 @@ fn put_change<K: Sink>(
     line: &mut Vec<u8>,
     change: &LaneChange<'_>,
 ) -> Result<(), Halt>
-    ensures { PrintsTo K.Sink sink.old sink.new (change_note_text (note_of change.now)) result }
+    ensures { PrintsTo K.Sink sink.old sink.new (noted_text (note_of change.now)) result }
 {
     line.clear();
     report_text::change(line, change)?;

@@ -1,7 +1,7 @@
 //! The answers of the lanes.
 ghost use Rattle.std.specs.List.{concat};
 ghost use Rattle.report_print.specs.Prints.{PrintsTo};
-ghost use Rattle.report_print.specs.Texts.{lane_line, lane_part, lanes_text};
+ghost use Rattle.report_print.specs.Texts.{lane_line, lane_answers, lanes_text};
 
 use crate::halt::Halt;
 use crate::line::put_line;
@@ -24,7 +24,7 @@ fn put_lane<K: Sink>(
     number: u64,
     answers: &Texts,
 ) -> Result<(), Halt>
-    ensures { PrintsTo K.Sink sink.old sink.new (lane_part (number, answers.now)) result }
+    ensures { PrintsTo K.Sink sink.old sink.new (lane_answers (number, answers.now)) result }
 {
     put_lane_line(sink, line, number)?;
     put_answers(sink, answers)

@@ -3,10 +3,10 @@ use Rattle.std.proofs.Common.{◌≡◌, ℕ, ◌+◌, ◌<◌, ◌≤◌, Resul
 use Rattle.std.proofs.lemmas.List.{take_at, take-take, map_more, length-take-le, length-map}
 use Rattle.std.specs.Result.{OnErr}
 use Rattle.std.specs.List.{join_with_byte}
-use Rattle.report_text.specs.Line.{ExtendsBy, separator}
+use Rattle.report_text.specs.Line.{KeepsBytes, separator}
 
 -- what a longer list begins with is what a part of its front begins with
-pub Extends-front : (a x b c : List ℕ) → b ≡ a ++ x → ExtendsBy b c → ExtendsBy a c
+pub Extends-front : (a x b c : List ℕ) → b ≡ a ++ x → KeepsBytes b c → KeepsBytes a c
 Extends-front a x b c e h =
     let shorter : length a ≤ length b = omega (arith, length-append a x, ap length e) in
     sym (take-take (length a) (length b) c shorter)
@@ -14,12 +14,12 @@ Extends-front a x b c e h =
     ∙ take_at a x (length a) refl
 
 -- the same where a `?` leaves
-pub Extends-at_exit : {T E : Type 0} (r : Result T E) (a x b c : List ℕ) → b ≡ a ++ x → ExtendsBy b c → OnErr r (ExtendsBy a c)
+pub Extends-at_exit : {T E : Type 0} (r : Result T E) (a x b c : List ℕ) → b ≡ a ++ x → KeepsBytes b c → OnErr r (KeepsBytes a c)
 Extends-at_exit (Ok y) a x b c e h = tt
 Extends-at_exit (Err y) a x b c e h = Extends-front a x b c e h
 
 -- the same after two steps
-pub Extends-at_second_exit : {T E : Type 0} (r : Result T E) (a x b y c d : List ℕ) → b ≡ a ++ x → c ≡ b ++ y → ExtendsBy c d → OnErr r (ExtendsBy a d)
+pub Extends-at_second_exit : {T E : Type 0} (r : Result T E) (a x b y c d : List ℕ) → b ≡ a ++ x → c ≡ b ++ y → KeepsBytes c d → OnErr r (KeepsBytes a d)
 Extends-at_second_exit r a x b y c d e f h = Extends-at_exit r a (x ++ y) c d (f ∙ ap (λ front. front ++ y) e ∙ append_assoc a x y) h
 
 regrouped : (x j s y : List ℕ) → x ++ ((j ++ s) ++ y) ≡ ((x ++ j) ++ s) ++ y

@@ -22,8 +22,8 @@ entry_text number None = []
 entry_text number (Some entry) = change_text number entry
 
 -- the line of a change
-abbrev pub change_note_text : ChangeNote → List ℕ
-change_note_text note = entry_text note.number (printed_entry note)
+abbrev pub noted_text : ChangeNote → List ℕ
+noted_text note = entry_text note.number (printed_entry note)
 
 -- the word of a reply
 abbrev pub reply_text : Reply → List ℕ

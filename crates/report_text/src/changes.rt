@@ -1,7 +1,7 @@
 //! The line of a change.
 ghost use Rattle.std.specs.Prelude.{◌≡◌, ◌++◌, OnOk, OnErr};
 ghost use Rattle.change_log.specs.Log.{note_of};
-ghost use Rattle.report_text.specs.Printed.{change_note_text};
+ghost use Rattle.report_text.specs.Printed.{noted_text};
 
 use crate::line::put_line;
 use crate::word::Word;
@@ -12,7 +12,7 @@ use map_history::Op;
 /// Appends the line of a change: its number, the lane and the line that made it, and what it is.
 /// Nothing is appended where its line asks for no change.
 pub fn change(out: &mut Vec<u8>, change: &LaneChange<'_>) -> Result<(), NoMemory>
-    ensures ok { OnOk result (out.new.items ≡ out.old.items ++ change_note_text (note_of change.now)) }
+    ensures ok { OnOk result (out.new.items ≡ out.old.items ++ noted_text (note_of change.now)) }
     ensures err { OnErr result (out.new.items ≡ out.old.items) }
 {
     let number = Word::Number(change.number);

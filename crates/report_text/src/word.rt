@@ -1,6 +1,6 @@
 //! The words that a line is made of.
 ghost use Rattle.std.specs.Prelude.{◌≡◌, ◌++◌, OnOk, OnErr, decimal};
-ghost use Rattle.report_text.specs.Line.{ExtendsBy};
+ghost use Rattle.report_text.specs.Line.{KeepsBytes};
 ghost use Rattle.report_text.specs.Words.{count_text, text_of};
 
 use crate::field::{put_field, put_key};
@@ -28,7 +28,7 @@ pub enum Word<'a, K> {
 /// Appends a number in decimal digits.
 fn put_number(out: &mut Vec<u8>, number: u64) -> Result<(), AllocError>
     ensures ok { OnOk result (out.new.items ≡ out.old.items ++ decimal number) }
-    ensures err { OnErr result (ExtendsBy out.old.items out.new.items) }
+    ensures err { OnErr result (KeepsBytes out.old.items out.new.items) }
 {
     let mut digits = Buffer::new();
     out.extend_from_slice(digits.format(number).as_bytes())
@@ -37,7 +37,7 @@ fn put_number(out: &mut Vec<u8>, number: u64) -> Result<(), AllocError>
 /// Appends a text, a space and a number.
 fn put_count(out: &mut Vec<u8>, text: &str, number: u64) -> Result<(), AllocError>
     ensures ok { OnOk result (out.new.items ≡ out.old.items ++ count_text text.now number) }
-    ensures err { OnErr result (ExtendsBy out.old.items out.new.items) }
+    ensures err { OnErr result (KeepsBytes out.old.items out.new.items) }
 {
     out.extend_from_slice(text.as_bytes())?;
     out.push(b' ')?;
@@ -46,7 +46,7 @@ fn put_count(out: &mut Vec<u8>, text: &str, number: u64) -> Result<(), AllocErro
 
 pub(crate) fn put_word<K: Fields>(out: &mut Vec<u8>, word: &Word<'_, K>) -> Result<(), AllocError>
     ensures ok { OnOk result (out.new.items ≡ out.old.items ++ text_of K.fields_of word.now) }
-    ensures err { OnErr result (ExtendsBy out.old.items out.new.items) }
+    ensures err { OnErr result (KeepsBytes out.old.items out.new.items) }
 {
     match word {
         Word::Text(text) => out.extend_from_slice(text.as_bytes()),

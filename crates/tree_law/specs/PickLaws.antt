@@ -3,7 +3,7 @@ use Rattle.std.specs.Prelude.{ℕ, suc, ◌≡◌, Bool, true, false, Some, List
 use Rattle.std.specs.List.{AllByRecursion}
 use Rattle.key_tuple.specs.KeyPlace.{KeyPlace, IsCut}
 use Rattle.map_history.specs.Map.{Map}
-use Rattle.index_page.specs.Rows.{Child, Row, last_row}
+use Rattle.index_page.specs.Rows.{Child, Row, last_of_rows}
 use Rattle.index_page.specs.Search.{AllOut, AllIn}
 use Rattle.tree_law.specs.TreeShape.{Range, Forest, In, first_from, ranges, Rise, HasCut}
 use Rattle.tree_law.specs.Pages.{Page, Pages, low_place, high_place, pointers_of, forest, is_own, AreLawfulPages}
@@ -24,7 +24,7 @@ AreInner rows = AllByRecursion (λ (x : Row). (n : ℕ) × (x.body ≡ Child n))
 -- out none, that of the first row
 pub record PicksRange (p : KeyPlace → Bool) : Type 0 where
   pub last : (rows left right : List Row) (high : KeyPlace) (x : Row) (n : ℕ) → rows ≡ left ++ right
-      → last_row left ≡ Some x → x.body ≡ Child n → AllOut p left → AllIn p right → AreInner right
+      → last_of_rows left ≡ Some x → x.body ≡ Child n → AllOut p left → AllIn p right → AreInner right
       → p high ≡ true → Rise (pointers_of rows) high → CutRange p rows high n
   pub first : (x : Row) (ys : List Row) (low high : KeyPlace) (n : ℕ) → x.body ≡ Child n → AllIn p ys → AreInner ys
       → first_from (pointers_of (x ∷ ys)) high ≡ low → p low ≡ false → p high ≡ true
@@ -36,7 +36,7 @@ RangesArePicked = (p : KeyPlace → Bool) → IsCut p → PicksRange p
 
 -- one level down: that row points to the page of the level below that has the cut
 pub record StepsDown (trees : Forest) (p : KeyPlace → Bool) (page : Page) (level : ℕ) : Type 0 where
-  pub last : (left right : List Row) (x : Row) (n : ℕ) → page.rows ≡ left ++ right → last_row left ≡ Some x
+  pub last : (left right : List Row) (x : Row) (n : ℕ) → page.rows ≡ left ++ right → last_of_rows left ≡ Some x
       → x.body ≡ Child n → AllOut p left → AllIn p right → HasCut trees p page.index level n
   pub first : (x : Row) (ys : List Row) (n : ℕ) → page.rows ≡ x ∷ ys → x.body ≡ Child n → AllIn p ys
       → HasCut trees p page.index level n

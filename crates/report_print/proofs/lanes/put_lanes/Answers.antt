@@ -2,7 +2,7 @@ use Rattle.std.proofs.Common.{◌+◌, arith}
 use Rattle.std.specs.List.{enumerate_from}
 use Rattle.std.proofs.lemmas.List.FromFn.{length-enumerate_from}
 use Rattle.std.proofs.lemmas.Result.{err_from_is_err_and}
-use Rattle.report_print.specs.Texts.{lane_part}
+use Rattle.report_print.specs.Texts.{lane_answers}
 use Rattle.report_print.proofs.LoopLemmas.{one_more, no_more, all_put}
 use Rattle.report_print.proofs.PlaceLemmas.{lane_there}
 use Rattle.report_print.proofs.lanes.put_lanes.Goals as goal
@@ -11,12 +11,12 @@ pub returns-in_err-put_lane : goal.returns-in_err-put_lane
 returns-in_err-put_lane g c =
     let p = err_from_is_err_and c.from_residual.result c.from_residual.ensures.1 in
     let there = lane_there c.args.answers.now c.loop-i.i c.index-answers-i.result c.loop-i-test.true c.index-answers-i.is in
-    rw (p.1, p.2) (no_more lane_part g.K.Sink _ _ _ (enumerate_from 1 c.args.answers.now) c.loop-i.i (c.loop-i.i + 1, c.index-answers-i.result) c.in_err-put_lane.field-0.0 there c.loop-i.invariant c.in_err-put_lane.ensures)
+    rw (p.1, p.2) (no_more lane_answers g.K.Sink _ _ _ (enumerate_from 1 c.args.answers.now) c.loop-i.i (c.loop-i.i + 1, c.index-answers-i.result) c.in_err-put_lane.field-0.0 there c.loop-i.invariant c.in_err-put_lane.ensures)
 
 pub loop-i-preserved : goal.loop-i-preserved
 loop-i-preserved g c =
     let there = lane_there c.args.answers.now c.loop-i.i c.index-answers-i.result c.loop-i-test.true c.index-answers-i.is in
-    one_more lane_part g.K.Sink _ _ _ (enumerate_from 1 c.args.answers.now) c.loop-i.i (c.loop-i.i + 1, c.index-answers-i.result) there c.loop-i.invariant c.in_ok-put_lane.ensures
+    one_more lane_answers g.K.Sink _ _ _ (enumerate_from 1 c.args.answers.now) c.loop-i.i (c.loop-i.i + 1, c.index-answers-i.result) there c.loop-i.invariant c.in_ok-put_lane.ensures
 
 pub returns : goal.returns
-returns g c = all_put lane_part g.K.Sink _ _ (enumerate_from 1 c.args.answers.now) c.loop-i.i (omega (arith, length-enumerate_from 1 c.args.answers.now, c.loop-i-test.false)) c.loop-i.invariant
+returns g c = all_put lane_answers g.K.Sink _ _ (enumerate_from 1 c.args.answers.now) c.loop-i.i (omega (arith, length-enumerate_from 1 c.args.answers.now, c.loop-i-test.false)) c.loop-i.invariant
