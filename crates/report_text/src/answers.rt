@@ -3,7 +3,6 @@ ghost use Rattle.std.specs.Prelude.{◌≡◌, ◌++◌, IsSome, IfSome, OnOk, O
 ghost use Rattle.map_history.specs.Spelling.{answer_text};
 ghost use Rattle.report_text.specs.Printed.{printed_answer, reply_text};
 
-use crate::columns::{how_text, note_text};
 use crate::line::put_line;
 use crate::word::Word;
 use key_tuple::{Fields, NoMemory};
@@ -27,8 +26,8 @@ pub fn answer<'a, K: Fields>(
     ensures err { OnErr result (out.new.items ≡ out.old.items) }
 {
     let line = Word::Number(u64::from(line));
-    let how = Word::Text(how_text(told.how));
-    let note = Word::Text(note_text(told.note));
+    let how = Word::Text(told.how.text());
+    let note = Word::Text(told.note.text());
     let word = Word::Text(reply_text(told.reply));
     match (told.reply, told.point) {
         (Reply::LogFull(length), _) => {

@@ -4,7 +4,6 @@
 
 mod answers;
 mod changes;
-mod columns;
 mod field;
 mod heads;
 mod line;
