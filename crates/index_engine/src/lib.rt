@@ -19,6 +19,8 @@ mod putting;
 mod saying;
 mod setting;
 #[cfg(test)]
+mod setting_tests;
+#[cfg(test)]
 mod tests;
 
 pub use engine::{Engine, EnginePass};
