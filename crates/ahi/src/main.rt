@@ -6,10 +6,9 @@ use io_port::{FileShelf, OutSink, Shelf};
 use lanes::NoGate;
 use refusal_text::{FirstLine, explain, refused_file};
 use script::MAX_FILE_BYTES;
-use std::env;
-use std::fs;
 use std::io::{self, ErrorKind};
 use std::process::ExitCode;
+use std::{env, fs};
 
 /// Runs the words after the program's name on real files and the standard output, and ends with the
 /// number of the status. Why a run isn't done is said on standard error.

@@ -98,7 +98,10 @@ fn many_logs(alloc: Global, line: &Line) -> Option<Vec<LaneLog<'_>>> {
 
 /// They are numbered from 1.
 fn are_counted(changes: &[LaneChange<'_>]) -> bool {
-    changes.iter().enumerate().all(|(i, c)| c.number == i as u64 + 1)
+    changes
+        .iter()
+        .enumerate()
+        .all(|(i, c)| c.number == i as u64 + 1)
 }
 
 fn a_million(alloc: Global) -> Option<bool> {
