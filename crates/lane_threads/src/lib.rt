@@ -9,8 +9,6 @@ mod doing;
 mod gathering;
 mod laws;
 mod readying;
-#[cfg(test)]
-mod tests;
 mod together;
 
 pub use laws::runs_are_legal;

@@ -1,5 +1,5 @@
 -- Lines that an engine can be asked.
-use Rattle.std.specs.Prelude.{ℕ, ◌≡◌, ◌<◌, List, [], ◌∷◌, length}
+use Rattle.std.specs.Prelude.{ℕ, ◌≡◌, ◌<◌, List, length}
 use Rattle.std.specs.List.{AllByRecursion}
 use mathlib.Core.Option.{some}
 use lib.ListN.{get_elem?}
@@ -43,8 +43,3 @@ IsOpOf fields (op.Scan index from to limit) = ⊥
 -- lines that all ask so
 abbrev pub AreLinesOf : List ℕ → List Line → Type 0
 AreLinesOf fields lines = AllByRecursion (λ (line : Line). IsOpOf fields line.op) lines
-
--- three indexes, each with keys of two fields
-pub record HasTwoFields (engine : Engine) : Type 0 where
-  pub indexes : indexes_of engine ≡ 3
-  pub fields : engine.space.terms.shape.fields ≡ 2 ∷ 2 ∷ 2 ∷ []

@@ -4,7 +4,5 @@
 
 mod lane;
 mod line;
-#[cfg(test)]
-mod tests;
 
 pub use lane::{LaneWork, work_lane};
