@@ -12,12 +12,20 @@ no_stats = codes "stats t hit 0 off 0 cold 0 short 0 part-busy 0 no-entry 0 bloc
 
 -- the report of an empty lane
 abbrev pub empty_lane_bytes : List ℕ
-empty_lane_bytes = lines (codes "ahi run" ∷ codes "lane 1" ∷ codes "changes t 0" ∷ no_stats ∷ codes "end" ∷ [])
+empty_lane_bytes =
+    lines (codes "ahi run" ∷ codes "lane 1" ∷ codes "changes t 0" ∷ no_stats ∷ codes "end" ∷ [])
 
 -- the report of a put, a get, a del and a get of one key
 abbrev pub row_life_bytes : List ℕ
-row_life_bytes = lines (codes "ahi run" ∷ codes "lane 1" ∷ codes "1 ok @1 - -" ∷ codes "2 found x @1 - -" ∷ codes "3 ok @2 - -" ∷ codes "4 absent @2 - -" ∷ codes "changes t 2" ∷ codes "1 1 1 put a x" ∷ codes "2 1 3 del a" ∷ no_stats ∷ codes "end" ∷ [])
+row_life_bytes = lines (codes "ahi run" ∷ codes "lane 1" ∷ codes "1 ok @1 - -"
+    ∷ codes "2 found x @1 - -" ∷ codes "3 ok @2 - -" ∷ codes "4 absent @2 - -"
+    ∷ codes "changes t 2" ∷ codes "1 1 1 put a x" ∷ codes "2 1 3 del a" ∷ no_stats ∷ codes "end"
+    ∷ [])
 
 -- the report of three puts and a scan
 abbrev pub puts_and_scan_bytes : List ℕ
-puts_and_scan_bytes = lines (codes "ahi run" ∷ codes "lane 1" ∷ codes "1 ok @1 - -" ∷ codes "2 ok @2 - -" ∷ codes "3 ok @3 - -" ∷ codes "4 scan 1 3" ∷ codes "piece @3 3 - -" ∷ codes "row a,~ 3" ∷ codes "row a,%00 2" ∷ codes "row ab,~ 1" ∷ codes "changes t 3" ∷ codes "1 1 1 put ab,~ 1" ∷ codes "2 1 2 put a,%00 2" ∷ codes "3 1 3 put a,~ 3" ∷ no_stats ∷ codes "end" ∷ [])
+puts_and_scan_bytes = lines
+    (codes "ahi run" ∷ codes "lane 1" ∷ codes "1 ok @1 - -" ∷ codes "2 ok @2 - -"
+    ∷ codes "3 ok @3 - -" ∷ codes "4 scan 1 3" ∷ codes "piece @3 3 - -" ∷ codes "row a,~ 3"
+    ∷ codes "row a,%00 2" ∷ codes "row ab,~ 1" ∷ codes "changes t 3" ∷ codes "1 1 1 put ab,~ 1"
+    ∷ codes "2 1 2 put a,%00 2" ∷ codes "3 1 3 put a,~ 3" ∷ no_stats ∷ codes "end" ∷ [])

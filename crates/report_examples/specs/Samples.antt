@@ -36,15 +36,20 @@ one_lane_run sizes lines = record { sizes = sizes; names = codes "t" ∷ []; lan
 
 -- the report with these answers and these entries
 abbrev pub one_lane_report : List AnswerLine → List ChangeLine → Report
-one_lane_report answers entries = record { lanes = answers ∷ []; indexes = record { name = codes "t"; entries = entries; counts = no_counts } ∷ [] }
+one_lane_report answers entries = record {
+  lanes = answers ∷ [];
+  indexes = record { name = codes "t"; entries = entries; counts = no_counts } ∷ [];
+}
 
 -- the report of this lane is legal, whatever the sizes
 abbrev pub IsLegal : List Line → List AnswerLine → List ChangeLine → Type 0
-IsLegal lines answers entries = (sizes : Sizes) → IsLegalReport (one_lane_run sizes lines) (one_lane_report answers entries)
+IsLegal lines answers entries = (sizes : Sizes)
+    → IsLegalReport (one_lane_run sizes lines) (one_lane_report answers entries)
 
 -- it isn't, whatever the sizes and however much room there is
 abbrev pub IsIllegal : List Line → List AnswerLine → List ChangeLine → Type 0
-IsIllegal lines answers entries = (sizes : Sizes) → ¬ IsLegalButRoom (one_lane_run sizes lines) (one_lane_report answers entries)
+IsIllegal lines answers entries = (sizes : Sizes)
+    → ¬ IsLegalButRoom (one_lane_run sizes lines) (one_lane_report answers entries)
 
 -- the key `a` of one field
 abbrev pub a_key : FieldList
@@ -68,7 +73,8 @@ value_y = codes "y"
 
 -- put t a x, get t a, del t a, get t a
 abbrev pub row_life : List Line
-row_life = line 1 (Make (Put a_key value_x)) ∷ line 2 (Get a_key) ∷ line 3 (Make (Del a_key)) ∷ line 4 (Get a_key) ∷ []
+row_life = line 1 (Make (Put a_key value_x)) ∷ line 2 (Get a_key) ∷ line 3 (Make (Del a_key))
+    ∷ line 4 (Get a_key) ∷ []
 
 -- its answers
 abbrev pub row_life_told : List AnswerLine

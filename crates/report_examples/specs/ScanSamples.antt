@@ -38,15 +38,18 @@ high_row = record { key = ab; value = codes "1" }
 
 -- the lane: the puts, then scan t ~~ ~~ 9
 abbrev pub puts_and_scan : List Line
-puts_and_scan = line 1 (Make (Put ab (codes "1"))) ∷ line 2 (Make (Put a_zero (codes "2"))) ∷ line 3 (Make (Put a_empty (codes "3"))) ∷ line 4 (Scan [] None 9) ∷ []
+puts_and_scan = line 1 (Make (Put ab (codes "1"))) ∷ line 2 (Make (Put a_zero (codes "2")))
+    ∷ line 3 (Make (Put a_empty (codes "3"))) ∷ line 4 (Scan [] None 9) ∷ []
 
 -- the changes of the three puts
 abbrev pub puts_made : List ChangeLine
-puts_made = made 1 (Put ab (codes "1")) ∷ made 2 (Put a_zero (codes "2")) ∷ made 3 (Put a_empty (codes "3")) ∷ []
+puts_made = made 1 (Put ab (codes "1")) ∷ made 2 (Put a_zero (codes "2"))
+    ∷ made 3 (Put a_empty (codes "3")) ∷ []
 
 -- the answers, with these pieces
 abbrev pub puts_and_scan_told : List ScanPiece → List AnswerLine
-puts_and_scan_told pieces = told 1 Done 1 ∷ told 2 Done 2 ∷ told 3 Done 3 ∷ record { line = 4; answer = Scanned pieces } ∷ []
+puts_and_scan_told pieces = told 1 Done 1 ∷ told 2 Done 2 ∷ told 3 Done 3
+    ∷ record { line = 4; answer = Scanned pieces } ∷ []
 
 -- a piece at the end of the list of changes
 abbrev pub piece : Map → ScanPiece

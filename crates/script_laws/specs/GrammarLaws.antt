@@ -59,5 +59,7 @@ pub record LacksIndex (lines : List (List ℕ)) (e : ScriptError) : Type 0 where
 
 -- each refusal speaks of the first line that isn't in the grammar
 pub record RefusalsAreFirst : Type 0 where
-  pub lane : (s : SchemaText) (bytes : List ℕ) (e : ScriptError) → lane_of s bytes ≡ Err e → IsFirstFlaw s (lines_of bytes) e
-  pub schema : (bytes : List ℕ) (e : ScriptError) → schema_of bytes ≡ Err e → IsFirstSchemaFlaw (lines_of bytes) e ⊎ LacksIndex (lines_of bytes) e
+  pub lane : (s : SchemaText) (bytes : List ℕ) (e : ScriptError) → lane_of s bytes ≡ Err e
+      → IsFirstFlaw s (lines_of bytes) e
+  pub schema : (bytes : List ℕ) (e : ScriptError) → schema_of bytes ≡ Err e
+      → IsFirstSchemaFlaw (lines_of bytes) e ⊎ LacksIndex (lines_of bytes) e

@@ -9,7 +9,8 @@ use Rattle.script.specs.Lane.{line_meaning, lane_of, AreLaneLines}
 use Rattle.script.specs.Schema.{SchemaText}
 
 -- the text at this place, counted from 0, says the operation
-pub record TextSays (schema : SchemaText) (texts : List (List ℕ)) (place : ℕ) (op : Operation) : Type 0 where
+pub record TextSays (schema : SchemaText) (texts : List (List ℕ)) (place : ℕ)
+    (op : Operation) : Type 0 where
   pub text : List ℕ
   pub there : slice_get texts place ≡ Some text
   pub said : line_meaning schema text ≡ Ok (Some op)

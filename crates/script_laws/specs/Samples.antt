@@ -36,7 +36,8 @@ five_fields = codes "a" ∷ codes "b" ∷ codes "c" ∷ codes "d" ∷ codes "e" 
 abbrev pub five_field_line : Line
 five_field_line = record { line = 1; op = record { index = 0; ask = Get five_fields } }
 
--- by a schema that has an index of five fields a key of five is read, though a key may have no more than four
+-- by a schema that has an index of five fields a key of five is read, though a key may have no more
+-- than four
 pub record FiveFieldsAreRead : Type 0 where
   pub lane : lane_of (index_t 5) (codes "get t a,b,c,d,e") ≡ Ok (five_field_line ∷ [])
   pub too_many : MAX_FIELDS < length five_fields

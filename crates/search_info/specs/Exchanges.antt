@@ -16,7 +16,8 @@ use Rattle.search_info.specs.declared.outcome.Learn.TheVariants.{Learnt, Raced, 
 use Rattle.search_info.specs.History.{Start, IsStart, known_after}
 use Rattle.search_info.specs.Steps.{StandsInHistory, with_try, Hits}
 
--- the pass has just loaded this word, of the list that it has seen, and one event more can be counted
+-- the pass has just loaded this word, of the list that it has seen, and one event more can be
+-- counted
 pub record HasRead (v : Knows) (i : ℕ) (event : Event) (word : ℕ) (before : Info) : Type 0 where
   pub start : Start
   pub is_start : get_elem? v.opening.starts i ≡ some start
@@ -30,7 +31,8 @@ pub record HasRead (v : Knows) (i : ℕ) (event : Event) (word : ℕ) (before : 
   pub room : before.events < 4294967295
 
 -- a longer list than the one that the pass has seen stood there
-pub record Overtakes (v : Knows) (i : ℕ) (s : Start) (xs : List Entry) (event : Event) (read found : Info) (v' : Knows) : Type 0 where
+pub record Overtakes (v : Knows) (i : ℕ) (s : Start) (xs : List Entry) (event : Event)
+    (read found : Info) (v' : Knows) : Type 0 where
   pub more : List Entry
   pub found_is : found ≡ known_after s (xs ++ more)
   pub stands : StandsInHistory v' i (xs ++ more)
@@ -43,5 +45,6 @@ ExchangeTells v i event before (Learnt b a build) v' =
     × ((xs : List Entry) → get_elem? v.seen i ≡ some xs → Hits v i xs event v')
 ExchangeTells v i event before (Raced read found) v' =
     (read ≡ before) × (read ≢ found)
-    × ((s : Start) (xs : List Entry) → get_elem? v.opening.starts i ≡ some s → get_elem? v.seen i ≡ some xs → Overtakes v i s xs event read found v')
+    × ((s : Start) (xs : List Entry) → get_elem? v.opening.starts i ≡ some s
+    → get_elem? v.seen i ≡ some xs → Overtakes v i s xs event read found v')
 ExchangeTells v i event before Worn v' = ⊥

@@ -41,13 +41,16 @@ IsBeginning lists i xs = (ys : List Entry) × (get_elem? lists i ≡ some (xs ++
 
 -- the index knew this after a beginning of its list
 abbrev pub WasKnown : List Start → History → ℕ → Info → Type 0
-WasKnown starts lists i info = (s : Start) × (xs : List Entry) × (get_elem? starts i ≡ some s) × IsBeginning lists i xs × (known_after s xs ≡ info)
+WasKnown starts lists i info = (s : Start) × (xs : List Entry) × (get_elem? starts i ≡ some s)
+    × IsBeginning lists i xs × (known_after s xs ≡ info)
 
--- the lists may stand so: each event was made by a pass and is one of its index, and what each index
--- knows asks for no more fields than it has and fits the word
+-- the lists may stand so: each event was made by a pass and is one of its index, and what each
+-- index knows asks for no more fields than it has and fits the word
 pub record IsHistory (o : Opening) (lists : History) : Type 0 where
   pub all : length lists ≡ length o.starts
   pub starts : AreStarts o.starts
   pub makers : (i n : ℕ) (e : Entry) → IsListed lists i n e → e.by < o.passes
-  pub events : (i n : ℕ) (e : Entry) (s : Start) → IsListed lists i n e → get_elem? o.starts i ≡ some s → IsEventOf s.1 e.event
-  pub infos : (i : ℕ) (s : Start) (xs : List Entry) → get_elem? o.starts i ≡ some s → get_elem? lists i ≡ some xs → IsInfoOf s.1 (known_after s xs)
+  pub events : (i n : ℕ) (e : Entry) (s : Start) → IsListed lists i n e
+      → get_elem? o.starts i ≡ some s → IsEventOf s.1 e.event
+  pub infos : (i : ℕ) (s : Start) (xs : List Entry) → get_elem? o.starts i ≡ some s
+      → get_elem? lists i ≡ some xs → IsInfoOf s.1 (known_after s xs)

@@ -34,10 +34,12 @@ pub record Recommends (v : Knows) (i : ℕ) (info : Info) (v' : Knows) : Type 0 
 
 -- a pass with all numbers has counted all events since the opening
 abbrev pub CountsAll : Knows → ℕ → Info → Type 0
-CountsAll v i info = HasAllNumbers v → (s : Start) → get_elem? v.opening.starts i ≡ some s → info.events ≡ s.0.events + tries_counted i v.tries
+CountsAll v i info = HasAllNumbers v → (s : Start) → get_elem? v.opening.starts i ≡ some s
+    → info.events ≡ s.0.events + tries_counted i v.tries
 
 -- the event was counted right behind the list that was loaded
-pub record Counts (v : Knows) (i : ℕ) (event : Event) (before after : Info) (v' : Knows) : Type 0 where
+pub record Counts (v : Knows) (i : ℕ) (event : Event) (before after : Info)
+    (v' : Knows) : Type 0 where
   pub start : Start
   pub is_start : get_elem? v.opening.starts i ≡ some start
   pub list : List Entry
@@ -50,7 +52,8 @@ pub record Counts (v : Knows) (i : ℕ) (event : Event) (before after : Info) (v
   pub view : v' ≡ counting v i list event
 
 -- a longer list than the one that was loaded stood there at the exchange
-pub record IsOvertaken (v : Knows) (i : ℕ) (event : Event) (read found : Info) (v' : Knows) : Type 0 where
+pub record IsOvertaken (v : Knows) (i : ℕ) (event : Event) (read found : Info)
+    (v' : Knows) : Type 0 where
   pub start : Start
   pub is_start : get_elem? v.opening.starts i ≡ some start
   pub list : List Entry
@@ -76,13 +79,15 @@ pub record IsWorn (v : Knows) (i : ℕ) (event : Event) (v' : Knows) : Type 0 wh
 
 -- what came of an event
 abbrev pub TellsLearn : Knows → ℕ → Event → Learn → Knows → Type 0
-TellsLearn v i event (Learnt before after build) v' = Counts v i event before after v' × (build ≡ should_build before event)
+TellsLearn v i event (Learnt before after build) v' = Counts v i event before after v'
+    × (build ≡ should_build before event)
 TellsLearn v i event (Raced read found) v' = IsOvertaken v i event read found v'
 TellsLearn v i event Worn v' = IsWorn v i event v'
 
 -- a descent as it is handed in
 abbrev pub descent_of : ℕ → Figures → BlockFigures → ℕ → Descent
-descent_of unique figures block rows = record { unique = unique; figures = figures; block = block; rows = rows }
+descent_of unique figures block rows =
+    record { unique = unique; figures = figures; block = block; rows = rows }
 
 -- the block's figures after a descent: as learnt where it was counted, else as before
 abbrev pub TellsBlock : Descent → Learn → BlockFigures → Type 0

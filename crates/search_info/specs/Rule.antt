@@ -20,7 +20,13 @@ opening_of t = record { starts = t.starts.items; passes = t.passes }
 
 -- what the first pass knows: all numbers, and that each list begins
 abbrev pub first_knows : Opening → Knows
-first_knows o = record { opening = o; low = 0; end = o.passes; seen = replicate (length o.starts) []; tries = [] }
+first_knows o = record {
+  opening = o;
+  low = 0;
+  end = o.passes;
+  seen = replicate (length o.starts) [];
+  tries = [];
+}
 
 -- and so by the settings of the table
 abbrev pub knows_first : Settings → Knows
@@ -51,9 +57,12 @@ times_made n xs = count_by (λ e. e.by == n) xs
 -- a try is so: counted, it is the event at its place; raced, the index knew two different things;
 -- worn, its event count was at its last value
 abbrev pub IsTrueWithFate : List Start → History → Try → Fate → Type 0
-IsTrueWithFate starts lists q (Counted place) = IsListed lists q.index place record { event = q.event; by = q.by }
-IsTrueWithFate starts lists q (Raced read found) = WasKnown starts lists q.index read × WasKnown starts lists q.index found × (read ≢ found)
-IsTrueWithFate starts lists q Worn = (info : Info) × WasKnown starts lists q.index info × (info.events ≡ 4294967295)
+IsTrueWithFate starts lists q (Counted place) =
+    IsListed lists q.index place record { event = q.event; by = q.by }
+IsTrueWithFate starts lists q (Raced read found) = WasKnown starts lists q.index read
+    × WasKnown starts lists q.index found × (read ≢ found)
+IsTrueWithFate starts lists q Worn = (info : Info) × WasKnown starts lists q.index info
+    × (info.events ≡ 4294967295)
 
 -- a try is so, with its own fate
 abbrev pub IsTrueTry : List Start → History → Try → Type 0
@@ -72,15 +81,22 @@ pub record FitsHistory (lists : History) (v : Knows) : Type 0 where
   pub seen : (i : ℕ) (xs : List Entry) → get_elem? v.seen i ≡ some xs → IsBeginning lists i xs
   pub mine : (j : ℕ) (q : Try) → get_elem? v.tries j ≡ some q → (v.low ≤ q.by) × (q.by < v.end)
   pub so : (j : ℕ) (q : Try) → get_elem? v.tries j ≡ some q → IsTrueTry v.opening.starts lists q
-  pub own : (i n : ℕ) (e : Entry) → IsListed lists i n e → v.low ≤ e.by → e.by < v.end → (j : ℕ) × (get_elem? v.tries j ≡ some (counted_try i n e))
-  pub once : (i n : ℕ) (xs : List Entry) → get_elem? lists i ≡ some xs → v.low ≤ n → n < v.end → times_counted i n v.tries ≡ times_made n xs
+  pub own : (i n : ℕ) (e : Entry) → IsListed lists i n e → v.low ≤ e.by → e.by < v.end
+      → (j : ℕ) × (get_elem? v.tries j ≡ some (counted_try i n e))
+  pub once : (i n : ℕ) (xs : List Entry) → get_elem? lists i ≡ some xs → v.low ≤ n → n < v.end
+      → times_counted i n v.tries ≡ times_made n xs
 
--- each word is what its index knows from one list, all that the passes know is so, and no two have a
--- number in common
+-- each word is what its index knows from one list, all that the passes know is so, and no two have
+-- a number in common
 pub record KeptWords (t : Settings) (s : State ℕ Knows) : Type 0 where
   pub lists : History
   pub history : IsHistory (opening_of t) lists
-  pub words : (i : ℕ) (start : Start) (xs : List Entry) → get_elem? t.starts.items i ≡ some start → get_elem? lists i ≡ some xs → get_elem? s.words i ≡ some (word_of (known_after start xs))
-  pub same : (j : ℕ) (v : Knows) → get_elem? s.views j ≡ some v → v.low < v.end → v.opening ≡ opening_of t
-  pub each : (j : ℕ) (v : Knows) → get_elem? s.views j ≡ some v → v.low < v.end → FitsHistory lists v
-  pub apart : (i j : ℕ) (u v : Knows) → ¬ (i ≡ j) → get_elem? s.views i ≡ some u → get_elem? s.views j ≡ some v → u.low < u.end → v.low < v.end → (u.end ≤ v.low) ⊎ (v.end ≤ u.low)
+  pub words : (i : ℕ) (start : Start) (xs : List Entry) → get_elem? t.starts.items i ≡ some start
+      → get_elem? lists i ≡ some xs → get_elem? s.words i ≡ some (word_of (known_after start xs))
+  pub same : (j : ℕ) (v : Knows) → get_elem? s.views j ≡ some v → v.low < v.end
+      → v.opening ≡ opening_of t
+  pub each : (j : ℕ) (v : Knows) → get_elem? s.views j ≡ some v → v.low < v.end
+      → FitsHistory lists v
+  pub apart : (i j : ℕ) (u v : Knows) → ¬ (i ≡ j) → get_elem? s.views i ≡ some u
+      → get_elem? s.views j ≡ some v → u.low < u.end → v.low < v.end
+      → (u.end ≤ v.low) ⊎ (v.end ≤ u.low)

@@ -29,7 +29,8 @@ pub record KeepsNumbers (v v' : Knows) : Type 0 where
 
 -- the list begins with what the pass has seen of it
 abbrev pub BeginsWithSeen : Knows → ℕ → List Entry → Type 0
-BeginsWithSeen v i xs = (ys : List Entry) → get_elem? v.seen i ≡ some ys → (zs : List Entry) × (ys ++ zs ≡ xs)
+BeginsWithSeen v i xs = (ys : List Entry) → get_elem? v.seen i ≡ some ys
+    → (zs : List Entry) × (ys ++ zs ≡ xs)
 
 -- a list more seen
 abbrev pub seeing : Knows → ℕ → List Entry → Knows
@@ -37,7 +38,9 @@ seeing v i xs = record v { seen = slice_set v.seen i xs }
 
 -- one try more
 abbrev pub with_try : Knows → ℕ → Event → Fate → Knows
-with_try v i event fate = record v { tries = v.tries ++ record { index = i; event = event; by = v.low; fate = fate } ∷ [] }
+with_try v i event fate = record v {
+  tries = v.tries ++ record { index = i; event = event; by = v.low; fate = fate } ∷ [];
+}
 
 -- the entry of an event, in the name of a pass
 abbrev pub event_entry : Knows → Event → Entry
@@ -45,13 +48,15 @@ event_entry v event = record { event = event; by = v.low }
 
 -- the event was counted behind the list xs
 abbrev pub counting : Knows → ℕ → List Entry → Event → Knows
-counting v i xs event = with_try (seeing v i (xs ++ event_entry v event ∷ [])) i event (Counted (length xs))
+counting v i xs event =
+    with_try (seeing v i (xs ++ event_entry v event ∷ [])) i event (Counted (length xs))
 
 -- the list xs was loaded, for an event or for none: a worn try where no more events can be counted
 abbrev pub loading : Option Event → Knows → ℕ → Start → List Entry → Knows
 loading None v i s xs = seeing v i xs
 loading (Some event) v i s xs =
-    if (known_after s xs).events == 4294967295 then with_try (seeing v i xs) i event Worn else seeing v i xs
+    if (known_after s xs).events == 4294967295
+    then with_try (seeing v i xs) i event Worn else seeing v i xs
 
 -- a load found the word of a list that begins with all that the pass had seen
 pub record Loaded (asked : Option Event) (v : Knows) (i word : ℕ) (v' : Knows) : Type 0 where
@@ -73,7 +78,8 @@ pub record Hits (v : Knows) (i : ℕ) (xs : List Entry) (event : Event) (v' : Kn
   pub view : v' ≡ counting v i xs event
 
 -- a longer list stood there, and the try raced
-pub record Misses (v : Knows) (i : ℕ) (s : Start) (xs : List Entry) (event : Event) (word : ℕ) (v' : Knows) : Type 0 where
+pub record Misses (v : Knows) (i : ℕ) (s : Start) (xs : List Entry) (event : Event) (word : ℕ)
+    (v' : Knows) : Type 0 where
   pub more : List Entry
   pub word_is : word ≡ word_of (known_after s (xs ++ more))
   pub stands : StandsInHistory v' i (xs ++ more)
@@ -81,8 +87,11 @@ pub record Misses (v : Knows) (i : ℕ) (s : Start) (xs : List Entry) (event : E
 
 -- the same of a step of the table: by the word that it found
 abbrev pub exchanged : Option Event → Step ℕ → Me ℕ Knows → ℕ → Me ℕ Knows → Type 0
-exchanged asked st m found m' = (event : Event) (s : Start) (xs : List Entry) → asked ≡ Some event → get_elem? m.0.opening.starts st.word ≡ some s → get_elem? m.0.seen st.word ≡ some xs → st.first ≡ word_of (known_after s xs)
-    → (found ≡ st.first → Hits m.0 st.word xs event m'.0) × (found ≢ st.first → Misses m.0 st.word s xs event found m'.0) × (m'.1 ≡ m.1)
+exchanged asked st m found m' = (event : Event) (s : Start) (xs : List Entry) → asked ≡ Some event
+    → get_elem? m.0.opening.starts st.word ≡ some s → get_elem? m.0.seen st.word ≡ some xs
+    → st.first ≡ word_of (known_after s xs)
+    → (found ≡ st.first → Hits m.0 st.word xs event m'.0)
+    × (found ≢ st.first → Misses m.0 st.word s xs event found m'.0) × (m'.1 ≡ m.1)
 
 -- an exchange of the word of the list that the pass has seen for the word with one event more
 pub record MayExchange (v : Knows) (i old new : ℕ) (event : Event) : Type 0 where
@@ -97,8 +106,11 @@ pub record MayExchange (v : Knows) (i old new : ℕ) (event : Event) : Type 0 wh
 
 -- an exchange that found the old word counted the event
 abbrev pub HitTells : Knows → ℕ → Event → ℕ → ℕ → Knows → Type 0
-HitTells v i event old found v' = (xs : List Entry) → get_elem? v.seen i ≡ some xs → found ≡ old → Hits v i xs event v'
+HitTells v i event old found v' = (xs : List Entry) → get_elem? v.seen i ≡ some xs → found ≡ old
+    → Hits v i xs event v'
 
 -- an exchange that found another word did not
 abbrev pub MissTells : Knows → ℕ → Event → ℕ → ℕ → Knows → Type 0
-MissTells v i event old found v' = (s : Start) (xs : List Entry) → get_elem? v.opening.starts i ≡ some s → get_elem? v.seen i ≡ some xs → found ≢ old → Misses v i s xs event found v'
+MissTells v i event old found v' = (s : Start) (xs : List Entry)
+    → get_elem? v.opening.starts i ≡ some s → get_elem? v.seen i ≡ some xs → found ≢ old
+    → Misses v i s xs event found v'

@@ -66,7 +66,15 @@ row_pairs (x ∷ xs) = with_pair x.key x.body (row_pairs xs)
 
 -- a page as a page of a tree
 abbrev pub outline : Page → Outline
-outline p = record { index = p.index; level = p.level; prev = p.prev; next = p.next; low = low_place p.low; high = high_place p.high; pointers = pointers_of p.rows }
+outline p = record {
+  index = p.index;
+  level = p.level;
+  prev = p.prev;
+  next = p.next;
+  low = low_place p.low;
+  high = high_place p.high;
+  pointers = pointers_of p.rows;
+}
 
 -- a page outside the trees has itself as its left neighbour
 abbrev pub is_own : ℕ → Option ℕ → Bool
@@ -96,8 +104,8 @@ abbrev pub HasFields : ℕ → Option FieldList → Type 0
 HasFields n None = Unit {0}
 HasFields n (Some k) = length k ≡ n
 
--- what a page shows by itself: it, its keys and its bounds have its index's number of fields, each row carries
--- what the level asks for, and the places differ
+-- what a page shows by itself: it, its keys and its bounds have its index's number of fields, each
+-- row carries what the level asks for, and the places differ
 pub record IsOrderly (fields_of : ℕ → ℕ) (page : Page) : Type 0 where
   pub fields : page.fields ≡ fields_of page.index
   pub keys : AllByRecursion (λ (x : Row). length x.key ≡ page.fields) page.rows
@@ -106,9 +114,10 @@ pub record IsOrderly (fields_of : ℕ → ℕ) (page : Page) : Type 0 where
   pub bodies : AllByRecursion (λ (x : Row). FitsLevel page.level x.body) page.rows
   pub places : PlacesDiffer page.rows
 
--- the law of the pages: they form the trees, the leaves hold the maps, a page outside the trees has no
--- rows, and each page is in order by itself
-pub record AreLawfulPages (indexes : ℕ) (fields_of heights : ℕ → ℕ) (maps : ℕ → Map) (pages : Pages) : Type 0 where
+-- the law of the pages: they form the trees, the leaves hold the maps, a page outside the trees has
+-- no rows, and each page is in order by itself
+pub record AreLawfulPages (indexes : ℕ) (fields_of heights : ℕ → ℕ) (maps : ℕ → Map)
+    (pages : Pages) : Type 0 where
   pub shape : IsTreeShaped indexes heights (forest pages)
   pub contents : HoldsMaps (forest pages) (pairs_at pages) maps
   pub outside : (n : ℕ) (page : Page) → pages n ≡ Some page → page.prev ≡ Some n → page.rows ≡ []
@@ -116,7 +125,16 @@ pub record AreLawfulPages (indexes : ℕ) (fields_of heights : ℕ → ℕ) (map
 
 -- an empty leaf with all keys of an index
 abbrev pub first_page : (ℕ → ℕ) → ℕ → Page
-first_page fields_of i = record { index = i; level = 0; fields = fields_of i; prev = None; next = None; low = None; high = None; rows = [] }
+first_page fields_of i = record {
+  index = i;
+  level = 0;
+  fields = fields_of i;
+  prev = None;
+  next = None;
+  low = None;
+  high = None;
+  rows = [];
+}
 
 -- the pages when a space opens: an empty leaf for each index
 abbrev pub first_pages : (ℕ → ℕ) → ℕ → Pages

@@ -20,13 +20,15 @@ pub record CutRange (p : KeyPlace → Bool) (rows : List Row) (high : KeyPlace) 
 abbrev pub AreInner : List Row → Type 0
 AreInner rows = AllByRecursion (λ (x : Row). (n : ℕ) × (x.body ≡ Child n)) rows
 
--- on a page that has the cut, the range of the last row that the cut leaves out has it, and where the cut leaves
--- out none, that of the first row
+-- on a page that has the cut, the range of the last row that the cut leaves out has it, and where
+-- the cut leaves out none, that of the first row
 pub record PicksRange (p : KeyPlace → Bool) : Type 0 where
   pub last : (rows left right : List Row) (high : KeyPlace) (x : Row) (n : ℕ) → rows ≡ left ++ right
-      → last_of_rows left ≡ Some x → x.body ≡ Child n → AllOut p left → AllIn p right → AreInner right
+      → last_of_rows left ≡ Some x → x.body ≡ Child n → AllOut p left → AllIn p right
+      → AreInner right
       → p high ≡ true → Rise (pointers_of rows) high → CutRange p rows high n
-  pub first : (x : Row) (ys : List Row) (low high : KeyPlace) (n : ℕ) → x.body ≡ Child n → AllIn p ys → AreInner ys
+  pub first : (x : Row) (ys : List Row) (low high : KeyPlace) (n : ℕ) → x.body ≡ Child n
+      → AllIn p ys → AreInner ys
       → first_from (pointers_of (x ∷ ys)) high ≡ low → p low ≡ false → p high ≡ true
       → Rise (pointers_of (x ∷ ys)) high → CutRange p (x ∷ ys) high n
 
@@ -36,7 +38,8 @@ RangesArePicked = (p : KeyPlace → Bool) → IsCut p → PicksRange p
 
 -- one level down: that row points to the page of the level below that has the cut
 pub record StepsDown (trees : Forest) (p : KeyPlace → Bool) (page : Page) (level : ℕ) : Type 0 where
-  pub last : (left right : List Row) (x : Row) (n : ℕ) → page.rows ≡ left ++ right → last_of_rows left ≡ Some x
+  pub last : (left right : List Row) (x : Row) (n : ℕ) → page.rows ≡ left ++ right
+      → last_of_rows left ≡ Some x
       → x.body ≡ Child n → AllOut p left → AllIn p right → HasCut trees p page.index level n
   pub first : (x : Row) (ys : List Row) (n : ℕ) → page.rows ≡ x ∷ ys → x.body ≡ Child n → AllIn p ys
       → HasCut trees p page.index level n
@@ -48,4 +51,5 @@ DescentSteps =
     → AreLawfulPages indexes fields_of heights maps pages
     → (p : KeyPlace → Bool) → IsCut p → (number level : ℕ) (page : Page) → pages number ≡ Some page
     → is_own number page.prev ≡ false → page.level ≡ suc level
-    → p (low_place page.low) ≡ false → p (high_place page.high) ≡ true → StepsDown (forest pages) p page level
+    → p (low_place page.low) ≡ false → p (high_place page.high) ≡ true
+    → StepsDown (forest pages) p page level
