@@ -25,7 +25,8 @@ pub record HoldsWith (p : IndexPass) (i : ℕ) (P : Frame → Type 0) : Type 0 w
 
 -- a row was put in at the place of the leaf
 abbrev pub PutIn : IndexPass → IndexPass → ℕ → ℕ → FieldList → List ℕ → Type 0
-PutIn p q i place key value = (f : Frame) → HoldsLeaf p i f f → (g : Frame) × HoldsLeaf q i f g × PutsRow f g place key value
+PutIn p q i place key value = (f : Frame) → HoldsLeaf p i f f
+    → (g : Frame) × HoldsLeaf q i f g × PutsRow f g place key value
 
 -- the pass holds the leaf, on which a row now stands at the place
 pub record HoldsRowAt (p : IndexPass) (i place : ℕ) : Type 0 where
@@ -39,13 +40,15 @@ abbrev pub TookOut : IndexPass → IndexPass → ℕ → ℕ → Type 0
 TookOut p q i place = (f g : Frame) → HoldsLeaf p i f g → HoldsLeaf q i f (frame_without place g)
 
 -- the pass holds the leaf, which lacked the key, and into which its row was put at the place
-pub record HoldsNewRow (p : IndexPass) (i place : ℕ) (key : FieldList) (value : List ℕ) : Type 0 where
+pub record HoldsNewRow (p : IndexPass) (i place : ℕ) (key : FieldList)
+    (value : List ℕ) : Type 0 where
   pub known : Frame
   pub made : Frame
   pub holds : HoldsLeaf p i known made
   pub puts : PutsRow known made place key value
 
--- the pass holds the leaf, on which the key's row stands at the place, and which is to become this one, without it
+-- the pass holds the leaf, on which the key's row stands at the place, and which is to become this
+-- one, without it
 pub record HoldsOldRow (p : IndexPass) (i place : ℕ) (key : FieldList) (next : Frame) : Type 0 where
   pub known : Frame
   pub holds : HoldsLeaf p i known known

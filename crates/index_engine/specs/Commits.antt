@@ -20,7 +20,8 @@ pub record CanCommit (p : IndexPass) (i : ℕ) (change : MapChange) : Type 0 whe
   pub holds : HoldsLeaf p i known made
   pub makes : MakesChange i change known made
 
--- the pass holds the leaf, which is what it is known to be, and of which the change makes the next one
+-- the pass holds the leaf, which is what it is known to be, and of which the change makes the next
+-- one
 pub record CanWriteAhead (p : IndexPass) (i : ℕ) (change : MapChange) (next : Frame) : Type 0 where
   pub known : Frame
   pub holds : HoldsLeaf p i known known
@@ -37,7 +38,8 @@ pub record DidWrite (p q : IndexPass) (i : ℕ) (change : MapChange) (point : �
   pub written : IsCommitted p q i change point
 
 -- the change is written ahead, and the leaf is known to be the next one, which it isn't yet
-pub record DidWriteAhead (p q : IndexPass) (i : ℕ) (change : MapChange) (next : Frame) (point : ℕ) : Type 0 where
+pub record DidWriteAhead (p q : IndexPass) (i : ℕ) (change : MapChange) (next : Frame)
+    (point : ℕ) : Type 0 where
   pub leaf : (f g : Frame) → HoldsLeaf p i f g → MakesChange i change f next → HoldsLeaf q i next g
   pub written : IsCommitted p q i change point
 

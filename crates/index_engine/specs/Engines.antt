@@ -35,4 +35,10 @@ FitsKey engine i key = get_elem? engine.space.terms.shape.fields i ≡ some (len
 
 -- what an engine of these sizes is opened with, for indexes with so many fields and for some lanes
 abbrev pub terms_for : Sizes → List ℕ → ℕ → Terms Shape
-terms_for sizes fields lanes = record { shape = shape_for sizes fields; objects = length fields; indexes = length fields; max_changes = sizes.max_changes; passes = lanes }
+terms_for sizes fields lanes = record {
+  shape = shape_for sizes fields;
+  objects = length fields;
+  indexes = length fields;
+  max_changes = sizes.max_changes;
+  passes = lanes;
+}

@@ -22,10 +22,13 @@ IsFoundAt page key (Some place) = HasRow page place key
 
 -- the page without the row at a place
 abbrev pub page_without : ℕ → PageRows → PageRows
-page_without place page = record page { rows = filter (λ (x : Row). not (x.place == place)) page.rows }
+page_without place page =
+    record page { rows = filter (λ (x : Row). not (x.place == place)) page.rows }
 
--- the row of the key, which had none, and the value was put in at the place: as a map the leaf is what a put makes of it
-pub record PutsPair (before after : PageRows) (place : ℕ) (key : FieldList) (value : List ℕ) : Type 0 where
+-- the row of the key, which had none, and the value was put in at the place: as a map the leaf is
+-- what a put makes of it
+pub record PutsPair (before after : PageRows) (place : ℕ) (key : FieldList)
+    (value : List ℕ) : Type 0 where
   pub inserts : Inserts before after (placed_row place key (Bytes value))
   pub absent : value_at key (rows_of before) ≡ None
   pub map : rows_of after ≡ after_change (rows_of before) (Put key value)

@@ -49,5 +49,6 @@ pub record HoldsFresh (p : IndexPass) (i : ℕ) : Type 0 where
   pub few : HasAtMost (view p).terms.max_changes frame
 
 -- the key has as many fields as those of the index
-abbrev pub FitsIndex : {Q : Type 0} → SpaceOf Shape Object MadeChange Saying Q → ℕ → FieldList → Type 0
+abbrev pub FitsIndex : {Q : Type 0} → SpaceOf Shape Object MadeChange Saying Q → ℕ → FieldList
+    → Type 0
 FitsIndex space i key = get_elem? space.terms.shape.fields i ≡ some (length key)

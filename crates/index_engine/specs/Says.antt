@@ -31,7 +31,8 @@ pub record SeesFull (v : View) (i : ℕ) : Type 0 where
   pub seen : get_elem? v.seen i ≡ some list
   pub full : length list ≡ v.terms.max_changes
 
--- the rows of the held leaf make the word right: the map's reply that changes nothing, or the refusal of an allowed change at a full list
+-- the rows of the held leaf make the word right: the map's reply that changes nothing, or the
+-- refusal of an allowed change at a full list
 abbrev pub MaySay : View → ℕ → Map → Ask → Word → Type 0
 MaySay v i rows ask (Gives reply) = IsReply rows ask reply
 MaySay v i rows ask answers.LogFull = SeesFull v i × IsAllowed rows ask
@@ -59,13 +60,15 @@ pub record CanSay (p : IndexPass) (i : ℕ) (ask : Ask) (reply : Reply) (row : P
   pub most : TellsMost reply (view p).terms.max_changes
   pub key : HasKeyOf ask reply row
 
--- at a full list the point is its length, where there is no page there is none, and elsewhere there is one
+-- at a full list the point is its length, where there is no page there is none, and elsewhere there
+-- is one
 abbrev pub TellsPoint : Reply → Option ℕ → Type 0
 TellsPoint (words.LogFull n) point = point ≡ Some n
 TellsPoint words.SpaceFull point = point ≡ None
 TellsPoint reply point = IsSome point
 
--- while there is no hash and each index has one page: both columns are dashes, and nothing is told space-full
+-- while there is no hash and each index has one page: both columns are dashes, and nothing is told
+-- space-full
 pub record IsPlain (told : Told) : Type 0 where
   pub dashed : columns_told told ≡ dashes
   pub room : told.reply ≢ words.SpaceFull
@@ -106,7 +109,8 @@ abbrev pub HoldsKnown : IndexPass → ℕ → Type 0
 HoldsKnown p i = (f : Frame) × HoldsLeaf p i f f
 
 -- the pass has answered once, and holds the leaf as it is known to be
-pub record AnswersHolding (p q : IndexPass) (i : ℕ) (ask : Ask) (told : Told) (row : Pair) : Type 0 where
+pub record AnswersHolding (p q : IndexPass) (i : ℕ) (ask : Ask) (told : Told)
+    (row : Pair) : Type 0 where
   pub says : SaysOnce (view p) (view q) i ask told row
   pub holds : HoldsKnown q i
 

@@ -70,7 +70,7 @@ impl<R: Wait> LeafCall<'_, R> {
 }
 
 impl<R> LeafCall<'_, R> {
-    /// AnswersHolding the del without a change.
+    /// Answers the del without a change.
     fn say_of_del(&self, pass: &mut WorldPass, reply: Reply) -> Told
         requires own { IsPassOf self.now.space.now pass.old }
         requires held { CanSay pass.old self.now.index (Make (map.Del self.now.key.now.tuple)) reply

@@ -12,7 +12,7 @@ use index_world::{Say, WorldPass};
 use map_history::{How, Note, OpRef, Reply, RowBuf, Told};
 
 impl<R> LeafCall<'_, R> {
-    /// AnswersHolding the operation at the end of the list, without a change.
+    /// Answers the operation at the end of the list, without a change.
     pub(crate) fn say(
         &self,
         pass: &mut WorldPass,

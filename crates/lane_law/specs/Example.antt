@@ -46,7 +46,11 @@ line_of_get = record { line = 1; op = record { index = 0; ask = Get key } }
 
 -- the index `i`, and the two lanes
 abbrev pub example_run : Sizes → Run
-example_run sizes = record { sizes = sizes; names = (105 ∷ []) ∷ []; lanes = (line_of_put ∷ []) ∷ (line_of_get ∷ []) ∷ [] }
+example_run sizes = record {
+  sizes = sizes;
+  names = (105 ∷ []) ∷ [];
+  lanes = (line_of_put ∷ []) ∷ (line_of_get ∷ []) ∷ [];
+}
 
 -- what the put is told, and what the get
 abbrev pub told_put : AnswerLine
@@ -60,12 +64,17 @@ told_get = answered line_of_get (Replied (Value value) 1 dashes)
 abbrev pub example_report : Report
 example_report = record {
   lanes = (told_put ∷ []) ∷ (told_get ∷ []) ∷ [];
-  indexes = record { name = 105 ∷ []; entries = record { lane = 1; line = 2; change = put_row } ∷ []; counts = counts_of (dashes ∷ dashes ∷ []) } ∷ [];
+  indexes = record {
+    name = 105 ∷ [];
+    entries = record { lane = 1; line = 2; change = put_row } ∷ [];
+    counts = counts_of (dashes ∷ dashes ∷ []);
+  } ∷ [];
 }
 
 -- what the two lanes noted
 abbrev pub example_logs : List Log
-example_logs = record { noted = note_at 0 line_of_put 1 ∷ []; room = 1 } ∷ record { noted = []; room = 1 } ∷ []
+example_logs = record { noted = note_at 0 line_of_put 1 ∷ []; room = 1 }
+    ∷ record { noted = []; room = 1 } ∷ []
 
 -- a lawful state of one index whose list has the put, with nothing held
 pub record IsExample (sizes : Sizes) (w : State) : Type 0 where
@@ -81,12 +90,24 @@ pub record IsExample (sizes : Sizes) (w : State) : Type 0 where
 -- what the joined pass of the two lanes knows
 abbrev pub example_view : State → View
 example_view w = record {
-  terms = record { shape = w.shape; objects = length w.objects; indexes = 1; max_changes = w.max_changes; passes = 2 };
+  terms = record {
+    shape = w.shape;
+    objects = length w.objects;
+    indexes = 1;
+    max_changes = w.max_changes;
+    passes = 2;
+  };
   low = 0;
   end = 2;
   held = replicate (length w.objects) None;
   seen = [] ∷ [];
-  said = record { index = 0; point = 1; by = 0; what = what.Change row_made } ∷ record { index = 0; point = 1; by = 1; what = what.Answer (Replies (Get key) (Gives (Value value)) None dashes) } ∷ [];
+  said = record { index = 0; point = 1; by = 0; what = what.Change row_made }
+      ∷ record {
+        index = 0;
+        point = 1;
+        by = 1;
+        what = what.Answer (Replies (Get key) (Gives (Value value)) None dashes);
+      } ∷ [];
   refused = [];
   references = [];
 }
@@ -106,4 +127,5 @@ LanesExample = (sizes : Sizes) (w : State) → IsExample sizes w → IsMet sizes
 
 -- where a list may have a change, there is such a state
 abbrev pub ExampleStands : Type 0
-ExampleStands = (sizes : Sizes) → 1 ≤ sizes.max_changes → IsExample sizes (state_with sizes key value dashes 2)
+ExampleStands = (sizes : Sizes) → 1 ≤ sizes.max_changes
+    → IsExample sizes (state_with sizes key value dashes 2)

@@ -26,36 +26,62 @@ use Rattle.lane_law.specs.Merged.{notes_of, lane_notes, all_notes, HasNotes, IsN
 -- A lane that worked goes on by one line of an index that its pass knows, which is answered once.
 pub record LanesGoOn : Type 0 where
   pub none : (v : View) → Worked v v [] []
-  pub more : (u v w : View) (lines : List Line) (answers : List AnswerLine) (line : Line) (answer : Answer) → Worked u v lines answers → line.op.index < length v.seen → AllPairs Precedes (marks_of answer) → AnswersOnce v w line.op.index line.op.ask answer
+  pub more : (u v w : View) (lines : List Line) (answers : List AnswerLine) (line : Line)
+      (answer : Answer) → Worked u v lines answers → line.op.index < length v.seen
+      → AllPairs Precedes (marks_of answer) → AnswersOnce v w line.op.index line.op.ask answer
       → Worked u w (lines ++ line ∷ []) (answers ++ answered line answer ∷ [])
-  pub plain : (u v w : View) (lines : List Line) (answers : List AnswerLine) (line : Line) (answer : Answer) → Worked u v lines answers → line.op.index < length v.seen → is_scan line.op.ask ≡ false → AnswersOnce v w line.op.index line.op.ask answer
+  pub plain : (u v w : View) (lines : List Line) (answers : List AnswerLine) (line : Line)
+      (answer : Answer) → Worked u v lines answers → line.op.index < length v.seen
+      → is_scan line.op.ask ≡ false → AnswersOnce v w line.op.index line.op.ask answer
       → Worked u w (lines ++ line ∷ []) (answers ++ answered line answer ∷ [])
 
--- What a lane notes goes on with it. What is said, noted and in order of two runs of lanes is so of both in a row, where the second has the numbers that follow those of the first; and a lane that began with nothing said is a run of one lane.
+-- What a lane notes goes on with it. What is said, noted and in order of two runs of lanes is so of
+-- both in a row, where the second has the numbers that follow those of the first; and a lane that
+-- began with nothing said is a run of one lane.
 pub record RunsJoin : Type 0 where
-  pub note : (k : ℕ) (lines : List Line) (answers : List AnswerLine) (line : Line) (answer : Answer) → length answers ≡ length lines → lane_notes k (lines ++ line ∷ []) (answers ++ answered line answer ∷ []) ≡ lane_notes k lines answers ++ notes_of k line answer
-  pub one : (u v : View) (lines : List Line) (answers : List AnswerLine) → spoken u.said ≡ [] → Worked u v lines answers → spoken v.said ≡ all_sayings u.low (lines ∷ []) (answers ∷ [])
-  pub said : (u v : View) (n m : ℕ) (lanes lanes' : List (List Line)) (told told' : List (List AnswerLine)) → length told ≡ length lanes → m ≡ n + length lanes → spoken u.said ≡ all_sayings n lanes told → spoken v.said ≡ all_sayings m lanes' told'
+  pub note : (k : ℕ) (lines : List Line) (answers : List AnswerLine) (line : Line)
+      (answer : Answer) → length answers ≡ length lines
+      → lane_notes k (lines ++ line ∷ []) (answers ++ answered line answer ∷ [])
+      ≡ lane_notes k lines answers ++ notes_of k line answer
+  pub one : (u v : View) (lines : List Line) (answers : List AnswerLine) → spoken u.said ≡ []
+      → Worked u v lines answers → spoken v.said ≡ all_sayings u.low (lines ∷ []) (answers ∷ [])
+  pub said : (u v : View) (n m : ℕ) (lanes lanes' : List (List Line))
+      (told told' : List (List AnswerLine)) → length told ≡ length lanes → m ≡ n + length lanes
+      → spoken u.said ≡ all_sayings n lanes told → spoken v.said ≡ all_sayings m lanes' told'
       → spoken (both_parts u v).said ≡ all_sayings n (lanes ++ lanes') (told ++ told')
-  pub noted : (n m : ℕ) (lanes lanes' : List (List Line)) (told told' : List (List AnswerLine)) → length told ≡ length lanes → m ≡ n + length lanes → all_notes n (lanes ++ lanes') (told ++ told') ≡ all_notes n lanes told ++ all_notes m lanes' told'
-  pub in_order : (lanes lanes' : List (List Line)) (told told' : List (List AnswerLine)) → AllZip AreInOrder lanes told → AllZip AreInOrder lanes' told' → AllZip AreInOrder (lanes ++ lanes') (told ++ told')
+  pub noted : (n m : ℕ) (lanes lanes' : List (List Line)) (told told' : List (List AnswerLine))
+      → length told ≡ length lanes → m ≡ n + length lanes
+      → all_notes n (lanes ++ lanes') (told ++ told')
+      ≡ all_notes n lanes told ++ all_notes m lanes' told'
+  pub in_order : (lanes lanes' : List (List Line)) (told told' : List (List AnswerLine))
+      → AllZip AreInOrder lanes told → AllZip AreInOrder lanes' told'
+      → AllZip AreInOrder (lanes ++ lanes') (told ++ told')
 
 -- what lanes without scans are told is a legal report, but for room
 abbrev pub LanesAreLegal : Type 0
-LanesAreLegal = (run : Run) (report : Report) (w : State) (v : View) → HasNoScan run → RunsAll run report w v → AreEntries run report w → IsLegalButRoom run report
+LanesAreLegal = (run : Run) (report : Report) (w : State) (v : View) → HasNoScan run
+    → RunsAll run report w v → AreEntries run report w → IsLegalButRoom run report
 
 -- where each lane noted its changes, the merged logs of an index are its list, change by change
 abbrev pub MergedLogsAreLists : Type 0
-MergedLogsAreLists = (run : Run) (report : Report) (w : State) (v : View) (logs : List Log) → RunsAll run report w v → HasNotes run report logs → (i : ℕ) (xs : Entries) (merged : List ChangeNote) → get_elem? w.lists i ≡ some xs → IsMerge i logs merged → IsNumbered run report i xs merged
+MergedLogsAreLists = (run : Run) (report : Report) (w : State) (v : View) (logs : List Log)
+    → RunsAll run report w v → HasNotes run report logs
+    → (i : ℕ) (xs : Entries) (merged : List ChangeNote) → get_elem? w.lists i ≡ some xs
+    → IsMerge i logs merged → IsNumbered run report i xs merged
 
 -- and entries that are the merged changes are those of the lists
 abbrev pub MergedLogsAreEntries : Type 0
-MergedLogsAreEntries = (run : Run) (report : Report) (w : State) (v : View) (logs : List Log) → RunsAll run report w v → HasNotes run report logs → HasMerged report logs → AreEntries run report w
+MergedLogsAreEntries = (run : Run) (report : Report) (w : State) (v : View) (logs : List Log)
+    → RunsAll run report w v → HasNotes run report logs → HasMerged report logs
+    → AreEntries run report w
 
 -- and the joined pass of the lanes tells that what is printed is what it did
 abbrev pub PassesAreTrails : Type 0
-PassesAreTrails = (run : Run) (report : Report) (w : State) (v : View) → RunsAll run report w v → AreEntries run report w → IsTrail run report v
+PassesAreTrails = (run : Run) (report : Report) (w : State) (v : View) → RunsAll run report w v
+    → AreEntries run report w → IsTrail run report v
 
 -- in a state that fits such a pass each entry of a list is a change that it made, and is printed
 abbrev pub TrailsAreWhole : Type 0
-TrailsAreWhole = (run : Run) (report : Report) (v : View) (w : State) → IsTrail run report v → Fits IsRight IsReference w v → (i n : ℕ) (e : Entry MadeChange) → IsEntry w i n e → Changed v i (n + 1) e.by e.change × IsEntered report i (n + 1) e.by e.change
+TrailsAreWhole = (run : Run) (report : Report) (v : View) (w : State) → IsTrail run report v
+    → Fits IsRight IsReference w v → (i n : ℕ) (e : Entry MadeChange) → IsEntry w i n e
+    → Changed v i (n + 1) e.by e.change × IsEntered report i (n + 1) e.by e.change

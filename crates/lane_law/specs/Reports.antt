@@ -1,4 +1,5 @@
--- A report of which no column tells of a hash, from what its lanes were answered and the entries of its indexes.
+-- A report of which no column tells of a hash, from what its lanes were answered and the entries of
+-- its indexes.
 use Rattle.std.specs.Prelude.{ℕ, List, [], map}
 use Rattle.std.specs.List.{zip}
 use Rattle.map_history.specs.Report.{AnswerLine, ChangeLine, IndexPart, Report}
@@ -10,4 +11,5 @@ part_with part = record { name = part.0; entries = part.1; counts = counts_of []
 
 -- the report of lanes with these answers over indexes of these names and entries
 abbrev pub report_with : List (List AnswerLine) → List (List ℕ) → List (List ChangeLine) → Report
-report_with answers names entries = record { lanes = answers; indexes = map part_with (zip names entries) }
+report_with answers names entries =
+    record { lanes = answers; indexes = map part_with (zip names entries) }

@@ -17,15 +17,20 @@ use Rattle.lane_law.specs.Worked.{lane_sayings, AreInOrder}
 
 -- no line asks for the rows of a range
 abbrev pub HasNoScan : Run → Type 0
-HasNoScan run = AllByRecursion (λ (lines : List Line). AllByRecursion (λ (line : Line). is_scan line.op.ask ≡ false) lines) run.lanes
+HasNoScan run = AllByRecursion
+    (λ (lines : List Line). AllByRecursion (λ (line : Line). is_scan line.op.ask ≡ false) lines)
+    run.lanes
 
 -- what the passes n, n + 1 and so on say, one lane after another
 abbrev pub all_sayings : ℕ → List (List Line) → List (List AnswerLine) → List Spoken
 all_sayings n [] told = []
 all_sayings n (lines ∷ lanes) [] = []
-all_sayings n (lines ∷ lanes) (answers ∷ told) = lane_sayings n lines answers ++ all_sayings (n + 1) lanes told
+all_sayings n (lines ∷ lanes) (answers ∷ told) =
+    lane_sayings n lines answers ++ all_sayings (n + 1) lanes told
 
--- What is known when the passes of all lanes are joined: a lawful state of the run's sizes fits their pass, which said what the lanes were answered. The report has these answers, and a part for each name with the counts of its columns.
+-- What is known when the passes of all lanes are joined: a lawful state of the run's sizes fits
+-- their pass, which said what the lanes were answered. The report has these answers, and a part for
+-- each name with the counts of its columns.
 pub record RunsAll (run : Run) (report : Report) (w : State) (v : View) : Type 0 where
   pub lawful : IsLawful w
   pub fits : Fits IsRight IsReference w v
@@ -38,9 +43,13 @@ pub record RunsAll (run : Run) (report : Report) (w : State) (v : View) : Type 0
   pub said : spoken v.said ≡ all_sayings 0 run.lanes report.lanes
   pub lanes : AllZip AreInOrder run.lanes report.lanes
   pub names : map (λ (part : IndexPart). part.name) report.indexes ≡ run.names
-  pub counts : (i : ℕ) (part : IndexPart) → slice_get report.indexes i ≡ Some part → part.counts ≡ counts_of (columns_at run report i)
+  pub counts : (i : ℕ) (part : IndexPart) → slice_get report.indexes i ≡ Some part
+      → part.counts ≡ counts_of (columns_at run report i)
 
--- the report's entries of each index are as many as those of the list, and each names a line that is answered `ok` at its number
+-- the report's entries of each index are as many as those of the list, and each names a line that
+-- is answered `ok` at its number
 pub record AreEntries (run : Run) (report : Report) (w : State) : Type 0 where
-  pub long : (i : ℕ) (xs : Entries) → get_elem? w.lists i ≡ some xs → length (entries_at report i) ≡ length xs
-  pub named : (i n : ℕ) (entry : ChangeLine) → slice_get (entries_at report i) n ≡ Some entry → NamesLine run report i n entry
+  pub long : (i : ℕ) (xs : Entries) → get_elem? w.lists i ≡ some xs
+      → length (entries_at report i) ≡ length xs
+  pub named : (i n : ℕ) (entry : ChangeLine) → slice_get (entries_at report i) n ≡ Some entry
+      → NamesLine run report i n entry

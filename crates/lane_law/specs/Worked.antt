@@ -15,7 +15,8 @@ answered line answer = record { line = line.line; answer = answer }
 
 -- what the pass n says where these lines are answered so
 abbrev pub lane_sayings : ℕ → List Line → List AnswerLine → List Spoken
-lane_sayings n lines answers = flat_map (λ (x : Line × AnswerLine). sayings x.0.op.index n x.0.op.ask x.1.answer) (zip lines answers)
+lane_sayings n lines answers = flat_map
+    (λ (x : Line × AnswerLine). sayings x.0.op.index n x.0.op.ask x.1.answer) (zip lines answers)
 
 -- each line has an answer of a form of its operation, and the points of each index are in order
 pub record AreInOrder (lines : List Line) (answers : List AnswerLine) : Type 0 where
@@ -26,7 +27,8 @@ pub record AreInOrder (lines : List Line) (answers : List AnswerLine) : Type 0 w
 abbrev pub IsSeenTo : View → ℕ → ℕ → Type 0
 IsSeenTo v i point = (zs : Entries) × (get_elem? v.seen i ≡ some zs) × (point ≤ length zs)
 
--- The lines were answered one after another: this alone was said, what was seen is still seen, and so is each list up to the points that were told of it.
+-- The lines were answered one after another: this alone was said, what was seen is still seen, and
+-- so is each list up to the points that were told of it.
 pub record Worked (v v' : View) (lines : List Line) (answers : List AnswerLine) : Type 0 where
   pub numbers : SameNumbers v v'
   pub said : spoken v'.said ≡ spoken v.said ++ lane_sayings v.low lines answers

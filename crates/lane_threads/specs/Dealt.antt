@@ -24,7 +24,8 @@ pub record IsLane (engine : Engine) (n : ℕ) (p : EnginePass) : Type 0 where
 
 -- the passes have one number each, from n on
 abbrev pub AreLanes : Engine → ℕ → List EnginePass → Type 0
-AreLanes engine n passes = (k : ℕ) (p : EnginePass) → get_elem? passes k ≡ some p → IsLane engine (n + k) p
+AreLanes engine n passes = (k : ℕ) (p : EnginePass) → get_elem? passes k ≡ some p
+    → IsLane engine (n + k) p
 
 -- the pass, whose number is n, has what was said by it, and has seen all that the whole had seen
 pub record IsShare (whole : EnginePass) (n : ℕ) (p : EnginePass) : Type 0 where
@@ -37,14 +38,16 @@ pub record IsShare (whole : EnginePass) (n : ℕ) (p : EnginePass) : Type 0 wher
 pub record AreDealt (engine : Engine) (whole : EnginePass) (passes : List EnginePass) : Type 0 where
   pub long : (known whole).low + length passes ≡ (known whole).end
   pub lanes : AreLanes engine (known whole).low passes
-  pub shares : (k : ℕ) (p : EnginePass) → get_elem? passes k ≡ some p → IsShare whole ((known whole).low + k) p
+  pub shares : (k : ℕ) (p : EnginePass) → get_elem? passes k ≡ some p
+      → IsShare whole ((known whole).low + k) p
 
 -- none has said anything
 abbrev pub AreFresh : List EnginePass → Type 0
 AreFresh passes = (k : ℕ) (p : EnginePass) → get_elem? passes k ≡ some p → (known p).said ≡ []
 
 -- the dealt passes were put behind the others
-pub record AddsDealt (engine : Engine) (whole : EnginePass) (old new : List EnginePass) : Type 0 where
+pub record AddsDealt (engine : Engine) (whole : EnginePass)
+    (old new : List EnginePass) : Type 0 where
   pub passes : List EnginePass
   pub added : new ≡ old ++ passes
   pub dealt : AreDealt engine whole passes

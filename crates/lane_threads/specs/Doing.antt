@@ -17,14 +17,16 @@ use Rattle.lane_threads.specs.declared.doer.ReadyLane.{ReadyLane}
 pub record Does (lane : ReadyLane) (done : DoneLane) : Type 0 where
   pub same : IsSame lane.pass done.pass
   pub own : IsOf lane.engine.now done.pass
-  pub works : Works (known lane.pass) (known done.pass) (line_texts lane.lines.now) done.work.answers done.work.log
+  pub works : Works (known lane.pass) (known done.pass)
+      (line_texts lane.lines.now) done.work.answers done.work.log
 
 -- a lane that could work is done, unless memory lacked
 abbrev pub WorkedOnce : LaneDoer → LaneDoer → Type 0
 WorkedOnce old new = IfSome old.ready (λ lane. IfSome new.done (Does lane))
 
 -- the doer is ready to work these lines by this pass
-pub record IsReadyFor (engine : Engine) (pass : EnginePass) (lines : List Line) (doer : LaneDoer) : Type 0 where
+pub record IsReadyFor (engine : Engine) (pass : EnginePass) (lines : List Line)
+    (doer : LaneDoer) : Type 0 where
   pub lane : ReadyLane
   pub ready : doer.ready ≡ Some lane
   pub engine_is : lane.engine.now ≡ engine
@@ -33,10 +35,14 @@ pub record IsReadyFor (engine : Engine) (pass : EnginePass) (lines : List Line) 
 
 -- each doer is ready to work the lines at its place by the pass at its place
 abbrev pub AreReadyFor : Engine → List EnginePass → List (Vec Line Global) → List LaneDoer → Type 0
-AreReadyFor engine passes lanes doers = AllZip (λ (given : EnginePass × Vec Line Global) (doer : LaneDoer). IsReadyFor engine given.0 given.1.items doer) (zip passes lanes) doers
+AreReadyFor engine passes lanes doers = AllZip
+    (λ (given : EnginePass × Vec Line Global) (doer : LaneDoer).
+    IsReadyFor engine given.0 given.1.items doer)
+    (zip passes lanes) doers
 
 -- these passes, answers and logs are those of the doers, all of which are done
-pub record AreParts (doers : List LaneDoer) (passes : List EnginePass) (texts : List (List (List ℕ))) (logs : List Log) : Type 0 where
+pub record AreParts (doers : List LaneDoer) (passes : List EnginePass)
+    (texts : List (List (List ℕ))) (logs : List Log) : Type 0 where
   pub done : List DoneLane
   pub all_done : map (λ (d : LaneDoer). d.done) doers ≡ map Some done
   pub passes_are : passes ≡ map (λ (d : DoneLane). d.pass) done

@@ -15,7 +15,8 @@ ArePassesOf engine passes = (k : ℕ) (p : EnginePass) → get_elem? passes k �
 
 -- each ends where the next begins
 abbrev pub AreInRow : List EnginePass → Type 0
-AreInRow passes = (k : ℕ) (p q : EnginePass) → get_elem? passes k ≡ some p → get_elem? passes (k + 1) ≡ some q → (known p).end ≡ (known q).low
+AreInRow passes = (k : ℕ) (p q : EnginePass) → get_elem? passes k ≡ some p
+    → get_elem? passes (k + 1) ≡ some q → (known p).end ≡ (known q).low
 
 -- what they said, one behind another
 abbrev pub all_said : List EnginePass → List OwnAnswer
@@ -26,12 +27,15 @@ abbrev pub all_seen : List EnginePass → List Entries
 all_seen [] = []
 all_seen (p ∷ ps) = longer (known p).seen (all_seen ps)
 
--- One pass of the engine has the numbers from the first of the first pass up to the end of the last, and it said and has seen what they did.
+-- One pass of the engine has the numbers from the first of the first pass up to the end of the
+-- last, and it said and has seen what they did.
 pub record Gathers (engine : Engine) (passes : List EnginePass) (whole : EnginePass) : Type 0 where
   pub own : IsOf engine whole
   pub low : (p : EnginePass) → get_elem? passes 0 ≡ some p → (known whole).low ≡ (known p).low
-  pub end : (k : ℕ) (p : EnginePass) → get_elem? passes k ≡ some p → length passes ≡ k + 1 → (known whole).end ≡ (known p).end
+  pub end : (k : ℕ) (p : EnginePass) → get_elem? passes k ≡ some p → length passes ≡ k + 1
+      → (known whole).end ≡ (known p).end
   pub sizes : (p : EnginePass) → get_elem? passes 0 ≡ some p → whole.sizes ≡ p.sizes
   pub said : (known whole).said ≡ all_said passes
   pub seen : (known whole).seen ≡ all_seen passes
-  pub references : (known whole).references ≡ flat_map (λ (p : EnginePass). (known p).references) passes
+  pub references : (known whole).references
+      ≡ flat_map (λ (p : EnginePass). (known p).references) passes

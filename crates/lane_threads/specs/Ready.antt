@@ -6,8 +6,10 @@ use Rattle.index_engine.specs.declared.engine.EnginePass.{EnginePass}
 use Rattle.index_engine.specs.Engines.{known, IsOf}
 use Rattle.lane_work.specs.Workable.{AreWorkable}
 
--- The pass is the engine's, the lane has the number after the pass's lowest one, and the lines can be asked.
-pub record IsReady (engine : Engine) (lane : ℕ) (pass : EnginePass) (lines : List Line) : Type 0 where
+-- The pass is the engine's, the lane has the number after the pass's lowest one, and the lines can
+-- be asked.
+pub record IsReady (engine : Engine) (lane : ℕ) (pass : EnginePass)
+    (lines : List Line) : Type 0 where
   pub own : IsOf engine pass
   pub lane_is : lane ≡ (known pass).low + 1
   pub lines_can : AreWorkable engine lines

@@ -31,11 +31,16 @@ use Rattle.lane_work.specs.Works.{HasDashes}
 abbrev pub lane_texts : List (Vec Line Global) → List (List legal.Line)
 lane_texts lanes = map (λ (lines : Vec Line Global). line_texts lines.items) lanes
 
--- What is known when some lanes worked an engine of these sizes together: their answers are printed so, the changes among them are noted lane by lane, and the joined pass of all lanes said these answers and nothing else. Some lawful state fits that pass.
-pub record RanTogether (sizes : Sizes) (fields : List ℕ) (lanes : List (List legal.Line)) (texts : List (List (List ℕ))) (logs : List Log) (pass : EnginePass) : Type 0 where
+-- What is known when some lanes worked an engine of these sizes together: their answers are printed
+-- so, the changes among them are noted lane by lane, and the joined pass of all lanes said these
+-- answers and nothing else. Some lawful state fits that pass.
+pub record RanTogether (sizes : Sizes) (fields : List ℕ) (lanes : List (List legal.Line))
+    (texts : List (List (List ℕ))) (logs : List Log) (pass : EnginePass) : Type 0 where
   pub answers : List (List AnswerLine)
   pub printed : texts ≡ map (λ (told : List AnswerLine). map answer_line_text told) answers
-  pub dashed : AllByRecursion (λ (told : List AnswerLine). AllByRecursion (λ (a : AnswerLine). HasDashes a.answer) told) answers
+  pub dashed : AllByRecursion
+      (λ (told : List AnswerLine). AllByRecursion
+      (λ (a : AnswerLine). HasDashes a.answer) told) answers
   pub noted : map (λ (log : Log). log.noted) logs ≡ all_notes 0 lanes answers
   pub in_order : AllZip AreInOrder lanes answers
   pub said : spoken (known pass).said ≡ all_sayings 0 lanes answers
@@ -47,14 +52,17 @@ pub record RanTogether (sizes : Sizes) (fields : List ℕ) (lanes : List (List l
 
 -- each lane's lines ask for keys of indexes with so many fields
 abbrev pub AllAreLinesOf : List ℕ → List (Vec Line Global) → Type 0
-AllAreLinesOf fields lanes = AllByRecursion (λ (lines : Vec Line Global). AreLinesOf fields lines.items) lanes
+AllAreLinesOf fields lanes =
+    AllByRecursion (λ (lines : Vec Line Global). AreLinesOf fields lines.items) lanes
 
 -- the run of these lanes over indexes of these names
 abbrev pub lanes_run : Sizes → List (List ℕ) → List (Vec Line Global) → Run
 lanes_run sizes names lanes = record { sizes = sizes; names = names; lanes = lane_texts lanes }
 
--- What is known of the changes that such lanes merged: they are the entries of a legal report, one of each and numbered from 1, and the joined pass did what it tells.
-pub record AreReported (run : Run) (report : Report) (pass : EnginePass) (changes : List (List ChangeNote)) (entries : List (List ChangeLine)) : Type 0 where
+-- What is known of the changes that such lanes merged: they are the entries of a legal report, one
+-- of each and numbered from 1, and the joined pass did what it tells.
+pub record AreReported (run : Run) (report : Report) (pass : EnginePass)
+    (changes : List (List ChangeNote)) (entries : List (List ChangeLine)) : Type 0 where
   pub legal : IsLegalReport run report
   pub trail : IsTrail run report (known pass)
   pub printed : AllZip ArePrinted changes entries
@@ -62,7 +70,12 @@ pub record AreReported (run : Run) (report : Report) (pass : EnginePass) (change
 
 -- the changes that the logs of such a run merge to are reported
 abbrev pub RunsAreLegal : Type 0
-RunsAreLegal = (sizes : Sizes) (fields : List ℕ) (names : List (List ℕ)) (lanes : List (Vec Line Global)) (texts : List (List (List ℕ))) (logs : List Log) (pass : EnginePass) (changes : List (List ChangeNote))
-    → length names ≡ length fields → AllAreLinesOf fields lanes → AreMerges (length names) logs changes → (ran : RanTogether sizes fields (lane_texts lanes) texts logs pass)
+RunsAreLegal = (sizes : Sizes) (fields : List ℕ) (names : List (List ℕ))
+    (lanes : List (Vec Line Global)) (texts : List (List (List ℕ))) (logs : List Log)
+    (pass : EnginePass) (changes : List (List ChangeNote))
+    → length names ≡ length fields → AllAreLinesOf fields lanes
+    → AreMerges (length names) logs changes
+    → (ran : RanTogether sizes fields (lane_texts lanes) texts logs pass)
     → let entries = map printed_entries changes in
-    AreReported (lanes_run sizes names lanes) (report_with ran.answers names entries) pass changes entries
+    AreReported (lanes_run sizes names lanes)
+    (report_with ran.answers names entries) pass changes entries

@@ -12,10 +12,13 @@ use Rattle.index_engine.specs.Engines.{indexes_of, FitsKey}
 
 -- a get, a put or a del of an index that there is, with as many fields in its key
 abbrev pub IsWorkableOp : Engine → Op → Type 0
-IsWorkableOp engine (op.Get index key) = (index < indexes_of engine) × FitsKey engine index key.tuple
-IsWorkableOp engine (op.Put index key value) = (index < indexes_of engine) × FitsKey engine index key.tuple
+IsWorkableOp engine (op.Get index key) = (index < indexes_of engine)
+    × FitsKey engine index key.tuple
+IsWorkableOp engine (op.Put index key value) = (index < indexes_of engine)
+    × FitsKey engine index key.tuple
 IsWorkableOp engine (op.Set index key value) = ⊥
-IsWorkableOp engine (op.Del index key) = (index < indexes_of engine) × FitsKey engine index key.tuple
+IsWorkableOp engine (op.Del index key) = (index < indexes_of engine)
+    × FitsKey engine index key.tuple
 IsWorkableOp engine (op.Seek index mode tuple) = ⊥
 IsWorkableOp engine (op.Scan index from to limit) = ⊥
 

@@ -21,8 +21,11 @@ HasDashes (LogFull n columns) = columns ≡ dashes
 HasDashes (SpaceFull columns) = ⊥
 HasDashes (Scanned pieces) = ⊥
 
--- The lines were answered one after another by a pass that knew v and knows v': their answers are printed so, the changes among them are noted, no column tells of a hash, and no answer is `space-full`.
-pub record Works (v v' : View) (lines : List legal.Line) (texts : List (List ℕ)) (log : Log) : Type 0 where
+-- The lines were answered one after another by a pass that knew v and knows v': their answers are
+-- printed so, the changes among them are noted, no column tells of a hash, and no answer is
+-- `space-full`.
+pub record Works (v v' : View) (lines : List legal.Line) (texts : List (List ℕ))
+    (log : Log) : Type 0 where
   pub answers : List AnswerLine
   pub worked : Worked v v' lines answers
   pub printed : texts ≡ map answer_line_text answers

@@ -9,7 +9,12 @@ use Rattle.report_text.specs.Texts.{answer_line_text}
 use Rattle.lane_law.specs.Reports.{report_with}
 use Rattle.report_print.specs.Texts.{report_text_of}
 
--- where the changes of each index are its entries, one of each and numbered from 1, the text of the answers and the changes is the spelling of their report
+-- where the changes of each index are its entries, one of each and numbered from 1, the text of the
+-- answers and the changes is the spelling of their report
 abbrev pub ReportsAreSpelled : Type 0
-ReportsAreSpelled = (names : List (List ℕ)) (answers : List (List AnswerLine)) (changes : List (List ChangeNote)) (entries : List (List ChangeLine)) → length changes ≡ length names → AllZip ArePrinted changes entries → AllByRecursion AreCountedUp changes
-    → report_text_of names (map (map answer_line_text) answers) changes ≡ spell (report_with answers names entries)
+ReportsAreSpelled = (names : List (List ℕ)) (answers : List (List AnswerLine))
+    (changes : List (List ChangeNote)) (entries : List (List ChangeLine))
+    → length changes ≡ length names → AllZip ArePrinted changes entries
+    → AllByRecursion AreCountedUp changes
+    → report_text_of names (map (map answer_line_text) answers) changes
+    ≡ spell (report_with answers names entries)

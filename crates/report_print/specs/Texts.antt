@@ -45,4 +45,5 @@ name_stats name = stats_text name (counts_of [])
 
 -- the report of some lanes over indexes of these names
 abbrev pub report_text_of : List (List ℕ) → List (List (List ℕ)) → List (List ChangeNote) → List ℕ
-report_text_of names answers changes = first_line ++ lanes_text answers ++ indexes_text names changes ++ flat_map name_stats names ++ end_line
+report_text_of names answers changes = first_line ++ lanes_text answers
+    ++ indexes_text names changes ++ flat_map name_stats names ++ end_line
