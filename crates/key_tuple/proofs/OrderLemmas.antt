@@ -1,10 +1,10 @@
 -- Comparisons and agreements of fields, one field at a time.
-use Rattle.std.proofs.Common.{◌≡◌, ℕ, ◌+◌, ◌<◌, List, [], ◌∷◌, length, drop, get_or, refl, arith, drop-cons, add-one, cond, ◌-◌, min, ◌⊎◌, inl, inr, length-drop}
+use Rattle.std.proofs.Common.{◌≡◌, ℕ, ◌+◌, ◌<◌, Bool, true, false, not, List, [], ◌∷◌, length, drop, get_or, refl, sym, ap, ◌∙◌, arith, drop-cons, add-one, cond, ◌-◌, min, ◌⊎◌, inl, inr, length-drop, Ordering, Less, Equal, Greater}
 use Rattle.std.proofs.lemmas.Bool.{cases_lt}
 use Rattle.std.proofs.lemmas.Bool.Decides.{nat_tests}
-use Rattle.std.specs.Ordering.{nat_cmp, ordering_then}
+use Rattle.std.specs.Ordering.{nat_cmp, ordering_then, ordering_index}
 use Rattle.std.specs.Cmp.Lexicographic.{slice_cmp, pointwise}
-use Rattle.std.specs.Prelude.{nat_eq}
+use Rattle.std.specs.Prelude.{nat_eq, ◌==◌}
 use Rattle.key_tuple.specs.Order.{FieldList, tuple_cmp, key_cmp}
 use Rattle.key_tuple.specs.Figures.{equal_fields, equal_bytes}
 
@@ -14,6 +14,34 @@ tuple_cmp-drop t k i below_t below_k = rw (add-one i, drop-cons t i [], drop-con
 
 pub key_cmp-drop : (j k : FieldList) (i : ℕ) → i < length j → i < length k → key_cmp (drop i j) (drop i k) ≡ ordering_then (slice_cmp nat_cmp (get_or j i []) (get_or k i [])) (key_cmp (drop (i + 1) j) (drop (i + 1) k))
 key_cmp-drop j k i below_j below_k = rw (add-one i, drop-cons j i [], drop-cons k i [])
+
+decides : (o r : Ordering) → true ≡ not (ordering_index o == 1) → o ≡ ordering_then o r
+decides Less r e = refl
+decides Equal r e = absurd cc
+decides Greater r e = refl
+
+passes : (o r : Ordering) → false ≡ not (ordering_index o == 1) → ordering_then o r ≡ r
+passes Less r e = absurd cc
+passes Equal r e = refl
+passes Greater r e = absurd cc
+
+-- an order that goes field by field
+module _ (D : FieldList → FieldList → Ordering)
+    (law : (s t : FieldList) (i : ℕ) → i < length s → i < length t → D (drop i s) (drop i t) ≡ ordering_then (slice_cmp nat_cmp (get_or s i []) (get_or t i [])) (D (drop (i + 1) s) (drop (i + 1) t)))
+    (s t : FieldList) (i : ℕ) (x y : List ℕ) (o : Ordering) (in_s : i < length s) (in_t : i < length t) (so_far : D s t ≡ D (drop i s) (drop i t))
+    (x_is : x ≡ get_or s i []) (y_is : y ≡ get_or t i []) (o_is : o ≡ slice_cmp nat_cmp x y) where
+  next_field : D s t ≡ ordering_then o (D (drop (i + 1) s) (drop (i + 1) t))
+  next_field =
+      let here : o ≡ slice_cmp nat_cmp (get_or s i []) (get_or t i []) = o_is ∙ (λ j. slice_cmp nat_cmp (x_is j) (y_is j)) in
+      so_far ∙ law s t i in_s in_t ∙ ap (λ (p : Ordering). ordering_then p (D (drop (i + 1) s) (drop (i + 1) t))) (sym here)
+
+  -- the first field that differs decides
+  pub field_decides : true ≡ not (ordering_index o == 1) → o ≡ D s t
+  field_decides differs = decides o (D (drop (i + 1) s) (drop (i + 1) t)) differs ∙ sym next_field
+
+  -- and where they are equal, those after them do
+  pub field_passes : false ≡ not (ordering_index o == 1) → D s t ≡ D (drop (i + 1) s) (drop (i + 1) t)
+  field_passes same = next_field ∙ passes o (D (drop (i + 1) s) (drop (i + 1) t)) same
 
 -- where one key is used up, the shorter comes first
 used_up : (xs ys : FieldList) (p q n : ℕ) → length xs + n ≡ p → length ys + n ≡ q → (length xs ≡ 0) ⊎ (length ys ≡ 0) → key_cmp xs ys ≡ nat_cmp p q
@@ -35,8 +63,23 @@ key_cmp-end j k =
 pub equal_fields-drop : (t k : FieldList) (i : ℕ) → i < length t → i < length k → equal_fields (drop i t) (drop i k) ≡ cond (pointwise nat_eq (get_or t i []) (get_or k i [])) (equal_fields (drop (i + 1) t) (drop (i + 1) k) + 1) 0
 equal_fields-drop t k i below_t below_k = rw (add-one i, drop-cons t i [], drop-cons k i [])
 
-pub equal_bytes-drop : (x y : List ℕ) (i : ℕ) → i < length x → i < length y → equal_bytes (drop i x) (drop i y) ≡ cond (nat_eq (get_or x i 0) (get_or y i 0)) (equal_bytes (drop (i + 1) x) (drop (i + 1) y) + 1) 0
-equal_bytes-drop x y i below_x below_y = rw (add-one i, drop-cons x i 0, drop-cons y i 0)
+-- one more field that is equal, and one that isn't
+module _ (t k : FieldList) (i : ℕ) (x y : List ℕ) (in_t : i < length t) (in_k : i < length k) (so_far : equal_fields t k ≡ i + equal_fields (drop i t) (drop i k))
+    (x_is : x ≡ get_or t i []) (y_is : y ≡ get_or k i []) where
+  next_equal : (b : Bool) → b ≡ not (pointwise nat_eq x y) → equal_fields t k ≡ i + cond (not b) (equal_fields (drop (i + 1) t) (drop (i + 1) k) + 1) 0
+  next_equal b e =
+      let here : pointwise nat_eq (get_or t i []) (get_or k i []) ≡ not b = (λ j. pointwise nat_eq (sym x_is j) (sym y_is j)) ∙ turned (pointwise nat_eq x y) b e in
+      so_far ∙ ap (λ (n : ℕ). i + n) (equal_fields-drop t k i in_t in_k ∙ ap (λ (c : Bool). cond c (equal_fields (drop (i + 1) t) (drop (i + 1) k) + 1) 0) here)
+    where
+      turned : (a c : Bool) → c ≡ not a → a ≡ not c
+      turned true c h = ap not (sym h)
+      turned false c h = ap not (sym h)
+
+  pub fields_differ : true ≡ not (pointwise nat_eq x y) → i ≡ equal_fields t k
+  fields_differ e = let h = next_equal true e in omega arith
+
+  pub fields_agree : false ≡ not (pointwise nat_eq x y) → equal_fields t k ≡ i + 1 + equal_fields (drop (i + 1) t) (drop (i + 1) k)
+  fields_agree e = let h = next_equal false e in omega arith
 
 -- where one list is used up, no more bytes are equal
 pub equal_bytes-end : (x y : List ℕ) → equal_bytes (drop (min (length x) (length y)) x) (drop (min (length x) (length y)) y) ≡ 0

@@ -1,4 +1,4 @@
--- Parts of a buffer: how many, how long, and after one more.
+-- Parts of a list: how many, which, and after one more; how long those of a buffer are.
 use Rattle.std.proofs.Common.{◌≡◌, ℕ, zero, suc, ◌+◌, ◌-◌, ◌<◌, ◌≤◌, List, [], ◌∷◌, ◌++◌, length, take, drop, get_or, refl, ap, ◌∙◌, arith, length-take, length-drop, map}
 use Rattle.std.proofs.lemmas.List.Sums.{sum_by-cons}
 use Rattle.std.proofs.lemmas.List.{take-append-le, drop-append-le}
@@ -7,9 +7,9 @@ use Rattle.std.specs.List.{slice_range}
 use Rattle.key_tuple.specs.Order.{byte_count}
 use Rattle.key_tuple.specs.Parts.{parts, RiseTo}
 
-pub length-parts : (bytes : List ℕ) (from : ℕ) (ends : List ℕ) → length (parts bytes from ends) ≡ length ends
-length-parts bytes from [] = refl
-length-parts bytes from (end ∷ ends) = ap suc (length-parts bytes end ends)
+pub length-parts : {A : Type 0} (xs : List A) (from : ℕ) (ends : List ℕ) → length (parts xs from ends) ≡ length ends
+length-parts xs from [] = refl
+length-parts xs from (end ∷ ends) = ap suc (length-parts xs end ends)
 
 pub RiseTo-le : (from : ℕ) (ends : List ℕ) (to : ℕ) → RiseTo from ends to → from ≤ to
 RiseTo-le from [] to h = omega (arith, h)
@@ -19,24 +19,24 @@ pub RiseTo-push : (from : ℕ) (ends : List ℕ) (to more : ℕ) → RiseTo from
 RiseTo-push from [] to more h le = (omega (arith, h), refl)
 RiseTo-push from (end ∷ ends) to more h le = (h.0, RiseTo-push end ends to more h.1 le)
 
--- the bytes before the end, cut out of a longer buffer
-range_kept : (bytes more : List ℕ) (from to : ℕ) → from ≤ to → to ≤ length bytes → slice_range (bytes ++ more) from to ≡ slice_range bytes from to
-range_kept bytes more from to rises fits =
-    let start : from ≤ length bytes = omega arith in
-    let rest : to - from ≤ length (drop from bytes) = omega (arith, length-drop from bytes) in
-    ap (λ (xs : List ℕ). take (to - from) xs) (drop-append-le from bytes more start) ∙ take-append-le (to - from) (drop from bytes) more rest
+-- what stands before the end, cut out of a longer list
+range_kept : {A : Type 0} (xs more : List A) (from to : ℕ) → from ≤ to → to ≤ length xs → slice_range (xs ++ more) from to ≡ slice_range xs from to
+range_kept xs more from to rises fits =
+    let start : from ≤ length xs = omega arith in
+    let rest : to - from ≤ length (drop from xs) = omega (arith, length-drop from xs) in
+    ap (λ ys. take (to - from) ys) (drop-append-le from xs more start) ∙ take-append-le (to - from) (drop from xs) more rest
 
-range_added : (bytes more : List ℕ) (from to : ℕ) → from ≡ length bytes → to ≡ length bytes + length more → slice_range (bytes ++ more) from to ≡ more
-range_added bytes more from to e f =
+range_added : {A : Type 0} (xs more : List A) (from to : ℕ) → from ≡ length xs → to ≡ length xs + length more → slice_range (xs ++ more) from to ≡ more
+range_added xs more from to e f =
     let whole : to - from ≡ length more = omega arith in
-    rw (whole, e, drop-append_seam bytes more) (take-length more)
+    rw (whole, e, drop-append_seam xs more) (take-length more)
 
--- one field more at the end of the buffer
-pub parts-push : (bytes more : List ℕ) (from : ℕ) (ends : List ℕ) (to : ℕ) → RiseTo from ends (length bytes) → to ≡ length bytes + length more → parts (bytes ++ more) from (ends ++ to ∷ []) ≡ parts bytes from ends ++ more ∷ []
-parts-push bytes more from [] to h e = ap (λ x. x ∷ []) (range_added bytes more from to h e)
-parts-push bytes more from (end ∷ ends) to h e =
-    let kept = range_kept bytes more from end h.0 (RiseTo-le end ends (length bytes) h.1) in
-    let rest = parts-push bytes more end ends to h.1 e in
+-- one part more at the end of the list
+pub parts-push : {A : Type 0} (xs more : List A) (from : ℕ) (ends : List ℕ) (to : ℕ) → RiseTo from ends (length xs) → to ≡ length xs + length more → parts (xs ++ more) from (ends ++ to ∷ []) ≡ parts xs from ends ++ more ∷ []
+parts-push xs more from [] to h e = ap (λ x. x ∷ []) (range_added xs more from to h e)
+parts-push xs more from (end ∷ ends) to h e =
+    let kept = range_kept xs more from end h.0 (RiseTo-le end ends (length xs) h.1) in
+    let rest = parts-push xs more end ends to h.1 e in
     cc
 
 -- all fields together have the bytes from the first one's beginning to the last one's end
@@ -50,10 +50,10 @@ byte_count-parts bytes from (end ∷ ends) to h fits =
     omega (arith, h.0)
 
 -- the part at a place reaches from the end before it to its own end
-pub get_or-parts : (bytes : List ℕ) (from : ℕ) (ends : List ℕ) (i : ℕ) → i < length ends → get_or (parts bytes from ends) i [] ≡ slice_range bytes (get_or (from ∷ ends) i 0) (get_or ends i 0)
-get_or-parts bytes from [] i h = absurd (omega arith)
-get_or-parts bytes from (end ∷ ends) zero h = refl
-get_or-parts bytes from (end ∷ ends) (suc i) h = get_or-parts bytes end ends i (omega arith)
+pub get_or-parts : {A : Type 0} (xs : List A) (from : ℕ) (ends : List ℕ) (i : ℕ) → i < length ends → get_or (parts xs from ends) i [] ≡ slice_range xs (get_or (from ∷ ends) i 0) (get_or ends i 0)
+get_or-parts xs from [] i h = absurd (omega arith)
+get_or-parts xs from (end ∷ ends) zero h = refl
+get_or-parts xs from (end ∷ ends) (suc i) h = get_or-parts xs end ends i (omega arith)
 
 pub record IsRange (from to most : ℕ) : Type 0 where
   pub rises : from ≤ to

@@ -1,16 +1,18 @@
 -- The laws of the order.
 use Rattle.std.proofs.Common.{◌≡◌, ℕ, true, false, not, List, [], ◌∷◌, refl, ap, arith, is_lt, Ordering, Less, Equal, Greater}
-use Rattle.std.proofs.lemmas.Cmp.{lists_total, nat_list_cmp_total, tied_itself}
+use Rattle.std.proofs.lemmas.Cmp.{tied_itself}
 use Rattle.std.proofs.lemmas.Bool.{not-true}
 use Rattle.std.proofs.lemmas.Bool.Decides.{nat_tests}
 use Rattle.std.specs.Cmp.{IsTotalOrder}
 use Rattle.std.specs.Ordering.{nat_cmp, ordering_then, ordering_reverse}
 use Rattle.std.specs.Cmp.Lexicographic.{slice_cmp}
+use Rattle.list_facts.proofs.ByteLists.{byte_lists_total}
+use Rattle.list_facts.proofs.Orders.{is_less}
 use Rattle.key_tuple.specs.Order.{FieldList, key_cmp}
 use Rattle.key_tuple.specs.KeyPlace.{KeyPlace, Start, At, End, before, IsCut}
 
 pub total : IsTotalOrder key_cmp
-total = lists_total nat_list_cmp_total
+total = byte_lists_total
 
 -- lists that compare as equal are equal, where their elements are
 exact : {A : Type 0} (R : A → A → Ordering) → ((x y : A) → R x y ≡ Equal → x ≡ y) → (xs ys : List A) → slice_cmp R xs ys ≡ Equal → xs ≡ ys
@@ -30,11 +32,6 @@ nat_exact x y e = grind (arith, nat_tests)
 pub key_exact : (j k : FieldList) → key_cmp j k ≡ Equal → j ≡ k
 key_exact = exact (slice_cmp nat_cmp) (exact nat_cmp nat_exact)
 
-less : (o : Ordering) → is_lt o ≡ true → o ≡ Less
-less Less e = refl
-less Equal e = absurd cc
-less Greater e = absurd cc
-
 pub before-itself : (x : KeyPlace) → before x x ≡ false
 unfolding before
 before-itself Start = refl
@@ -43,7 +40,7 @@ before-itself End = refl
 
 pub before-trans : (x y z : KeyPlace) → before x y ≡ true → before y z ≡ true → before x z ≡ true
 unfolding before
-before-trans (At j) (At k) (At l) p q = ap is_lt (total.trans j k l (less _ p) (less _ q))
+before-trans (At j) (At k) (At l) p q = ap is_lt (total.trans j k l (is_less _ p) (is_less _ q))
 before-trans Start (At k) (At l) p q = refl
 before-trans (At j) (At k) End p q = refl
 before-trans Start (At k) End p q = refl

@@ -2,7 +2,6 @@
 use Rattle.std.proofs.Common.{◌≡◌, ℕ, ◌==◌, ◌&&◌, Bool, true, false, not, cond, [], ◌∷◌, length, refl, sym, ap, ◌∙◌, arith, eq-eqb, is_lt, is_gt, Ordering, Less, Equal, Greater}
 use Rattle.std.proofs.lemmas.Bool.Decides.{nat_tests}
 use Rattle.std.proofs.lemmas.Cmp.{nat_list_cmp_total}
-use Rattle.std.specs.Cmp.{IsTotalOrder}
 use Rattle.std.specs.Ordering.{nat_cmp, ordering_then, ordering_reverse}
 use Rattle.std.specs.Cmp.Lexicographic.{slice_cmp}
 use Rattle.key_tuple.specs.declared.mode.Mode.{Mode}
@@ -82,15 +81,12 @@ position_beyond fields mode tuple x e = pick (length tuple == fields) e
     pick true e = above_admits mode tuple x e
     pick false e = e
 
-bytes : IsTotalOrder (slice_cmp nat_cmp)
-bytes = nat_list_cmp_total
-
 -- a tuple that is greater than a key as a key is, is above it as a tuple
 greater_key : (t k : FieldList) → is_lt (key_cmp k t) ≡ true → tuple_cmp t k ≡ Greater
 greater_key [] [] e = absurd cc
 greater_key [] (k ∷ ks) e = absurd cc
 greater_key (t ∷ ts) [] e = refl
-greater_key (t ∷ ts) (k ∷ ks) e = go (slice_cmp nat_cmp k t) (slice_cmp nat_cmp t k) (bytes.antisymm t k) e (greater_key ts ks)
+greater_key (t ∷ ts) (k ∷ ks) e = go (slice_cmp nat_cmp k t) (slice_cmp nat_cmp t k) (nat_list_cmp_total.antisymm t k) e (greater_key ts ks)
   where
     go : (o r : Ordering) → r ≡ ordering_reverse o → is_lt (ordering_then o (key_cmp ks ts)) ≡ true → (is_lt (key_cmp ks ts) ≡ true → tuple_cmp ts ks ≡ Greater) → ordering_then r (tuple_cmp ts ks) ≡ Greater
     go Less r q e more = ap (λ s. ordering_then s (tuple_cmp ts ks)) q

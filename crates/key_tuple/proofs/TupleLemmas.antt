@@ -1,19 +1,16 @@
 -- A tuple cuts the keys in two.
-use Rattle.key_tuple.proofs.PlaceLemmas.{key_exact}
 use Rattle.std.proofs.Common.{◌≡◌, ◌≢◌, length, sym, Bool, true, not, [], ◌∷◌, refl, ap, ◌∙◌, subst, arith, is_lt, is_gt, Ordering, Less, Equal, Greater}
 use Rattle.std.proofs.lemmas.Cmp.{nat_list_cmp_total, alike_right}
-use Rattle.std.specs.Cmp.{IsTotalOrder}
 use Rattle.std.specs.Ordering.{nat_cmp, ordering_then}
 use Rattle.std.specs.Cmp.Lexicographic.{slice_cmp}
+use Rattle.list_facts.proofs.Orders.{is_less, is_greater}
+use Rattle.key_tuple.proofs.PlaceLemmas.{key_exact}
 use Rattle.key_tuple.specs.Order.{FieldList, key_cmp, tuple_cmp}
 use Rattle.key_tuple.specs.KeyPlace.{KeyPlace, Start, At, End, before, IsCut, not_below, above}
 
 -- where a tuple is below a key, or meets it, it is so for each greater key
 abbrev Rises : Ordering → Ordering → Type 0
 Rises o r = (is_lt o ≡ true → is_lt r ≡ true) × (is_gt r ≡ true → is_gt o ≡ true)
-
-bytes : IsTotalOrder (slice_cmp nat_cmp)
-bytes = nat_list_cmp_total
 
 on_less : (a b o r : Ordering) → (a ≡ Less → b ≡ Less) → (a ≡ Equal → b ≡ Less) → Rises (ordering_then a o) (ordering_then b r)
 on_less Less b o r f g = let e : b ≡ Less = f refl in (λ t. rw e, λ t. absurd (cc (ap (λ (c : Ordering). is_gt (ordering_then c r)) e)))
@@ -33,8 +30,8 @@ tuple_rises (x ∷ ts) (j ∷ js) [] b = absurd cc
 tuple_rises (x ∷ ts) (j ∷ js) (k ∷ ks) b = go (slice_cmp nat_cmp j k) refl b (tuple_rises ts js ks)
   where
     go : (c : Ordering) → slice_cmp nat_cmp j k ≡ c → is_lt (ordering_then c (key_cmp js ks)) ≡ true → (is_lt (key_cmp js ks) ≡ true → Rises (tuple_cmp ts js) (tuple_cmp ts ks)) → Rises (tuple_cmp (x ∷ ts) (j ∷ js)) (tuple_cmp (x ∷ ts) (k ∷ ks))
-    go Less e b more = on_less (slice_cmp nat_cmp x j) (slice_cmp nat_cmp x k) _ _ (λ f. bytes.trans x j k f e) (λ f. bytes.congr x j k f ∙ e)
-    go Equal e b more = subst (λ (c : Ordering). Rises (ordering_then (slice_cmp nat_cmp x j) (tuple_cmp ts js)) (ordering_then c (tuple_cmp ts ks))) (alike_right bytes j k x e) (on_same _ _ _ (more b))
+    go Less e b more = on_less (slice_cmp nat_cmp x j) (slice_cmp nat_cmp x k) _ _ (λ f. nat_list_cmp_total.trans x j k f e) (λ f. nat_list_cmp_total.congr x j k f ∙ e)
+    go Equal e b more = subst (λ (c : Ordering). Rises (ordering_then (slice_cmp nat_cmp x j) (tuple_cmp ts js)) (ordering_then c (tuple_cmp ts ks))) (alike_right nat_list_cmp_total j k x e) (on_same _ _ _ (more b))
     go Greater e b more = absurd cc
 
 not_gt : (a b : Bool) → (b ≡ true → a ≡ true) → not a ≡ true → not b ≡ true
@@ -61,16 +58,6 @@ above_cut t = record { begins = refl; ends = refl; rises = rise }
     rise (At j) (At k) b e = (tuple_rises t j k b).0 e
     rise x End b e = refl
     rise End y b e = absurd cc
-
-is_less : (o : Ordering) → is_lt o ≡ true → o ≡ Less
-is_less Less e = refl
-is_less Equal e = absurd cc
-is_less Greater e = absurd cc
-
-is_greater : (o : Ordering) → is_gt o ≡ true → o ≡ Greater
-is_greater Less e = absurd cc
-is_greater Equal e = absurd cc
-is_greater Greater e = refl
 
 -- what is above a tuple stays above it, and what is below it was below it
 pub stays_above : (t j k : FieldList) → key_cmp j k ≡ Less → tuple_cmp t j ≡ Less → tuple_cmp t k ≡ Less

@@ -16,8 +16,11 @@ equal_fields [] key = 0
 equal_fields (x ∷ xs) [] = 0
 equal_fields (x ∷ xs) (y ∷ ys) = if pointwise nat_eq x y then equal_fields xs ys + 1 else 0
 
--- the number of equal first fields, and of equal first bytes of the tuple's next field, 0 where it has none
+-- the number of equal first fields, and of equal first bytes of the tuple's next field, 0 where it
+-- has none
 abbrev pub matching : FieldList → FieldList → Match
 matching tuple key =
-    let n = equal_fields tuple key in
-    record { fields = n; bytes = equal_bytes (slice_index_or tuple n []) (slice_index_or key n []) }
+    let n = equal_fields tuple key in record {
+      fields = n;
+      bytes = equal_bytes (slice_index_or tuple n []) (slice_index_or key n []);
+    }

@@ -24,10 +24,12 @@ whole_fields fields params = take params.fields fields
 abbrev pub next_bytes : FieldList → Params → List ℕ
 next_bytes fields params = take params.bytes (slice_index_or fields params.fields [])
 
--- what is hashed: the index number in four bytes, the whole fields, then the first bytes of the next one
+-- what is hashed: the index number in four bytes, the whole fields, then the first bytes of the
+-- next one
 abbrev pub prefix_bytes : ℕ → FieldList → Params → List ℕ
 prefix_bytes index fields params =
-    bytes_high_first 4 index ++ flat_map with_length (whole_fields fields params) ++ next_bytes fields params
+    bytes_high_first 4 index ++ flat_map with_length (whole_fields fields params)
+    ++ next_bytes fields params
 
 -- the fold: the low bits of the hash
 unfoldable pub fold_of : ℕ → FieldList → Params → ℕ → ℕ

@@ -16,12 +16,16 @@ pub record PlacesAreOrdered : Type 0 where
   pub trans : (x y z : KeyPlace) → before x y ≡ true → before y z ≡ true → before x z ≡ true
   pub tied : (x y : KeyPlace) → before x y ≡ false → before y x ≡ false → x ≡ y
 
--- a tuple's place among rising keys: what is above it stays above, what is below it was below, and the
--- keys that begin with it stand together; against a key of as many fields it is compared as a key
+-- a tuple's place among rising keys: what is above it stays above, what is below it was below, and
+-- the keys that begin with it stand together; against a key of as many fields it is compared as a
+-- key
 pub record TuplesFollowKeys : Type 0 where
-  pub above : (t j k : FieldList) → key_cmp j k ≡ Less → tuple_cmp t j ≡ Less → tuple_cmp t k ≡ Less
-  pub below : (t j k : FieldList) → key_cmp j k ≡ Less → tuple_cmp t k ≡ Greater → tuple_cmp t j ≡ Greater
-  pub between : (t j k l : FieldList) → key_cmp j k ≢ Greater → key_cmp k l ≢ Greater → tuple_cmp t j ≡ Equal → tuple_cmp t l ≡ Equal → tuple_cmp t k ≡ Equal
+  pub above : (t j k : FieldList) → key_cmp j k ≡ Less → tuple_cmp t j ≡ Less
+      → tuple_cmp t k ≡ Less
+  pub below : (t j k : FieldList) → key_cmp j k ≡ Less → tuple_cmp t k ≡ Greater
+      → tuple_cmp t j ≡ Greater
+  pub between : (t j k l : FieldList) → key_cmp j k ≢ Greater → key_cmp k l ≢ Greater
+      → tuple_cmp t j ≡ Equal → tuple_cmp t l ≡ Equal → tuple_cmp t k ≡ Equal
   pub whole : (t k : FieldList) → length t ≡ length k → tuple_cmp t k ≡ key_cmp t k
 
 -- each tuple cuts the places in two, with or without the keys that begin with it

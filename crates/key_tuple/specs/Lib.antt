@@ -1,5 +1,4 @@
 pub mod Order
-pub mod Total
 pub mod Hashed
 pub mod KeyPlace
 pub mod Position

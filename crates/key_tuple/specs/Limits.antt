@@ -14,8 +14,10 @@ pub record IsWithinLimits (fields : FieldList) : Type 0 where
 abbrev pub refusal_of : FieldList → Option KeyError
 refusal_of fields =
     if nat_lt MAX_FIELDS (length fields) then Some (TooManyFields (length fields))
-    else (if nat_lt MAX_KEY_BYTES (byte_count fields) then Some (TooLong (byte_count fields)) else None)
+    else (if nat_lt MAX_KEY_BYTES (byte_count fields) then Some (TooLong (byte_count fields))
+    else None)
 
 -- the refusal of a value's bytes, if any
 abbrev pub value_refusal_of : List ℕ → Option KeyError
-value_refusal_of bytes = if nat_lt MAX_VALUE_BYTES (length bytes) then Some (TooLong (length bytes)) else None
+value_refusal_of bytes =
+    if nat_lt MAX_VALUE_BYTES (length bytes) then Some (TooLong (length bytes)) else None

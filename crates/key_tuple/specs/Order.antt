@@ -21,4 +21,5 @@ key_cmp = slice_cmp (slice_cmp nat_cmp)
 abbrev pub tuple_cmp : FieldList → FieldList → Ordering
 tuple_cmp [] key = Equal
 tuple_cmp (field ∷ fields) [] = Greater
-tuple_cmp (field ∷ fields) (part ∷ parts) = ordering_then (slice_cmp nat_cmp field part) (tuple_cmp fields parts)
+tuple_cmp (field ∷ fields) (part ∷ parts) =
+    ordering_then (slice_cmp nat_cmp field part) (tuple_cmp fields parts)

@@ -2,10 +2,10 @@
 use Rattle.std.specs.Prelude.{ℕ, ◌≡◌, ◌≤◌, List, [], ◌∷◌, slice_range}
 use Rattle.key_tuple.specs.Order.{FieldList}
 
--- the parts of the bytes that end at these offsets, the first of which begins at `from`
-abbrev pub parts : List ℕ → ℕ → List ℕ → FieldList
-parts bytes from [] = []
-parts bytes from (end ∷ ends) = slice_range bytes from end ∷ parts bytes end ends
+-- the parts of a list that end at these offsets, the first of which begins at `from`
+abbrev pub parts : {A : Type 0} → List A → ℕ → List ℕ → List (List A)
+parts xs from [] = []
+parts xs from (end ∷ ends) = slice_range xs from end ∷ parts xs end ends
 
 -- the offsets rise from `from` and the last is `to`
 abbrev pub RiseTo : ℕ → List ℕ → ℕ → Type 0

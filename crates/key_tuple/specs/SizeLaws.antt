@@ -7,8 +7,11 @@ use Rattle.key_tuple.specs.Sizes.{row_size_of, pointer_size_of, charge, largest_
 
 -- no record is larger than the limits allow, whatever they are
 pub record SizesAreLimited : Type 0 where
-  pub row : (fields : FieldList) (value : List ℕ) (most bytes room : ℕ) → length fields ≤ most → byte_count fields ≤ bytes → length value ≤ room → row_size_of fields value ≤ largest_row most bytes room
-  pub pointer : (fields : FieldList) (most bytes : ℕ) → length fields ≤ most → byte_count fields ≤ bytes → pointer_size_of fields ≤ largest_pointer most bytes
+  pub row : (fields : FieldList) (value : List ℕ) (most bytes room : ℕ) → length fields ≤ most
+      → byte_count fields ≤ bytes → length value ≤ room
+      → row_size_of fields value ≤ largest_row most bytes room
+  pub pointer : (fields : FieldList) (most bytes : ℕ) → length fields ≤ most
+      → byte_count fields ≤ bytes → pointer_size_of fields ≤ largest_pointer most bytes
 
 -- the largest records under the present limits, and what a page is charged for them
 pub record LargestSizes : Type 0 where
@@ -19,5 +22,7 @@ pub record LargestSizes : Type 0 where
 
 -- a size depends on the lengths alone
 pub record SizesFollowLengths : Type 0 where
-  pub row : (s t : FieldList) (u v : List ℕ) → map length s ≡ map length t → length u ≡ length v → row_size_of s u ≡ row_size_of t v
-  pub pointer : (s t : FieldList) → map length s ≡ map length t → pointer_size_of s ≡ pointer_size_of t
+  pub row : (s t : FieldList) (u v : List ℕ) → map length s ≡ map length t → length u ≡ length v
+      → row_size_of s u ≡ row_size_of t v
+  pub pointer : (s t : FieldList) → map length s ≡ map length t
+      → pointer_size_of s ≡ pointer_size_of t

@@ -25,7 +25,10 @@ impl Model for FieldBuffer {
 
     ghost use Rattle.key_tuple.specs.Buffer.{IsBuffer};
 
-    ghost view = { λ b. record { fields = parts b.bytes.items 0 (take b.count b.ends); room = vec_capacity b.bytes } };
+    ghost view = { λ b. record {
+      fields = parts b.bytes.items 0 (take b.count b.ends);
+      room = vec_capacity b.bytes;
+    } };
 
     ghost invariant = { IsBuffer };
 }

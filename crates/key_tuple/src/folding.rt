@@ -6,7 +6,7 @@ use crate::fields::Fields;
 use crate::mode::Params;
 
 /// The basis of 64-bit FNV-1a.
-pub(crate) const BASIS: u64 = 0xcbf2_9ce4_8422_2325;
+const BASIS: u64 = 0xcbf2_9ce4_8422_2325;
 
 /// The prime of 64-bit FNV-1a.
 const PRIME: u64 = 0x100_0000_01b3;
@@ -35,7 +35,8 @@ pub fn fold<A: Fields>(index: u32, fields: &A, params: &Params, bits: u8) -> u64
 /// The hash after so many whole fields.
 fn hash_fields<A: Fields>(start: u64, fields: &A, count: u8) -> u64
     requires { count ≤ length (A.fields_of fields.now) }
-    ensures { result ≡ fold hash_byte start (flat_map with_length (take count (A.fields_of fields.now))) }
+    ensures { result
+        ≡ fold hash_byte start (flat_map with_length (take count (A.fields_of fields.now))) }
 {
     let mut hash = start;
     for i in 0..count {
@@ -47,7 +48,7 @@ fn hash_fields<A: Fields>(start: u64, fields: &A, count: u8) -> u64
 }
 
 /// The hash after these bytes.
-pub(crate) fn hash_bytes(start: u64, bytes: &[u8]) -> u64
+fn hash_bytes(start: u64, bytes: &[u8]) -> u64
     ensures { result ≡ fold hash_byte start bytes.now }
 {
     let mut hash = start;

@@ -26,8 +26,10 @@ impl Key {
         requires { 0 < length fields.items }
         ensures ok { IfOk result (λ k. k.tuple ≡ map (λ f. f.items) fields.items) }
         ensures room { IfOk result (λ k. k.room ≡ 0) }
-        ensures refused { IfSome (refusal_of (map (λ f. f.items) fields.items)) (λ e. (result ≡ Err e) ⊎ (result ≡ Err KeyError.NoMemory)) }
-        ensures cause { IfErr result (λ e. (refusal_of (map (λ f. f.items) fields.items) ≡ Some e) ⊎ (e ≡ KeyError.NoMemory)) }
+        ensures refused { IfSome (refusal_of (map (λ f. f.items) fields.items))
+            (λ e. (result ≡ Err e) ⊎ (result ≡ Err KeyError.NoMemory)) }
+        ensures cause { IfErr result (λ e. (refusal_of (map (λ f. f.items) fields.items) ≡ Some e)
+            ⊎ (e ≡ KeyError.NoMemory)) }
     {
         let tuple = Tuple::try_new(alloc, fields)?;
         Ok(Key { tuple, room: 0 })
@@ -71,11 +73,11 @@ impl PartialEq for Key {
     ghost use Rattle.std.specs.Ordering.{eq_by_cmp, on};
     ghost use Rattle.std.specs.Cmp.{partial_equiv_from_equiv, on_equiv};
     ghost use Rattle.key_tuple.specs.Order.{key_cmp};
-    ghost use Rattle.key_tuple.specs.Total.{key_eq_equiv};
+    ghost use Rattle.list_facts.proofs.ByteLists.{byte_lists_equiv};
 
     ghost eq = { on (λ k. k.tuple) (eq_by_cmp key_cmp) };
 
-    ghost laws = { partial_equiv_from_equiv (on_equiv (λ k. k.tuple) key_eq_equiv) };
+    ghost laws = { partial_equiv_from_equiv (on_equiv (λ k. k.tuple) byte_lists_equiv) };
 
     fn eq(&self, other: &Key) -> bool {
         compare_whole(self, other) == Ordering::Equal
@@ -84,9 +86,9 @@ impl PartialEq for Key {
 
 impl Eq for Key {
     ghost use Rattle.std.specs.Cmp.{on_equiv};
-    ghost use Rattle.key_tuple.specs.Total.{key_eq_equiv};
+    ghost use Rattle.list_facts.proofs.ByteLists.{byte_lists_equiv};
 
-    ghost laws = { on_equiv (λ k. k.tuple) key_eq_equiv };
+    ghost laws = { on_equiv (λ k. k.tuple) byte_lists_equiv };
 }
 
 impl PartialOrd for Key {
@@ -94,11 +96,12 @@ impl PartialOrd for Key {
     ghost use Rattle.std.specs.Ordering.{as_partial_cmp, on};
     ghost use Rattle.std.specs.Cmp.{partial_order_from_agreeing_total, on_total};
     ghost use Rattle.key_tuple.specs.Order.{key_cmp};
-    ghost use Rattle.key_tuple.specs.Total.{key_total};
+    ghost use Rattle.list_facts.proofs.ByteLists.{byte_lists_total};
 
     ghost partial_cmp = { as_partial_cmp (on (λ k. k.tuple) key_cmp) };
 
-    ghost laws = { partial_order_from_agreeing_total (on (λ k. k.tuple) key_cmp) (on_total (λ k. k.tuple) key_total) (λ _ _. refl) (λ _ _. refl) };
+    ghost laws = { partial_order_from_agreeing_total (on (λ k. k.tuple) key_cmp)
+        (on_total (λ k. k.tuple) byte_lists_total) (λ _ _. refl) (λ _ _. refl) };
 
     fn partial_cmp(&self, other: &Key) -> Option<Ordering> {
         Some(compare_whole(self, other))
@@ -110,11 +113,11 @@ impl Ord for Key {
     ghost use Rattle.std.specs.Ordering.{on};
     ghost use Rattle.std.specs.Cmp.{on_total};
     ghost use Rattle.key_tuple.specs.Order.{key_cmp};
-    ghost use Rattle.key_tuple.specs.Total.{key_total};
+    ghost use Rattle.list_facts.proofs.ByteLists.{byte_lists_total};
 
     ghost cmp = { on (λ k. k.tuple) key_cmp };
 
-    ghost total = { on_total (λ k. k.tuple) key_total };
+    ghost total = { on_total (λ k. k.tuple) byte_lists_total };
 
     ghost matches_partial_cmp = { λ _ _. refl };
 
@@ -127,11 +130,12 @@ impl Ord for Key {
 
 impl Hash for Key {
     ghost use Rattle.std.specs.Hash.{on_Alike};
-    ghost use Rattle.key_tuple.specs.Hashed.{hash_writes, writes_alike};
+    ghost use Rattle.list_facts.proofs.ByteLists.{byte_lists_alike};
+    ghost use Rattle.key_tuple.specs.Hashed.{hash_writes};
 
     ghost hash_input = { λ k. hash_writes k.tuple };
 
-    ghost respects_eq = { (on_Alike (λ k. k.tuple) writes_alike).fed };
+    ghost respects_eq = { (on_Alike (λ k. k.tuple) byte_lists_alike).fed };
 
     fn hash<H: Hasher>(&self, state: &mut H) {
         self.tuple.hash(state);

@@ -11,8 +11,6 @@ mod laws;
 mod mode;
 mod order;
 mod sizes;
-#[cfg(test)]
-mod tests;
 mod tuple;
 mod value;
 

@@ -35,8 +35,10 @@ impl Tuple {
     /// The tuple of these fields. Refuses too many fields first, then too many bytes.
     pub fn try_new(alloc: Global, fields: Vec<Vec<u8>>) -> Result<Tuple, KeyError>
         ensures ok { IfOk result (λ t. t ≡ map (λ f. f.items) fields.items) }
-        ensures refused { IfSome (refusal_of (map (λ f. f.items) fields.items)) (λ e. (result ≡ Err e) ⊎ (result ≡ Err KeyError.NoMemory)) }
-        ensures cause { IfErr result (λ e. (refusal_of (map (λ f. f.items) fields.items) ≡ Some e) ⊎ (e ≡ KeyError.NoMemory)) }
+        ensures refused { IfSome (refusal_of (map (λ f. f.items) fields.items))
+            (λ e. (result ≡ Err e) ⊎ (result ≡ Err KeyError.NoMemory)) }
+        ensures cause { IfErr result (λ e. (refusal_of (map (λ f. f.items) fields.items) ≡ Some e)
+            ⊎ (e ≡ KeyError.NoMemory)) }
     {
         let count = fields.len();
         if count > usize::from(MAX_FIELDS) {
@@ -90,12 +92,12 @@ impl Clone for Tuple {
 impl PartialEq for Tuple {
     ghost use Rattle.std.specs.Ordering.{eq_by_cmp};
     ghost use Rattle.key_tuple.specs.Order.{key_cmp};
-    ghost use Rattle.key_tuple.specs.Total.{key_eq_equiv};
+    ghost use Rattle.list_facts.proofs.ByteLists.{byte_lists_equiv};
     ghost use Rattle.std.specs.Cmp.{partial_equiv_from_equiv};
 
     ghost eq = { eq_by_cmp key_cmp };
 
-    ghost laws = { partial_equiv_from_equiv key_eq_equiv };
+    ghost laws = { partial_equiv_from_equiv byte_lists_equiv };
 
     fn eq(&self, other: &Tuple) -> bool {
         compare_whole(self, other) == Ordering::Equal
@@ -103,9 +105,9 @@ impl PartialEq for Tuple {
 }
 
 impl Eq for Tuple {
-    ghost use Rattle.key_tuple.specs.Total.{key_eq_equiv};
+    ghost use Rattle.list_facts.proofs.ByteLists.{byte_lists_equiv};
 
-    ghost laws = { key_eq_equiv };
+    ghost laws = { byte_lists_equiv };
 }
 
 impl PartialOrd for Tuple {
@@ -113,11 +115,12 @@ impl PartialOrd for Tuple {
     ghost use Rattle.std.specs.Cmp.{partial_order_from_agreeing_total};
     ghost use Rattle.std.specs.Prelude.{refl};
     ghost use Rattle.key_tuple.specs.Order.{key_cmp};
-    ghost use Rattle.key_tuple.specs.Total.{key_total};
+    ghost use Rattle.list_facts.proofs.ByteLists.{byte_lists_total};
 
     ghost partial_cmp = { as_partial_cmp key_cmp };
 
-    ghost laws = { partial_order_from_agreeing_total key_cmp key_total (λ _ _. refl) (λ _ _. refl) };
+    ghost laws = { partial_order_from_agreeing_total key_cmp byte_lists_total
+        (λ _ _. refl) (λ _ _. refl) };
 
     fn partial_cmp(&self, other: &Tuple) -> Option<Ordering> {
         Some(compare_whole(self, other))
@@ -126,12 +129,12 @@ impl PartialOrd for Tuple {
 
 impl Ord for Tuple {
     ghost use Rattle.key_tuple.specs.Order.{key_cmp};
-    ghost use Rattle.key_tuple.specs.Total.{key_total};
+    ghost use Rattle.list_facts.proofs.ByteLists.{byte_lists_total};
     ghost use Rattle.std.specs.Prelude.{refl};
 
     ghost cmp = { key_cmp };
 
-    ghost total = { key_total };
+    ghost total = { byte_lists_total };
 
     ghost matches_partial_cmp = { λ _ _. refl };
 
@@ -143,11 +146,12 @@ impl Ord for Tuple {
 }
 
 impl Hash for Tuple {
-    ghost use Rattle.key_tuple.specs.Hashed.{hash_writes, writes_alike};
+    ghost use Rattle.list_facts.proofs.ByteLists.{byte_lists_alike};
+    ghost use Rattle.key_tuple.specs.Hashed.{hash_writes};
 
     ghost hash_input = { hash_writes };
 
-    ghost respects_eq = { writes_alike.fed };
+    ghost respects_eq = { byte_lists_alike.fed };
 
     fn hash<H: Hasher>(&self, state: &mut H) {
         state.write_usize(usize::from(self.count()));

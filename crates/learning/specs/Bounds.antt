@@ -9,7 +9,8 @@ use Rattle.learning.specs.declared.event.Event.TheVariants.{Hit, Miss, Descent a
 use Rattle.learning.specs.declared.event.Figures.{Figures}
 use Rattle.learning.specs.Word.{FitsWord}
 
--- what an index of so many fields may know: its prefix asks for no more fields, and all fits the word
+-- what an index of so many fields may know: its prefix asks for no more fields, and all fits the
+-- word
 pub record IsInfoOf (unique : ℕ) (info : Info) : Type 0 where
   pub asks : asked_fields info.params ≤ unique
   pub fits : FitsWord info

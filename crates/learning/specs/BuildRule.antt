@@ -12,11 +12,13 @@ use Rattle.learning.specs.Learning.{is_hashed_with, is_early, learn_descent, lea
 abbrev pub is_worth_building : Info → BlockFigures → ℕ → Bool
 is_worth_building info block rows =
     nat_lt (rows / PAGE_BUILD_LIMIT) block.helps && nat_le BUILD_LIMIT info.potential
-    && (is_none block.built || nat_lt (2 * rows) block.helps || not (is_hashed_with block.advice block.built))
+    && (is_none block.built || nat_lt (2 * rows) block.helps
+    || not (is_hashed_with block.advice block.built))
 
 -- a build is due after the event
 abbrev pub should_build : Info → Event → Bool
 should_build info Hit = false
 should_build info Miss = false
 should_build info (Down d) =
-    if is_early info then false else is_worth_building (learn_descent info d) (learn_block info d) d.rows
+    if is_early info then false
+    else is_worth_building (learn_descent info d) (learn_block info d) d.rows

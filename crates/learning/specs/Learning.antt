@@ -25,7 +25,10 @@ is_hashed_with p (Some q) = is_same q p
 
 -- one event more, and one descent more that the recommendation has waited
 abbrev pub waiting : Info → Info
-waiting info = record info { analysis = one_more HASH_ANALYSIS info.analysis; events = info.events + 1 }
+waiting info = record info {
+  analysis = one_more HASH_ANALYSIS info.analysis;
+  events = info.events + 1;
+}
 
 -- the recommendation is still not looked at
 abbrev pub is_early : Info → Bool
@@ -36,11 +39,16 @@ abbrev pub reviewed : Info → Descent → Info
 reviewed info d =
     if nat_lt 0 info.potential && confirms d.unique d.figures info.params
     then record info { potential = one_more MAX_POTENTIAL info.potential }
-    else record info { analysis = 0; potential = promise d.figures; params = recommendation d.unique d.figures }
+    else record info {
+      analysis = 0;
+      potential = promise d.figures;
+      params = recommendation d.unique d.figures;
+    }
 
 -- hashing the block as advised would have helped this search too
 abbrev pub has_helped : Info → BlockFigures → Bool
-has_helped info block = nat_lt 0 block.helps && nat_lt 0 info.potential && is_same block.advice info.params
+has_helped info block =
+    nat_lt 0 block.helps && nat_lt 0 info.potential && is_same block.advice info.params
 
 -- the block: it has helped once more, or it gets the index's recommendation as its advice
 abbrev pub advised : Info → BlockFigures → BlockFigures
@@ -60,7 +68,11 @@ learn_descent info d =
 
 -- what an index knows after an event
 abbrev pub learn : Info → Event → Info
-learn info Hit = record info { last = true; potential = one_more HIT_LIMIT info.potential; events = info.events + 1 }
+learn info Hit = record info {
+  last = true;
+  potential = one_more HIT_LIMIT info.potential;
+  events = info.events + 1;
+}
 learn info Miss = record info { last = false; events = info.events + 1 }
 learn info (Down d) = learn_descent info d
 

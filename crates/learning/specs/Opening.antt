@@ -10,7 +10,13 @@ opening_params = record { fields = 1; bytes = 0; left = true }
 
 -- an index that has learnt nothing
 abbrev pub opening_info : Info
-opening_info = record { analysis = 0; potential = 0; params = opening_params; last = false; events = 0 }
+opening_info = record {
+  analysis = 0;
+  potential = 0;
+  params = opening_params;
+  last = false;
+  events = 0;
+}
 
 -- a block of which nothing is known
 abbrev pub opening_block : BlockFigures

@@ -16,15 +16,17 @@ extent_cmp a b = ordering_then (nat_cmp a.fields b.fields) (nat_cmp a.bytes b.by
 abbrev pub extent_of : Params → Match
 extent_of prefix = record { fields = prefix.fields; bytes = prefix.bytes }
 
--- the shortest prefix in which the tuple agrees with the nearer row and not with the farther one; all
--- fields where the nearer row agrees in all
+-- the shortest prefix in which the tuple agrees with the nearer row and not with the farther one;
+-- all fields where the nearer row agrees in all
 abbrev pub parting : ℕ → Match → Match → Bool → Params
 parting unique near far left =
     if nat_le unique near.fields then record { fields = unique; bytes = 0; left = left }
-    else (if nat_lt far.fields near.fields then record { fields = far.fields + 1; bytes = 0; left = left }
+    else (if nat_lt far.fields near.fields
+    then record { fields = far.fields + 1; bytes = 0; left = left }
     else record { fields = far.fields; bytes = far.bytes + 1; left = left })
 
--- the prefix for rows beside the tuple that compare so: the row after is nearer, or the row before, or neither
+-- the prefix for rows beside the tuple that compare so: the row after is nearer, or the row before,
+-- or neither
 abbrev pub recommendation_by : Ordering → ℕ → Figures → Params
 recommendation_by Equal unique f = opening_params
 recommendation_by Greater unique f = parting unique f.up f.low true
@@ -34,6 +36,7 @@ recommendation_by Less unique f = parting unique f.low f.up false
 abbrev pub recommendation : ℕ → Figures → Params
 recommendation unique f = recommendation_by (extent_cmp f.up f.low) unique f
 
+-- the potential of a new recommendation, by how far the two rows agree
 abbrev pub promise_by : Ordering → ℕ
 promise_by Equal = 0
 promise_by Greater = 1
@@ -47,8 +50,8 @@ promise f = promise_by (extent_cmp f.up f.low)
 abbrev pub has_prefix : Params → Match → Bool
 has_prefix prefix row = is_le (extent_cmp (extent_of prefix) row)
 
--- a row beside the tuple stands after the place at which the tuple's group is entered: before the group
--- with left, so its rows do; behind it with right, so the other rows do
+-- a row beside the tuple stands after the place at which the tuple's group is entered: before the
+-- group with left, so its rows do; behind it with right, so the other rows do
 abbrev pub stands_after : Params → Match → Bool
 stands_after prefix row = if prefix.left then has_prefix prefix row else not (has_prefix prefix row)
 

@@ -1,40 +1,10 @@
--- Parts of a list: how many, which, after one more, and the first of them.
-use Rattle.std.proofs.Common.{◌≡◌, ℕ, zero, suc, ◌+◌, ◌-◌, ◌<◌, ◌≤◌, List, [], ◌∷◌, ◌++◌, length, take, drop, get_or, refl, ap, ◌∙◌, arith, length-drop}
-use Rattle.std.proofs.lemmas.List.{take-append-le, drop-append-le, take-take, drop-take}
-use Rattle.std.proofs.Math.Seq.{drop-append_seam, take-length}
+-- The first parts of a list, and offsets that climb.
+use Rattle.std.proofs.Common.{◌≡◌, ℕ, zero, suc, ◌+◌, ◌-◌, ◌<◌, ◌≤◌, List, [], ◌∷◌, ◌++◌, length, take, drop, get_or, refl, ap, ◌∙◌, arith}
+use Rattle.std.proofs.lemmas.List.{take-take, drop-take}
 use Rattle.std.specs.List.{slice_range}
-use Rattle.key_tuple.specs.Parts.{RiseTo}
+use Rattle.key_tuple.specs.Parts.{parts, RiseTo}
 use Rattle.key_tuple.proofs.PartsLemmas.{RiseTo-le}
-use Rattle.map_history.specs.Rows.{cuts, ClimbTo}
-
-pub length-cuts : {A : Type 0} (xs : List A) (from : ℕ) (ends : List ℕ) → length (cuts xs from ends) ≡ length ends
-length-cuts xs from [] = refl
-length-cuts xs from (end ∷ ends) = ap suc (length-cuts xs end ends)
-
--- the part at a place reaches from the end before it to its own end
-pub get_or-cuts : {A : Type 0} (xs : List A) (from : ℕ) (ends : List ℕ) (i : ℕ) → i < length ends → get_or (cuts xs from ends) i [] ≡ slice_range xs (get_or (from ∷ ends) i 0) (get_or ends i 0)
-get_or-cuts xs from [] i h = absurd (omega arith)
-get_or-cuts xs from (end ∷ ends) zero h = refl
-get_or-cuts xs from (end ∷ ends) (suc i) h = get_or-cuts xs end ends i (omega arith)
-
-range_kept : {A : Type 0} (xs more : List A) (from to : ℕ) → from ≤ to → to ≤ length xs → slice_range (xs ++ more) from to ≡ slice_range xs from to
-range_kept xs more from to rises fits =
-    let start : from ≤ length xs = omega arith in
-    let rest : to - from ≤ length (drop from xs) = omega (arith, length-drop from xs) in
-    ap (λ ys. take (to - from) ys) (drop-append-le from xs more start) ∙ take-append-le (to - from) (drop from xs) more rest
-
-range_added : {A : Type 0} (xs more : List A) (from to : ℕ) → from ≡ length xs → to ≡ length xs + length more → slice_range (xs ++ more) from to ≡ more
-range_added xs more from to e f =
-    let whole : to - from ≡ length more = omega arith in
-    rw (whole, e, drop-append_seam xs more) (take-length more)
-
--- one part more at the end
-pub cuts-push : {A : Type 0} (xs more : List A) (from : ℕ) (ends : List ℕ) (to : ℕ) → RiseTo from ends (length xs) → to ≡ length xs + length more → cuts (xs ++ more) from (ends ++ to ∷ []) ≡ cuts xs from ends ++ more ∷ []
-cuts-push xs more from [] to h e = ap (λ x. x ∷ []) (range_added xs more from to h e)
-cuts-push xs more from (end ∷ ends) to h e =
-    let kept = range_kept xs more from end h.0 (RiseTo-le end ends (length xs) h.1) in
-    let rest = cuts-push xs more end ends to h.1 e in
-    cc
+use Rattle.map_history.specs.Rows.{ClimbTo}
 
 -- where the first parts end
 pub RiseTo-take : (from : ℕ) (ends : List ℕ) (to n : ℕ) → RiseTo from ends to → n ≤ length ends → RiseTo from (take n ends) (get_or (from ∷ ends) n 0)
@@ -54,13 +24,13 @@ range_within xs from to most rises fits =
     ap (λ ys. take (to - from) ys) rest ∙ take-take (to - from) (most - from) (drop from xs) (omega arith)
 
 -- the first parts, of no more than reaches to their end
-pub cuts-take : {A : Type 0} (xs : List A) (from : ℕ) (ends : List ℕ) (to n : ℕ) → RiseTo from ends to → n ≤ length ends → cuts (take (get_or (from ∷ ends) n 0) xs) from (take n ends) ≡ take n (cuts xs from ends)
-cuts-take xs from ends to zero h le = refl
-cuts-take xs from [] to (suc n) h le = absurd (omega arith)
-cuts-take xs from (end ∷ ends) to (suc n) h le =
+pub parts-take : {A : Type 0} (xs : List A) (from : ℕ) (ends : List ℕ) (to n : ℕ) → RiseTo from ends to → n ≤ length ends → parts (take (get_or (from ∷ ends) n 0) xs) from (take n ends) ≡ take n (parts xs from ends)
+parts-take xs from ends to zero h le = refl
+parts-take xs from [] to (suc n) h le = absurd (omega arith)
+parts-take xs from (end ∷ ends) to (suc n) h le =
     let last : end ≤ get_or (end ∷ ends) n 0 = RiseTo-le end (take n ends) (get_or (end ∷ ends) n 0) (RiseTo-take end ends to n h.1 (omega arith)) in
     let first = range_within xs from end (get_or (end ∷ ends) n 0) h.0 last in
-    let rest = cuts-take xs end ends to n h.1 (omega arith) in
+    let rest = parts-take xs end ends to n h.1 (omega arith) in
     cc
 
 -- offsets that climb rise

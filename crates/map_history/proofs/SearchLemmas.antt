@@ -1,7 +1,8 @@
 -- What a search finds, as the first or the last row.
-use Rattle.std.proofs.Common.{◌≡◌, ℕ, zero, suc, ◌<◌, Bool, true, false, cond, Option, Some, None, List, [], ◌∷◌, length, refl, sym, ap, ◌∙◌, subst, arith, get_or, ◌⊎◌, inl, inr, ⊎_elim}
+use Rattle.std.proofs.Common.{◌≡◌, Bool, true, false, cond, Option, Some, None, List, [], ◌∷◌, refl, sym, ap, ◌∙◌, subst, arith, ⊎_elim}
 use Rattle.std.proofs.lemmas.Bool.{both_ways}
 use Rattle.std.specs.List.{AllByRecursion, Contains}
+use Rattle.list_facts.proofs.Elements.{contains_head, contains_tail, contains_cases}
 use Rattle.key_tuple.specs.KeyPlace.{KeyPlace, At, before}
 use Rattle.key_tuple.proofs.PlaceLemmas.{before-itself, before_not_after}
 use Rattle.map_history.specs.Map.{Pair, Map, Ascends}
@@ -9,28 +10,15 @@ use Rattle.map_history.specs.Reply.{first_after, last_before, or_else}
 use Rattle.map_history.specs.Laws.{IsFirst, IsLast}
 use Rattle.map_history.proofs.RowsLemmas.{each_at}
 
--- members of a list
+-- what holds of each holds of a member
 pub each_member : {A : Type 0} (P : A → Type 0) (xs : List A) (x : A) → AllByRecursion P xs → Contains xs x → P x
 each_member P xs x a there = subst P there.2 (each_at P xs there.0 x there.1 a)
-
-pub member_first : {A : Type 0} (x : A) (xs : List A) → Contains (x ∷ xs) x
-member_first x xs = (0, omega arith, refl)
-
-pub member_later : {A : Type 0} (x : A) (xs : List A) (y : A) → Contains xs y → Contains (x ∷ xs) y
-member_later x xs y there = (suc there.0, omega (arith, there.1), there.2)
-
-pub member_cases : {A : Type 0} (x : A) (xs : List A) (y : A) → Contains (x ∷ xs) y → (x ≡ y) ⊎ Contains xs y
-member_cases x xs y there = go there.0 there.1 there.2
-  where
-    go : (k : ℕ) → k < length (x ∷ xs) → get_or (x ∷ xs) k y ≡ y → (x ≡ y) ⊎ Contains xs y
-    go zero lt e = inl e
-    go (suc k) lt e = inr (k, omega arith, e)
 
 -- rows whose keys aren't apart are one
 pub one_row : (m : Map) (x y : Pair) → Ascends m → Contains m x → Contains m y → before (At x.key) (At y.key) ≡ false → before (At y.key) (At x.key) ≡ false → x ≡ y
 one_row [] x y asc a b p q = absurd (omega (arith, a.1))
-one_row (z ∷ m) x y asc a b p q = ⊎_elim (λ e. ⊎_elim (λ f. sym e ∙ f) (λ d. absurd (both_ways _ p (subst (λ (w : Pair). before (At w.key) (At y.key) ≡ true) e (each_member _ m y asc.0 d)))) (member_cases z m y b))
-    (λ d. ⊎_elim (λ f. absurd (both_ways _ q (subst (λ (w : Pair). before (At w.key) (At x.key) ≡ true) f (each_member _ m x asc.0 d)))) (λ g. one_row m x y asc.1 d g p q) (member_cases z m y b)) (member_cases z m x a)
+one_row (z ∷ m) x y asc a b p q = ⊎_elim (λ e. ⊎_elim (λ f. sym e ∙ f) (λ d. absurd (both_ways _ p (subst (λ (w : Pair). before (At w.key) (At y.key) ≡ true) e (each_member _ m y asc.0 d)))) (contains_cases z y m b))
+    (λ d. ⊎_elim (λ f. absurd (both_ways _ q (subst (λ (w : Pair). before (At w.key) (At x.key) ≡ true) f (each_member _ m x asc.0 d)))) (λ g. one_row m x y asc.1 d g p q) (contains_cases z y m b)) (contains_cases z x m a)
 
 module _ (p : KeyPlace → Bool) where
   pub none_passes : (m : Map) → first_after p m ≡ None → AllByRecursion (λ (y : Pair). p (At y.key) ≡ false) m
@@ -52,16 +40,16 @@ module _ (p : KeyPlace → Bool) where
       go true q e more =
           let is : z ≡ x = cc in
           subst (IsFirst p (z ∷ m)) is (record {
-            member = member_first z m;
+            member = contains_head z m;
             passes = q;
-            first = λ y there t. ⊎_elim (λ f. subst (λ (w : Pair). before (At w.key) (At z.key) ≡ false) f (before-itself (At z.key))) (λ d. before_not_after (At z.key) (At y.key) (each_member _ m y asc.0 d)) (member_cases z m y there);
+            first = λ y there t. ⊎_elim (λ f. subst (λ (w : Pair). before (At w.key) (At z.key) ≡ false) f (before-itself (At z.key))) (λ d. before_not_after (At z.key) (At y.key) (each_member _ m y asc.0 d)) (contains_cases z y m there);
           })
       go false q e more =
           let rest = more e in
           record {
-            member = member_later z m x rest.member;
+            member = contains_tail z x m rest.member;
             passes = rest.passes;
-            first = λ y there t. ⊎_elim (λ f. absurd (both_ways _ (subst (λ (w : Pair). p (At w.key) ≡ false) f q) t)) (λ d. rest.first y d t) (member_cases z m y there);
+            first = λ y there t. ⊎_elim (λ f. absurd (both_ways _ (subst (λ (w : Pair). p (At w.key) ≡ false) f q) t)) (λ d. rest.first y d t) (contains_cases z y m there);
           }
 
   pub first-is : (m : Map) (x : Pair) → Ascends m → IsFirst p m x → first_after p m ≡ Some x
@@ -92,16 +80,16 @@ module _ (p : KeyPlace → Bool) where
       go None f false q e more =
           let is : z ≡ x = cc in
           subst (IsLast p (z ∷ m)) is (record {
-            member = member_first z m;
+            member = contains_head z m;
             fails = q;
-            last = λ y there t. ⊎_elim (λ g. subst (λ (w : Pair). before (At z.key) (At w.key) ≡ false) g (before-itself (At z.key))) (λ d. absurd (both_ways _ t (last-none m f y d))) (member_cases z m y there);
+            last = λ y there t. ⊎_elim (λ g. subst (λ (w : Pair). before (At z.key) (At w.key) ≡ false) g (before-itself (At z.key))) (λ d. absurd (both_ways _ t (last-none m f y d))) (contains_cases z y m there);
           })
       go (Some w) f b q e more =
           let rest = more (f ∙ e) in
           record {
-            member = member_later z m x rest.member;
+            member = contains_tail z x m rest.member;
             fails = rest.fails;
-            last = λ y there t. ⊎_elim (λ g. subst (λ (v : Pair). before (At x.key) (At v.key) ≡ false) g (before_not_after (At z.key) (At x.key) (each_member _ m x asc.0 rest.member))) (λ d. rest.last y d t) (member_cases z m y there);
+            last = λ y there t. ⊎_elim (λ g. subst (λ (v : Pair). before (At x.key) (At v.key) ≡ false) g (before_not_after (At z.key) (At x.key) (each_member _ m x asc.0 rest.member))) (λ d. rest.last y d t) (contains_cases z y m there);
           }
 
   pub last-is : (m : Map) (x : Pair) → Ascends m → IsLast p m x → last_before p m ≡ Some x

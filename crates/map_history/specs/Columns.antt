@@ -4,7 +4,8 @@ use Rattle.std.specs.List.{list_all}
 use Rattle.map_history.specs.Words.{Search, Unhashed, Guess, Descent, Onward, Lesson, Nothing, Build, Uncounted, how_word, note_word}
 use Rattle.map_history.specs.Report.{Columns, ScanPiece}
 
--- nothing is learnt without a hash, a hit tells at most that it isn't counted, a descent always tells
+-- nothing is learnt without a hash, a hit tells at most that it isn't counted, a descent always
+-- tells
 abbrev pub may_teach : Search → Lesson → Bool
 may_teach Unhashed Nothing = true
 may_teach Guess Nothing = true

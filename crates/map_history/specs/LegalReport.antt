@@ -68,22 +68,23 @@ columns_at run report i =
     (zip run.lanes report.lanes)
 
 -- the line at a place of a lane, both counted from 0, has this answer
-pub record IsAnswered (run : Run) (report : Report) (lane place : ℕ) (line : Line) (answer : Answer) : Type 0 where
+pub record IsAnswered (run : Run) (report : Report) (lane place : ℕ) (line : Line)
+    (answer : Answer) : Type 0 where
   pub line_there : (lines : List Line) × (slice_get run.lanes lane ≡ Some lines)
       × (slice_get lines place ≡ Some line)
   pub answer_there : (answers : List AnswerLine) × (slice_get report.lanes lane ≡ Some answers)
       × (slice_get answers place ≡ Some (record { line = line.line; answer = answer }))
 
--- Form: each line has one answer, in its order and of a form of its operation; the statistics count the
--- columns.
+-- Form: each line has one answer, in its order and of a form of its operation; the statistics count
+-- the columns.
 pub record HasForm (run : Run) (report : Report) : Type 0 where
   pub lanes : AllZip (AllZip Answers) run.lanes report.lanes
   pub names : map (λ (part : IndexPart). part.name) report.indexes ≡ run.names
   pub counts : (i : ℕ) (part : IndexPart) → slice_get report.indexes i ≡ Some part
       → part.counts ≡ counts_of (columns_at run report i)
 
--- entry n of an index, counted from 0, is the operation of a line that is answered `ok` at the point
--- n + 1
+-- entry n of an index, counted from 0, is the operation of a line that is answered `ok` at the
+-- point n + 1
 pub record NamesLine (run : Run) (report : Report) (index n : ℕ) (entry : ChangeLine) : Type 0 where
   pub lane : ℕ
   pub place : ℕ
@@ -104,8 +105,8 @@ pub record IsNamed (report : Report) (lane : ℕ) (line : Line) (point : ℕ) : 
   pub same_line : entry.line ≡ line.line
   pub same_change : line.op.ask ≡ Make entry.change
 
--- Changes: each is allowed by the map of those before it and comes from its own line, and each line that
--- is answered `ok` has its entry.
+-- Changes: each is allowed by the map of those before it and comes from its own line, and each line
+-- that is answered `ok` has its entry.
 pub record HasChanges (run : Run) (report : Report) : Type 0 where
   pub lawful : (i : ℕ) → AreLawful (changes_at report i)
   pub named : (i n : ℕ) (entry : ChangeLine) → slice_get (entries_at report i) n ≡ Some entry
@@ -115,7 +116,8 @@ pub record HasChanges (run : Run) (report : Report) : Type 0 where
       → IsNamed report lane line point
 
 -- Answers: each other reply is that of the map at its point.
-pub record RepliesAt (changes : List MapChange) (ask : Ask) (point : ℕ) (reply : MapReply) : Type 0 where
+pub record RepliesAt (changes : List MapChange) (ask : Ask) (point : ℕ)
+    (reply : MapReply) : Type 0 where
   pub within : point ≤ length changes
   pub reply_is : reply_of (map_after (take point changes)) ask ≡ reply
 
@@ -153,7 +155,8 @@ marks_in i pairs =
 abbrev pub Precedes : Mark → Mark → Type 0
 Precedes x y = x.point + y.grows ≤ y.point
 
--- Order in a lane: the points of one index never fall, and a change's is higher than each earlier one.
+-- Order in a lane: the points of one index never fall, and a change's is higher than each earlier
+-- one.
 abbrev pub IsInOrder : Run → Report → Type 0
 IsInOrder run report =
     (lane i : ℕ) (lines : List Line) (answers : List AnswerLine)
@@ -212,7 +215,8 @@ is_space_full (Scanned pieces) = false
 -- no answer of a report is `space-full`
 abbrev pub HasNoSpaceFull : Report → Type 0
 HasNoSpaceFull report =
-    AllByRecursion (AllByRecursion (λ (a : AnswerLine). is_space_full a.answer ≡ false)) report.lanes
+    AllByRecursion (AllByRecursion (λ (a : AnswerLine). is_space_full a.answer ≡ false))
+    report.lanes
 
 -- a report of a run that is legal but for room: `space-full` may come however many pages there are
 pub record IsLegalButRoom (run : Run) (report : Report) : Type 0 where

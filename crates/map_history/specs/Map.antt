@@ -17,7 +17,8 @@ Map = List Pair
 -- the keys rise along the list
 abbrev pub Ascends : Map → Type 0
 Ascends [] = Unit {0}
-Ascends (x ∷ xs) = AllByRecursion (λ (y : Pair). before (At x.key) (At y.key) ≡ true) xs × Ascends xs
+Ascends (x ∷ xs) =
+    AllByRecursion (λ (y : Pair). before (At x.key) (At y.key) ≡ true) xs × Ascends xs
 
 -- the rows at `low` or after it, and before `high`
 abbrev pub slice : KeyPlace → KeyPlace → Map → Map
@@ -35,7 +36,9 @@ row_of k (Some v) = record { key = k; value = v } ∷ []
 
 -- the map with this value at the key, or without the key
 abbrev pub write : FieldList → Option (List ℕ) → Map → Map
-write k v m = (filter (λ (e : Pair). before (At e.key) (At k)) m ++ row_of k v) ++ filter (λ (e : Pair). before (At k) (At e.key)) m
+write k v m =
+    (filter (λ (e : Pair). before (At e.key) (At k)) m ++ row_of k v)
+    ++ filter (λ (e : Pair). before (At k) (At e.key)) m
 
 -- a change: a new row, a new value of a row, or a row taken out
 pub data MapChange : Type 0 where
@@ -82,4 +85,5 @@ map_after cs = after_changes [] cs
 
 -- each change is allowed by the map after those before it
 abbrev pub AreLawful : List MapChange → Type 0
-AreLawful cs = (n : ℕ) (c : MapChange) → slice_get cs n ≡ Some c → is_allowed (map_after (take n cs)) c ≡ true
+AreLawful cs = (n : ℕ) (c : MapChange) → slice_get cs n ≡ Some c
+    → is_allowed (map_after (take n cs)) c ≡ true

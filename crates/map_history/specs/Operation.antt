@@ -26,8 +26,14 @@ pub record Operation : Type 0 where
 -- what an operation of the program asks
 abbrev pub operation_of : Op → Operation
 operation_of (op.Get index key) = record { index = index; ask = Get key.tuple }
-operation_of (op.Put index key value) = record { index = index; ask = Make (map.Put key.tuple value) }
-operation_of (op.Set index key value) = record { index = index; ask = Make (map.Set key.tuple value) }
+operation_of (op.Put index key value) = record {
+  index = index;
+  ask = Make (map.Put key.tuple value);
+}
+operation_of (op.Set index key value) = record {
+  index = index;
+  ask = Make (map.Set key.tuple value);
+}
 operation_of (op.Del index key) = record { index = index; ask = Make (map.Del key.tuple) }
 operation_of (op.Seek index mode tuple) = record { index = index; ask = Seek mode tuple }
 operation_of (op.Scan index from to limit) = record { index = index; ask = Scan from to limit }
@@ -35,11 +41,20 @@ operation_of (op.Scan index from to limit) = record { index = index; ask = Scan 
 -- and what a lent one asks
 abbrev pub operation_by : OpRef → Operation
 operation_by (by.Get index key) = record { index = index; ask = Get key.now.tuple }
-operation_by (by.Put index key value) = record { index = index; ask = Make (map.Put key.now.tuple value.now) }
-operation_by (by.Set index key value) = record { index = index; ask = Make (map.Set key.now.tuple value.now) }
+operation_by (by.Put index key value) = record {
+  index = index;
+  ask = Make (map.Put key.now.tuple value.now);
+}
+operation_by (by.Set index key value) = record {
+  index = index;
+  ask = Make (map.Set key.now.tuple value.now);
+}
 operation_by (by.Del index key) = record { index = index; ask = Make (map.Del key.now.tuple) }
 operation_by (by.Seek index mode tuple) = record { index = index; ask = Seek mode tuple.now }
-operation_by (by.Scan index from to limit) = record { index = index; ask = Scan from.now (option_copied to) limit }
+operation_by (by.Scan index from to limit) = record {
+  index = index;
+  ask = Scan from.now (option_copied to) limit;
+}
 
 -- the change that a value of the program stands for
 abbrev pub change_of : change.Change → MapChange

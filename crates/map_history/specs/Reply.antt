@@ -31,7 +31,9 @@ last_before p (x ∷ xs) = or_else (last_before p xs) (if p (At x.key) then None
 
 -- the row that a search with this mode asks for
 abbrev pub sought : Mode → FieldList → Map → Option Pair
-sought mode tuple m = if looks_ahead mode then first_after (cut_of mode tuple) m else last_before (cut_of mode tuple) m
+sought mode tuple m =
+    if looks_ahead mode then first_after (cut_of mode tuple) m
+    else last_before (cut_of mode tuple) m
 
 -- the reply to a get, by what the map has at the key
 abbrev pub value_reply : Option (List ℕ) → MapReply

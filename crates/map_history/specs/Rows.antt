@@ -1,13 +1,9 @@
 -- Rows that lie in one buffer.
-use Rattle.std.specs.Prelude.{ℕ, ◌≡◌, ◌<◌, List, [], ◌∷◌, length, drop, map, slice_range, slice_index_or}
+use Rattle.std.specs.Prelude.{ℕ, ◌≡◌, ◌<◌, List, [], ◌∷◌, length, drop, map, slice_index_or}
 use Rattle.std.specs.List.{AllByRecursion}
 use Rattle.key_tuple.specs.Order.{FieldList}
+use Rattle.key_tuple.specs.Parts.{parts}
 use Rattle.map_history.specs.Map.{Pair, Map}
-
--- the parts of a list that end at these offsets, the first of which begins at `from`
-abbrev pub cuts : {A : Type 0} → List A → ℕ → List ℕ → List (List A)
-cuts xs from [] = []
-cuts xs from (end ∷ ends) = slice_range xs from end ∷ cuts xs end ends
 
 -- the offsets climb from `from`, each above the one before, and the last is `to`
 abbrev pub ClimbTo : ℕ → List ℕ → ℕ → Type 0
@@ -16,11 +12,11 @@ ClimbTo from (end ∷ ends) to = (from < end) × ClimbTo end ends to
 
 -- a row whose value is the first part, and whose fields are the others
 abbrev pub row_of_parts : FieldList → Pair
-row_of_parts parts = record { key = drop 1 parts; value = slice_index_or parts 0 [] }
+row_of_parts lists = record { key = drop 1 lists; value = slice_index_or lists 0 [] }
 
 -- the rows that these parts are, by the offsets of their ends
 abbrev pub rows_of_parts : FieldList → List ℕ → Map
-rows_of_parts parts ends = map row_of_parts (cuts parts 0 ends)
+rows_of_parts lists ends = map row_of_parts (parts lists 0 ends)
 
 -- the row at a place; past the end one of nothing
 abbrev pub row_at : Map → ℕ → Pair
@@ -36,6 +32,6 @@ pub record IsReadable (row : Pair) : Type 0 where
   pub short : AllByRecursion (λ field. length field < 65536) row.key
 
 -- each row has a part, the last row ends with the last part, and each row can be read
-pub record AreRows (parts : FieldList) (ends : List ℕ) : Type 0 where
-  pub climb : ClimbTo 0 ends (length parts)
-  pub readable : AllByRecursion IsReadable (rows_of_parts parts ends)
+pub record AreRows (lists : FieldList) (ends : List ℕ) : Type 0 where
+  pub climb : ClimbTo 0 ends (length lists)
+  pub readable : AllByRecursion IsReadable (rows_of_parts lists ends)

@@ -29,16 +29,21 @@ row_line row = line_of (codes "row" ∷ key_text row.key ∷ field_text row.valu
 -- the lines of a piece: its own and those of its rows
 abbrev pub piece_lines : ScanPiece → List ℕ
 piece_lines piece =
-    line_of (codes "piece" ∷ point_text piece.point ∷ decimal (length piece.rows) ∷ column_words piece.columns)
+    line_of (codes "piece" ∷ point_text piece.point ∷ decimal (length piece.rows)
+    ∷ column_words piece.columns)
     ++ flat_map row_line piece.rows
 
 -- the lines of an answer
 abbrev pub answer_text : ℕ → Answer → List ℕ
-answer_text line (Replied reply point columns) = line_of (decimal line ∷ (reply_words reply ++ point_text point ∷ column_words columns))
-answer_text line (LogFull n columns) = line_of (decimal line ∷ codes "log-full" ∷ decimal n ∷ column_words columns)
-answer_text line (SpaceFull columns) = line_of (decimal line ∷ codes "space-full" ∷ column_words columns)
+answer_text line (Replied reply point columns) =
+    line_of (decimal line ∷ (reply_words reply ++ point_text point ∷ column_words columns))
+answer_text line (LogFull n columns) =
+    line_of (decimal line ∷ codes "log-full" ∷ decimal n ∷ column_words columns)
+answer_text line (SpaceFull columns) =
+    line_of (decimal line ∷ codes "space-full" ∷ column_words columns)
 answer_text line (Scanned pieces) =
-    line_of (decimal line ∷ codes "scan" ∷ decimal (length pieces) ∷ decimal (sum_by (λ (p : ScanPiece). length p.rows) pieces) ∷ [])
+    line_of (decimal line ∷ codes "scan" ∷ decimal (length pieces)
+    ∷ decimal (sum_by (λ (p : ScanPiece). length p.rows) pieces) ∷ [])
     ++ flat_map piece_lines pieces
 
 -- the words of a change
@@ -49,7 +54,8 @@ change_words (Del k) = codes "del" ∷ key_text k ∷ []
 
 -- a change with its number from 1, and the lane and line that made it
 abbrev pub change_text : ℕ → ChangeLine → List ℕ
-change_text number e = line_of (decimal number ∷ decimal e.lane ∷ decimal e.line ∷ change_words e.change)
+change_text number e =
+    line_of (decimal number ∷ decimal e.lane ∷ decimal e.line ∷ change_words e.change)
 
 -- a statistic: its word and its number
 abbrev pub statistic_words : List ℕ × ℕ → List (List ℕ)
@@ -61,7 +67,9 @@ stats_text name n = line_of (codes "stats" ∷ name ∷ flat_map statistic_words
 
 -- a lane with its number from 1, and its answers
 abbrev pub lane_text : ℕ × List AnswerLine → List ℕ
-lane_text lane = line_of (codes "lane" ∷ decimal (lane.0 + 1) ∷ []) ++ flat_map (λ (a : AnswerLine). answer_text a.line a.answer) lane.1
+lane_text lane =
+    line_of (codes "lane" ∷ decimal (lane.0 + 1) ∷ [])
+    ++ flat_map (λ (a : AnswerLine). answer_text a.line a.answer) lane.1
 
 -- the changes of an index
 abbrev pub changes_text : IndexPart → List ℕ

@@ -15,8 +15,6 @@ mod reply;
 mod row_buf;
 mod rows;
 mod sizes;
-#[cfg(test)]
-mod tests;
 
 pub use answers::answer;
 pub use change::Change;
@@ -33,3 +31,12 @@ pub use reply::{Piece, Reply, Told};
 pub use row_buf::RowBuf;
 pub use rows::{RowIn, Rows};
 pub use sizes::Sizes;
+
+/// The most indexes of a run.
+pub const MAX_INDEXES: usize = 64;
+
+/// The most lanes of a run.
+pub const MAX_LANES: usize = 64;
+
+/// How many blocks a lane wants; as many are wanted beside the lanes.
+pub const LANE_BLOCKS: u32 = 8;

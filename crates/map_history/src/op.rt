@@ -45,7 +45,7 @@ pub enum Op {
 }
 
 /// An operation whose keys, values and tuples are borrowed.
-#[derive(Debug, Clone, Copy)]
+#[derive(Clone, Copy)]
 pub enum OpRef<'a> {
     Get {
         index: u32,

@@ -14,12 +14,11 @@ pub(crate) struct PartList {
 impl Model for PartList {
     ghost use Rattle.std.specs.Prelude.{length};
     ghost use Rattle.key_tuple.specs.Order.{FieldList};
-    ghost use Rattle.key_tuple.specs.Parts.{RiseTo};
-    ghost use Rattle.map_history.specs.Rows.{cuts};
+    ghost use Rattle.key_tuple.specs.Parts.{parts, RiseTo};
 
     ghost Value = { FieldList };
 
-    ghost view = { λ p. cuts p.bytes.items 0 p.ends.items };
+    ghost view = { λ p. parts p.bytes.items 0 p.ends.items };
 
     ghost invariant = { λ p. RiseTo 0 p.ends.items (length p.bytes.items) };
 }

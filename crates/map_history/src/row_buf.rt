@@ -23,7 +23,8 @@ impl Model for RowBuf {
 
     ghost view = { λ r. record { key = r.key.fields; value = r.value.items } };
 
-    ghost invariant = { λ r. (MAX_KEY_BYTES ≤ r.key.room) × (MAX_VALUE_BYTES ≤ vec_capacity r.value) };
+    ghost invariant = { λ r. (MAX_KEY_BYTES ≤ r.key.room)
+        × (MAX_VALUE_BYTES ≤ vec_capacity r.value) };
 }
 
 impl RowBuf {
@@ -31,10 +32,9 @@ impl RowBuf {
     pub fn new(alloc: Global) -> Result<RowBuf, NoMemory>
         ensures { IfOk result (λ r. (r.key ≡ []) × (r.value ≡ [])) }
     {
-        Ok(RowBuf {
-            key: FieldBuffer::with_capacity(alloc, MAX_KEY_BYTES)?,
-            value: Vec::with_capacity(alloc, MAX_VALUE_BYTES)?,
-        })
+        let value = Vec::with_capacity(alloc, MAX_VALUE_BYTES)?;
+        let key = FieldBuffer::with_capacity(alloc, MAX_KEY_BYTES)?;
+        Ok(RowBuf { key, value })
     }
 
     /// Puts a row in the place of the one before. It takes no memory.

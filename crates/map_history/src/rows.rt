@@ -38,7 +38,8 @@ impl Rows {
 
     /// Puts a row behind the others. After `NoMemory` the rows are as before.
     pub fn push<A: Fields>(&mut self, key: &A, value: &[u8]) -> Result<(), NoMemory>
-        ensures ok { OnOk result (self.new ≡ self.old ++ row_from (A.fields_of key.now) value.now ∷ []) }
+        ensures ok { OnOk result (self.new
+            ≡ self.old ++ row_from (A.fields_of key.now) value.now ∷ []) }
         ensures err { OnErr result (self.new ≡ self.old) }
     {
         self.ends.reserve(1)?;

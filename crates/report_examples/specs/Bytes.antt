@@ -8,7 +8,10 @@ lines texts = flat_map (λ (text : List ℕ). text ++ 10 ∷ []) texts
 
 -- statistics of nothing
 abbrev pub no_stats : List ℕ
-no_stats = codes "stats t hit 0 off 0 cold 0 short 0 part-busy 0 no-entry 0 block-busy 0 clock 0 unequal 0 by-clock 0 by-busy 0 by-moved 0 by-last 0 built 0 same 0 arena 0 raced 0 worn 0"
+no_stats =
+    codes "stats t hit 0 off 0 cold 0 short 0 part-busy 0 no-entry 0 block-busy 0 clock 0 "
+    ++ codes "unequal 0 by-clock 0 by-busy 0 by-moved 0 by-last 0 built 0 same 0 arena 0 raced 0 "
+    ++ codes "worn 0"
 
 -- the report of an empty lane
 abbrev pub empty_lane_bytes : List ℕ

@@ -17,5 +17,6 @@ pub fn row_life_is_spelt()
 
 /// The report of three puts and a scan, with an empty field and a byte that is escaped.
 pub fn puts_and_scan_are_spelt()
-    ensures { spell (one_lane_report (puts_and_scan_told in_one_piece) puts_made) ≡ puts_and_scan_bytes }
+    ensures { spell (one_lane_report (puts_and_scan_told in_one_piece) puts_made)
+        ≡ puts_and_scan_bytes }
 {}

@@ -1,7 +1,25 @@
-use Rattle.std.proofs.Common.{◌≡◌, length, min, ◌∙◌, sym, drop, arith}
+use Rattle.std.proofs.Common.{◌≡◌, ◌<◌, length, min, ◌∙◌, sym, drop, arith}
 use Rattle.key_tuple.specs.Order.{key_cmp}
-use Rattle.key_tuple.proofs.OrderLemmas.{key_cmp-end}
+use Rattle.key_tuple.proofs.OrderLemmas.{key_cmp-drop, key_cmp-end, field_decides, field_passes}
 use Rattle.key_tuple.proofs.order.compare_whole.Goals as goal
+
+pub returns-then-ne : goal.returns-then-ne
+returns-then-ne g c =
+    let left = g.A.Fields.fields_of c.args.left.now in
+    let right = g.B.Fields.fields_of c.args.right.now in
+    let in_left : c.loop-i.i < length left = omega (arith, c.count.ensures, c.count-2.ensures, c.min-i-end.ensures, c.loop-i-test.true) in
+    let in_right : c.loop-i.i < length right = omega (arith, c.count.ensures, c.count-2.ensures, c.min-i-end.ensures, c.loop-i-test.true) in
+    field_decides key_cmp key_cmp-drop left right c.loop-i.i c.field.result.now c.field-in-loop-i.result.now c.cmp-order.result in_left in_right
+    c.loop-i.invariant c.field.ensures.bytes c.field-in-loop-i.ensures.bytes c.cmp-order.ensures c.if-ne.ensures
+
+pub loop-i-preserved : goal.loop-i-preserved
+loop-i-preserved g c =
+    let left = g.A.Fields.fields_of c.args.left.now in
+    let right = g.B.Fields.fields_of c.args.right.now in
+    let in_left : c.loop-i.i < length left = omega (arith, c.count.ensures, c.count-2.ensures, c.min-i-end.ensures, c.loop-i-test.true) in
+    let in_right : c.loop-i.i < length right = omega (arith, c.count.ensures, c.count-2.ensures, c.min-i-end.ensures, c.loop-i-test.true) in
+    field_passes key_cmp key_cmp-drop left right c.loop-i.i c.field.result.now c.field-in-loop-i.result.now c.cmp-order.result in_left in_right
+    c.loop-i.invariant c.field.ensures.bytes c.field-in-loop-i.ensures.bytes c.cmp-order.ensures c.if-ne.ensures
 
 pub returns : goal.returns
 returns g c =

@@ -1,7 +1,6 @@
 use Rattle.std.proofs.Common.{◌≡◌, ◌+◌, ◌++◌, ◌∷◌, [], ◌∙◌, ap, sym, length, arith, length-append}
 use Rattle.key_tuple.specs.Order.{FieldList}
-use Rattle.key_tuple.proofs.PartsLemmas.{RiseTo-push}
-use Rattle.map_history.proofs.CutLemmas.{cuts-push}
+use Rattle.key_tuple.proofs.PartsLemmas.{RiseTo-push, parts-push}
 use Rattle.list_facts.proofs.Outcomes.{as_ok}
 use Rattle.map_history.proofs.part_list.PartList.push.Goals as goal
 
@@ -21,5 +20,5 @@ invariant_of-self-2 c =
 
 pub returns-clause-ok : goal.returns-clause-ok
 returns-clause-ok c =
-    let after = cuts-push c.self.inside.bytes.items c.args.part.now 0 c.self.inside.ends.items c.len.result c.self.invariant (end_is c) in
+    let after = parts-push c.self.inside.bytes.items c.args.part.now 0 c.self.inside.ends.items c.len.result c.self.invariant (end_is c) in
     rw (ends_after c, c.in_ok-extend_from_slice.ensures.items) (after ∙ ap (λ (p : FieldList). p ++ c.args.part.now ∷ []) c.self.view_is)

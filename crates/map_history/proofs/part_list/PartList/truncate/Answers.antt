@@ -1,7 +1,8 @@
 use Rattle.std.proofs.Common.{◌≡◌, ◌≤◌, ◌∷◌, ◌∙◌, ap, sym, length, take, get_or, arith, length-take}
 use Rattle.std.proofs.lemmas.List.{take_all}
 use Rattle.key_tuple.specs.Order.{FieldList}
-use Rattle.map_history.proofs.CutLemmas.{cuts-take, RiseTo-take, rises_to, length-cuts}
+use Rattle.key_tuple.proofs.PartsLemmas.{length-parts}
+use Rattle.map_history.proofs.CutLemmas.{parts-take, RiseTo-take, rises_to}
 use Rattle.map_history.proofs.part_list.PartList.truncate.Goals as goal
 
 below : (c : goal.After-truncate-then-count-len) → c.args.count ≤ length c.self.inside.ends.items
@@ -23,11 +24,11 @@ pub returns-then-count-len : goal.returns-then-count-len
 returns-then-count-len c =
     let ends = c.self.inside.ends.items in
     let bytes = c.self.inside.bytes.items in
-    let first = cuts-take bytes 0 ends (length bytes) c.args.count c.self.invariant (below c) in
+    let first = parts-take bytes 0 ends (length bytes) c.args.count c.self.invariant (below c) in
     rw (c.truncate-then-count-len.ensures.items, c.truncate.ensures.items, end_is c) (first ∙ ap (λ (p : FieldList). take c.args.count p) c.self.view_is)
 
 pub returns-else-count-len : goal.returns-else-count-len
 returns-else-count-len c =
     let view = ap (λ (p : FieldList). length p) c.self.view_is in
-    let many = length-cuts c.self.inside.bytes.items 0 c.self.inside.ends.items in
+    let many = length-parts c.self.inside.bytes.items 0 c.self.inside.ends.items in
     sym (take_all c.args.count c.args.self.now (omega (arith, c.len.ensures, c.self.inside.ends.ok.0)))

@@ -1,6 +1,0 @@
-mod folds;
-mod limits;
-mod order;
-mod setup;
-mod sizes;
-mod uses;
