@@ -71,16 +71,12 @@ impl<R: Files> Shelf for FileShelf<'_, R> {
         ensures kept { self.old.faults ≤ self.new.faults }
     {
         let name_copy = String::from_str(alloc, name)?;
-        match load_file(self.rt, alloc, name, limit) {
-            Ok(bytes) => Ok(bytes),
-            Err(ShelfError::TooLong(limit)) => Err(ShelfError::TooLong(limit)),
-            Err(ShelfError::NoMemory) => Err(ShelfError::NoMemory),
-            Err(ShelfError::Failed) => {
-                self.faults = self.faults.saturating_add(1);
-                self.failed = Some(name_copy);
-                Err(ShelfError::Failed)
-            }
+        let loaded = load_file(self.rt, alloc, name, limit);
+        if let Err(ShelfError::Failed) = &loaded {
+            self.faults = self.faults.saturating_add(1);
+            self.failed = Some(name_copy);
         }
+        loaded
     }
 }
 

@@ -92,7 +92,8 @@ fn write_some<W: Write>(writer: &mut W, bytes: &[u8]) -> Option<usize>
 
 /// Writes what the buffer keeps, flushes the writer behind it and gives that.
 pub(crate) fn finish_writer<W: Write + Drop>(mut buffer: BufWriter<W>) -> Result<W, SinkError>
-    ensures { IfOk result (λ writer. Keeps (writer_contents W.contents buffer) (W.contents writer)) }
+    ensures { IfOk result
+        (λ writer. Keeps (writer_contents W.contents buffer) (W.contents writer)) }
 {
     if buffer.flush().is_err() {
         return Err(SinkError::Failed);

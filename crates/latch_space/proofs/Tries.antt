@@ -1,17 +1,18 @@
 -- Some refused tries of one object.
-use Rattle.std.proofs.Common.{◌≡◌, ℕ, List, [], ◌∷◌, ◌++◌, sym, refl, ap, ◌∙◌, subst, ⊎_elim, append-nil, append_assoc}
+use Rattle.std.proofs.Common.{◌≡◌, ℕ, ◌+◌, set, Option, Some, List, [], ◌∷◌, ◌++◌, sym, refl, ap, ◌∙◌, subst, ⊎_elim, append-nil, append_assoc}
 use mathlib.Core.Option.{some-ne-none}
+use lib.ListN.{get_elem?}
 use Rattle.atomic_table.proofs.Lists.{at_snoc}
+use Rattle.latch_law.specs.declared.knows.Holding.{Holding}
 use Rattle.latch_law.specs.declared.knows.Knows.{Knows}
-use Rattle.latch_law.specs.declared.knows.Reference.{Reference}
 use Rattle.latch_law.specs.declared.knows.Refusal.{Refusal}
-use Rattle.latch_law.specs.Whole.{Whole}
-use Rattle.latch_law.specs.Views.{with_refused, refusing}
-use Rattle.latch_law.specs.Fitting.{AreTriesOf, IsAnother}
+use Rattle.latch_law.specs.Whole.{StateLaw, AnswerLaw, ReferenceLaw}
+use Rattle.latch_law.specs.Views.{holding, with_held, with_refused, refusing}
+use Rattle.latch_law.specs.Fitting.{AreTriesOf, IsAnother, WasFree}
 use Rattle.latch_space.specs.declared.pass.PassOf.{PassOf}
 use Rattle.latch_space.specs.Passes.{view}
 use Rattle.latch_space.specs.Has.{SameHands}
-use Rattle.latch_space.specs.Takes.{WasBusy}
+use Rattle.latch_space.specs.Takes.{DidTake, DidTakeAfter, WasBusy}
 
 module _ {Sh O C A : Type 0} where
   -- some refused tries of the object k, and nothing else
@@ -32,7 +33,7 @@ module _ {Sh O C A : Type 0} where
   tries_more : (v : Knows Sh O C A) (k : ℕ) (fs : List (Refusal O)) (f : Refusal O) → AreTriesOf v k fs → (f.object ≡ k) × (f.held ≡ v.held) × IsAnother v f.holder → AreTriesOf v k (fs ++ f ∷ [])
   tries_more v k fs f tries new j g e = let P : Refusal O → Type 0 = λ z. (z.object ≡ k) × (z.held ≡ v.held) × IsAnother v z.holder in ⊎_elim (tries j g) (λ (is : f ≡ g). subst P is new) (at_snoc fs f g j e)
 
-module _ {Sh O C A : Type 0} (lawful : Whole Sh O C → Type 0) (answers : Whole Sh O C → ℕ → ℕ → A → Type 0) (refers : Whole Sh O C → Reference O → Type 0) where
+module _ {Sh O C A : Type 0} (lawful : StateLaw Sh O C) (answers : AnswerLaw Sh O C A) (refers : ReferenceLaw Sh O C) where
   -- one refused try more
   pub tried_more : (p q r : PassOf Sh O C A) (k n : ℕ) → Tried p k q → WasBusy lawful answers refers q k n r → Tried p k r
   tried_more p q r k n t busy = let v : Knows Sh O C A = view p in let f : Refusal O = record { object = k; holder = n; held = v.held } in record {
@@ -40,4 +41,21 @@ module _ {Sh O C A : Type 0} (lawful : Whole Sh O C → Type 0) (answers : Whole
     tries = tries_more v k t.refused f t.tries (refl, refl, subst (λ (z : Knows Sh O C A). IsAnother z n) t.view busy.was_held.another);
     view = busy.view ∙ (ap (λ (z : Knows Sh O C A). refusing z k n) t.view ∙ (λ i. record v { refused = append_assoc v.refused t.refused (f ∷ []) i }));
     same = record { held = busy.same.held ∙ t.same.held; values = busy.same.values ∙ t.same.values; count = busy.same.count ∙ t.same.count };
+  }
+
+  -- and the take that ends them
+  pub taken_after : (p q r : PassOf Sh O C A) (k : ℕ) → Tried p k q → DidTake lawful answers refers q k r → DidTakeAfter lawful answers refers p k r
+  taken_after p q r k t did = let x : O = did.value in record {
+    refused = t.refused;
+    tries = t.tries;
+    value = x;
+    was_free = subst (λ (z : Knows Sh O C A). WasFree lawful answers refers z k x) t.view did.was_free;
+    view = did.view ∙ ap (λ (z : Knows Sh O C A). with_held z k (Some (holding x x))) t.view;
+    values = did.values ∙ ap (λ (z : List (Option O)). set z k (Some x)) t.same.values;
+    took = record {
+      has = did.took.has;
+      others = λ j differs. let s = did.took.others j differs in
+          (s.0 ∙ ap (λ (z : List (Option (Holding O))). get_elem? z j) t.same.held, s.1 ∙ ap (λ (z : List (Option O)). get_elem? z j) t.same.values);
+      count = did.took.count ∙ ap (λ (n : ℕ). n + 1) t.same.count;
+    };
   }

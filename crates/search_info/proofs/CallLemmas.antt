@@ -1,7 +1,8 @@
 -- A call from its load and its exchange.
-use Rattle.std.proofs.Common.{◌≡◌, ◌≢◌, ℕ, suc, zero, ◌<◌, cond, List, [], ◌∷◌, ◌++◌, length, set, sym, refl, ap, ◌∙◌, subst, arith, eq-eqb, ne_eqb, Some, None, ◌+◌}
+use Rattle.std.proofs.Common.{◌≡◌, ◌≢◌, ℕ, ◌<◌, cond, List, [], ◌∷◌, ◌++◌, length, sym, ap, ◌∙◌, subst, arith, eq-eqb, ne_eqb, Some, None, ◌+◌}
 use mathlib.Core.Option.{some}
 use lib.ListN.{get_elem?}
+use lib.Seq.{set-set}
 use Rattle.atomic_table.proofs.Lists.{set_here}
 use Rattle.learning.specs.declared.event.Event.{Event}
 use Rattle.learning.specs.declared.info.Info.{Info}
@@ -24,11 +25,6 @@ use Rattle.search_info.proofs.HistoryLemmas.{known_events}
 use Rattle.search_info.proofs.TotalLemmas.{all_tried}
 use Rattle.list_facts.proofs.Places.{inside, one_value}
 use Rattle.search_info.proofs.StepLemmas.{loading_keeps}
-
-set_twice : {X : Type 0} (l : List X) (i : ℕ) (a b : X) → set (set l i a) i b ≡ set l i b
-set_twice [] i a b = refl
-set_twice (x ∷ xs) zero a b = refl
-set_twice (x ∷ xs) (suc i) a b = ap (λ z. x ∷ z) (set_twice xs i a b)
 
 -- what an exchange that missed tells
 pub overtakes : (v v' : Knows) (i : ℕ) (s : Start) (xs : List Entry) (event : Event) (read found : Info) (word : ℕ) → get_elem? v.opening.starts i ≡ some s → read ≡ known_after s xs
@@ -104,7 +100,7 @@ module _ (v v1 : Knows) (i : ℕ) (event : Event) (word : ℕ) (before : Info) (
       after_is = after;
       bounded = (before_bounded, subst (IsInfoOf l.start.1) (sym after) (learn_bounded l.start.1 before event begins.some begins.few before_bounded read.fair (room_left not_worn)));
       stands = h.stands;
-      view = h.view ∙ ap (λ (z : List (List Entry)). record v { seen = z; tries = v.tries ++ record { index = i; event = event; by = v.low; fate = Counted (length l.list) } ∷ [] }) (set_twice v.seen i l.list (l.list ++ event_entry v event ∷ []));
+      view = h.view ∙ ap (λ (z : List (List Entry)). record v { seen = z; tries = v.tries ++ record { index = i; event = event; by = v.low; fate = Counted (length l.list) } ∷ [] }) (set-set v.seen i l.list (l.list ++ event_entry v event ∷ []));
     }
 
     overtaken : (found : Info) → before ≢ found → Overtakes v1 i l.start l.list event before found v2 → IsOvertaken v i event before found v2

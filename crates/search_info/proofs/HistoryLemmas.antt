@@ -1,10 +1,8 @@
 -- What an index knows from its list, and what one event more changes.
-use Rattle.std.proofs.Common.{◌≡◌, ◌≢◌, ◌⊎◌, ℕ, suc, ◌+◌, ◌<◌, ◌≤◌, List, [], ◌∷◌, ◌++◌, map, length, set, sym, refl, ap, ◌∙◌, subst, inl, inr, ⊎_elim, arith, length-set, length-append, append_assoc}
+use Rattle.std.proofs.Common.{◌≡◌, ◌≢◌, ℕ, suc, ◌+◌, ◌<◌, ◌≤◌, List, [], ◌∷◌, ◌++◌, map, length, sym, refl, ap, ◌∙◌, subst, ⊎_elim, arith, length-set, length-append}
 use lib.ListN.{get_elem?, length-map}
 use mathlib.Core.Option.{some}
-use mathlib.Core.Logic.{dite}
-use native.Mathlib.Decide.{ℕ_discrete}
-use Rattle.atomic_table.proofs.Lists.{at_set, set_here, set_else, at_longer}
+use Rattle.atomic_table.proofs.Lists.{at_set, at_longer}
 use Rattle.key_tuple.specs.declared.TheConstants.{MAX_FIELDS}
 use Rattle.learning.specs.declared.info.Info.{Info}
 use Rattle.learning.specs.Bounds.{IsInfoOf, IsEventOf}
@@ -17,9 +15,11 @@ use Rattle.search_info.specs.declared.knows.Fate.{Fate}
 use Rattle.search_info.specs.declared.knows.Fate.TheVariants.{Counted, Raced, Worn}
 use Rattle.search_info.specs.declared.knows.Opening.{Opening}
 use Rattle.search_info.specs.declared.knows.Try.{Try}
-use Rattle.search_info.specs.History.{Start, History, known_after, IsListed, IsBeginning, WasKnown, IsHistory}
+use Rattle.search_info.specs.History.{Start, History, known_after, WasKnown, IsHistory}
 use Rattle.search_info.specs.Rule.{IsTrueWithFate, IsTrueTry}
-use Rattle.list_facts.proofs.Places.{inside, one_value, at_end, empty_list}
+use Rattle.list_facts.specs.Growing.{IsListed, IsBeginning, grown}
+use Rattle.list_facts.proofs.Growing.{grown_begins, grown_listed, listed_grown}
+use Rattle.list_facts.proofs.Places.{one_value, empty_list}
 
 after_snoc : (info : Info) (xs : List Entry) (e : Entry) → info_after info (map (λ (z : Entry). z.event) (xs ++ e ∷ [])) ≡ learn (info_after info (map (λ (z : Entry). z.event) xs)) e.event
 after_snoc info [] e = refl
@@ -49,50 +49,25 @@ same_word s xs ys i j e = let told = (fields_told (known_after s (xs ++ ys)) (kn
     empty_list ys (omega (arith, length-append xs ys))
 
 module _ (lists : History) (i : ℕ) (xs : List Entry) (e : Entry) (list : get_elem? lists i ≡ some xs) where
-  -- the lists with one event more
-  abbrev pub grown : History
-  grown = set lists i (xs ++ e ∷ [])
+  pub grown_known : (starts : List Start) (j : ℕ) (info : Info) → WasKnown starts lists j info → WasKnown starts (grown lists i xs e) j info
+  grown_known starts j info w = (w.0, w.1, w.2, grown_begins lists i xs e list j w.1 w.3, w.4)
 
-  pub grown_here : get_elem? grown i ≡ some (xs ++ e ∷ [])
-  grown_here = set_here lists i (xs ++ e ∷ []) (inside lists i xs list)
-
-  pub grown_begins : (j : ℕ) (ys : List Entry) → IsBeginning lists j ys → IsBeginning grown j ys
-  grown_begins j ys b = dite (ℕ_discrete j i)
-      (λ is. let same : xs ≡ ys ++ b.0 = one_value lists i xs (ys ++ b.0) list (ap (get_elem? lists) (sym is) ∙ b.1) in
-      (b.0 ++ e ∷ [], ap (get_elem? grown) is ∙ (grown_here ∙ ap some (ap (λ (z : List Entry). z ++ e ∷ []) same ∙ append_assoc ys b.0 (e ∷ [])))))
-      (λ isnt. (b.0, set_else lists i j (xs ++ e ∷ []) isnt ∙ b.1))
-
-  pub grown_known : (starts : List Start) (j : ℕ) (info : Info) → WasKnown starts lists j info → WasKnown starts grown j info
-  grown_known starts j info w = (w.0, w.1, w.2, grown_begins j w.1 w.3, w.4)
-
-  pub grown_entry : (j n : ℕ) (q : Entry) → IsListed lists j n q → IsListed grown j n q
-  grown_entry j n q entry = dite (ℕ_discrete j i)
-      (λ is. let same : xs ≡ entry.0 = one_value lists i xs entry.0 list (ap (get_elem? lists) (sym is) ∙ entry.1) in
-      (xs ++ e ∷ [], ap (get_elem? grown) is ∙ grown_here, at_longer xs (e ∷ []) n q (ap (λ (z : List Entry). get_elem? z n) same ∙ entry.2)))
-      (λ isnt. (entry.0, set_else lists i j (xs ++ e ∷ []) isnt ∙ entry.1, entry.2))
-
-  pub entry_grown : (j n : ℕ) (q : Entry) → IsListed grown j n q → IsListed lists j n q ⊎ ((j ≡ i) × (n ≡ length xs) × (e ≡ q))
-  entry_grown j n q entry = ⊎_elim
-      (λ (p : (j ≡ i) × (xs ++ e ∷ [] ≡ entry.0)). ⊎_elim (λ (old : get_elem? xs n ≡ some q). inl (xs, ap (get_elem? lists) p.0 ∙ list, old)) (λ (new : (n ≡ length xs) × (e ≡ q)). inr (p.0, new.0, new.1))
-      (at_end xs e q n (ap (λ (z : List Entry). get_elem? z n) p.1 ∙ entry.2)))
-      (λ (p : (j ≢ i) × (get_elem? lists j ≡ some entry.0)). inl (entry.0, p.1, entry.2)) (at_set lists i j (xs ++ e ∷ []) entry.0 entry.1)
-
-  pub grown_so : (starts : List Start) (q : Try) → IsTrueTry starts lists q → IsTrueTry starts grown q
+  pub grown_so : (starts : List Start) (q : Try) → IsTrueTry starts lists q → IsTrueTry starts (grown lists i xs e) q
   grown_so starts q so = by_fate q.fate so
     where
-      by_fate : (f : Fate) → IsTrueWithFate starts lists q f → IsTrueWithFate starts grown q f
-      by_fate (Counted place) h = grown_entry q.index place _ h
+      by_fate : (f : Fate) → IsTrueWithFate starts lists q f → IsTrueWithFate starts (grown lists i xs e) q f
+      by_fate (Counted place) h = grown_listed lists i xs e list q.index place _ h
       by_fate (Raced read found) h = (grown_known starts q.index read h.0, grown_known starts q.index found h.1, h.2)
       by_fate Worn h = (h.0, grown_known starts q.index h.0 h.1, h.2)
 
-  pub grown_history : (o : Opening) (s : Start) → IsHistory o lists → get_elem? o.starts i ≡ some s → e.by < o.passes → IsEventOf s.1 e.event → (known_after s xs).events < 4294967295 → IsHistory o grown
+  pub grown_history : (o : Opening) (s : Start) → IsHistory o lists → get_elem? o.starts i ≡ some s → e.by < o.passes → IsEventOf s.1 e.event → (known_after s xs).events < 4294967295 → IsHistory o (grown lists i xs e)
   grown_history o s h at by event room = let start = h.starts i s at in record {
     all = length-set lists i (xs ++ e ∷ []) ∙ h.all;
     starts = h.starts;
-    makers = λ j n q entry. ⊎_elim (h.makers j n q) (λ (new : (j ≡ i) × (n ≡ length xs) × (e ≡ q)). subst (λ (z : Entry). z.by < o.passes) new.2 by) (entry_grown j n q entry);
+    makers = λ j n q entry. ⊎_elim (h.makers j n q) (λ (new : (j ≡ i) × (n ≡ length xs) × (e ≡ q)). subst (λ (z : Entry). z.by < o.passes) new.2 by) (listed_grown lists i xs e list j n q entry);
     events = λ j n q z entry at_z. ⊎_elim (λ (old : IsListed lists j n q). h.events j n q z old at_z)
         (λ (new : (j ≡ i) × (n ≡ length xs) × (e ≡ q)). let same : s ≡ z = one_value o.starts i s z at (ap (get_elem? o.starts) (sym new.0) ∙ at_z) in
-        subst (λ (y : Start × Entry). IsEventOf y.0.1 y.1.event) (λ k. (same k, new.2 k)) event) (entry_grown j n q entry);
+        subst (λ (y : Start × Entry). IsEventOf y.0.1 y.1.event) (λ k. (same k, new.2 k)) event) (listed_grown lists i xs e list j n q entry);
     infos = λ j z ys at_z at_ys. ⊎_elim
         (λ (p : (j ≡ i) × (xs ++ e ∷ [] ≡ ys)). let same : s ≡ z = one_value o.starts i s z at (ap (get_elem? o.starts) (sym p.0) ∙ at_z) in
         subst (λ (y : Start × List Entry). IsInfoOf y.0.1 (known_after y.0 y.1)) (λ k. (same k, p.1 k))

@@ -10,8 +10,9 @@ use Rattle.search_info.specs.declared.knows.Entry.{Entry}
 use Rattle.search_info.specs.declared.knows.Knows.{Knows}
 use Rattle.search_info.specs.declared.knows.Opening.{Opening}
 use Rattle.search_info.specs.declared.law.Settings.{Settings}
-use Rattle.search_info.specs.History.{Start, History, AreStarts, IsListed, IsHistory, known_after}
+use Rattle.search_info.specs.History.{Start, History, AreStarts, IsHistory, known_after}
 use Rattle.search_info.specs.Rule.{KeptWords, FitsHistory, opening_of, knows_first, first_knows, first_words, times_made}
+use Rattle.list_facts.specs.Growing.{IsListed}
 use Rattle.list_facts.proofs.Places.{replicate_is, single, there, reads}
 
 module _ (o : Opening) (starts : AreStarts o.starts) where

@@ -24,11 +24,14 @@ use Rattle.search_info.specs.declared.knows.Knows.{Knows}
 use Rattle.search_info.specs.declared.knows.Opening.{Opening}
 use Rattle.search_info.specs.declared.knows.Try.{Try}
 use Rattle.search_info.specs.declared.law.Settings.{Settings}
-use Rattle.search_info.specs.History.{Start, History, known_after, IsListed, IsHistory}
+use Rattle.search_info.specs.History.{Start, History, known_after, IsHistory}
 use Rattle.search_info.specs.Rule.{KeptWords, FitsHistory, IsTrueTry, opening_of, is_counted, times_counted, times_made, counted_try}
-use Rattle.search_info.specs.Steps.{KeepsNumbers, BeginsWithSeen, seeing, with_try, event_entry, counting, loading, loaded, Hits, Misses, exchanged}
+use Rattle.search_info.specs.Steps.{KeepsNumbers, seeing, with_try, event_entry, counting, loading, loaded, Hits, Misses, exchanged}
+use Rattle.list_facts.specs.Growing.{IsListed, grown}
+use Rattle.list_facts.proofs.Growing.{extends_seen, beginnings_set, beginnings_grown, grown_here, grown_begins, listed_grown}
+use Rattle.list_facts.proofs.Passes.{each_set, apart_kept}
 use Rattle.list_facts.proofs.Places.{inside, there, reads, one_value, same_some}
-use Rattle.search_info.proofs.HistoryLemmas.{known_snoc, beginning_info, same_word, grown, grown_here, grown_begins, entry_grown, grown_so, grown_history}
+use Rattle.search_info.proofs.HistoryLemmas.{known_snoc, beginning_info, same_word, grown_so, grown_history}
 
 pub is_at : (n m : ℕ) → (n == m) ≡ true → n ≡ m
 is_at n m e = grind (arith, nat_tests)
@@ -43,6 +46,12 @@ tries_snoc i n tries q = counted_snoc (λ (z : Try). is_counted z.fate && (z.ind
 made_snoc : (n : ℕ) (xs : List Entry) (e : Entry) → times_made n (xs ++ e ∷ []) ≡ times_made n xs + cond (e.by == n) 1 0
 made_snoc n xs e = counted_snoc (λ (z : Entry). z.by == n) xs e
 
+abbrev pub low_of : Knows → ℕ
+low_of v = v.low
+
+abbrev pub end_of : Knows → ℕ
+end_of v = v.end
+
 -- a step of one seat, whose numbers stay
 rebuilt : (t : Settings) (s : State ℕ Knows) (r : KeptWords t s) (id : ℕ) (v v' : Knows) (lists' : History) (words' : List ℕ) (homes' : List (maybe.Option ℕ))
     → get_elem? s.views id ≡ some v → v.low < v.end → v'.opening ≡ v.opening → v'.low ≡ v.low → v'.end ≡ v.end
@@ -54,28 +63,17 @@ rebuilt t s r id v v' lists' words' homes' at live opening low end history words
   lists = lists';
   history = history;
   words = words;
-  same = λ j u e live_u. ⊎_elim (λ (p : (j ≡ id) × (v' ≡ u)). subst (λ (z : Knows). z.opening ≡ opening_of t) p.1 (opening ∙ r.same id v at live)) (λ (p : (j ≢ id) × (get_elem? s.views j ≡ some u)). r.same j u p.1 live_u) (at_set s.views id j v' u e);
-  each = λ j u e live_u. ⊎_elim (λ (p : (j ≡ id) × (v' ≡ u)). subst (FitsHistory lists') p.1 fits)
-      (λ (p : (j ≢ id) × (get_elem? s.views j ≡ some u)). others u (r.each j u p.1 live_u) (r.same j u p.1 live_u) (r.apart j id u v p.0 p.1 at live_u live)) (at_set s.views id j v' u e);
-  apart = λ i j u x differ at_i at_j live_i live_j. ⊎_elim
-      (λ (p : (i ≡ id) × (v' ≡ u)). ⊎_elim (λ (q : (j ≡ id) × (v' ≡ x)). absurd (differ (p.0 ∙ sym q.0)))
-      (λ (q : (j ≢ id) × (get_elem? s.views j ≡ some x)). let e1 : v.end ≡ u.end = sym end ∙ ap (λ (z : Knows). z.end) p.1 in let e2 : v.low ≡ u.low = sym low ∙ ap (λ (z : Knows). z.low) p.1 in
-      subst (λ (z : ℕ × ℕ). (z.0 ≤ x.low) ⊎ (x.end ≤ z.1)) (λ d. (e1 d, e2 d)) (r.apart id j v x (λ e. q.0 (sym e)) at q.1 live live_j)) (at_set s.views id j v' x at_j))
-      (λ (p : (i ≢ id) × (get_elem? s.views i ≡ some u)). ⊎_elim (λ (q : (j ≡ id) × (v' ≡ x)). let e1 : v.end ≡ x.end = sym end ∙ ap (λ (z : Knows). z.end) q.1 in let e2 : v.low ≡ x.low = sym low ∙ ap (λ (z : Knows). z.low) q.1 in
-      subst (λ (z : ℕ × ℕ). (u.end ≤ z.1) ⊎ (z.0 ≤ u.low)) (λ d. (e1 d, e2 d)) (r.apart i id u v p.0 p.1 at live_i live))
-      (λ (q : (j ≢ id) × (get_elem? s.views j ≡ some x)). r.apart i j u x differ p.1 q.1 live_i live_j) (at_set s.views id j v' x at_j)) (at_set s.views id i v' u at_i);
+  same = each_set low_of end_of (λ z. z.opening ≡ opening_of t) s.views id v' (λ j u _. r.same j u) (λ _. opening ∙ r.same id v at live);
+  each = each_set low_of end_of (FitsHistory lists') s.views id v' (λ j u differ at_u live_u. others u (r.each j u at_u live_u) (r.same j u at_u live_u) (r.apart j id u v differ at_u at live_u live)) (λ _. fits);
+  apart = apart_kept low_of end_of s.views r.apart id v at live v' low end;
 }
-
--- what the pass has seen of a list begins it
-extends_of : (lists : History) (v : Knows) (i : ℕ) (xs : List Entry) → FitsHistory lists v → get_elem? lists i ≡ some xs → BeginsWithSeen v i xs
-extends_of lists v i xs f list ys at = let more = f.seen i ys at in (more.0, one_value lists i (ys ++ more.0) xs more.1 list)
 
 seen_fits : (lists : History) (v : Knows) (i : ℕ) (xs : List Entry) → FitsHistory lists v → get_elem? lists i ≡ some xs → FitsHistory lists (seeing v i xs)
 seen_fits lists v i xs f list = record {
   history = f.history;
   all = length-set v.seen i xs ∙ f.all;
   numbers = f.numbers;
-  seen = λ j ys at. ⊎_elim (λ (p : (j ≡ i) × (xs ≡ ys)). ([], ap (get_elem? lists) p.0 ∙ (list ∙ ap some (p.1 ∙ sym (append-nil ys))))) (λ (p : (j ≢ i) × (get_elem? v.seen j ≡ some ys)). f.seen j ys p.1) (at_set v.seen i j xs ys at);
+  seen = beginnings_set v.seen lists i xs f.seen list;
   mine = f.mine;
   so = f.so;
   own = f.own;
@@ -98,19 +96,18 @@ try_fits lists v i event fate f live isnt so = let q : Try = record { index = i;
 
 -- the pass whose event was counted
 counting_fits : (lists : History) (v : Knows) (i : ℕ) (xs : List Entry) (event : Event) (list : get_elem? lists i ≡ some xs) → FitsHistory lists v → v.low < v.end
-    → IsHistory v.opening (grown lists i xs (event_entry v event) list) → FitsHistory (grown lists i xs (event_entry v event) list) (counting v i xs event)
-counting_fits lists v i xs event list f live history = let e : Entry = event_entry v event in let after : History = grown lists i xs e list in let here = grown_here lists i xs e list in
+    → IsHistory v.opening (grown lists i xs (event_entry v event)) → FitsHistory (grown lists i xs (event_entry v event)) (counting v i xs event)
+counting_fits lists v i xs event list f live history = let e : Entry = event_entry v event in let after : History = grown lists i xs e in let here = grown_here lists i xs e list in
     let q : Try = record { index = i; event = event; by = v.low; fate = Counted (length xs) } in record {
       history = history;
       all = length-set v.seen i (xs ++ e ∷ []) ∙ f.all;
       numbers = f.numbers;
-      seen = λ j ys at. ⊎_elim (λ (p : (j ≡ i) × (xs ++ e ∷ [] ≡ ys)). ([], ap (get_elem? after) p.0 ∙ (here ∙ ap some (p.1 ∙ sym (append-nil ys)))))
-          (λ (p : (j ≢ i) × (get_elem? v.seen j ≡ some ys)). grown_begins lists i xs e list j ys (f.seen j ys p.1)) (at_set v.seen i j (xs ++ e ∷ []) ys at);
+      seen = beginnings_grown lists i xs e list v.seen f.seen;
       mine = λ j x at. ⊎_elim (f.mine j x) (λ (h : q ≡ x). subst (λ (z : Try). (v.low ≤ z.by) × (z.by < v.end)) h (omega arith, live)) (at_snoc v.tries q x j at);
       so = λ j x at. ⊎_elim (λ (old : get_elem? v.tries j ≡ some x). grown_so lists i xs e list v.opening.starts x (f.so j x old))
           (λ (h : q ≡ x). subst (IsTrueTry v.opening.starts after) h (xs ++ e ∷ [], here, at_last xs e (length xs) refl)) (at_snoc v.tries q x j at);
       own = λ j n x entry lo hi. ⊎_elim (λ (old : IsListed lists j n x). let h = f.own j n x old lo hi in (h.0, at_longer v.tries (q ∷ []) h.0 _ h.1))
-          (λ (new : (j ≡ i) × (n ≡ length xs) × (e ≡ x)). (length v.tries, at_last v.tries q (length v.tries) refl ∙ (λ k. some (counted_try (sym new.0 k) (sym new.1 k) (new.2 k))))) (entry_grown lists i xs e list j n x entry);
+          (λ (new : (j ≡ i) × (n ≡ length xs) × (e ≡ x)). (length v.tries, at_last v.tries q (length v.tries) refl ∙ (λ k. some (counted_try (sym new.0 k) (sym new.1 k) (new.2 k))))) (listed_grown lists i xs e list j n x entry);
       once = λ j n ys at lo hi. tries_snoc j n v.tries q ∙ ⊎_elim
           (λ (p : (j ≡ i) × (xs ++ e ∷ [] ≡ ys)). let was : times_counted j n v.tries ≡ times_made n xs = f.once j n xs (ap (get_elem? lists) p.0 ∙ list) lo hi in
           (λ k. was k + cond (eq-eqb i j (sym p.0) k && (v.low == n)) 1 0) ∙ (sym (made_snoc n xs e) ∙ ap (times_made n) p.1))
@@ -120,7 +117,7 @@ counting_fits lists v i xs event list f live history = let e : Entry = event_ent
 
 -- any other pass
 others_fit : (lists : History) (u : Knows) (i : ℕ) (xs : List Entry) (e : Entry) (list : get_elem? lists i ≡ some xs) → FitsHistory lists u → (u.end ≤ e.by) ⊎ (e.by < u.low)
-    → IsHistory u.opening (grown lists i xs e list) → FitsHistory (grown lists i xs e list) u
+    → IsHistory u.opening (grown lists i xs e) → FitsHistory (grown lists i xs e) u
 others_fit lists u i xs e list f far history = let not_mine : (n : ℕ) → u.low ≤ n → n < u.end → e.by ≢ n = λ n lo hi is. ⊎_elim (λ (h : u.end ≤ e.by). omega arith) (λ (h : e.by < u.low). omega arith) far in record {
   history = history;
   all = f.all;
@@ -128,7 +125,7 @@ others_fit lists u i xs e list f far history = let not_mine : (n : ℕ) → u.lo
   seen = λ j ys at. grown_begins lists i xs e list j ys (f.seen j ys at);
   mine = f.mine;
   so = λ j q at. grown_so lists i xs e list u.opening.starts q (f.so j q at);
-  own = λ j n x entry lo hi. ⊎_elim (λ (old : IsListed lists j n x). f.own j n x old lo hi) (λ (new : (j ≡ i) × (n ≡ length xs) × (e ≡ x)). absurd (not_mine x.by lo hi (ap (λ (z : Entry). z.by) new.2))) (entry_grown lists i xs e list j n x entry);
+  own = λ j n x entry lo hi. ⊎_elim (λ (old : IsListed lists j n x). f.own j n x old lo hi) (λ (new : (j ≡ i) × (n ≡ length xs) × (e ≡ x)). absurd (not_mine x.by lo hi (ap (λ (z : Entry). z.by) new.2))) (listed_grown lists i xs e list j n x entry);
   once = λ j n ys at lo hi. ⊎_elim
       (λ (p : (j ≡ i) × (xs ++ e ∷ [] ≡ ys)). f.once j n xs (ap (get_elem? lists) p.0 ∙ list) lo hi ∙ (sym (add-zero (times_made n xs)) ∙ ((λ k. times_made n xs + cond (sym (ne_eqb e.by n (not_mine n lo hi)) k) 1 0) ∙ (sym (made_snoc n xs e) ∙ ap (times_made n) p.1))))
       (λ (p : (j ≢ i) × (get_elem? lists j ≡ some ys)). f.once j n ys p.1 lo hi) (at_set lists i j (xs ++ e ∷ []) ys at);
@@ -180,7 +177,7 @@ module _ (t : Settings) where
             start = start;
             is_start = is_start;
             list = xs.0;
-            extends = extends_of r.lists v i xs.0 f xs.1;
+            extends = extends_seen v.seen r.lists i xs.0 f.seen xs.1;
             word_is = reads s.words i (word_of (known_after start xs.0)) 0 (r.words i start xs.0 at_start xs.1);
             stands = record { lists = r.lists; fits = fits; list = xs.1 };
             view = refl;
@@ -209,7 +206,7 @@ module _ (t : Settings) where
       let was = beginning_info v.opening r.lists i start xs f.history is_start more in dite (ℕ_discrete found old)
       (λ hit. let none : more.0 ≡ [] = same_word start xs more.0 was (f.history.infos i start (xs ++ more.0) is_start more.1) (sym found_is ∙ (hit ∙ old_is)) in
       let list : get_elem? r.lists i ≡ some xs = more.1 ∙ ap some (ap (λ (z : List Entry). xs ++ z) none ∙ append-nil xs) in
-      let e : Entry = event_entry v event in let after : History = grown r.lists i xs e list in let v' : Knows = counting v i xs event in
+      let e : Entry = event_entry v event in let after : History = grown r.lists i xs e in let v' : Knows = counting v i xs event in
       let history : IsHistory v.opening after = grown_history r.lists i xs e list v.opening start f.history is_start (let most = f.numbers in omega arith) fair room in
       let fits = counting_fits r.lists v i xs event list f live history in
       let history' : IsHistory (opening_of t) after = subst (λ (o : Opening). IsHistory o after) same history in (

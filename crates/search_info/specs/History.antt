@@ -1,11 +1,12 @@
 -- The lists of events, one for each index, and what the indexes know from them.
-use Rattle.std.specs.Prelude.{◌≡◌, ℕ, ◌<◌, ◌≤◌, List, ◌++◌, map, length}
+use Rattle.std.specs.Prelude.{◌≡◌, ℕ, ◌<◌, ◌≤◌, List, map, length}
 use mathlib.Core.Option.{some}
 use lib.ListN.{get_elem?}
 use Rattle.key_tuple.specs.declared.TheConstants.{MAX_FIELDS}
 use Rattle.learning.specs.declared.info.Info.{Info}
 use Rattle.learning.specs.Bounds.{IsInfoOf, IsEventOf}
 use Rattle.learning.specs.Learning.{info_after}
+use Rattle.list_facts.specs.Growing.{IsListed, IsBeginning}
 use Rattle.search_info.specs.declared.knows.Entry.{Entry}
 use Rattle.search_info.specs.declared.knows.Opening.{Opening}
 
@@ -30,14 +31,6 @@ AreStarts starts = (i : ℕ) (s : Start) → get_elem? starts i ≡ some s → I
 -- what an index knows from its list
 abbrev pub known_after : Start → List Entry → Info
 known_after s xs = info_after s.0 (map (λ e. e.event) xs)
-
--- the event n of the list of an index
-abbrev pub IsListed : History → ℕ → ℕ → Entry → Type 0
-IsListed lists i n e = (xs : List Entry) × (get_elem? lists i ≡ some xs) × (get_elem? xs n ≡ some e)
-
--- the list of an index begins so
-abbrev pub IsBeginning : History → ℕ → List Entry → Type 0
-IsBeginning lists i xs = (ys : List Entry) × (get_elem? lists i ≡ some (xs ++ ys))
 
 -- the index knew this after a beginning of its list
 abbrev pub WasKnown : List Start → History → ℕ → Info → Type 0

@@ -86,8 +86,12 @@ TellsLearn v i event Worn v' = IsWorn v i event v'
 
 -- a descent as it is handed in
 abbrev pub descent_of : ℕ → Figures → BlockFigures → ℕ → Descent
-descent_of unique figures block rows =
-    record { unique = unique; figures = figures; block = block; rows = rows }
+descent_of unique figures block rows = record {
+  unique = unique;
+  figures = figures;
+  block = block;
+  rows = rows;
+}
 
 -- the block's figures after a descent: as learnt where it was counted, else as before
 abbrev pub TellsBlock : Descent → Learn → BlockFigures → Type 0

@@ -26,5 +26,10 @@ joined_parts v u = record v { end = u.end; seen = longer v.seen u.seen; tries = 
 
 -- what is left of a pass that was joined to another
 abbrev pub no_part : Knows
-no_part =
-    record { opening = record { starts = []; passes = 0 }; low = 0; end = 0; seen = []; tries = [] }
+no_part = record {
+  opening = record { starts = []; passes = 0 };
+  low = 0;
+  end = 0;
+  seen = [];
+  tries = [];
+}

@@ -1,10 +1,12 @@
 -- The rule of a learner's table.
-use Rattle.std.specs.Prelude.{◌≡◌, ◌≢◌, ◌⊎◌, ℕ, ◌<◌, ◌≤◌, Bool, true, false, ◌&&◌, ◌==◌, List, [], ◌∷◌, ◌++◌, map, length, replicate, count_by}
+use Rattle.std.specs.Prelude.{◌≡◌, ◌≢◌, ℕ, ◌<◌, ◌≤◌, Bool, true, false, ◌&&◌, ◌==◌, List, [], ◌∷◌, ◌++◌, map, length, replicate, count_by}
 use mathlib.Core.Option.{some}
 use lib.ListN.{get_elem?}
 use Rattle.atomic_table.specs.Table.{State}
 use Rattle.learning.specs.declared.info.Info.{Info}
 use Rattle.learning.specs.Word.{word_of}
+use Rattle.list_facts.specs.Growing.{IsListed, AreBeginnings}
+use Rattle.list_facts.specs.Passes.{EachLive, AreApart}
 use Rattle.search_info.specs.declared.knows.Entry.{Entry}
 use Rattle.search_info.specs.declared.knows.Fate.{Fate}
 use Rattle.search_info.specs.declared.knows.Fate.TheVariants.{Counted, Raced, Worn}
@@ -12,7 +14,7 @@ use Rattle.search_info.specs.declared.knows.Knows.{Knows}
 use Rattle.search_info.specs.declared.knows.Opening.{Opening}
 use Rattle.search_info.specs.declared.knows.Try.{Try}
 use Rattle.search_info.specs.declared.law.Settings.{Settings}
-use Rattle.search_info.specs.History.{Start, History, IsListed, IsBeginning, WasKnown, IsHistory, known_after}
+use Rattle.search_info.specs.History.{Start, History, WasKnown, IsHistory, known_after}
 
 -- what the settings of the table open with
 abbrev pub opening_of : Settings → Opening
@@ -78,7 +80,7 @@ pub record FitsHistory (lists : History) (v : Knows) : Type 0 where
   pub history : IsHistory v.opening lists
   pub all : length v.seen ≡ length v.opening.starts
   pub numbers : v.end ≤ v.opening.passes
-  pub seen : (i : ℕ) (xs : List Entry) → get_elem? v.seen i ≡ some xs → IsBeginning lists i xs
+  pub seen : AreBeginnings v.seen lists
   pub mine : (j : ℕ) (q : Try) → get_elem? v.tries j ≡ some q → (v.low ≤ q.by) × (q.by < v.end)
   pub so : (j : ℕ) (q : Try) → get_elem? v.tries j ≡ some q → IsTrueTry v.opening.starts lists q
   pub own : (i n : ℕ) (e : Entry) → IsListed lists i n e → v.low ≤ e.by → e.by < v.end
@@ -93,10 +95,6 @@ pub record KeptWords (t : Settings) (s : State ℕ Knows) : Type 0 where
   pub history : IsHistory (opening_of t) lists
   pub words : (i : ℕ) (start : Start) (xs : List Entry) → get_elem? t.starts.items i ≡ some start
       → get_elem? lists i ≡ some xs → get_elem? s.words i ≡ some (word_of (known_after start xs))
-  pub same : (j : ℕ) (v : Knows) → get_elem? s.views j ≡ some v → v.low < v.end
-      → v.opening ≡ opening_of t
-  pub each : (j : ℕ) (v : Knows) → get_elem? s.views j ≡ some v → v.low < v.end
-      → FitsHistory lists v
-  pub apart : (i j : ℕ) (u v : Knows) → ¬ (i ≡ j) → get_elem? s.views i ≡ some u
-      → get_elem? s.views j ≡ some v → u.low < u.end → v.low < v.end
-      → (u.end ≤ v.low) ⊎ (v.end ≤ u.low)
+  pub same : EachLive (λ v. v.low) (λ v. v.end) (λ v. v.opening ≡ opening_of t) s.views
+  pub each : EachLive (λ v. v.low) (λ v. v.end) (FitsHistory lists) s.views
+  pub apart : AreApart (λ v. v.low) (λ v. v.end) s.views

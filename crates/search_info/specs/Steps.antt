@@ -7,6 +7,7 @@ use Rattle.learning.specs.declared.event.Event.{Event}
 use Rattle.learning.specs.Bounds.{IsEventOf}
 use Rattle.learning.specs.Learning.{learn}
 use Rattle.learning.specs.Word.{word_of}
+use Rattle.list_facts.specs.Growing.{ExtendsSeen}
 use Rattle.search_info.specs.declared.knows.Entry.{Entry}
 use Rattle.search_info.specs.declared.knows.Fate.{Fate}
 use Rattle.search_info.specs.declared.knows.Fate.TheVariants.{Counted, Raced, Worn}
@@ -29,8 +30,7 @@ pub record KeepsNumbers (v v' : Knows) : Type 0 where
 
 -- the list begins with what the pass has seen of it
 abbrev pub BeginsWithSeen : Knows → ℕ → List Entry → Type 0
-BeginsWithSeen v i xs = (ys : List Entry) → get_elem? v.seen i ≡ some ys
-    → (zs : List Entry) × (ys ++ zs ≡ xs)
+BeginsWithSeen v i xs = ExtendsSeen v.seen i xs
 
 -- a list more seen
 abbrev pub seeing : Knows → ℕ → List Entry → Knows

@@ -27,7 +27,8 @@ impl Learner {
         ensures ok { IsOk result }
         ensures own { IsSameLearnPass pass.old pass.new × IsLearnPassOf self.now pass.new }
         ensures kept { knowledge pass.new ≡ lower_part (knowledge pass.old) }
-        ensures given { IfOk result (λ p. IsLearnPassOf self.now p × (knowledge p ≡ upper_part (knowledge pass.old))) }
+        ensures given { IfOk result (λ p. IsLearnPassOf self.now p
+            × (knowledge p ≡ upper_part (knowledge pass.old))) }
     {
         let middle = pass.low + (pass.end - pass.low) / 2;
         let end = pass.end;

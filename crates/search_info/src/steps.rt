@@ -69,7 +69,8 @@ impl Learner {
         requires own { IsLearnPassOf self.now pass.old }
         requires read { HasRead (knowledge pass.old) index event.now word before.now }
         ensures own { IsSameLearnPass pass.old pass.new × IsLearnPassOf self.now pass.new }
-        ensures did { ExchangeTells (knowledge pass.old) index event.now before.now result (knowledge pass.new) }
+        ensures did { ExchangeTells (knowledge pass.old) index event.now before.now result
+            (knowledge pass.new) }
     {
         let after = learn(before, event);
         let build = should_build(before, event);

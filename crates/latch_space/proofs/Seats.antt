@@ -1,0 +1,108 @@
+-- A pass whose seat has stepped: what stays of its facts, and what is so of it by what was so before.
+use Rattle.std.proofs.Common.{◌≡◌, ℕ, ◌+◌, ◌<◌, ◌≤◌, List, length, map, true, refl, ap, sym, subst, ◌∙◌, arith, Option, length-set}
+use Rattle.atomic_table.specs.declared.shared.Seat.{Seat}
+use Rattle.latch_law.specs.declared.knows.Entry.{Entry}
+use Rattle.latch_law.specs.declared.knows.Knows.{Knows}
+use Rattle.latch_law.specs.declared.knows.Terms.{Terms}
+use Rattle.latch_law.specs.Whole.{StateLaw, AnswerLaw, ReferenceLaw}
+use Rattle.latch_law.specs.Fitting.{AreValuesOf, IsFitted, DidRead}
+use Rattle.latch_law.specs.Views.{left_part, right_part, reading, refusing, settling}
+use Rattle.latch_law.proofs.Lists.{length-learnt}
+use Rattle.list_facts.proofs.Parts.{middle_inside}
+use Rattle.latch_space.specs.declared.pass.HeldObject.{HeldObject}
+use Rattle.latch_space.specs.declared.pass.PassOf.{PassOf}
+use Rattle.latch_space.specs.declared.space.SpaceOf.{SpaceOf}
+use Rattle.latch_space.specs.Hands.{slot_of, has, is_held, is_once, spread}
+use Rattle.latch_space.specs.Has.{SameHands}
+use Rattle.latch_space.specs.Passes.{view, IsWhole}
+use Rattle.latch_space.specs.Spaces.{IsPassOf}
+use Rattle.latch_space.proofs.InHand.{held_learnt}
+use Rattle.latch_space.proofs.Pointwise.{whole_from}
+
+-- what stays of a pass at a step that takes and frees nothing
+pub record Stays {Sh O C A : Type 0} (v v' : Knows Sh O C A) : Type 0 where
+  pub low : v'.low ≡ v.low
+  pub end : v'.end ≡ v.end
+  pub terms : v'.terms ≡ v.terms
+  pub held : length v'.held ≡ length v.held
+  pub seen : length v'.seen ≡ length v.seen
+  pub holding : (k : ℕ) → is_held v'.held k ≡ is_held v.held k
+
+-- what the fields of a pass keep
+pub record AreFields {Sh O C A : Type 0} (seat : Seat (Option O) (Knows Sh O C A)) (low end : ℕ) (hand : List (HeldObject O)) : Type 0 where
+  pub numbers : (low ≡ seat.me.0.low) × (end ≡ seat.me.0.end) × (low < end)
+  pub out : seat.me.1 ≡ map slot_of hand
+  pub holding : (k : ℕ) → has k hand ≡ is_held seat.me.0.held k
+  pub once : is_once hand ≡ true
+  pub all : (length seat.me.0.held ≡ seat.me.0.terms.objects) × (length seat.me.0.seen ≡ seat.me.0.terms.indexes)
+
+module _ {Sh O C A : Type 0} where
+  pub fields_stay : (p : PassOf Sh O C A) (seat : Seat (Option O) (Knows Sh O C A)) → Stays (view p) seat.me.0 → seat.me.1 ≡ p.seat.me.1 → AreFields seat p.low p.end p.hand.items
+  fields_stay p seat s slots = let n = p.numbers in record {
+    numbers = (n.0 ∙ sym s.low, n.1 ∙ sym s.end, n.2);
+    out = slots ∙ p.out;
+    holding = λ k. p.holding k ∙ sym (s.holding k);
+    once = p.once;
+    all = (s.held ∙ (p.all.0 ∙ ap (λ (t : Terms Sh). t.objects) (sym s.terms)), s.seen ∙ (p.all.1 ∙ ap (λ (t : Terms Sh). t.indexes) (sym s.terms)));
+  }
+
+  -- a pass has a number
+  pub live_of : (p : PassOf Sh O C A) → (view p).low < (view p).end
+  live_of p = let n = p.numbers in omega (arith, n.0, n.1, n.2)
+
+  -- and each part of one that is cut has one
+  pub left_live : (v v' : Knows Sh O C A) → v.low + 2 ≤ v.end → v' ≡ left_part v → v'.low < v'.end
+  left_live v v' two is = subst (λ (z : Knows Sh O C A). z.low < z.end) (sym is) (middle_inside v.low v.end two).0
+
+  pub right_live : (v v' : Knows Sh O C A) → v.low + 2 ≤ v.end → v' ≡ right_part v → v'.low < v'.end
+  right_live v v' two is = subst (λ (z : Knows Sh O C A). z.low < z.end) (sym is) (middle_inside v.low v.end two).1
+
+  -- an index of its space is one of those that it has seen
+  pub index_in : {Q : Type 0} (s : SpaceOf Sh O C A Q) (p : PassOf Sh O C A) (i : ℕ) → IsPassOf s p → i < s.terms.indexes → (i < length (view p).seen) × (i < s.terms.indexes)
+  index_in s p i own below = let all = p.all in let same : (view p).terms.indexes ≡ s.terms.indexes = ap (λ (t : Terms Sh). t.indexes) own.1 in (omega (arith, all.1, same, below), below)
+
+module _ {Sh O C A : Type 0} (p p₀ : PassOf Sh O C A) (is : p ≡ p₀) where
+  -- it is the same pass of the same space
+  pub own_after : {Q : Type 0} (s : SpaceOf Sh O C A Q) (seat : Seat (Option O) (Knows Sh O C A)) → IsPassOf s p₀ → (seat.table_id ≡ p.seat.table_id) × (seat.id ≡ p.seat.id) → seat.me.0.terms ≡ (view p).terms
+      → ((seat.table_id ≡ p₀.seat.table_id) × (seat.id ≡ p₀.seat.id)) × ((seat.table_id ≡ s.table.shared.table_id) × (seat.me.0.terms ≡ s.terms))
+  own_after s seat own same terms = (
+    (same.0 ∙ ap (λ (z : PassOf Sh O C A). z.seat.table_id) is, same.1 ∙ ap (λ (z : PassOf Sh O C A). z.seat.id) is),
+    (same.0 ∙ (ap (λ (z : PassOf Sh O C A). z.seat.table_id) is ∙ own.0), terms ∙ (ap (λ (z : PassOf Sh O C A). (view z).terms) is ∙ own.1)),
+  )
+
+  -- it has in hand what it had
+  pub hands_stay : (q : PassOf Sh O C A) → (view q).held ≡ (view p).held → q.hand ≡ p.hand → SameHands p₀ q
+  hands_stay q held hand = subst (λ (z : PassOf Sh O C A). SameHands z q) is
+      record { held = held; values = λ i. spread (length (held i)) (hand i).items; count = ap (λ z. length z.items) hand }
+
+module _ {Sh O C A : Type 0} (lawful : StateLaw Sh O C) (answers : AnswerLaw Sh O C A) (refers : ReferenceLaw Sh O C) where
+  pub reads_stay : (v v' : Knows Sh O C A) (i n : ℕ) (a : A) → DidRead lawful answers refers v i a n v' → Stays v v'
+  reads_stay v v' i n a did = subst (Stays v) (sym did.view) (stays did.list)
+    where
+      stays : (xs : List (Entry C)) → Stays v (reading v i xs a)
+      stays xs = record { low = refl; end = refl; terms = refl; held = refl; seen = length-set v.seen i xs; holding = λ _. refl }
+
+  pub read_fitted : (v v' : Knows Sh O C A) (i n : ℕ) (a : A) → DidRead lawful answers refers v i a n v' → IsFitted lawful answers refers v'
+  read_fitted v v' i n a did = record { whole = did.stands.whole; is_lawful = did.stands.is_lawful; fits = did.stands.fits }
+
+module _ {Sh O C A : Type 0} where
+  pub settles_stay : (v v' : Knows Sh O C A) (vs : List (Option O)) → v' ≡ settling v vs → Stays v v'
+  settles_stay v v' vs is = subst (Stays v) (sym is) record {
+    low = refl;
+    end = refl;
+    terms = refl;
+    held = length-learnt vs v.held;
+    seen = refl;
+    holding = held_learnt vs v.held;
+  }
+
+  pub refuses_stay : (v v' : Knows Sh O C A) (k n : ℕ) → v' ≡ refusing v k n → Stays v v'
+  refuses_stay v v' k n is = subst (Stays v) (sym is) record { low = refl; end = refl; terms = refl; held = refl; seen = refl; holding = λ _. refl }
+
+  -- there is a value in hand for each object that is held
+  pub values_from : (p p₀ : PassOf Sh O C A) → p ≡ p₀ → (hand : List (HeldObject O)) → hand ≡ p.hand.items → IsWhole p₀ → AreValuesOf (view p) (spread (length (view p).held) hand)
+  values_from p p₀ is hand same whole = subst (λ (z : List (HeldObject O)). AreValuesOf (view p) (spread (length (view p).held) z)) (sym same) (whole_from p p₀ is whole)
+
+-- a lawful state that fits what a pass knows fits what is the same
+pub fitted_from : {Sh O C A : Type 0} (lawful : StateLaw Sh O C) (answers : AnswerLaw Sh O C A) (refers : ReferenceLaw Sh O C) (v v' : Knows Sh O C A) → v' ≡ v → IsFitted lawful answers refers v → IsFitted lawful answers refers v'
+fitted_from lawful answers refers v v' is = subst (IsFitted lawful answers refers) (sym is)
