@@ -1,15 +1,15 @@
 -- Lists that are sorted by number.
-use Rattle.std.proofs.Common.{◌≡◌, ℕ, suc, ◌+◌, ◌<◌, ◌≤◌, Some, List, [], ◌∷◌, ◌++◌, length, map, get_or, refl, ap, sym, ◌∙◌, subst, arith, Vec}
+use Rattle.std.proofs.Common.{◌≡◌, ℕ, ◌<◌, List, [], ◌∷◌, ◌++◌, length, map, ap, sym, ◌∙◌, subst, arith, Vec}
 use Rattle.std.proofs.lemmas.List.{length-map, get_or-map, map-append}
 use Rattle.std.proofs.lemmas.List.Sorted.{IsPermutation-map}
-use Rattle.std.specs.List.{slice_get, AllZip}
+use Rattle.std.specs.List.{AllZip}
 use Rattle.std.specs.List.Sorted.{IsPermutation, IsNonDecreasingBy}
 use Rattle.std.specs.declared.alloc.Global.{Global}
 use Rattle.list_facts.proofs.Places.{get_inside, get_there}
 use Rattle.list_facts.proofs.Elements.{all_zip_at, all_zip_length, all_zip_push}
 use Rattle.change_log.specs.declared.change.LaneChange.{LaneChange}
 use Rattle.change_log.specs.Log.{ChangeNote, note_of, Log}
-use Rattle.change_log.specs.Merge.{notes_in, note_lists, IsSorted, AreSpread, AreMerges}
+use Rattle.change_log.specs.Merge.{note_lists, IsSorted, AreSpread, AreMerges}
 
 -- changes that are sorted are seen so
 pub seen_sorted : (old new : List LaneChange) → IsPermutation old new → IsNonDecreasingBy (λ (c : LaneChange). c.number) new → IsSorted (map note_of old) (map note_of new)

@@ -1,11 +1,11 @@
 -- Changes that are put to the lists of their indexes.
-use Rattle.std.proofs.Common.{◌≡◌, ℕ, suc, ◌+◌, ◌<◌, ◌≤◌, eqb, eq-eqb, Some, List, [], ◌∷◌, ◌++◌, length, map, get_or, set, replicate, take, refl, ap, sym, ◌∙◌, subst, arith, Vec, append_assoc}
+use Rattle.std.proofs.Common.{◌≡◌, ℕ, ◌+◌, ◌<◌, ◌≤◌, eqb, eq-eqb, Some, List, [], ◌∷◌, ◌++◌, length, map, get_or, set, replicate, take, refl, ap, sym, ◌∙◌, subst, arith, Vec, append_assoc}
 use Rattle.std.proofs.lemmas.Bool.{ne_eqb}
-use Rattle.std.proofs.lemmas.List.{append-nil, length-map, map-append, length-set, length-replicate, get_or-map, get_or-set_same, get_or-set_other, take_more}
+use Rattle.std.proofs.lemmas.List.{append-nil, length-map, map-append, length-set, length-replicate, get_or-set_same, get_or-set_other, take_more}
 use Rattle.std.proofs.lemmas.List.Elements.{filter-append}
 use Rattle.std.proofs.lemmas.Grind.{flat_map-append}
 use Rattle.std.proofs.lemmas.Option.{slice_get-get_or, get_or_from_slice_get}
-use Rattle.std.specs.List.{slice_get, flat_map}
+use Rattle.std.specs.List.{slice_get}
 use Rattle.std.specs.declared.alloc.Global.{Global}
 use mathlib.Core.Logic.{dite}
 use native.Mathlib.Decide.{ℕ_discrete as dec_eq}

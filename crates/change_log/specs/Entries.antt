@@ -9,7 +9,9 @@ use Rattle.change_log.specs.Log.{ChangeNote}
 
 -- the entry of a change, if its line asks for one
 abbrev pub printed_entry : ChangeNote → Option ChangeLine
-printed_entry note = option_map (λ (c : MapChange). record { lane = note.lane; line = note.line.line; change = c }) (change_asked note.line.op.ask)
+printed_entry note = option_map
+    (λ (c : MapChange). record { lane = note.lane; line = note.line.line; change = c })
+    (change_asked note.line.op.ask)
 
 -- the entries of some changes
 abbrev pub printed_entries : List ChangeNote → List ChangeLine
@@ -21,4 +23,5 @@ ArePrinted notes entries = map printed_entry notes ≡ map Some entries
 
 -- the changes are numbered from 1, in their order
 abbrev pub AreCountedUp : List ChangeNote → Type 0
-AreCountedUp notes = (n : ℕ) (note : ChangeNote) → slice_get notes n ≡ Some note → note.number ≡ n + 1
+AreCountedUp notes = (n : ℕ) (note : ChangeNote) → slice_get notes n ≡ Some note
+    → note.number ≡ n + 1

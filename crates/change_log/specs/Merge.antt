@@ -1,5 +1,5 @@
 -- What a merge of logs is.
-use Rattle.std.specs.Prelude.{ℕ, ◌≡◌, ◌==◌, Some, List, [], ◌∷◌, ◌++◌, length, map, Vec}
+use Rattle.std.specs.Prelude.{ℕ, ◌≡◌, ◌==◌, Some, List, ◌++◌, length, map, Vec}
 use Rattle.std.specs.List.{slice_get, filter, flat_map}
 use Rattle.std.specs.List.Sorted.{IsPermutation, IsNonDecreasingBy}
 use Rattle.std.specs.declared.alloc.Global.{Global}
@@ -26,7 +26,8 @@ IsMerge index logs merged = IsSorted (notes_in index logs) merged
 -- for each of so many indexes its changes are merged
 pub record AreMerges (indexes : ℕ) (logs : List Log) (all : List (List ChangeNote)) : Type 0 where
   pub count : length all ≡ indexes
-  pub each : (i : ℕ) (merged : List ChangeNote) → slice_get all i ≡ Some merged → IsMerge i logs merged
+  pub each : (i : ℕ) (merged : List ChangeNote) → slice_get all i ≡ Some merged
+      → IsMerge i logs merged
 
 -- lists of changes that stand in vectors
 abbrev pub note_lists : List (Vec LaneChange Global) → List (List ChangeNote)
@@ -35,7 +36,8 @@ note_lists lists = map (λ (list : Vec LaneChange Global). map note_of list.item
 -- the changes were put behind those in the list of their index, where there is one
 pub record Spreads (notes : List ChangeNote) (old new : List (List ChangeNote)) : Type 0 where
   pub count : length new ≡ length old
-  pub each : (i : ℕ) (list : List ChangeNote) → slice_get old i ≡ Some list → slice_get new i ≡ Some (list ++ notes_on i notes)
+  pub each : (i : ℕ) (list : List ChangeNote) → slice_get old i ≡ Some list
+      → slice_get new i ≡ Some (list ++ notes_on i notes)
 
 -- for each of so many indexes its changes are there, in the order of the logs
 pub record AreSpread (indexes : ℕ) (logs : List Log) (all : List (List ChangeNote)) : Type 0 where

@@ -17,7 +17,10 @@ impl<'a> Model for LaneLog<'a> {
 
     ghost Value = { Log };
 
-    ghost view = { λ log. record { noted = map note_of log.noted.items; room = vec_capacity log.noted } };
+    ghost view = { λ log. record {
+      noted = map note_of log.noted.items;
+      room = vec_capacity log.noted;
+    } };
 }
 
 impl<'a> LaneLog<'a> {

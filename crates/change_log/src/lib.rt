@@ -5,8 +5,6 @@
 mod change;
 mod lane_log;
 mod merging;
-#[cfg(test)]
-mod tests;
 
 pub use change::LaneChange;
 pub use lane_log::LaneLog;

@@ -41,12 +41,15 @@ join_more c f xs i d h =
     ∙ ap (λ n. (join_with_byte c (map f (take i xs)) ++ separator c n) ++ f (get_or xs i d)) short
 
 -- the step of a loop that puts a separator and then the next part
-pub joined_more : {X : Type 0} (c : ℕ) (f : X → List ℕ) (xs : List X) (i : ℕ) (d : X) (start was between after : List ℕ) → i < length xs
+pub joined_more : {X : Type 0} (c : ℕ) (f : X → List ℕ) (xs : List X) (i place : ℕ) (d part : X) (start was between after : List ℕ) → i < length xs
+    → place ≡ i
+    → part ≡ get_or xs i d
     → was ≡ start ++ join_with_byte c (map f (take i xs))
-    → between ≡ was ++ separator c i
-    → after ≡ between ++ f (get_or xs i d)
+    → between ≡ was ++ separator c place
+    → after ≡ between ++ f part
     → after ≡ start ++ join_with_byte c (map f (take (i + 1) xs))
-joined_more c f xs i d start was between after h e1 e2 e3 =
-    e3 ∙ ap (λ l. l ++ f (get_or xs i d)) (e2 ∙ ap (λ l. l ++ separator c i) e1)
+joined_more c f xs i place d part start was between after h at is e1 e2 e3 =
+    let put : between ≡ (start ++ join_with_byte c (map f (take i xs))) ++ separator c i = e2 ∙ ap (λ n. was ++ separator c n) at ∙ ap (λ l. l ++ separator c i) e1 in
+    e3 ∙ ap (λ x. between ++ f x) is ∙ ap (λ l. l ++ f (get_or xs i d)) put
     ∙ sym (regrouped start (join_with_byte c (map f (take i xs))) (separator c i) (f (get_or xs i d)))
     ∙ ap (λ l. start ++ l) (sym (join_more c f xs i d h))

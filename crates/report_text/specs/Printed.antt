@@ -14,7 +14,8 @@ use Rattle.map_history.specs.Told.{answer_of}
 
 -- the printed answer to an operation that was told this, with the row that was found
 abbrev pub printed_answer : Op → Told → FieldList → List ℕ → Option Answer
-printed_answer op told key value = answer_of (operation_of op).ask told (record { key = key; value = value })
+printed_answer op told key value =
+    answer_of (operation_of op).ask told (record { key = key; value = value })
 
 -- the line of an entry with its number, if there is one
 abbrev pub entry_text : ℕ → Option ChangeLine → List ℕ

@@ -8,8 +8,6 @@ mod field;
 mod heads;
 mod line;
 mod statistics;
-#[cfg(test)]
-mod tests;
 mod texts;
 mod word;
 

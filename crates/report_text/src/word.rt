@@ -9,7 +9,6 @@ use key_tuple::Fields;
 use std::alloc::AllocError;
 
 /// One word of a line.
-#[derive(Clone, Copy)]
 pub enum Word<'a, K> {
     /// A text that is written as it is.
     Text(&'a str),
@@ -24,6 +23,16 @@ pub enum Word<'a, K> {
     /// A text and a number in decimal digits, with a space between.
     Count(&'a str, u64),
 }
+
+impl<'a, K> Clone for Word<'a, K> {
+    ghost is_clone = { λ w c. c ≡ w };
+
+    fn clone(&self) -> Result<Word<'a, K>, AllocError> {
+        Ok(*self)
+    }
+}
+
+impl<'a, K> Copy for Word<'a, K> {}
 
 /// Appends a number in decimal digits.
 fn put_number(out: &mut Vec<u8>, number: u64) -> Result<(), AllocError>

@@ -10,7 +10,7 @@ use Rattle.std.proofs.lemmas.List.Sums.{fails_before_first}
 use Rattle.std.proofs.lemmas.Slice.Eq.{bytes_eq-Decides}
 use Rattle.std.proofs.lemmas.Bool.{leb-true, ltb-false, ltb-true, eqb-false}
 use Rattle.key_tuple.specs.declared.TheConstants.{MAX_FIELDS}
-use Rattle.script.specs.declared.TheConstants.{MAX_INDEXES}
+use Rattle.map_history.specs.declared.TheConstants.{MAX_INDEXES}
 use Rattle.script.specs.declared.entry.Entry.{Entry}
 use Rattle.script.specs.declared.entry.Entry.TheVariants.{Index}
 use Rattle.script.specs.declared.error.ScriptError.TheVariants as error

@@ -50,7 +50,8 @@ is_name_byte b = is_letter b || is_from 48 57 b || (b == 95)
 -- a name has 1 to 32 such bytes and begins with a letter
 abbrev pub is_name : List ℕ → Bool
 is_name [] = false
-is_name (b ∷ bytes) = is_letter b && nat_lt (length bytes) MAX_NAME_BYTES && list_all is_name_byte bytes
+is_name (b ∷ bytes) =
+    is_letter b && nat_lt (length bytes) MAX_NAME_BYTES && list_all is_name_byte bytes
 
 -- a decimal digit
 abbrev pub is_digit : ℕ → Bool
@@ -69,7 +70,9 @@ decimal_from n (b ∷ word) = decimal_from (n * 10 + (b - 48)) word
 
 -- the number that a word writes, below 2^32
 abbrev pub number_spelled : List ℕ → Option ℕ
-number_spelled word = if is_numeral word && nat_lt (decimal_from 0 word) (2 ^ 32) then Some (decimal_from 0 word) else None
+number_spelled word =
+    if is_numeral word && nat_lt (decimal_from 0 word) (2 ^ 32) then Some (decimal_from 0 word)
+    else None
 
 -- the value of a hexadecimal digit of either case
 abbrev pub digit_of : ℕ → Option ℕ
@@ -80,7 +83,8 @@ digit_of b =
 
 -- the byte that two digits spell
 abbrev pub byte_of : ℕ → ℕ → Option ℕ
-byte_of high low = option_and_then (λ (h : ℕ). option_map (λ (l : ℕ). h * 16 + l) (digit_of low)) (digit_of high)
+byte_of high low =
+    option_and_then (λ (h : ℕ). option_map (λ (l : ℕ). h * 16 + l) (digit_of low)) (digit_of high)
 
 -- the byte that a byte alone stands for: itself, if it needs no escape
 abbrev pub plain : ℕ → Option ℕ
@@ -102,7 +106,9 @@ abbrev pub bytes_of : List ℕ → Option (List ℕ)
 bytes_of [] = Some []
 bytes_of (a ∷ []) = in_front (plain a) (Some [])
 bytes_of (a ∷ b ∷ []) = in_front (plain a) (bytes_of (b ∷ []))
-bytes_of (a ∷ b ∷ c ∷ text) = if a == 37 then in_front (byte_of b c) (bytes_of text) else in_front (plain a) (bytes_of (b ∷ c ∷ text))
+bytes_of (a ∷ b ∷ c ∷ text) =
+    if a == 37 then in_front (byte_of b c) (bytes_of text)
+    else in_front (plain a) (bytes_of (b ∷ c ∷ text))
 
 -- a field or a value: `~` for the empty one, else at least one byte
 abbrev pub is_tilde : List ℕ → Bool

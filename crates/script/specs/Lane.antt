@@ -26,9 +26,11 @@ verbs = (codes "get", verb.Get) ∷ (codes "put", verb.Put) ∷ (codes "del", ve
 abbrev pub verb_named : List ℕ → Option Verb
 verb_named word = lookup (λ (known : List ℕ). bytes_eq word known) verbs
 
--- the index of a line: a word that isn't a name is bad form, and a name that the schema lacks is unknown
+-- the index of a line: a word that isn't a name is bad form, and a name that the schema lacks is
+-- unknown
 abbrev pub index_named : SchemaText → List ℕ → Result ℕ Flaw
-index_named s name = if is_name name then ok_or (index_by_name s.names name) UnknownIndex else Err BadLine
+index_named s name =
+    if is_name name then ok_or (index_by_name s.names name) UnknownIndex else Err BadLine
 
 -- `KEY`, for an index whose keys have so many fields
 abbrev pub key_parts : ℕ → List (List ℕ) → Result FieldList Flaw
@@ -50,12 +52,14 @@ row_parts n parts = do
 -- what an operation's word asks with the words after the index's name
 abbrev pub ask_of : Verb → ℕ → List (List ℕ) → Result Ask Flaw
 ask_of verb.Get n parts = key_parts n parts >>= λ (key : FieldList). Ok (Get key)
-ask_of verb.Put n parts = row_parts n parts >>= λ (row : FieldList × List ℕ). Ok (Make (Put row.0 row.1))
+ask_of verb.Put n parts =
+    row_parts n parts >>= λ (row : FieldList × List ℕ). Ok (Make (Put row.0 row.1))
 ask_of verb.Del n parts = key_parts n parts >>= λ (key : FieldList). Ok (Make (Del key))
 
 -- the operation on the index with this number, whose keys have n fields
 abbrev pub operation_for : Verb → ℕ → ℕ → List (List ℕ) → Result Operation Flaw
-operation_for kind i n parts = ask_of kind n parts >>= λ (ask : Ask). Ok (record { index = i; ask = ask })
+operation_for kind i n parts =
+    ask_of kind n parts >>= λ (ask : Ask). Ok (record { index = i; ask = ask })
 
 -- the operation that some words spell
 abbrev pub operation_in : SchemaText → List (List ℕ) → Result Operation Flaw
@@ -68,7 +72,9 @@ operation_in s (word ∷ name ∷ parts) = do
 
 -- what a line of a lane says: nothing, an operation, or a flaw
 unfoldable pub line_meaning : SchemaText → List ℕ → Result (Option Operation) Flaw
-line_meaning s line = if says_nothing line then Ok None else (operation_in s (line_words line) >>= λ (op : Operation). Ok (Some op))
+line_meaning s line =
+    if says_nothing line then Ok None
+    else (operation_in s (line_words line) >>= λ (op : Operation). Ok (Some op))
 
 -- a line with its number, if it says something
 abbrev pub line_said : ℕ → Option Operation → List Line

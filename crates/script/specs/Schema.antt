@@ -5,7 +5,8 @@ use Rattle.std.specs.Map.{lookup}
 use Rattle.std.specs.Str.{bytes_eq}
 use Rattle.map_history.specs.declared.sizes.Sizes.{Sizes}
 use Rattle.key_tuple.specs.declared.TheConstants.{MAX_FIELDS}
-use Rattle.script.specs.declared.TheConstants.{DEFAULT_SIZES, MAX_INDEXES}
+use Rattle.map_history.specs.declared.TheConstants.{MAX_INDEXES}
+use Rattle.script.specs.declared.TheConstants.{DEFAULT_SIZES}
 use Rattle.script.specs.declared.entry.Entry.{Entry}
 use Rattle.script.specs.declared.entry.Entry.TheVariants.{Index}
 use Rattle.script.specs.declared.error.ScriptError.{ScriptError}
@@ -35,11 +36,14 @@ index_by_name names name = position (λ (known : List ℕ). bytes_eq known name)
 
 -- how many fields: a number from 1 to 4
 abbrev pub count_spelled : List ℕ → Option ℕ
-count_spelled word = option_and_then (λ (n : ℕ). if is_from 1 MAX_FIELDS n then Some n else None) (number_spelled word)
+count_spelled word =
+    option_and_then (λ (n : ℕ). if is_from 1 MAX_FIELDS n then Some n else None)
+    (number_spelled word)
 
 -- the schema has room for an index of this name, which is new
 abbrev pub takes_name : SchemaText → List ℕ → Bool
-takes_name s name = is_name name && nat_lt (length s.names) MAX_INDEXES && is_none (index_by_name s.names name)
+takes_name s name =
+    is_name name && nat_lt (length s.names) MAX_INDEXES && is_none (index_by_name s.names name)
 
 -- one index more
 abbrev pub with_index : SchemaText → List ℕ → ℕ → SchemaText
@@ -59,7 +63,8 @@ after_entry Index s parts = index_line s parts
 -- what the words of a line make of a schema
 abbrev pub after_words : SchemaText → List (List ℕ) → Result SchemaText Flaw
 after_words s [] = Err BadLine
-after_words s (word ∷ parts) = or_bad (entry_named word) >>= λ (entry : Entry). after_entry entry s parts
+after_words s (word ∷ parts) =
+    or_bad (entry_named word) >>= λ (entry : Entry). after_entry entry s parts
 
 -- the schema after a line
 unfoldable pub schema_line : SchemaText → List ℕ → Result SchemaText Flaw
@@ -68,7 +73,8 @@ schema_line s line = if says_nothing line then Ok s else after_words s (line_wor
 -- the schema after the lines from number n on; one without an index is refused behind its last line
 abbrev pub schema_from : ℕ → SchemaText → List (List ℕ) → Result SchemaText ScriptError
 schema_from n s [] = if length s.names == 0 then Err (error.Flawed n BadLine) else Ok s
-schema_from n s (line ∷ lines) = numbered n (schema_line s line) >>= λ (t : SchemaText). schema_from (n + 1) t lines
+schema_from n s (line ∷ lines) =
+    numbered n (schema_line s line) >>= λ (t : SchemaText). schema_from (n + 1) t lines
 
 -- the schema before its first line
 abbrev pub no_index : SchemaText

@@ -7,8 +7,8 @@ use Rattle.script.specs.declared.error.Flaw.TheVariants as flaw
 use Rattle.script.specs.declared.error.Refusal.{Refusal}
 use Rattle.script.specs.declared.error.Refusal.TheVariants as refusal
 
--- the first error, else what the next step makes of the value
 infixl 10 ◌>>=◌
+-- the first error, else what the next step makes of the value
 abbrev pub ◌>>=◌ : {A B E : Type 0} → Result A E → (A → Result B E) → Result B E
 (Ok x) >>= f = f x
 (Err e) >>= f = Err e
@@ -48,7 +48,8 @@ FailsWhole error.NoMemory read = Unit {0}
 FailsWhole e read = read ≡ Err e
 
 -- the program's answer for a file, seen by `view`, is what is read, unless memory ran out
-abbrev pub GivesWhole : {X Y : Type 0} → (X → Y) → Result X ScriptError → Result Y ScriptError → Type 0
+abbrev pub GivesWhole : {X Y : Type 0} → (X → Y) → Result X ScriptError → Result Y ScriptError
+    → Type 0
 GivesWhole view (Ok x) read = read ≡ Ok (view x)
 GivesWhole view (Err e) read = FailsWhole e read
 

@@ -10,11 +10,19 @@ use Rattle.script.specs.Schema.{SchemaText}
 
 -- the schema that a draft stands for
 abbrev pub draft_text : Draft → SchemaText
-draft_text d = record { sizes = DEFAULT_SIZES; names = map string_bytes d.names.items; fields = d.fields.items }
+draft_text d = record {
+  sizes = DEFAULT_SIZES;
+  names = map string_bytes d.names.items;
+  fields = d.fields.items;
+}
 
 -- a schema's text
 abbrev pub schema_text : Schema → SchemaText
-schema_text s = record { sizes = s.sizes; names = map string_bytes s.names.items; fields = s.fields.items }
+schema_text s = record {
+  sizes = s.sizes;
+  names = map string_bytes s.names.items;
+  fields = s.fields.items;
+}
 
 -- the fields that a key's text has
 abbrev pub text_fields : KeyText → FieldList

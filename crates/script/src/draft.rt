@@ -6,7 +6,6 @@ ghost use Rattle.script.specs.Pieces.{pieces_left};
 ghost use Rattle.script.specs.Steps.{Leaves};
 ghost use Rattle.script.specs.Views.{draft_text};
 
-use crate::MAX_INDEXES;
 use crate::entry::{Entry, find_entry};
 use crate::error::{Flaw, Refusal};
 use crate::names::{find_name, name_text};
@@ -14,6 +13,7 @@ use crate::numbers::find_number;
 use crate::pieces::Pieces;
 use crate::words::{has_name_form, is_silent, two_words};
 use key_tuple::MAX_FIELDS;
+use map_history::MAX_INDEXES;
 use std::alloc::{AllocError, Global};
 
 /// The indexes so far.

@@ -13,8 +13,6 @@ mod pieces;
 mod reading;
 mod rows;
 mod schema;
-#[cfg(test)]
-mod tests;
 mod verb;
 mod words;
 
@@ -26,9 +24,6 @@ pub use schema::Schema;
 
 /// The most bytes of a file that is read: 64 MiB.
 pub const MAX_FILE_BYTES: usize = 67_108_864;
-
-/// The most indexes of a schema.
-pub const MAX_INDEXES: usize = 64;
 
 /// The most bytes of an index's name.
 pub const MAX_NAME_BYTES: usize = 32;

@@ -19,9 +19,10 @@ two_lines = codes "put t a v" ++ 10 ∷ codes "# then" ++ 10 ∷ codes "get t a"
 
 -- what they say
 abbrev pub lines_said : List Line
-lines_said =
-    record { line = 1; op = record { index = 0; ask = Make (Put (codes "a" ∷ []) (codes "v")) } }
-    ∷ record { line = 3; op = record { index = 0; ask = Get (codes "a" ∷ []) } } ∷ []
+lines_said = record {
+  line = 1;
+  op = record { index = 0; ask = Make (Put (codes "a" ∷ []) (codes "v")) };
+} ∷ record { line = 3; op = record { index = 0; ask = Get (codes "a" ∷ []) } } ∷ []
 
 -- a schema and a lane of two lines are read, the second of them at number 3
 pub record TwoLinesAreRead : Type 0 where

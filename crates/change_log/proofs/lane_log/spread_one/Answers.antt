@@ -1,4 +1,4 @@
-use Rattle.std.proofs.Common.{◌≡◌, ◌≤◌, length, arith, ◌∙◌, sym, ap}
+use Rattle.std.proofs.Common.{◌≡◌, length, arith, sym}
 use Rattle.std.proofs.lemmas.Option.{slice_get_read}
 use Rattle.change_log.specs.Merge.{note_lists}
 use Rattle.change_log.specs.Log.{note_of}

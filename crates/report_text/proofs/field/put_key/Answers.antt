@@ -1,6 +1,5 @@
-use Rattle.std.proofs.Common.{◌≡◌, ◌<◌, ◌++◌, ◌∙◌, ap, [], length, arith, rules}
+use Rattle.std.proofs.Common.{◌≡◌, ◌<◌, [], length, arith, rules}
 use Rattle.map_history.specs.Text.{field_text}
-use Rattle.report_text.specs.Line.{separator}
 use Rattle.report_text.proofs.LineLemmas.{Extends-at_exit, Extends-at_second_exit, joined_more}
 use Rattle.report_text.proofs.field.put_key.Goals as goal
 
@@ -16,5 +15,5 @@ pub loop-i-preserved : goal.loop-i-preserved
 loop-i-preserved g c =
     let here : c.loop-i.i < length (g.K.Fields.fields_of c.args.key.now) = omega (arith, c.count-i-end.ensures) in
     let place : c.from.result ≡ c.loop-i.i = search rules in
-    joined_more 44 field_text (g.K.Fields.fields_of c.args.key.now) c.loop-i.i [] _ _ _ _ here c.loop-i.invariant
-    (c.in_ok-put_separator.ensures.ok ∙ ap (λ n. c.loop-i.out.items ++ separator 44 n) place) (c.in_ok-put_field.ensures.ok ∙ ap (λ bytes. c.put_separator.new.out.items ++ field_text bytes) c.field.ensures.bytes)
+    joined_more 44 field_text (g.K.Fields.fields_of c.args.key.now) c.loop-i.i c.from.result [] c.field.result.now _ _ _ _
+    here place c.field.ensures.bytes c.loop-i.invariant c.in_ok-put_separator.ensures.ok c.in_ok-put_field.ensures.ok

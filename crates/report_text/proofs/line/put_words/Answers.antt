@@ -1,4 +1,4 @@
-use Rattle.std.proofs.Common.{◌++◌, ◌∙◌, ap}
+use Rattle.std.proofs.Common.{refl}
 use Rattle.report_text.specs.Words.{text_of}
 use Rattle.report_text.proofs.LineLemmas.{Extends-at_exit, Extends-at_second_exit, joined_more}
 use Rattle.report_text.proofs.line.put_words.Goals as goal
@@ -13,5 +13,5 @@ returns-in_err-put_word-clause-err g c =
 
 pub loop-i-preserved : goal.loop-i-preserved
 loop-i-preserved g c =
-    joined_more 32 (text_of g.K.Fields.fields_of) c.args.words.now c.loop-i.i c.index-words-i.result _ _ _ _ c.loop-i-test.true c.loop-i.invariant
-    c.in_ok-put_separator.ensures.ok (c.in_ok-put_word.ensures.ok ∙ ap (λ word. c.put_separator.new.out.items ++ text_of g.K.Fields.fields_of word) c.index-words-i.is)
+    joined_more 32 (text_of g.K.Fields.fields_of) c.args.words.now c.loop-i.i c.loop-i.i c.index-words-i.result c.index-words-i.result _ _ _ _
+    c.loop-i-test.true refl c.index-words-i.is c.loop-i.invariant c.in_ok-put_separator.ensures.ok c.in_ok-put_word.ensures.ok

@@ -1,6 +1,4 @@
-use Rattle.std.proofs.Common.{◌≡◌, ◌∷◌, [], ◌++◌, take, map, ap, ◌∙◌, sym, subst}
-use Rattle.change_log.specs.Log.{note_of}
-use Rattle.change_log.specs.Merge.{note_lists, Spreads}
+use Rattle.change_log.specs.Merge.{note_lists}
 use Rattle.change_log.proofs.SpreadLemmas.{spread_next}
 use Rattle.change_log.proofs.lane_log.LaneLog.spread.Goals as goal
 

@@ -1,15 +1,9 @@
 //! Worked merges.
-use crate::{LaneChange, LaneLog, merge};
-use key_tuple::Key;
+use crate::setup::key_of;
+use change_log::{LaneChange, LaneLog, merge};
 use map_history::{Line, Op};
 use std::alloc::Global;
 use std::test::Fail;
-
-fn key(alloc: Global) -> Option<Key> {
-    let field = Vec::from_slice(alloc, b"k").ok()?;
-    let fields = Vec::from_array(alloc, [field]).ok()?;
-    Key::try_new(alloc, fields).ok()
-}
 
 /// Lines that take a row out of an index, by their numbers and indexes.
 fn lines(alloc: Global, numbers: &[(u32, u32)]) -> Option<Vec<Line>> {
@@ -17,7 +11,7 @@ fn lines(alloc: Global, numbers: &[(u32, u32)]) -> Option<Vec<Line>> {
     for (line, index) in numbers {
         let op = Op::Del {
             index: *index,
-            key: key(alloc)?,
+            key: key_of(alloc, &[b"k"])?,
         };
         lines.push(Line { line: *line, op }).ok()?;
     }

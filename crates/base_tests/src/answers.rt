@@ -1,0 +1,131 @@
+//! The lines of answers, byte for byte.
+ghost use Rattle.std.specs.Prelude.{ℕ, List, [], IsSome};
+ghost use Rattle.key_tuple.specs.Order.{FieldList};
+ghost use Rattle.map_history.specs.Map.{Put};
+ghost use Rattle.map_history.specs.Operation.{Make};
+ghost use Rattle.map_history.specs.Told.{answer_of};
+ghost use Rattle.report_text.specs.Printed.{printed_answer};
+
+use crate::lines::is;
+use crate::setup::{key_of, tuple_of, value_of};
+use key_tuple::{Blank, Key, Mode};
+use map_history::{How, Note, Op, Reply, Told};
+use report_text::answer;
+use std::alloc::Global;
+use std::test::Fail;
+
+const NONE: Blank = Blank { count: 0 };
+
+/// What an operation is told, and the same without columns.
+macro_rules! told {
+    ($reply:expr, $point:expr, $how:expr, $note:expr) => {
+        Told {
+            reply: $reply,
+            point: $point,
+            how: $how,
+            note: $note,
+        }
+    };
+    ($reply:expr, $point:expr) => {
+        told!($reply, Some($point), How::Dash, Note::Dash)
+    };
+}
+
+/// The line of an answer without a key.
+fn line_of(alloc: Global, line: u32, told: &Told, value: &[u8], op: &Op) -> Option<Vec<u8>>
+    requires { IsSome (printed_answer op.now told.now [] value.now) }
+{
+    let mut out = Vec::new(alloc);
+    match answer(&mut out, line, told, &NONE, value, op) {
+        Ok(()) => Some(out),
+        Err(_) => None,
+    }
+}
+
+/// The answer to a get that found this value.
+fn found(alloc: Global, line: u32, point: u64, value: &[u8]) -> Option<Vec<u8>> {
+    let key = key_of(alloc, &[b"a"])?;
+    let get = Op::Get { index: 0, key };
+    line_of(alloc, line, &told!(Reply::Found, point), value, &get)
+}
+
+/// The answer to a get that found nothing.
+fn absent(alloc: Global, line: u32, point: u64) -> Option<Vec<u8>> {
+    let key = key_of(alloc, &[b"a"])?;
+    let get = Op::Get { index: 0, key };
+    line_of(alloc, line, &told!(Reply::Absent, point), b"", &get)
+}
+
+#[test]
+fn answers_to_a_get(rt: HostRuntime) -> Result<(), Fail> {
+    let alloc = rt.alloc();
+    let bytes = b"\0 !%+,-}~\x7f\xaf\xff";
+    let text = b"7 found %00%20!%25+%2c-}%7e%7f%af%ff @3 - -\n";
+    assert!(rt; is(found(alloc, 7, 3, bytes), text));
+    assert!(rt; is(absent(alloc, 4, 2), b"4 absent @2 - -\n"));
+    Ok(())
+}
+
+#[test]
+fn short_values(rt: HostRuntime) -> Result<(), Fail> {
+    let alloc = rt.alloc();
+    assert!(rt; is(found(alloc, 2, 1, b"x"), b"2 found x @1 - -\n"));
+    assert!(rt; is(found(alloc, 8, 4, b""), b"8 found ~ @4 - -\n"));
+    Ok(())
+}
+
+/// The answer to a put on line 2.
+fn put_told(alloc: Global, told: &Told) -> Option<Vec<u8>>
+    requires { (k : FieldList) (v : List ℕ)
+        → IsSome (answer_of (Make (Put k v)) told.now (record { key = []; value = [] })) }
+{
+    let key = key_of(alloc, &[b"a"])?;
+    let value = value_of(alloc, b"")?;
+    let index = 0;
+    line_of(alloc, 2, told, b"", &Op::Put { index, key, value })
+}
+
+#[test]
+fn a_put_of_a_known_key(rt: HostRuntime) {
+    let told = told!(Reply::Duplicate, 1);
+    assert!(rt; is(put_told(rt.alloc(), &told), b"2 duplicate @1 - -\n"));
+}
+
+#[test]
+fn a_put_into_a_full_list(rt: HostRuntime) {
+    let told = told!(Reply::LogFull(2), Some(2), How::Cold, Note::No);
+    assert!(rt; is(put_told(rt.alloc(), &told), b"2 log-full 2 cold no\n"));
+}
+
+#[test]
+fn a_put_without_a_page(rt: HostRuntime) {
+    let told = told!(Reply::SpaceFull, None, How::Cold, Note::No);
+    assert!(rt; is(put_told(rt.alloc(), &told), b"2 space-full cold no\n"));
+}
+
+/// The answer to a seek that found this row.
+fn sought_row(alloc: Global, row: &Key) -> Option<Vec<u8>> {
+    let tuple = tuple_of(alloc, &[])?;
+    let seek = Op::Seek {
+        index: 0,
+        mode: Mode::Ge,
+        tuple,
+    };
+    let told = told!(Reply::Found, Some(4), How::Short, Note::No);
+    let mut out = Vec::new(alloc);
+    match answer(&mut out, 205, &told, row, b"p", &seek) {
+        Ok(()) => Some(out),
+        Err(_) => None,
+    }
+}
+
+fn sought(alloc: Global) -> Option<Vec<u8>> {
+    let row = key_of(alloc, &[b"a", b""])?;
+    sought_row(alloc, &row)
+}
+
+#[test]
+fn an_answer_to_a_seek(rt: HostRuntime) -> Result<(), Fail> {
+    assert!(rt; is(sought(rt.alloc()), b"205 found a,~ p @4 short no\n"));
+    Ok(())
+}

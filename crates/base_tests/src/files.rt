@@ -1,0 +1,50 @@
+//! How files end that are read.
+ghost use Rattle.std.specs.Prelude.{◌≤◌, length};
+ghost use Rattle.script.specs.declared.TheConstants.{MAX_FILE_BYTES};
+
+use script::{Flaw, MAX_FILE_BYTES, ScriptError, read_lane, read_schema};
+use std::alloc::Global;
+
+/// Two indexes.
+pub(crate) const SCHEMA: &[u8] = b"# two indexes\n\nindex t 1\nindex two 2\n";
+
+pub(crate) fn bad(line: u32) -> Option<ScriptError> {
+    Some(ScriptError::Flawed {
+        line,
+        flaw: Flaw::BadLine,
+    })
+}
+
+pub(crate) fn unknown(line: u32) -> Option<ScriptError> {
+    Some(ScriptError::Flawed {
+        line,
+        flaw: Flaw::UnknownIndex,
+    })
+}
+
+pub(crate) fn long(line: u32) -> Option<ScriptError> {
+    Some(ScriptError::Flawed {
+        line,
+        flaw: Flaw::TooLong,
+    })
+}
+
+/// Why the lane isn't read over those two indexes.
+fn lane_error(alloc: Global, lane: &[u8]) -> Option<ScriptError>
+    requires { length lane.now ≤ MAX_FILE_BYTES }
+{
+    match read_schema(alloc, SCHEMA) {
+        Err(error) => Some(error),
+        Ok(schema) => read_lane(alloc, lane, &schema).err(),
+    }
+}
+
+/// The lane ends so.
+pub(crate) fn lane_ends(alloc: Global, lane: &[u8], error: Option<ScriptError>) -> bool {
+    lane.len() <= MAX_FILE_BYTES && lane_error(alloc, lane) == error
+}
+
+/// The schema ends so.
+pub(crate) fn schema_ends(alloc: Global, schema: &[u8], error: Option<ScriptError>) -> bool {
+    schema.len() <= MAX_FILE_BYTES && read_schema(alloc, schema).err() == error
+}

@@ -1,0 +1,34 @@
+//! Tests of keys, maps, files of words and lines of reports: of what no clause of theirs says.
+//! Nothing stands on this crate, and it has no code but tests.
+#![tactic(auto)]
+
+#[cfg(test)]
+mod answers;
+#[cfg(test)]
+mod files;
+#[cfg(test)]
+mod folds;
+#[cfg(test)]
+mod grammar;
+#[cfg(test)]
+mod laws;
+#[cfg(test)]
+mod limits;
+#[cfg(test)]
+mod lines;
+#[cfg(test)]
+mod maps;
+#[cfg(test)]
+mod merges;
+#[cfg(test)]
+mod order;
+#[cfg(test)]
+mod rows;
+#[cfg(test)]
+mod script_limits;
+#[cfg(test)]
+mod setup;
+#[cfg(test)]
+mod sizes;
+#[cfg(test)]
+mod uses;

@@ -1,0 +1,109 @@
+//! The most indexes, the longest keys and values, and escapes.
+ghost use Rattle.std.specs.Prelude.{◌≤◌, length};
+ghost use Rattle.script.specs.declared.TheConstants.{MAX_FILE_BYTES};
+
+use crate::files::{SCHEMA, bad, lane_ends, long, schema_ends};
+use key_tuple::{Fields, MAX_KEY_BYTES, MAX_VALUE_BYTES};
+use map_history::Op;
+use script::{Line, MAX_FILE_BYTES, ScriptError, read_lane, read_schema};
+use std::alloc::{AllocError, Global};
+
+fn add_index(schema: &mut String, alloc: Global, i: u32) -> Result<(), AllocError> {
+    let line = format!(in alloc; "index i{i} 1\n")?;
+    schema.push_str(line.as_str())
+}
+
+/// So many lines of one index each.
+fn indexes(alloc: Global, count: u32) -> Option<String> {
+    let mut schema = String::new(alloc);
+    for i in 0..count {
+        add_index(&mut schema, alloc, i).ok()?;
+    }
+    Some(schema)
+}
+
+/// A schema of so many indexes ends so.
+fn indexes_end(alloc: Global, count: u32, error: Option<ScriptError>) -> bool {
+    match indexes(alloc, count) {
+        None => false,
+        Some(schema) => schema_ends(alloc, schema.as_bytes(), error),
+    }
+}
+
+#[test]
+fn a_schema_has_64_indexes_at_most(rt: HostRuntime) {
+    assert!(rt; indexes_end(rt.alloc(), 64, None));
+    assert!(rt; indexes_end(rt.alloc(), 65, bad(65)));
+}
+
+fn add_bytes(line: &mut Vec<u8>, byte: u8, count: usize) -> Option<()> {
+    for _ in 0..count {
+        line.push(byte).ok()?;
+    }
+    Some(())
+}
+
+/// `put t KEY VALUE` with so many bytes each.
+fn put_of(alloc: Global, key: usize, value: usize) -> Option<Vec<u8>> {
+    let mut line = Vec::new(alloc);
+    line.extend_from_slice(b"put t ").ok()?;
+    add_bytes(&mut line, b'k', key)?;
+    line.push(b' ').ok()?;
+    add_bytes(&mut line, b'v', value)?;
+    Some(line)
+}
+
+/// A put of so many bytes ends so.
+fn put_ends(alloc: Global, key: usize, value: usize, error: Option<ScriptError>) -> bool {
+    match put_of(alloc, key, value) {
+        None => false,
+        Some(line) => lane_ends(alloc, &line, error),
+    }
+}
+
+#[test]
+fn the_longest_key_and_value_are_read(rt: HostRuntime) {
+    assert!(rt; put_ends(rt.alloc(), MAX_KEY_BYTES, MAX_VALUE_BYTES, None));
+}
+
+#[test]
+fn longer_keys_and_values_are_refused(rt: HostRuntime) {
+    assert!(rt; put_ends(rt.alloc(), 768, 1, long(1)));
+    assert!(rt; put_ends(rt.alloc(), 1, 2049, long(1)));
+}
+
+#[test]
+fn much_longer_keys_and_values_are_refused(rt: HostRuntime) {
+    assert!(rt; put_ends(rt.alloc(), 100_000, 100_000, long(1)));
+}
+
+/// The one line of a lane.
+fn only_line(alloc: Global, lane: &[u8]) -> Option<Line>
+    requires { length lane.now ≤ MAX_FILE_BYTES }
+{
+    let schema = read_schema(alloc, SCHEMA).ok()?;
+    let mut lines = read_lane(alloc, lane, &schema).ok()?;
+    let line = lines.pop()?;
+    if lines.is_empty() { Some(line) } else { None }
+}
+
+/// The line is a put on the second index, of a key of these two fields.
+fn puts(op: &Op, first: &[u8], second: &[u8], bytes: &[u8]) -> bool {
+    let Op::Put { index, key, value } = op else {
+        return false;
+    };
+    *index == 1
+        && key.count() == 2
+        && key.field(0) == first
+        && key.field(1) == second
+        && value.as_bytes() == bytes
+}
+
+#[test]
+fn escapes_are_read(rt: HostRuntime) {
+    let Some(line) = only_line(rt.alloc(), b"\nput two %4A%2c,~ %00%ff\n") else {
+        return assert!(rt; false);
+    };
+    assert_eq!(rt; line.line, 2);
+    assert!(rt; puts(&line.op, b"J,", b"", &[0, 255]));
+}
