@@ -11,3 +11,6 @@ pub mod RoomLemmas
 pub mod PartLemmas
 pub mod AppendLemmas
 pub mod SetLemmas
+pub mod WithoutLemmas
+pub mod RefusalLemmas
+pub mod PickLemmas

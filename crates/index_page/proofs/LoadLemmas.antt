@@ -1,6 +1,6 @@
 -- Loads of rows.
-use Rattle.std.proofs.Common.{◌≡◌, ℕ, zero, suc, ◌+◌, Some, List, [], ◌∷◌, add-one, arith, take}
-use Rattle.std.proofs.lemmas.List.Sums.{sum_by-cons}
+use Rattle.std.proofs.Common.{◌≡◌, ℕ, zero, suc, ◌+◌, Some, List, [], ◌∷◌, ◌++◌, add-one, arith, take}
+use Rattle.std.proofs.lemmas.List.Sums.{sum_by-cons, sum_by-append}
 use Rattle.std.specs.List.{slice_get}
 use Rattle.index_page.specs.Rows.{Row}
 use Rattle.index_page.specs.Loads.{charge_of, load_of}
@@ -11,6 +11,10 @@ row_charge x = charge_of x.key x.body
 
 pub load_of-cons : (x : Row) (rows : List Row) → load_of (x ∷ rows) ≡ row_charge x + load_of rows
 load_of-cons x rows = sum_by-cons row_charge x rows
+
+-- a row among others adds its charge
+pub load_of-among : (below : List Row) (x : Row) (above : List Row) → load_of (below ++ x ∷ above) ≡ load_of (below ++ above) + row_charge x
+load_of-among below x above = omega (arith, sum_by-append row_charge below (x ∷ above), sum_by-append row_charge below above, load_of-cons x above)
 
 -- the load of one row more
 pub load_of-more : (rows : List Row) (i : ℕ) (row : Row) → slice_get rows i ≡ Some row → load_of (take (suc i) rows) ≡ load_of (take i rows) + row_charge row

@@ -1,5 +1,6 @@
 -- What stands beside a row, and what a page is after a row was put in or taken out.
-use Rattle.std.specs.Prelude.{ℕ, ◌≡◌, Option, Some, None, List, ◌∷◌, ◌++◌, length}
+use Rattle.std.specs.Prelude.{ℕ, ◌≡◌, ◌==◌, not, Option, Some, None, List, ◌∷◌, ◌++◌, length}
+use Rattle.std.specs.List.{filter}
 use Rattle.index_page.specs.Rows.{Bytes, Row, placed_row, find_row, first_of_rows, last_of_rows, IsAt}
 use Rattle.index_page.specs.Page.{PageRows}
 
@@ -51,8 +52,8 @@ pub record Deletes (old new : PageRows) (place : ℕ) : Type 0 where
   pub is : new.rows ≡ left ++ right
   pub head : new.head ≡ old.head
 
--- the row that stood at `place` stands at `other` with this value, and where the value before was as long,
--- it stays; all else is as before
+-- the row that stood at `place` stands at `other` with this value, and where the value before was
+-- as long, it stays; all else is as before
 pub record Sets (old new : PageRows) (place other : ℕ) (value : List ℕ) : Type 0 where
   pub left : List Row
   pub row : Row
@@ -61,5 +62,14 @@ pub record Sets (old new : PageRows) (place other : ℕ) (value : List ℕ) : Ty
   pub place_is : row.place ≡ place
   pub is : new.rows ≡ left ++ placed_row other row.key (Bytes value) ∷ right
   pub stands : find_row other new.rows ≡ Some (placed_row other row.key (Bytes value))
-  pub in_place : (before : List ℕ) → row.body ≡ Bytes before → length value ≡ length before → other ≡ place
+  pub in_place : (before : List ℕ) → row.body ≡ Bytes before → length value ≡ length before
+      → other ≡ place
   pub head : new.head ≡ old.head
+
+-- the rows but for the one at a place
+abbrev pub rows_without : ℕ → List Row → List Row
+rows_without place rows = filter (λ (x : Row). not (x.place == place)) rows
+
+-- the page without the row at a place
+abbrev pub page_without : ℕ → PageRows → PageRows
+page_without place page = record page { rows = rows_without place page.rows }

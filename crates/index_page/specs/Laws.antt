@@ -13,8 +13,8 @@ pub record HasKeyAfter (key : FieldList) (rows : List Row) (spot : Spot) : Type 
   pub after_at : IsAt rows spot.after (Some row)
   pub key_is : row.key ≡ key
 
--- the figures of a spot tell whether a whole key is there: it is that of the row after the spot where
--- all its fields are equal, and else no row has it
+-- the figures of a spot tell whether a whole key is there: it is that of the row after the spot
+-- where all its fields are equal, and else no row has it
 pub record TellsKey (key : FieldList) (rows : List Row) (spot : Spot) : Type 0 where
   pub there : spot.up.fields ≡ length key → HasKeyAfter key rows spot
   pub absent : spot.up.fields ≢ length key → LacksKey key rows
@@ -35,7 +35,8 @@ pub record StandsAt (rows : List Row) (place : ℕ) (row : Row) : Type 0 where
 
 -- each row of a page is the one at its place, and the row at a place is one of the rows
 pub record PlacesTellRows : Type 0 where
-  pub found : (page : PageRows) (left : List Row) (row : Row) (right : List Row) → IsPageInOrder page
-      → page.rows ≡ left ++ row ∷ right → find_row row.place page.rows ≡ Some row
+  pub found : (page : PageRows) (left : List Row) (row : Row) (right : List Row)
+      → IsPageInOrder page → page.rows ≡ left ++ row ∷ right
+      → find_row row.place page.rows ≡ Some row
   pub stands : (rows : List Row) (place : ℕ) (row : Row) → find_row place rows ≡ Some row
       → StandsAt rows place row

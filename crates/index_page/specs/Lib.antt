@@ -7,3 +7,5 @@ pub mod Store
 pub mod Loads
 pub mod LoadLaws
 pub mod Moves
+pub mod Refusals
+pub mod Picks

@@ -7,8 +7,8 @@ use Rattle.index_page.specs.Rows.{Row}
 use Rattle.index_page.specs.Page.{PageRows, IsRowOf, IsPageInOrder}
 use Rattle.index_page.specs.Loads.{charge_of, load_of, HalvesRows}
 
--- loads add up: those of the two parts of a cut are the whole load, that of two lists together is the sum,
--- and a row more adds its charge, wherever it stands
+-- loads add up: those of the two parts of a cut are the whole load, that of two lists together is
+-- the sum, and a row more adds its charge, wherever it stands
 pub record LoadsAddUp : Type 0 where
   pub none : load_of [] ≡ 0
   pub cut : (rows : List Row) (k : ℕ) → load_of (take k rows) + load_of (drop k rows) ≡ load_of rows

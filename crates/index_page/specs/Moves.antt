@@ -3,8 +3,8 @@ use Rattle.std.specs.Prelude.{ℕ, ◌≡◌, List, [], ◌∷◌, ◌++◌}
 use Rattle.index_page.specs.Rows.{Row, SameRows}
 use Rattle.index_page.specs.Page.{PageRows}
 
--- the rows from the one at `first` on went in their order to a page that had none, at places there; the
--- others keep theirs, and both pages their heads
+-- the rows from the one at `first` on went in their order to a page that had none, at places
+-- there; the others keep theirs, and both pages their heads
 pub record MovesTail (old new to_old to_new : PageRows) (first : ℕ) : Type 0 where
   pub left : List Row
   pub row : Row
@@ -16,8 +16,8 @@ pub record MovesTail (old new to_old to_new : PageRows) (first : ℕ) : Type 0 w
   pub head : new.head ≡ old.head
   pub to_head : to_new.head ≡ to_old.head
 
--- all rows went in their order behind those of the other page, which keep their places; both pages keep
--- their heads
+-- all rows went in their order behind those of the other page, which keep their places; both
+-- pages keep their heads
 pub record MovesAll (old new to_old to_new : PageRows) : Type 0 where
   pub moved : List Row
   pub gone : new.rows ≡ []

@@ -25,7 +25,8 @@ linked head prev next = record head { prev = prev; next = next }
 -- the keys rise along the rows
 abbrev pub RowsAscend : List Row → Type 0
 RowsAscend [] = Unit {0}
-RowsAscend (x ∷ xs) = AllByRecursion (λ (y : Row). before (At x.key) (At y.key) ≡ true) xs × RowsAscend xs
+RowsAscend (x ∷ xs) =
+    AllByRecursion (λ (y : Row). before (At x.key) (At y.key) ≡ true) xs × RowsAscend xs
 
 -- no two rows stand at one place
 abbrev pub PlacesDiffer : List Row → Type 0
@@ -42,16 +43,16 @@ abbrev pub HasShortValue : RowBody → Type 0
 HasShortValue (Bytes value) = length value ≤ MAX_VALUE_BYTES
 HasShortValue (Child number) = Unit {0}
 
--- a row suits a page with this head: it has as many fields, is within the limits, and carries what the
--- level asks for
+-- a row suits a page with this head: it has as many fields, is within the limits, and carries
+-- what the level asks for
 pub record IsRowOf (head : PageHead) (row : Row) : Type 0 where
   pub fields : length row.key ≡ head.fields
   pub limits : IsWithinLimits row.key
   pub body : FitsLevel head.level row.body
   pub short : HasShortValue row.body
 
--- what holds of each page: its keys rise, its places differ, its rows suit it and are within the limit,
--- and its neighbours are pages
+-- what holds of each page: its keys rise, its places differ, its rows suit it and are within the
+-- limit, and its neighbours are pages
 pub record IsPageInOrder (page : PageRows) : Type 0 where
   pub ascend : RowsAscend page.rows
   pub places : PlacesDiffer page.rows

@@ -22,8 +22,9 @@ abbrev pub agreement : FieldList → Option Row → Match
 agreement tuple None = record { fields = 0; bytes = 0 }
 agreement tuple (Some row) = matching tuple row.key
 
--- the mode's cut parts the rows into those that it leaves out and those that it admits; the spot has the
--- place of the last of the former and of the first of the latter, and how far the tuple agrees with them
+-- the mode's cut parts the rows into those that it leaves out and those that it admits; the spot
+-- has the place of the last of the former and of the first of the latter, and how far the tuple
+-- agrees with them
 pub record Finds (mode : Mode) (tuple : FieldList) (rows : List Row) (spot : Spot) : Type 0 where
   pub left : List Row
   pub right : List Row

@@ -16,7 +16,7 @@ pub enum Body<'a> {
 }
 
 /// The same, borrowed from wherever it stands.
-#[derive(Debug, Clone, Copy)]
+#[derive(Clone, Copy)]
 pub(crate) enum Beside<'a> {
     /// A value's bytes.
     Value(&'a [u8]),

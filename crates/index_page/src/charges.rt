@@ -26,6 +26,7 @@ const SHORT_LENGTH: usize = 127;
 pub fn charge<A: Fields>(key: &A, body: Body<'_>) -> u16
     requires { IsWithinLimits (A.fields_of key.now) }
     ensures charge { result ≡ charge_of (A.fields_of key.now) (body_by body.entry) }
+    ensures some { 0 < result }
     ensures most { result ≤ MAX_CHARGE }
 {
     let beside = match body {

@@ -7,7 +7,7 @@ use std::alloc::{AllocError, Global};
 use std::marker::Model;
 
 /// Room for a page as it was, seen as that page, if one was saved and not restored.
-#[derive(Debug, Drop)]
+#[derive(Drop)]
 pub struct PageCopy {
     page: Option<Page>,
 }

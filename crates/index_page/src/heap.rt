@@ -15,7 +15,8 @@ use key_tuple::Fields;
 use std::alloc::{AllocError, Global};
 use std::marker::Model;
 
-/// Rows in an order that its caller gives them, each at a place that stays. Seen as the list of them.
+/// Rows in an order that its caller gives them, each at a place that stays. Seen as the list of
+/// them.
 #[derive(Debug, Drop)]
 pub(crate) struct Heap {
     alloc: Global,
@@ -64,7 +65,8 @@ impl Heap {
     /// The row with that number, from 0.
     pub(crate) fn stored(&self, i: usize) -> (Place, &Record)
         requires { i < length self.now }
-        ensures { slice_get self.now i ≡ Some (placed_row result.0 result.1.now.key result.1.now.body) }
+        ensures { slice_get self.now i
+            ≡ Some (placed_row result.0 result.1.now.key result.1.now.body) }
     {
         let place = self.places.live()[i];
         (place, &self.slots[place as usize])
@@ -88,8 +90,8 @@ impl Heap {
         requires at { at ≤ length self.old }
         requires key { IsWithinLimits (A.fields_of key.now) }
         requires room { length self.old ≤ MAX_ROWS }
-        ensures ok { IfOk result (λ place.
-            self.new ≡ insert self.old at (placed_row place (A.fields_of key.now) (beside_by beside.entry))) }
+        ensures ok { IfOk result (λ place. self.new ≡ insert self.old at
+            (placed_row place (A.fields_of key.now) (beside_by beside.entry))) }
         ensures vacant { IfOk result (λ place. find_row place self.old ≡ None) }
         ensures differ { OnOk result (PlacesDiffer self.new) }
         ensures err { OnErr result (self.new ≡ self.old) }
@@ -191,7 +193,8 @@ fn vacancy(alloc: Global, slots: &mut Vec<Record>, places: &mut Places) -> Resul
     ensures spare { IfOk result (IsSpare places.new) }
     ensures store { IsStore slots.new.items places.new }
     ensures live { places.new.live ≡ places.old.live }
-    ensures rows { rows_in slots.new.items places.new.live ≡ rows_in slots.old.items places.old.live }
+    ensures rows { rows_in slots.new.items places.new.live
+        ≡ rows_in slots.old.items places.old.live }
 {
     if let Some(place) = places.spare() {
         return Ok(place);

@@ -1,34 +1,37 @@
 //! A page of a B-tree index: a head, and rows by ascending keys at places that stay.
-//! It has no limit of bytes, and it never looks at another page.
+//! It never looks at another page but those to which its rows go.
 #![tactic(auto)]
 
 mod body;
 mod change;
 mod charges;
 mod copy;
+mod error;
 mod head;
 mod heap;
 mod laws;
-#[cfg(test)]
-mod load_tests;
 mod loads;
 mod moves;
 mod page;
 mod places;
 mod record;
+mod room;
 mod row_ref;
 mod search;
 mod spot;
-#[cfg(test)]
-mod tests;
 mod walks;
 
 pub use body::Body;
 pub use charges::charge;
 pub use copy::PageCopy;
+pub use error::PageError;
 pub use head::PageHead;
-pub use laws::{halves_are_near, loads_add_up, places_tell_rows, rows_have_room, spots_tell_keys};
+pub use laws::{
+    halves_are_near, loads_add_up, none_is_scattered, places_tell_rows, rows_have_room,
+    spots_pick_rows, spots_tell_keys,
+};
 pub use page::Page;
+pub use room::Gaps;
 pub use row_ref::RowRef;
 pub use spot::{Place, Spot};
 

@@ -23,16 +23,11 @@ impl Page {
     pub fn free(&self) -> u16
         ensures { result ≡ PAGE_ROOM - load_of self.now.rows }
     {
-        let load = self.load();
-        if load < u64::from(PAGE_ROOM) {
-            PAGE_ROOM - load as u16
-        } else {
-            0
-        }
+        room_left(self.load())
     }
 
-    /// After how many rows a split cuts the page: as near to half of the load as rows allow, and the
-    /// first such cut.
+    /// After how many rows a split cuts the page: as near to half of the load as rows allow, and
+    /// the first such cut.
     pub fn split_point(&self) -> u32
         requires { 1 < length self.now.rows }
         ensures { HalvesRows self.now.rows result }
@@ -48,5 +43,16 @@ impl Page {
             }
         }
         cut as u32
+    }
+}
+
+/// What a load leaves of a page's room.
+pub(crate) fn room_left(load: u64) -> u16
+    ensures { result ≡ PAGE_ROOM - load }
+{
+    if load < u64::from(PAGE_ROOM) {
+        PAGE_ROOM - load as u16
+    } else {
+        0
     }
 }

@@ -12,8 +12,8 @@ use crate::spot::Place;
 use key_tuple::NoMemory;
 
 impl Page {
-    /// Moves the rows from the one at `first` on to a page that has none. After `NoMemory` both pages
-    /// are as before.
+    /// Moves the rows from the one at `first` on to a page that has none. After `NoMemory` both
+    /// pages are as before.
     pub fn move_tail(&mut self, first: Place, to: &mut Page) -> Result<(), NoMemory>
         requires first { IsSome (find_row first self.old.rows) }
         requires empty { to.old.rows ≡ [] }

@@ -7,7 +7,8 @@ use crate::spot::Place;
 use std::alloc::{AllocError, Global};
 use std::marker::Model;
 
-/// The places of rows in their order, and the vacant ones. A place becomes vacant without new memory.
+/// The places of rows in their order, and the vacant ones. A place becomes vacant without new
+/// memory.
 #[derive(Debug, Drop)]
 pub(crate) struct Places {
     live: Vec<Place>,

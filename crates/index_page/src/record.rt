@@ -31,7 +31,9 @@ impl Model for Record {
 
 impl Record {
     /// A record of nothing.
-    pub(crate) fn blank(alloc: Global) -> Result<Record, AllocError> {
+    pub(crate) fn blank(alloc: Global) -> Result<Record, AllocError>
+        ensures { IfOk result (λ r. r.body ≡ Bytes []) }
+    {
         Ok(Record {
             key: FieldBuffer::with_capacity(alloc, 0)?,
             value: Vec::new(alloc),
@@ -57,11 +59,12 @@ impl Record {
         Ok(())
     }
 
-    /// Writes another value in the place of the one before. It takes no memory where the value is no
-    /// longer than that.
+    /// Writes another value in the place of the one before. It takes no memory where the value is
+    /// no longer than that.
     pub(crate) fn rewrite(&mut self, bytes: &[u8]) -> Result<(), AllocError>
         requires { (value : List ℕ) × (self.old.body ≡ Bytes value) }
-        ensures ok { OnOk result (self.new ≡ record { key = self.old.key; body = Bytes bytes.now }) }
+        ensures ok { OnOk result
+            (self.new ≡ record { key = self.old.key; body = Bytes bytes.now }) }
         ensures in_place { (value : List ℕ) → self.old.body ≡ Bytes value →
             length bytes.now ≤ length value → IsOk result }
         ensures err { OnErr result (self.new ≡ self.old) }
@@ -73,7 +76,9 @@ impl Record {
     }
 
     /// Takes the row out and keeps its buffers.
-    pub(crate) fn clear(&mut self) {
+    pub(crate) fn clear(&mut self)
+        ensures { self.new.key ≡ [] }
+    {
         self.key.clear();
         self.value.clear();
     }

@@ -23,9 +23,13 @@ impl<'a> Model for RowRef<'a> {
 
     ghost Value = { LevelRow };
 
-    ghost view = { λ r. record { level = r.level; row = placed_row r.place r.record.now.key r.record.now.body } };
+    ghost view = { λ r. record {
+      level = r.level;
+      row = placed_row r.place r.record.now.key r.record.now.body;
+    } };
 
-    ghost invariant = { λ r. FitsLevel r.level r.record.now.body × HasShortValue r.record.now.body };
+    ghost invariant = { λ r.
+        FitsLevel r.level r.record.now.body × HasShortValue r.record.now.body };
 }
 
 impl<'a> RowRef<'a> {

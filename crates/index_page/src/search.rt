@@ -10,8 +10,8 @@ use crate::spot::{Place, Spot};
 use key_tuple::{Fields, Match, Mode, compare, matches};
 
 impl Page {
-    /// The rows around the cut of a mode: `Ge` and `L` cut before the first row that isn't below the
-    /// tuple, `G` and `Le` before the first row that is above it. It takes no memory.
+    /// The rows around the cut of a mode: `Ge` and `L` cut before the first row that isn't below
+    /// the tuple, `G` and `Le` before the first row that is above it. It takes no memory.
     pub fn search<A: Fields>(&self, tuple: &A, mode: Mode) -> Spot
         requires { length (A.fields_of tuple.now) ≤ self.now.head.fields }
         ensures { Finds mode (A.fields_of tuple.now) self.now.rows result }
@@ -58,7 +58,8 @@ impl Page {
         requires fields { length (A.fields_of tuple.now) ≤ self.now.head.fields }
         requires within { IfSome number (λ i. i < length self.now.rows) }
         ensures place { IsAt self.now.rows result.0 (nth_row self.now.rows number) }
-        ensures figures { result.1 ≡ agreement (A.fields_of tuple.now) (nth_row self.now.rows number) }
+        ensures figures { result.1
+            ≡ agreement (A.fields_of tuple.now) (nth_row self.now.rows number) }
     {
         match number {
             Some(i) => {

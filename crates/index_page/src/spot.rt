@@ -4,8 +4,8 @@ use key_tuple::Match;
 /// Where a row stands on its page. A row keeps its place until it is deleted.
 pub type Place = u32;
 
-/// The rows around a cut: their places, and how far the tuple agrees with each of them, (0, 0) where
-/// there is none.
+/// The rows around a cut: their places, and how far the tuple agrees with each of them, (0, 0)
+/// where there is none.
 #[derive(Debug, Clone, Copy, PartialEq, Eq)]
 pub struct Spot {
     /// The last row that the cut leaves out.

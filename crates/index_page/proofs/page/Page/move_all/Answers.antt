@@ -1,5 +1,7 @@
 use Rattle.std.proofs.Common.{◌+◌, ◌≤◌, ◌++◌, length, sym, ap, ◌∙◌, subst, arith}
 use Rattle.index_page.specs.declared.TheConstants.{MAX_ROWS}
+use Rattle.key_tuple.specs.Limits.{IsWithinLimits}
+use Rattle.index_page.specs.Rows.{Row, SameRows}
 use Rattle.index_page.specs.Page.{PageRows, RowsAscend, IsRowOf}
 use Rattle.index_page.specs.Loads.{load_of}
 use Rattle.list_facts.proofs.Each.{each_weaker}
@@ -21,3 +23,19 @@ invariant_of-to-2 c =
     let load = λ (p : PageRows). load_of p.rows in
     let few : length c.to.inside.rows + length c.self.inside.rows ≤ MAX_ROWS + 1 = omega (arith, rows_within_load c.to.inside.rows, rows_within_load c.self.inside.rows, c.requires.fits, ap load c.to.view_is, ap load c.self.view_is) in
     appended_order c.to.inside.head c.to.inside.rows c.append.new.self c.self.inside.rows c.in_ok-append.ensures.ok c.to.invariant.each suit rise few c.to.invariant.prev c.to.invariant.next
+
+pub append-requires-clause-keys : goal.append-requires-clause-keys
+append-requires-clause-keys c =
+    each_weaker (IsRowOf c.self.inside.head) (λ (x : Row). IsWithinLimits x.key) (λ (x : Row) of. of.limits) c.self.inside.rows c.self.invariant.each
+
+pub returns-clause-ok : goal.returns-clause-ok
+returns-clause-ok c =
+    let ok = c.in_ok-append.ensures.ok in
+    record {
+      moved = ok.moved;
+      gone = c.clear.ensures;
+      behind = ok.rows ∙ ap (λ (p : PageRows). p.rows ++ ok.moved) c.to.view_is;
+      same = subst (λ (p : PageRows). SameRows p.rows ok.moved) c.self.view_is ok.same;
+      head = ap (λ (p : PageRows). p.head) c.self.view_is;
+      to_head = ap (λ (p : PageRows). p.head) c.to.view_is;
+    }

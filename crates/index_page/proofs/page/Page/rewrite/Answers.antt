@@ -4,7 +4,7 @@ use Rattle.index_page.specs.Page.{PageRows}
 use Rattle.index_page.specs.Search.{IsPosition}
 use Rattle.index_page.specs.Store.{Rewrites}
 use Rattle.index_page.proofs.SetLemmas.{value_at, value_of, rewritten_order, sets}
-use Rattle.index_page.proofs.page.Page.set.Goals as goal
+use Rattle.index_page.proofs.page.Page.rewrite.Goals as goal
 
 pub rewrite_at-requires : goal.rewrite_at-requires
 rewrite_at-requires c =

@@ -1,6 +1,6 @@
 use Rattle.std.proofs.Common.{IfSome, IsSome}
 use Rattle.index_page.specs.Rows.{find_row}
-use Rattle.index_page.proofs.tests.has_letters.Given as goal
+use Rattle.page_tests.proofs.setup.has_letters.Given as goal
 
 -- a row stands at the place
 abbrev pub invariant-loop-letter : goal.invariant-loop-letter

@@ -1,6 +1,6 @@
 use Rattle.std.proofs.Common.{◌≡◌, length, sym, ap, ◌∙◌, arith}
 use Rattle.index_page.specs.declared.head.PageHead.{PageHead}
-use Rattle.index_page.proofs.tests.put_child.Goals as goal
+use Rattle.page_tests.proofs.rows.put_child.Goals as goal
 
 pub insert-requires-clause-absent : goal.insert-requires-clause-absent
 insert-requires-clause-absent c =

@@ -1,0 +1,76 @@
+//! Whether a page takes a row.
+ghost use Rattle.std.specs.Prelude.{◌≡◌, ◌≤◌, ◌<◌, length, None, IsSome};
+ghost use Rattle.index_page.specs.declared.TheConstants.{PAGE_ROOM, MAX_CHARGE, MAX_ROWS};
+ghost use Rattle.index_page.specs.Rows.{find_row};
+ghost use Rattle.index_page.specs.Refusals.{free_of, ample_gaps, gaps_of, room_refusal, set_refusal};
+
+use crate::PAGE_ROOM;
+use crate::charges::{record_charge, size_with_length};
+use crate::error::PageError;
+use crate::loads::room_left;
+use crate::page::Page;
+use crate::spot::Place;
+use key_tuple::Value;
+
+/// Where a page has bytes for a record, beside those of its records.
+#[derive(Debug, Clone, Copy, PartialEq, Eq)]
+pub struct Gaps {
+    /// How long the record was that was taken out last and whose bytes weren't taken again, 0 where
+    /// there is none.
+    pub head: u16,
+    /// How many bytes are left behind all records.
+    pub rest: u16,
+}
+
+impl Page {
+    /// The gaps of the page. Of this form it says that any record is taken.
+    pub fn gaps(&self) -> Gaps
+        ensures { result ≡ gaps_of self.now }
+    {
+        Gaps {
+            head: PAGE_ROOM,
+            rest: PAGE_ROOM,
+        }
+    }
+
+    /// Why a row that needs so much isn't put in, if it isn't.
+    pub(crate) fn refusal(&self, need: u16) -> Option<PageError>
+        requires some { 0 < need }
+        requires most { need ≤ MAX_CHARGE }
+        ensures is { result ≡ room_refusal need (free_of self.now) (gaps_of self.now) }
+        ensures few { result ≡ None → length self.now.rows ≤ MAX_ROWS }
+    {
+        refusal_by(need, self.free())
+    }
+
+    /// Why the row at a place gets no other value, if it doesn't.
+    pub(crate) fn refusal_to_set(&self, place: Place, value: &Value) -> Option<PageError>
+        requires there { IsSome (find_row place self.now.rows) }
+        requires level { self.now.head.level ≡ 0 }
+        ensures { result ≡ set_refusal self.now place value.now }
+    {
+        self.is_in_order();
+        let row = self.row(place);
+        let (old, new) = (row.value(), value.as_bytes());
+        if new.len() == old.len() {
+            return None;
+        }
+        let others = self.load() - u64::from(record_charge(&row, size_with_length(old)));
+        refusal_by(
+            record_charge(&row, size_with_length(new)),
+            room_left(others),
+        )
+    }
+}
+
+/// Why a row that needs so much isn't taken where so much is free, if it isn't.
+fn refusal_by(need: u16, free: u16) -> Option<PageError>
+    requires { need ≤ MAX_CHARGE }
+    ensures { result ≡ room_refusal need free ample_gaps }
+{
+    if need > free {
+        Some(PageError::PageFull { need, free })
+    } else {
+        None
+    }
+}

@@ -1,0 +1,9 @@
+//! Tests of pages. Nothing stands on this crate, so that no crate is proved a second time for them.
+#![tactic(auto)]
+
+#[cfg(test)]
+mod room;
+#[cfg(test)]
+mod rows;
+#[cfg(test)]
+mod setup;

@@ -1,0 +1,176 @@
+//! Pages to test, and claims of them. A step that may fail is a function of its own, and so is a claim.
+ghost use Rattle.std.specs.Prelude.{◌≡◌, ◌<◌, [], length, IfSome, IsSome};
+ghost use Rattle.index_page.specs.Rows.{find_row};
+
+use index_page::{Body, Page, PageError, PageHead, Place};
+use key_tuple::{Blank, Fields, Key, Mode, Value};
+use std::alloc::Global;
+
+/// A page with no rows, for keys of one field.
+pub(crate) fn page_of(alloc: Global, level: u16) -> Option<Page>
+    ensures rows { IfSome result (λ page. page.rows ≡ []) }
+    ensures head { IfSome result (λ page. (page.head.level ≡ level) × (page.head.fields ≡ 1)) }
+{
+    let head = PageHead {
+        number: 7,
+        index: 2,
+        level,
+        prev: None,
+        next: Some(9),
+        fields: 1,
+    };
+    Page::empty(alloc, head).ok()
+}
+
+fn bytes_of(alloc: Global, bytes: &[u8]) -> Option<Vec<u8>> {
+    bytes.to_vec(alloc).ok()
+}
+
+fn one_field(alloc: Global, field: Vec<u8>) -> Option<Vec<Vec<u8>>>
+    ensures { IfSome result (λ fields. 0 < length fields.items) }
+{
+    vec![in alloc; field].ok()
+}
+
+fn fields_of(alloc: Global, bytes: &[u8]) -> Option<Vec<Vec<u8>>>
+    ensures { IfSome result (λ fields. 0 < length fields.items) }
+{
+    let field = bytes_of(alloc, bytes)?;
+    one_field(alloc, field)
+}
+
+pub(crate) fn key_of(alloc: Global, bytes: &[u8]) -> Option<Key> {
+    let fields = fields_of(alloc, bytes)?;
+    Key::try_new(alloc, fields).ok()
+}
+
+pub(crate) fn value_of(alloc: Global, bytes: &[u8]) -> Option<Value> {
+    let bytes = bytes_of(alloc, bytes)?;
+    Value::try_new(bytes).ok()
+}
+
+/// Puts a value's row in, unless its key is there or the page has children.
+fn put(page: &mut Page, key: &Key, value: &Value) -> Option<Result<Place, PageError>> {
+    let head = *page.head();
+    if head.level != 0 || key.count() != head.fields {
+        return None;
+    }
+    let spot = page.search(key, Mode::Ge);
+    if spot.up.fields == key.count() {
+        return None;
+    }
+    key.tuple().is_within_limits();
+    Some(page.insert_at(&spot, key, Body::Value(value)))
+}
+
+/// Puts a row of these bytes in.
+pub(crate) fn entry(
+    alloc: Global,
+    page: &mut Page,
+    key: &[u8],
+    value: &[u8],
+) -> Option<Result<Place, PageError>> {
+    match (key_of(alloc, key), value_of(alloc, value)) {
+        (Some(key), Some(value)) => put(page, &key, &value),
+        _ => None,
+    }
+}
+
+/// The same, where it is taken: its place.
+pub(crate) fn put_bytes(alloc: Global, page: &mut Page, key: &[u8], value: &[u8]) -> Option<Place> {
+    entry(alloc, page, key, value)?.ok()
+}
+
+/// Puts a row in for each letter, which is its key and its value.
+fn fill(alloc: Global, page: &mut Page, letters: &[u8]) -> bool {
+    for letter in letters {
+        if put_bytes(alloc, page, &[*letter], &[*letter]).is_none() {
+            return false;
+        }
+    }
+    true
+}
+
+/// A leaf with a row for each letter, put in in this order.
+pub(crate) fn lettered(alloc: Global, letters: &[u8]) -> Option<Page> {
+    let mut page = page_of(alloc, 0)?;
+    let filled = fill(alloc, &mut page, letters);
+    filled.then_some(page)
+}
+
+/// The place of the first row.
+fn first(page: &Page) -> Option<Place>
+    ensures { IfSome result (λ place. IsSome (find_row place page.now.rows)) }
+{
+    page.search(&Blank { count: 0 }, Mode::Ge).after
+}
+
+/// The place of the row after that one.
+fn next(page: &Page, place: Place) -> Option<Place>
+    requires { IsSome (find_row place page.now.rows) }
+    ensures { IfSome result (λ place. IsSome (find_row place page.now.rows)) }
+{
+    page.next(place)
+}
+
+/// The row has this key, of one field.
+fn has_key(page: &Page, place: Place, key: &[u8]) -> bool
+    requires { IsSome (find_row place page.now.rows) }
+{
+    let row = page.row(place);
+    row.count() == 1 && row.field(0) == key
+}
+
+/// The keys are these letters, in the order of the rows.
+pub(crate) fn has_letters(page: &Page, letters: &[u8]) -> bool {
+    let mut at = first(page);
+    for letter in letters {
+        let Some(place) = at else { return false };
+        if !has_key(page, place, &[*letter]) {
+            return false;
+        }
+        at = next(page, place);
+    }
+    at.is_none()
+}
+
+/// The place of the row with that key, if it is there.
+pub(crate) fn place_of(page: &Page, key: &Key) -> Option<Place>
+    ensures { IfSome result (λ place. IsSome (find_row place page.now.rows)) }
+{
+    if key.count() != page.head().fields {
+        return None;
+    }
+    let spot = page.search(key, Mode::Ge);
+    if spot.up.fields == key.count() {
+        spot.after
+    } else {
+        None
+    }
+}
+
+pub(crate) fn place_at(alloc: Global, page: &Page, key: &[u8]) -> Option<Place>
+    ensures { IfSome result (λ place. IsSome (find_row place page.now.rows)) }
+{
+    let key = key_of(alloc, key)?;
+    place_of(page, &key)
+}
+
+/// Takes the row with that key out, if it is there.
+pub(crate) fn take_out(alloc: Global, page: &mut Page, key: &[u8]) -> bool {
+    match place_at(alloc, page, key) {
+        Some(place) => {
+            page.delete(place);
+            true
+        }
+        None => false,
+    }
+}
+
+/// The row with that key has this value.
+pub(crate) fn has_value(alloc: Global, page: &Page, key: &[u8], value: &[u8]) -> bool {
+    match place_at(alloc, page, key) {
+        Some(place) => page.head().level == 0 && page.row(place).value() == value,
+        None => false,
+    }
+}
