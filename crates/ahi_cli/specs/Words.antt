@@ -2,6 +2,7 @@
 use Rattle.std.specs.Prelude.{ℕ, Bool, false, not, ◌&&◌, ◌==◌, Option, Some, None, if◌then◌else◌, List, [], ◌∷◌, length, map, codes, string_bytes}
 use Rattle.std.specs.List.{list_all}
 use Rattle.std.specs.Str.{bytes_eq}
+use Rattle.map_history.specs.declared.TheConstants.{MAX_LANES}
 use Rattle.index_engine.specs.Settings.{is_within}
 use Rattle.ahi_cli.specs.declared.words.Command.{Command}
 
@@ -12,7 +13,7 @@ names_file (b ∷ bytes) = not (b == 45)
 
 -- 1 to 64 words that can each name a file
 abbrev pub are_lanes : List (List ℕ) → Bool
-are_lanes lanes = list_all names_file lanes && is_within 1 64 (length lanes)
+are_lanes lanes = list_all names_file lanes && is_within 1 MAX_LANES (length lanes)
 
 -- the names of the schema file and the lane files of accepted words: `run SCHEMA LANE..`
 abbrev pub accepted : List (List ℕ) → Option (List ℕ × List (List ℕ))

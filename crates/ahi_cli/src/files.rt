@@ -4,6 +4,7 @@ ghost use Rattle.std.specs.Option.{ForSome};
 ghost use Rattle.io_port.specs.Shelf.{IsFileOf};
 ghost use Rattle.script.specs.declared.TheConstants.{MAX_FILE_BYTES};
 ghost use Rattle.script.specs.Views.{schema_text};
+ghost use Rattle.map_history.specs.declared.TheConstants.{MAX_INDEXES, MAX_LANES};
 ghost use Rattle.map_history.specs.Lines.{line_texts};
 ghost use Rattle.lane_work.specs.Workable.{AreLinesOf};
 ghost use Rattle.lane_threads.specs.Together.{lane_texts, AllAreLinesOf};
@@ -18,7 +19,7 @@ use script::{Flaw, Line, MAX_FILE_BYTES, Schema, ScriptError, read_lane, read_sc
 use std::alloc::Global;
 
 /// A schema and lanes.
-#[derive(Debug, Drop)]
+#[derive(Drop)]
 pub struct Script {
     pub schema: Schema,
     pub lanes: Vec<Vec<Line>>,
@@ -31,7 +32,7 @@ pub fn read_script<F: Shelf>(
     shelf: &mut F,
     command: &Command<'_>,
 ) -> Result<Script, Stop>
-    requires { length command.now.lanes.now ≤ 64 }
+    requires { length command.now.lanes.now ≤ MAX_LANES }
     ensures ok { IfOk result (λ s. ForSome (F.holds shelf.old)
         (λ files. Spells files (names_of command.now)
         (schema_text s.schema) (lane_texts s.lanes.items))) }
@@ -42,7 +43,8 @@ pub fn read_script<F: Shelf>(
     ensures lanes { IfOk result (λ s. vec_len s.lanes ≡ length command.now.lanes.now) }
     ensures lines { IfOk result (λ s. AllAreLinesOf s.schema.fields.items s.lanes.items) }
     ensures indexes { IfOk result (λ s. (1 ≤ vec_len s.schema.names)
-        × (vec_len s.schema.names ≤ 64) × (vec_len s.schema.fields ≡ vec_len s.schema.names)) }
+        × (vec_len s.schema.names ≤ MAX_INDEXES)
+        × (vec_len s.schema.fields ≡ vec_len s.schema.names)) }
 {
     let (schema, size) = load_schema(alloc, shelf, command.schema)?;
     let lanes = load_lanes(alloc, shelf, command, &schema, size)?;
@@ -74,7 +76,7 @@ fn load_lanes<F: Shelf>(
     schema: &Schema,
     before: u64,
 ) -> Result<Vec<Vec<Line>>, Stop>
-    requires few { length command.now.lanes.now ≤ 64 }
+    requires few { length command.now.lanes.now ≤ MAX_LANES }
     requires fits { before ≤ MAX_FILE_BYTES }
     requires spelled { ForSome (F.holds shelf.old)
         (λ files. SpellsSchema files command.now.schema.now (schema_text schema.now) before) }

@@ -64,7 +64,7 @@ pub(crate) fn refuse<K: Sink>(alloc: Global, sink: &mut K, stop: Stop) -> Status
     ensures ends { EndsRefusedAt K.Sink sink.old sink.new stop result }
     ensures other { result ≢ Status.Done }
 {
-    if stop == Stop::NoMemory {
+    if let Stop::NoMemory = stop {
         return Status::NoMemory;
     }
     end(put_stop(alloc, sink, &stop), stop.status())

@@ -9,7 +9,7 @@ use report_text::{Word, put_line};
 use std::alloc::AllocFailed;
 
 /// Why a run isn't done. Files are numbered from 0: the schema, then the lanes.
-#[derive(Debug, Clone, Copy, PartialEq, Eq)]
+#[derive(Clone, Copy)]
 pub enum Stop {
     /// The words aren't accepted.
     Usage,

@@ -1,13 +1,13 @@
 //! The words of the command line.
 ghost use Rattle.std.specs.Prelude.{◌≡◌, ◌≤◌, length, map, option_map, IfSome, string_bytes};
 ghost use Rattle.std.specs.List.{list_all};
+ghost use Rattle.map_history.specs.declared.TheConstants.{MAX_LANES};
 ghost use Rattle.ahi_cli.specs.Words.{accepted, are_lanes, names_file, names_of};
 
-/// The most lanes of a run.
-const MAX_LANES: usize = 64;
+use map_history::MAX_LANES;
 
 /// The files that accepted words name.
-#[derive(Debug, Clone, Copy)]
+#[derive(Clone, Copy)]
 pub struct Command<'a> {
     pub schema: &'a str,
     pub lanes: &'a [String],
@@ -17,7 +17,7 @@ pub struct Command<'a> {
 pub fn accept(words: &[String]) -> Option<Command<'_>>
     ensures accepted { option_map names_of result ≡ accepted (map string_bytes words.now) }
     ensures lanes { IfSome result
-        (λ c. (1 ≤ length c.lanes.now) × (length c.lanes.now ≤ 64)) }
+        (λ c. (1 ≤ length c.lanes.now) × (length c.lanes.now ≤ MAX_LANES)) }
 {
     match words {
         [verb, schema, lanes @ ..] => {

@@ -14,7 +14,8 @@ use Rattle.index_page.specs.Rows.{Row, Bytes, placed_row as row_at, find_row}
 use Rattle.index_page.specs.Changes.{Inserts, Deletes}
 use Rattle.index_law.specs.State.{row_pair, rows_of}
 use Rattle.index_engine.specs.Leaf.{HasRow, PutsPair}
-use Rattle.index_engine.proofs.LeafPlaceLemmas.{each_middle, find_row-split}
+use Rattle.index_page.proofs.RowLemmas.{find_among}
+use Rattle.index_page.proofs.WithoutLemmas.{each_middle}
 
 -- the keys of some rows are all below a key, are all the key, or are all above it
 abbrev AreBelow : FieldList → List Row → Type 0
@@ -101,7 +102,7 @@ del-rows old new place k rise differ has taken =
     sides = around taken.left taken.row taken.right (subst RowsAscend taken.was rise)
 
     there : find_row place old.rows ≡ Some taken.row
-    there = rw (taken.was, sym taken.place_is) (find_row-split taken.left taken.row taken.right (subst PlacesDiffer taken.was differ))
+    there = rw (taken.was, sym taken.place_is) (find_among taken.left taken.row taken.right (subst PlacesDiffer taken.was differ))
 
     key : taken.row.key ≡ k
     key = let same : Some taken.row ≡ Some has.row = sym there ∙ has.there in cc (has.key_is)

@@ -20,7 +20,7 @@ use Rattle.index_page.specs.Rows.{Row, first_of_rows, IsAt, LacksKey}
 use Rattle.index_page.specs.Search.{AllOut, agreement, Finds}
 use Rattle.index_law.specs.State.{row_pair, rows_of}
 use Rattle.index_engine.specs.Leaf.{IsFoundAt}
-use Rattle.index_engine.proofs.LeafPlaceLemmas.{each_middle}
+use Rattle.index_page.proofs.WithoutLemmas.{each_middle}
 use Rattle.index_engine.proofs.LeafKeyLemmas.{value-past, value-none, value-first}
 
 -- all fields agree just where the keys are one

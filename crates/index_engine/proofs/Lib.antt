@@ -8,7 +8,6 @@ pub mod TellLemmas
 pub mod CallLemmas
 pub mod RowLemmas
 pub mod SettingLemmas
-pub mod LeafPlaceLemmas
 pub mod LeafKeyLemmas
 pub mod LeafFindLemmas
 pub mod LeafChangeLemmas

@@ -6,6 +6,7 @@ use Rattle.key_tuple.specs.KeyPlace.{At, before, within}
 use Rattle.list_facts.proofs.Places.{same_some}
 use Rattle.map_history.specs.Map.{Put, Del, value_at}
 use Rattle.index_page.specs.Page.{PageRows, IsPageInOrder}
+use Rattle.index_page.specs.Changes.{page_without}
 use Rattle.index_page.specs.Rows.{Bytes, placed_row}
 use Rattle.index_law.specs.declared.frame.Frame.{Frame}
 use Rattle.index_law.specs.Law.{IsRootLeaf, MakesChange}
@@ -13,10 +14,10 @@ use Rattle.index_law.specs.Shape.{Shape}
 use Rattle.index_law.specs.Spoken.{View}
 use Rattle.index_law.specs.State.{low_in, high_in, low_of, high_of, rows_of}
 use Rattle.index_engine.specs.Frames.{PutsRow, StandsOn, frame_without}
-use Rattle.index_engine.specs.Leaf.{HasRow, IsFoundAt, page_without}
+use Rattle.index_engine.specs.Leaf.{HasRow, IsFoundAt}
 use Rattle.index_engine.specs.Says.{SeesFull, OnlyLooks}
 use Rattle.index_engine.proofs.LeafChangeLemmas.{del-rows}
-use Rattle.index_engine.proofs.LeafPlaceLemmas.{without_deletes, put_without}
+use Rattle.index_page.proofs.WithoutLemmas.{without_deletes, put_without}
 
 -- each key is within the bounds of a root
 root_range : (shape : Shape) (i : ℕ) (f : Frame) (key : FieldList) → IsRootLeaf shape i f → within (low_of f) (high_of f) (At key) ≡ true

@@ -9,9 +9,10 @@ use Rattle.index_page.specs.declared.spot.Spot.{Spot}
 use Rattle.index_page.specs.Page.{PageRows}
 use Rattle.index_page.specs.Rows.{find_row}
 use Rattle.index_page.specs.Search.{Finds}
+use Rattle.index_page.specs.Changes.{page_without}
 use Rattle.index_law.specs.declared.frame.Frame.{Frame}
 use Rattle.index_law.specs.State.{rows_of}
-use Rattle.index_engine.specs.Leaf.{PutsPair, page_without}
+use Rattle.index_engine.specs.Leaf.{PutsPair}
 
 -- the frame has a leaf for keys of as many fields
 pub record HasLeaf (f : Frame) (key : FieldList) : Type 0 where

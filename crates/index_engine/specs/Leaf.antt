@@ -1,6 +1,5 @@
 -- Rows found on a leaf, and changes of its rows.
-use Rattle.std.specs.Prelude.{ℕ, ◌≡◌, ◌==◌, not, Option, Some, None, List}
-use Rattle.std.specs.List.{filter}
+use Rattle.std.specs.Prelude.{ℕ, ◌≡◌, Option, Some, None, List}
 use Rattle.key_tuple.specs.Order.{FieldList}
 use Rattle.map_history.specs.Map.{Put, value_at, after_change}
 use Rattle.index_page.specs.Changes.{Inserts}
@@ -19,11 +18,6 @@ pub record HasRow (page : PageRows) (place : ℕ) (key : FieldList) : Type 0 whe
 abbrev pub IsFoundAt : PageRows → FieldList → Option ℕ → Type 0
 IsFoundAt page key None = value_at key (rows_of page) ≡ None
 IsFoundAt page key (Some place) = HasRow page place key
-
--- the page without the row at a place
-abbrev pub page_without : ℕ → PageRows → PageRows
-page_without place page =
-    record page { rows = filter (λ (x : Row). not (x.place == place)) page.rows }
 
 -- the row of the key, which had none, and the value was put in at the place: as a map the leaf is
 -- what a put makes of it

@@ -3,7 +3,8 @@ use Rattle.std.specs.Prelude.{ℕ, ◌+◌, ◌*◌, Bool, ◌&&◌, Option, Som
 use lib.Dec.{leb}
 use Rattle.map_history.specs.declared.sizes.Sizes.{Sizes}
 use Rattle.index_engine.specs.declared.setting.Setting.{Setting}
-use Rattle.index_engine.specs.declared.setting.TheConstants.{LANE_BLOCKS, MAX_BLOCKS, MAX_PAGES, MAX_PARTS, MAX_COUNTERS, MAX_CELLS, MAX_NODES, MAX_FOLD_BITS, MAX_CHANGES}
+use Rattle.map_history.specs.declared.TheConstants.{LANE_BLOCKS}
+use Rattle.index_engine.specs.declared.setting.TheConstants.{MAX_BLOCKS, MAX_PAGES, MAX_PARTS, MAX_COUNTERS, MAX_CELLS, MAX_NODES, MAX_FOLD_BITS, MAX_CHANGES}
 use Rattle.index_engine.specs.declared.setting.Setting.TheVariants.{Blocks, Pages, Parts, Cells, Nodes, FoldBits, MaxChanges}
 
 -- the number is one of those from `low` to `high`

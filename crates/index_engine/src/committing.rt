@@ -35,8 +35,8 @@ impl<R: Wait> LeafCall<'_, R> {
             .commit(pass, self.index, &deed(change), self.wait)
     }
 
-    /// Commits the change before it is made: the leaf becomes known as `X.leaf`, which it isn't yet.
-    /// At a full list it stays what it is.
+    /// Commits the change before it is made: the leaf becomes known as `X.leaf`, which it isn't
+    /// yet. At a full list it stays what it is.
     pub(crate) fn write_ahead<X: Becomes>(
         &self,
         pass: &mut WorldPass,

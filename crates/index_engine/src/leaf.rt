@@ -3,14 +3,14 @@ ghost use Rattle.std.specs.Prelude.{◌≡◌, ◌≤◌, length, None, IsSome, 
 ghost use Rattle.key_tuple.specs.declared.mode.Mode.TheVariants as mode;
 ghost use Rattle.index_page.specs.declared.TheConstants.{MAX_ROWS};
 ghost use Rattle.index_page.specs.Page.{IsPageInOrder};
-ghost use Rattle.index_page.specs.Changes.{Inserts};
+ghost use Rattle.index_page.specs.Changes.{Inserts, page_without};
 ghost use Rattle.index_page.specs.Rows.{Bytes, placed_row, find_row};
 ghost use Rattle.index_page.specs.Search.{Finds};
 ghost use Rattle.map_history.specs.Map.{value_at};
 ghost use Rattle.index_law.specs.State.{rows_of};
-ghost use Rattle.index_engine.specs.Leaf.{IsFoundAt, PutsPair, page_without};
+ghost use Rattle.index_engine.specs.Leaf.{IsFoundAt, PutsPair};
 
-use index_page::{Body, Page, Place, Spot};
+use index_page::{Body, Page, Place, Spot, spots_tell_keys};
 use key_tuple::{Fields, Key, Mode, NoMemory, Value};
 
 /// The spot of the key on the leaf, and the place of its row, if it has one.
@@ -63,11 +63,9 @@ fn insert_at(page: &mut Page, spot: &Spot, key: &Key, value: &Value) -> Result<P
     ensures err { OnErr result (page.new ≡ page.old) }
 {
     key.tuple().is_within_limits();
-    if key.count() == spot.up.fields {
-        // Only a key without fields agrees in all of them with a row that isn't there.
-        return page.insert(key, Body::Value(value));
-    }
-    page.insert_at(spot, key, Body::Value(value))
+    page.is_in_order();
+    spots_tell_keys();
+    page.overfill_at(spot, key, Body::Value(value))
 }
 
 /// Deletes the row at a place.

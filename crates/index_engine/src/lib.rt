@@ -25,4 +25,4 @@ mod tests;
 
 pub use engine::{Engine, EnginePass};
 pub use error::EngineError;
-pub use setting::{MAX_INDEXES, MAX_LANES, Setting};
+pub use setting::Setting;

@@ -9,10 +9,10 @@ ghost use Rattle.index_engine.specs.Settings.{first_broken};
 
 use crate::engine::{Engine, EnginePass};
 use crate::error::EngineError;
-use crate::setting::{MAX_FOLD_BITS, MAX_INDEXES, MAX_LANES, broken_setting};
+use crate::setting::{MAX_FOLD_BITS, broken_setting};
 use index_world::{Layout, WorldPass, WorldSpace, first_objects, opens_lawfully};
 use key_tuple::NoMemory;
-use map_history::Sizes;
+use map_history::{MAX_INDEXES, MAX_LANES, Sizes};
 use std::alloc::Global;
 
 impl Engine {

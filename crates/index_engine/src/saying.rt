@@ -23,8 +23,8 @@ impl<R> LeafCall<'_, R> {
         requires own { IsPassOf self.now.space.now pass.old }
         requires held { CanSay pass.old self.now.index (operation_by op).ask reply (lent_row row) }
         ensures own { IsSamePass pass.old pass.new × IsPassOf self.now.space.now pass.new }
-        ensures did { AnswersHolding pass.old pass.new self.now.index (operation_by op.entry).ask result
-            (lent_row row.entry) }
+        ensures did { AnswersHolding pass.old pass.new self.now.index
+            (operation_by op.entry).ask result (lent_row row.entry) }
         ensures reply { result.reply ≡ reply }
     {
         let how = How::Dash;

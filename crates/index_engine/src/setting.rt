@@ -2,14 +2,7 @@
 ghost use Rattle.std.specs.Prelude.{◌≡◌, ◌≤◌};
 ghost use Rattle.index_engine.specs.Settings.{first_broken, fits_limits};
 
-use map_history::Sizes;
-
-/// The most indexes of an engine.
-pub const MAX_INDEXES: usize = 64;
-/// The most lanes.
-pub const MAX_LANES: u32 = 64;
-/// Each lane has so many blocks, and so many are for all of them.
-const LANE_BLOCKS: u32 = 8;
+use map_history::{LANE_BLOCKS, MAX_LANES, Sizes};
 
 const MAX_BLOCKS: u32 = 65_536;
 

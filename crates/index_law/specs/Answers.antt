@@ -17,7 +17,8 @@ pub record MadeChange : Type 0 where
 abbrev pub no_change : MadeChange
 no_change = record { change = Del []; columns = record { how = how.Dash; note = note.Dash } }
 
--- what an operation is told that changes nothing: the map's reply, or that its list is full, or that there is no page for it
+-- what an operation is told that changes nothing: the map's reply, or that its list is full, or
+-- that there is no page for it
 pub data Word : Type 0 where
   Gives : MapReply → Word
   LogFull : Word
@@ -29,7 +30,8 @@ pub data Where : Type 0 where
   InFrame : (block : ℕ) → Where
   Image : Where
 
--- What is said at a point. A reply that is bound to a number says nothing at any other point. A piece is the rows of a range. A full carries where each page is. A look says nothing.
+-- What is said at a point. A reply that is bound to a number says nothing at any other point. A
+-- piece is the rows of a range. A full carries where each page is. A look says nothing.
 pub data Saying : Type 0 where
   Replies : Ask → Word → (bound : Option ℕ) → Columns → Saying
   Piece : Ask → (low high : KeyPlace) → (rows : Map) → Columns → Saying

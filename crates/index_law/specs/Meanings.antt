@@ -23,7 +23,11 @@ change_lent (lent.TheVariants.Del key) = map.Del key.now.tuple
 
 -- what a change that is handed in stands for
 abbrev pub change_by : Deed → MadeChange
-change_by d = record { change = change_lent d.change; columns = record { how = d.how; note = d.note } }
+change_by d =
+    record {
+      change = change_lent d.change;
+      columns = record { how = d.how; note = d.note };
+    }
 
 -- the row that is handed in, or an empty one
 abbrev pub lent_row : Option (Bor Pair) → Pair
@@ -48,5 +52,7 @@ said_word ask (Some word) bound columns = Replies ask word bound columns
 
 -- what is handed in to be said
 abbrev pub saying_by : Say → Saying
-saying_by (say.Reply op reply row bound how note) = let ask = (operation_by op).ask in said_word ask (reply_word ask reply (lent_row row)) bound (record { how = how; note = note })
+saying_by (say.Reply op reply row bound how note) =
+    let ask = (operation_by op).ask in
+    said_word ask (reply_word ask reply (lent_row row)) bound (record { how = how; note = note })
 saying_by say.Look = Look

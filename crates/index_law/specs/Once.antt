@@ -26,14 +26,22 @@ abbrev pub HasFulls : Answer → List (List Where) → Type 0
 HasFulls (SpaceFull columns) told = (places : List Where) × (told ≡ places ∷ [])
 HasFulls answer told = told ≡ []
 
--- The answer is right by a list that was seen: a reply is that of the map at its point, which for a change that was made is the point before; log-full comes where the list is full and its map allows the change; space-full of an operation that writes a row; and the pieces of a scan are what an ordered map answers.
+-- The answer is right by a list that was seen: a reply is that of the map at its point, which
+-- for a change that was made is the point before; log-full comes where the list is full and its
+-- map allows the change; space-full of an operation that writes a row; and the pieces of a scan
+-- are what an ordered map answers.
 abbrev pub IsRightBy : ℕ → Entries → Ask → Answer → Type 0
-IsRightBy most xs ask (Replied reply point columns) = reply_of (map_at xs (point - is_done reply)) ask ≡ reply
-IsRightBy most xs ask (LogFull n columns) = (n ≡ most) × (n ≡ length xs) × IsAllowed (map_after (changes xs)) ask
+IsRightBy most xs ask (Replied reply point columns) =
+    reply_of (map_at xs (point - is_done reply)) ask ≡ reply
+IsRightBy most xs ask (LogFull n columns) =
+    (n ≡ most) × (n ≡ length xs) × IsAllowed (map_after (changes xs)) ask
 IsRightBy most xs ask (SpaceFull columns) = AsksToWrite ask
 IsRightBy most xs ask (Scanned pieces) = ScansFor ask (changes xs) pieces
 
--- The operation of the index i was answered once: this alone was said, at that index and by the pass's name, and it has a form of the operation. Its point is no less than what was seen of the list, for a change more; afterwards the list is seen up to there, and the answer is right by it.
+-- The operation of the index i was answered once: this alone was said, at that index and by the
+-- pass's name, and it has a form of the operation. Its point is no less than what was seen of
+-- the list, for a change more; afterwards the list is seen up to there, and the answer is right
+-- by it.
 pub record AnswersOnce (v v' : View) (i : ℕ) (ask : Ask) (answer : Answer) : Type 0 where
   pub added : Added
   pub adds : Adds v v' added
@@ -41,6 +49,9 @@ pub record AnswersOnce (v v' : View) (i : ℕ) (ask : Ask) (answer : Answer) : T
   pub said : spoken added.said ≡ sayings i v.low ask answer
   pub fulls : HasFulls answer (fulls added.said)
   pub form : has_form ask answer ≡ true
-  pub least : (m : Mark) (ys : Entries) → Contains (marks_of answer) m → get_elem? v.seen i ≡ some ys → length ys + m.grows ≤ m.point
-  pub most : (m : Mark) (zs : Entries) → Contains (marks_of answer) m → get_elem? v'.seen i ≡ some zs → m.point ≤ length zs
-  pub right : (zs : Entries) → get_elem? v'.seen i ≡ some zs → IsRightBy v.terms.max_changes zs ask answer
+  pub least : (m : Mark) (ys : Entries) → Contains (marks_of answer) m
+      → get_elem? v.seen i ≡ some ys → length ys + m.grows ≤ m.point
+  pub most : (m : Mark) (zs : Entries) → Contains (marks_of answer) m
+      → get_elem? v'.seen i ≡ some zs → m.point ≤ length zs
+  pub right : (zs : Entries) → get_elem? v'.seen i ≡ some zs
+      → IsRightBy v.terms.max_changes zs ask answer

@@ -15,17 +15,24 @@ use Rattle.index_law.specs.Opening.{root_head}
 
 -- the page of index 0 with the one row, at place 0
 abbrev pub leaf_with : FieldList → List ℕ → PageRows
-leaf_with key value = record { head = root_head 0 (length key); rows = placed_row 0 key (Bytes value) ∷ [] }
+leaf_with key value =
+    record {
+      head = root_head 0 (length key);
+      rows = placed_row 0 key (Bytes value) ∷ [];
+    }
 
 -- the frame with that page
 abbrev pub frame_with : FieldList → List ℕ → Object
-frame_with key value = object.Frame (record { page = Some (leaf_with key value); low = None; high = None; clock = 0 })
+frame_with key value =
+    object.Frame (record { page = Some (leaf_with key value); low = None; high = None; clock = 0 })
 
 -- the list with the one put of the row, made by pass 0
 abbrev pub list_with : FieldList → List ℕ → Columns → Entries
-list_with key value columns = record { change = record { change = Put key value; columns = columns }; by = 0 } ∷ []
+list_with key value columns =
+    record { change = record { change = Put key value; columns = columns }; by = 0 } ∷ []
 
--- the state with that frame, which is free, and that list, for runs of these sizes and so many passes
+-- the state with that frame, which is free, and that list, for runs of these sizes and so many
+-- passes
 abbrev pub state_with : Sizes → FieldList → List ℕ → Columns → ℕ → State
 state_with sizes key value columns passes = record {
   shape = shape_for sizes (length key ∷ []);
@@ -38,4 +45,6 @@ state_with sizes key value columns passes = record {
 
 -- each such state is lawful
 abbrev pub OneRowIsLawful : Type 0
-OneRowIsLawful = (sizes : Sizes) (key : FieldList) (value : List ℕ) (columns : Columns) (passes : ℕ) → IsLawful (state_with sizes key value columns passes)
+OneRowIsLawful =
+    (sizes : Sizes) (key : FieldList) (value : List ℕ) (columns : Columns) (passes : ℕ)
+    → IsLawful (state_with sizes key value columns passes)

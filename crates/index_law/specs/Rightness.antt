@@ -26,13 +26,16 @@ pub record AsksToWrite (ask : Ask) : Type 0 where
   pub asked : ask ≡ Make change
   pub row : writes change ≡ true
 
--- the reply is one that the operation may have, is the map's, and isn't `ok`, which a change alone says
+-- the reply is one that the operation may have, is the map's, and isn't `ok`, which a change
+-- alone says
 pub record IsReply (m : Map) (ask : Ask) (reply : MapReply) : Type 0 where
   pub form : may_reply ask reply ≡ true
   pub is : reply_of m ask ≡ reply
   pub changes_nothing : reply ≢ Done
 
--- the word is right: the map's reply; a full list's refusal of what the map allows; or, of an operation that writes a row, that there is no page for it, which says nothing of how many there are
+-- the word is right: the map's reply; a full list's refusal of what the map allows; or, of an
+-- operation that writes a row, that there is no page for it, which says nothing of how many
+-- there are
 abbrev pub IsWord : State → Entries → ℕ → Ask → Word → Type 0
 IsWord w xs p ask (Gives reply) = IsReply (map_at xs p) ask reply
 IsWord w xs p ask LogFull = (p ≡ w.max_changes) × IsAllowed (map_at xs p) ask
@@ -44,11 +47,14 @@ is_used Free = false
 is_used (InFrame block) = true
 is_used Image = true
 
--- what is said is right at the point p of the list: a reply where it speaks, a piece that has just the map's rows of its range, and a full that names as many places as there are pages, each one used
+-- what is said is right at the point p of the list: a reply where it speaks, a piece that has
+-- just the map's rows of its range, and a full that names as many places as there are pages,
+-- each one used
 abbrev pub IsSaid : State → Entries → ℕ → Saying → Type 0
 IsSaid w xs p (Replies ask word bound columns) = speaks_at bound p ≡ true → IsWord w xs p ask word
 IsSaid w xs p (Piece ask low high rows columns) = rows ≡ slice low high (map_at xs p)
-IsSaid w xs p (Full places) = (length places ≡ w.shape.pages) × AllByRecursion (λ (x : Where). is_used x ≡ true) places
+IsSaid w xs p (Full places) =
+    (length places ≡ w.shape.pages) × AllByRecursion (λ (x : Where). is_used x ≡ true) places
 IsSaid w xs p Look = Unit {0}
 
 -- the index has a list with that point, and what is said is right there

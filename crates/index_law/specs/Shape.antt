@@ -3,7 +3,8 @@ use Rattle.std.specs.Prelude.{ℕ, List, [], length}
 use Rattle.map_history.specs.declared.sizes.Sizes.{Sizes}
 use Rattle.index_law.specs.declared.layout.Layout.TheInside.{Inside}
 
--- how many there are of each: indexes, with the number of fields of each one's keys, pages, partitions, blocks, nodes of a partition, and bits of a fold
+-- how many there are of each: indexes, with the number of fields of each one's keys, pages,
+-- partitions, blocks, nodes of a partition, and bits of a fold
 pub record Shape : Type 0 where
   pub indexes : ℕ
   pub fields : List ℕ
@@ -15,20 +16,43 @@ pub record Shape : Type 0 where
 
 -- the shape that a layout stands for
 abbrev pub shape_of : Inside → Shape
-shape_of l = record { indexes = l.indexes; fields = l.fields.items; pages = l.pages; parts = l.parts; blocks = l.blocks; nodes = l.nodes; fold_bits = l.fold_bits }
+shape_of l =
+    record {
+      indexes = l.indexes;
+      fields = l.fields.items;
+      pages = l.pages;
+      parts = l.parts;
+      blocks = l.blocks;
+      nodes = l.nodes;
+      fold_bits = l.fold_bits;
+    }
 
 -- a shape with nothing
 abbrev pub no_shape : Shape
-no_shape = record { indexes = 0; fields = []; pages = 0; parts = 0; blocks = 0; nodes = 0; fold_bits = 0 }
+no_shape =
+    record {
+      indexes = 0;
+      fields = [];
+      pages = 0;
+      parts = 0;
+      blocks = 0;
+      nodes = 0;
+      fold_bits = 0;
+    }
 
 -- the shape of some sizes, for indexes with so many fields each
 abbrev pub shape_for : Sizes → List ℕ → Shape
-shape_for sizes fields = record { indexes = length fields; fields = fields; pages = sizes.pages; parts = sizes.parts; blocks = sizes.blocks; nodes = sizes.nodes; fold_bits = sizes.fold_bits }
-
--- the object that is the frame of a block: there are no others yet
-abbrev pub frame_id : Shape → ℕ → ℕ
-frame_id shape block = block
+shape_for sizes fields =
+    record {
+      indexes = length fields;
+      fields = fields;
+      pages = sizes.pages;
+      parts = sizes.parts;
+      blocks = sizes.blocks;
+      nodes = sizes.nodes;
+      fold_bits = sizes.fold_bits;
+    }
 
 -- the object that is the leaf of an index: the frame of its number
 abbrev pub leaf_id : Shape → ℕ → ℕ
-leaf_id shape index = frame_id shape index
+leaf_id shape index = index

@@ -19,7 +19,8 @@ View = Knows Shape Object MadeChange Saying
 abbrev pub OwnAnswer : Type 0
 OwnAnswer = Said MadeChange Saying
 
--- an answer to an operation of an index, by the pass with this number; one piece of a scan is an answer here
+-- an answer to an operation of an index, by the pass with this number; one piece of a scan is an
+-- answer here
 pub record Spoken : Type 0 where
   pub index : ℕ
   pub by : ℕ
@@ -34,8 +35,18 @@ printed_word SpaceFull p columns = answer.SpaceFull columns
 
 -- what is said at the point p of the list i, if that says something
 abbrev pub spoken_saying : ℕ → ℕ → ℕ → Saying → List Spoken
-spoken_saying i p n (Replies ask word bound columns) = if speaks_at bound p then record { index = i; by = n; ask = ask; answer = printed_word word p columns } ∷ [] else []
-spoken_saying i p n (Piece ask low high rows columns) = record { index = i; by = n; ask = ask; answer = Scanned (record { point = p; rows = rows; columns = columns } ∷ []) } ∷ []
+spoken_saying i p n (Replies ask word bound columns) =
+    if speaks_at bound p
+    then record { index = i; by = n; ask = ask; answer = printed_word word p columns } ∷ []
+    else []
+spoken_saying i p n (Piece ask low high rows columns) =
+    record {
+      index = i;
+      by = n;
+      ask = ask;
+      answer = Scanned (record { point = p; rows = rows; columns = columns } ∷ []);
+    }
+    ∷ []
 spoken_saying i p n (Full places) = []
 spoken_saying i p n Look = []
 
@@ -44,7 +55,9 @@ abbrev pub spoken_at : OwnAnswer → List Spoken
 spoken_at q = by_kind q.what
   where
     by_kind : what.Statement MadeChange Saying → List Spoken
-    by_kind (what.TheVariants.Change deed) = record { index = q.index; by = q.by; ask = Make deed.change; answer = Replied Done q.point deed.columns } ∷ []
+    by_kind (what.TheVariants.Change deed) =
+        let answer = Replied Done q.point deed.columns in
+        record { index = q.index; by = q.by; ask = Make deed.change; answer = answer } ∷ []
     by_kind (what.TheVariants.Answer said) = spoken_saying q.index q.point q.by said
 
 -- the own answers that say something, as they are printed: no looks and no fulls
@@ -54,5 +67,8 @@ spoken (q ∷ qs) = spoken_at q ++ spoken qs
 
 -- what an answer to an operation is as own answers: each piece of a scan is one
 abbrev pub sayings : ℕ → ℕ → Ask → Answer → List Spoken
-sayings i n ask (Scanned pieces) = map (λ (piece : ScanPiece). record { index = i; by = n; ask = ask; answer = Scanned (piece ∷ []) }) pieces
+sayings i n ask (Scanned pieces) =
+    map
+    (λ (piece : ScanPiece). record { index = i; by = n; ask = ask; answer = Scanned (piece ∷ []) })
+    pieces
 sayings i n ask answer = record { index = i; by = n; ask = ask; answer = answer } ∷ []

@@ -23,7 +23,9 @@ pub record SameNumbers (v v' : View) : Type 0 where
 
 -- what was seen of each list is still seen, and perhaps more
 abbrev pub SeesMore : View → View → Type 0
-SeesMore v v' = (j : ℕ) (ys : Entries) → get_elem? v.seen j ≡ some ys → (zs : Entries) × (get_elem? v'.seen j ≡ some (ys ++ zs))
+SeesMore v v' =
+    (j : ℕ) (ys : Entries) → get_elem? v.seen j ≡ some ys
+    → (zs : Entries) × (get_elem? v'.seen j ≡ some (ys ++ zs))
 
 -- what was added: own answers and changes, refused tries, and references
 pub record Added : Type 0 where
@@ -31,7 +33,8 @@ pub record Added : Type 0 where
   pub refused : List (Refusal Object)
   pub references : List (Reference Object)
 
--- it is the same pass, which knows what it knew and this besides; it may hold other objects, and have seen more of the lists
+-- it is the same pass, which knows what it knew and this besides; it may hold other objects, and
+-- have seen more of the lists
 pub record Adds (v v' : View) (added : Added) : Type 0 where
   pub numbers : SameNumbers v v'
   pub said : v'.said ≡ v.said ++ added.said
@@ -56,7 +59,9 @@ pub record GivesBack (v v' : View) (k : ℕ) : Type 0 where
   pub holding : Holding Object
   pub view : v' ≡ releasing v k holding
 
--- The object k was taken, and nothing else: each refused try was of it, with nothing more in hand than before, and it was given back. So there is one reference, to it, by what was known of it at the take and at the release, and the same is in hand as before.
+-- The object k was taken, and nothing else: each refused try was of it, with nothing more in
+-- hand than before, and it was given back. So there is one reference, to it, by what was known
+-- of it at the take and at the release, and the same is in hand as before.
 pub record TookAlone (v v' : View) (k : ℕ) (added : Added) : Type 0 where
   pub tries : AreTriesOf v k added.refused
   pub taken : Object

@@ -2,6 +2,7 @@
 ghost use Rattle.std.specs.Prelude.{◌≡◌, ◌⊎◌, ◌<◌, ◌≤◌, length, Err, IfOk, IfErr, IfSome};
 ghost use Rattle.std.specs.List.{AllByRecursion};
 ghost use Rattle.std.specs.Option.{IsSomeAnd};
+ghost use Rattle.map_history.specs.declared.TheConstants.{MAX_INDEXES, MAX_LANES};
 ghost use Rattle.index_engine.specs.Settings.{first_broken};
 ghost use Rattle.lane_work.specs.Workable.{AreLinesOf};
 ghost use Rattle.lane_threads.specs.Together.{lane_texts, RanTogether};
@@ -39,8 +40,8 @@ pub fn work_lanes<'a, R: Threads + Sync, W: Wait + Sync, G: Gate + Sync>(
     lanes: &'a [Vec<Line>],
     gate: &G,
 ) -> Result<LanesWork<'a>, EngineError>
-    requires indexes { (0 < length fields.now) × (length fields.now ≤ 64) }
-    requires lanes { (0 < length lanes.now) × (length lanes.now ≤ 64) }
+    requires indexes { (0 < length fields.now) × (length fields.now ≤ MAX_INDEXES) }
+    requires lanes { (0 < length lanes.now) × (length lanes.now ≤ MAX_LANES) }
     requires lines { AllByRecursion (λ lines. AreLinesOf fields.now lines.items) lanes.now }
     ensures ok { IfOk result (λ work. RanTogether sizes.now fields.now (lane_texts lanes.now)
         work.answers.items work.logs.items work.pass) }

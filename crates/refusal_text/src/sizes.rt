@@ -1,9 +1,7 @@
 //! What a setting has to be.
+use map_history::LANE_BLOCKS;
 use script::DEFAULT_SIZES;
 use std::alloc::{AllocError, Global};
-
-/// How many blocks a lane wants; as many are wanted beside the lanes.
-const BLOCKS: usize = 8;
 
 /// What the setting of this name has to be, for so many lanes.
 pub fn wanted(alloc: Global, setting: &str, lanes: usize) -> Result<String, AllocError> {
@@ -30,7 +28,8 @@ pub fn wanted(alloc: Global, setting: &str, lanes: usize) -> Result<String, Allo
 
 fn blocks(alloc: Global, lanes: usize) -> Result<String, AllocError> {
     let there = DEFAULT_SIZES.blocks as usize;
-    let most = (there / BLOCKS).saturating_sub(1);
-    let want = lanes.saturating_add(1).saturating_mul(BLOCKS);
+    let each = LANE_BLOCKS as usize;
+    let most = (there / each).saturating_sub(1);
+    let want = lanes.saturating_add(1).saturating_mul(each);
     format!(in alloc; "{most} lanes want blocks {there} or more; {lanes} want {want}")
 }

@@ -1,4 +1,4 @@
-use Rattle.index_engine.proofs.LeafPlaceLemmas.{deleted_is}
+use Rattle.index_page.proofs.WithoutLemmas.{deleted_is}
 use Rattle.index_engine.proofs.leaf.delete.Goals as goal
 
 pub returns : goal.returns
