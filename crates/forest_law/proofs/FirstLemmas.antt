@@ -1,0 +1,83 @@
+-- What the opening makes are the first objects.
+use Rattle.std.proofs.Common.{◌≡◌, ◌⊎◌, inl, inr, ℕ, ◌+◌, ◌<◌, ◌≤◌, nat_lt, true, false, cond, [], ◌∷◌, List, Some, None, length, get_or, sym, ap, subst, ◌∙◌, arith, refl}
+use Rattle.std.proofs.lemmas.Bool.{cases_lt}
+use Rattle.std.proofs.lemmas.Bool.Decides.{nat_tests}
+use mathlib.Core.Option.{some}
+use mathlib.Core.Option as maybe
+use lib.ListN.{get_elem?}
+use Rattle.list_facts.proofs.Places.{inside, there, reads}
+use Rattle.index_page.specs.Page.{PageRows}
+use Rattle.index_law.specs.Shape.{Shape}
+use Rattle.forest_law.specs.declared.objects.Pool.{Pool}
+use Rattle.forest_law.specs.declared.objects.Where.{Where}
+use Rattle.forest_law.specs.declared.objects.Where.TheVariants.{Free, InFrame}
+use Rattle.forest_law.specs.declared.objects.Object.{Object}
+use Rattle.forest_law.specs.declared.objects.Object.TheVariants as object
+use Rattle.forest_law.specs.Numbers.{frames_of}
+use Rattle.forest_law.specs.State.{where_of, where_at, or_zero, fields_for}
+use Rattle.forest_law.specs.Opening.{empty_page, first_page_in, first_frame, first_tree, first_where, IsFirstPool, AreFirstObjects, AddsEach}
+
+-- a number behind all places is free
+pub where_beyond : (items : List Where) (n : ℕ) → length items ≤ n → where_at items n ≡ Free
+where_beyond items n most = pick (get_elem? items n) refl
+  where
+    pick : (o : maybe.Option Where) → get_elem? items n ≡ o → where_at items n ≡ Free
+    pick maybe.none e = ap where_of e
+    pick (maybe.some x) e = let room = inside items n x e in absurd (omega (arith, room, most))
+
+-- a number that is no index's is free at the opening
+pub first_free : (indexes n : ℕ) → indexes ≤ n → first_where indexes n ≡ Free
+first_free indexes n most = let e : nat_lt n indexes ≡ false = grind (arith, nat_tests) in
+    ap (λ b. cond b (InFrame n) Free) e
+
+-- places that were made one for each page are those of the first pool
+pub first_pool_is : (sh : Shape) (pool : Pool) → sh.indexes ≤ sh.pages
+    → AddsEach [] pool.place.items sh.pages (first_where sh.indexes) → IsFirstPool sh pool
+first_pool_is sh pool room adds = record {
+  counted = count;
+  places = λ n. at n (cases_lt n sh.pages);
+}
+  where
+    count : length pool.place.items ≡ sh.pages
+    count = let c = adds.counted in omega (arith, c)
+
+    at : (n : ℕ) → (n < sh.pages) ⊎ (sh.pages ≤ n)
+        → where_at pool.place.items n ≡ first_where sh.indexes n
+    at n (inl less) = ap where_of
+        (subst (λ k. get_elem? pool.place.items k ≡ some (first_where sh.indexes n))
+        (omega arith) (adds.each n less))
+    at n (inr most) = where_beyond pool.place.items n (omega (arith, count, most))
+        ∙ sym (first_free sh.indexes n (omega (arith, room, most)))
+
+-- the pool, the trees behind it and the frames behind these are the first objects
+pub first_objects_are : (sh : Shape) (pool : Pool) (a b c : List Object)
+    → a ≡ object.Pool pool ∷ [] → IsFirstPool sh pool
+    → AddsEach a b sh.indexes (λ i. object.Tree (first_tree i))
+    → AddsEach b c (frames_of sh) (λ k. object.Frame (first_frame sh k)) → AreFirstObjects sh c
+first_objects_are sh pool a b c is first trees frames = record {
+  counted = (let t = trees.counted in let f = frames.counted in omega (arith, t, f, one));
+  pool = pool;
+  pool_at = frames.kept 0 (object.Pool pool)
+      (trees.kept 0 (object.Pool pool) (ap (λ z. get_elem? z 0) is));
+  pool_is = first;
+  trees = λ i low. frames.kept (1 + i) (object.Tree (first_tree i))
+      (subst (λ n. get_elem? b (n + i) ≡ some (object.Tree (first_tree i))) one
+      (trees.each i low));
+  frames = λ k low. subst (λ n. get_elem? c (n + k) ≡ some (object.Frame (first_frame sh k)))
+      (let t = trees.counted in omega (arith, t, one)) (frames.each k low);
+}
+  where
+    one : length a ≡ 1
+    one = ap length is
+
+-- the empty root of an index, with as many fields as the shape gives it
+pub root_is : (sh : Shape) (b fields : ℕ) (page : PageRows) → b < sh.indexes
+    → length sh.fields ≡ sh.indexes → fields ≡ get_or sh.fields b fields
+    → page ≡ empty_page b fields → Some page ≡ first_page_in sh b
+root_is sh b fields page low count read is =
+    let e : nat_lt b sh.indexes ≡ true = grind (arith, nat_tests) in
+    let at = there sh.fields b (omega (arith, low, count)) in
+    let same : at.0 ≡ fields = sym (read ∙ reads sh.fields b at.0 fields at.1) in
+    ap Some is ∙ (ap (λ z. Some (empty_page b z)) (sym same)
+    ∙ (ap (λ z. Some (empty_page b (or_zero z))) (sym at.1)
+    ∙ sym (ap (λ t. cond t (Some (empty_page b (fields_for sh b))) None) e)))

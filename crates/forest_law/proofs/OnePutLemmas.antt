@@ -1,0 +1,197 @@
+-- A put on the root of a space that was just opened follows, and leads to a lawful state.
+use Rattle.std.proofs.Common.{◌≡◌, ◌≢◌, ◌⊎◌, inl, inr, ℕ, zero, suc, ◌+◌, ◌<◌, [], ◌∷◌, List, length, true, refl, sym, ap, subst, arith, Option, Some}
+use mathlib.Core.Option.{some, some-injective, some-ne-none}
+use lib.ListN.{get_elem?}
+use Rattle.key_tuple.specs.Order.{FieldList}
+use Rattle.key_tuple.specs.KeyPlace.{Start, At, End, within}
+use Rattle.key_tuple.proofs.PlaceLemmas.{before-Start, before-End}
+use Rattle.list_facts.proofs.Places.{none_is_not, same_some}
+use Rattle.map_history.specs.Map.{AreLawful}
+use Rattle.map_history.specs.Report.{Columns}
+use Rattle.map_history.proofs.HistoryLemmas.{lawful-none, lawful-push}
+use Rattle.index_page.specs.Rows.{Bytes, Row, placed_row}
+use Rattle.tree_law.specs.Pages.{Page, first_page}
+use Rattle.index_law.specs.Answers.{MadeChange}
+use Rattle.index_law.specs.Law.{AreLawfulLists}
+use Rattle.index_law.specs.OneRow.{list_with}
+use Rattle.index_law.specs.Shape.{Shape}
+use Rattle.index_law.specs.State.{Entries, changes}
+use Rattle.forest_law.specs.declared.objects.Pool.{Pool}
+use Rattle.forest_law.specs.declared.objects.Object.{Object}
+use Rattle.forest_law.specs.declared.objects.Object.TheVariants as object
+use Rattle.forest_law.specs.State.{fields_for, maps_of}
+use Rattle.forest_law.specs.Objects.{Becomes, IsFrameOf}
+use Rattle.forest_law.specs.Law.{AreLawfulObjects, Follows}
+use Rattle.forest_law.specs.Opening.{first_frame, first_tree, IsFirstPool, AreFirstObjects}
+use Rattle.forest_law.specs.Steps.{InHand, frame_step, Rests, MakeSteps}
+use Rattle.forest_law.specs.RowSteps.{ChangesLeaf}
+use Rattle.forest_law.specs.OnePut.{one_index, put_of, root_before, root_after, frame_in_hand, objects_with, OnePutIsLawful}
+use Rattle.forest_law.proofs.ObjectLemmas.{Stays, Changes, Leads}
+use Rattle.forest_law.proofs.KeepingLemmas.{objects_stay}
+use Rattle.forest_law.proofs.OpeningLemmas.{first_lawful}
+use Rattle.forest_law.proofs.RowStepLemmas.{row_follows}
+
+module _ (key : FieldList) (value : List ℕ) where
+  abbrev sh : Shape
+  sh = one_index (length key)
+
+  abbrev row : Row
+  row = placed_row 0 key (Bytes value)
+
+  abbrev root : Page
+  root = first_page (fields_for sh) 0
+
+  abbrev hand : InHand
+  hand = record { block = 0; old = root_before key; new = root_after key value }
+
+  abbrev before : List (Option Object)
+  before = frame_in_hand (root_before key)
+
+  abbrev news : List (Option Object)
+  news = frame_in_hand (root_after key value)
+
+  -- nothing else is in hand
+  alone : (k : ℕ) (x y : Object) → Becomes before news k x y → k ≢ 2 → Rests x y
+  alone zero x y b isnt = absurd (none_is_not x b.0)
+  alone (suc zero) x y b isnt = absurd (none_is_not x b.0)
+  alone (suc (suc zero)) x y b isnt = absurd (isnt refl)
+  alone (suc (suc (suc k))) x y b isnt = absurd (some-ne-none (Some x) (sym b.0))
+
+  makes : MakeSteps sh before news
+      (frame_step hand 0 root (record root { rows = row ∷ [] }) ∷ []) []
+  makes = record {
+    each = (
+      record {
+        becomes = (refl, refl);
+        had = record { rows = _; paged = refl; number = refl; is = refl };
+        has = record { rows = _; paged = refl; number = refl; is = refl };
+        home = refl;
+        order = record {
+          fields = refl;
+          keys = (refl, tt);
+          low = tt;
+          high = tt;
+          bodies = (refl, tt);
+          places = (tt, tt);
+        };
+      },
+      tt,
+    );
+    tops = tt;
+    others = λ k x y b apart aside. alone k x y b apart.0;
+  }
+
+  module _ (columns : Columns) where
+    abbrev change : ℕ × MadeChange
+    change = (0, put_of key value columns)
+
+    in_all : within Start End (At key) ≡ true
+    in_all = rw (before-Start (At key)) (before-End key)
+
+    put_on_leaf : ChangesLeaf sh before news change
+    put_on_leaf = record {
+      number = 0;
+      hand = hand;
+      page = root;
+      rows = row ∷ [];
+      allows = record { tree = refl; index = refl; leaf = refl; inside = in_all; allowed = refl };
+      changes = inl (record {
+        below = [];
+        row = row;
+        above = [];
+        value = value;
+        is_put = refl;
+        body = refl;
+        was = refl;
+        is = refl;
+        ascend = (tt, tt);
+        clock_stays = refl;
+      });
+      make = makes;
+    }
+
+    put_follows : Follows sh before news (Some change)
+    put_follows = row_follows sh before news change put_on_leaf
+
+    module _ (pool : Pool) (first : IsFirstPool sh pool) where
+      abbrev xs : List Object
+      xs = objects_with pool (root_before key)
+
+      abbrev ys : List Object
+      ys = objects_with pool (root_after key value)
+
+      fate : (k : ℕ) → Stays xs ys before news k ⊎ Changes xs ys before news k
+      fate zero = inl (record { same = refl; free = λ x e. none_is_not x e })
+      fate (suc zero) = inl (record { same = refl; free = λ x e. none_is_not x e })
+      fate (suc (suc zero)) = inr (record {
+        old = object.Frame (root_before key);
+        new = object.Frame (root_after key value);
+        becomes = (refl, refl);
+        was = refl;
+        is = refl;
+      })
+      fate (suc (suc (suc k))) =
+          inl (record { same = refl; free = λ x e. some-ne-none (Some x) (sym e) })
+
+      was : (k : ℕ) (x : Object) → get_elem? before k ≡ some (Some x) → get_elem? xs k ≡ some x
+      was zero x e = absurd (none_is_not x e)
+      was (suc zero) x e = absurd (none_is_not x e)
+      was (suc (suc zero)) x e = ap some (same_some (object.Frame (root_before key)) x
+          (some-injective (Some (object.Frame (root_before key))) (Some x) e))
+      was (suc (suc (suc k))) x e = absurd (some-ne-none (Some x) (sym e))
+
+      is : (k : ℕ) (y : Object) → get_elem? news k ≡ some (Some y) → get_elem? ys k ≡ some y
+      is zero y e = absurd (none_is_not y e)
+      is (suc zero) y e = absurd (none_is_not y e)
+      is (suc (suc zero)) y e = ap some (same_some (object.Frame (root_after key value)) y
+          (some-injective (Some (object.Frame (root_after key value))) (Some y) e))
+      is (suc (suc (suc k))) y e = absurd (some-ne-none (Some y) (sym e))
+
+      leads : Leads xs ys before news
+      leads = record { fate = fate; was = was; is = is }
+
+      tree_at : (i : ℕ) → i < 1 → get_elem? xs (1 + i) ≡ some (object.Tree (first_tree i))
+      tree_at zero low = refl
+      tree_at (suc i) low = absurd (omega (arith, low))
+
+      frame_at : (b : ℕ) → b < 1 → IsFrameOf sh xs b (first_frame sh b)
+      frame_at zero low = refl
+      frame_at (suc b) low = absurd (omega (arith, low))
+
+      firsts : AreFirstObjects sh xs
+      firsts = record {
+        counted = refl;
+        pool = pool;
+        pool_at = refl;
+        pool_is = first;
+        trees = tree_at;
+        frames = frame_at;
+      }
+
+      abbrev old_lists : List Entries
+      old_lists = [] ∷ []
+
+      abbrev new_lists : List Entries
+      new_lists = list_with key value columns ∷ []
+
+      maps_else : (i : ℕ) → i ≢ 0 → maps_of new_lists i ≡ maps_of old_lists i
+      maps_else zero isnt = absurd (isnt refl)
+      maps_else (suc i) isnt = refl
+
+      lists_lawful : AreLawfulLists new_lists
+      lists_lawful zero es e = subst (λ (z : Entries). AreLawful (changes z))
+          (some-injective (list_with key value columns) es e)
+          (lawful-push [] (put_of key value columns).change lawful-none refl)
+      lists_lawful (suc i) es e = absurd (some-ne-none es (sym e))
+
+      objects_lawful : AreLawfulObjects sh ys new_lists
+      objects_lawful = objects_stay sh xs ys before news leads old_lists
+          (first_lawful sh xs (omega arith) firsts refl) new_lists (Some change) put_follows
+          (refl, maps_else) refl refl lists_lawful
+
+pub one_put_is_lawful : OnePutIsLawful
+one_put_is_lawful = record {
+  follows = λ key value columns. put_follows key value columns;
+  lawful = λ pool key value columns latches most passes first.
+      record { objects = objects_lawful key value columns pool first };
+}

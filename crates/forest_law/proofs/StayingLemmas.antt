@@ -1,0 +1,59 @@
+-- What was right stays right while the lists grow.
+use Rattle.std.proofs.Common.{◌≡◌, ℕ, ◌≤◌, ◌++◌, length, take, length-append, sym, ap, subst, ◌∙◌, arith}
+use Rattle.std.proofs.lemmas.List.{length-map}
+use mathlib.Core.List.{map-append}
+use Rattle.latch_law.specs.declared.knows.Entry.{Entry}
+use Rattle.latch_law.specs.Moves.{Away, Next}
+use Rattle.map_history.specs.Map.{slice, map_after}
+use Rattle.map_history.specs.Operation.{Ask}
+use Rattle.map_history.proofs.HistoryLemmas.{map_after-stays}
+use Rattle.index_law.specs.Answers.{MadeChange, Word, Gives, LogFull, SpaceFull, Saying, Replies, Piece, Full, Look}
+use Rattle.index_law.specs.Rightness.{map_at, IsReply, IsAllowed, IsWord, IsSaid}
+use Rattle.index_law.specs.State.{Entries, changes}
+use Rattle.forest_law.specs.State.{ForestState}
+use Rattle.forest_law.specs.Law.{MayFollow}
+use Rattle.forest_law.specs.References.{IsReference, without_objects, IsRightByLists}
+
+module _ (name : ℕ) (w w' : ForestState) (away : Away name w w') (xs ys : Entries) (p : ℕ)
+    (within : p ≤ length xs) where
+  -- the changes of a list that grows are its old ones and the new ones
+  longer : changes (xs ++ ys) ≡ changes xs ++ changes ys
+  longer = map-append (λ (e : Entry MadeChange). e.change.change) xs ys
+
+  -- the point lies within the changes
+  point : p ≤ length (changes xs)
+  point = let same : length (changes xs) ≡ length xs =
+      length-map xs (λ (e : Entry MadeChange). e.change.change) in omega (arith, within, same)
+
+  -- the map at the point stays
+  map_stays : map_at (xs ++ ys) p ≡ map_at xs p
+  map_stays = ap (λ cs. map_after (take p cs)) longer
+      ∙ map_after-stays (changes xs) (changes ys) p point
+
+  -- so a word that was right at the point stays right there
+  word_stays : (ask : Ask) (word : Word) → IsWord (without_objects w) xs p ask word
+      → IsWord (without_objects w') (xs ++ ys) p ask word
+  word_stays ask (Gives reply) so = subst (λ m. IsReply m ask reply) (sym map_stays) so
+  word_stays ask LogFull so =
+      (so.0 ∙ sym away.max_changes, subst (λ m. IsAllowed m ask) (sym map_stays) so.1)
+  word_stays ask SpaceFull so = so
+
+  -- and so does all that is said
+  said_stays : (a : Saying) → IsSaid (without_objects w) xs p a
+      → IsSaid (without_objects w') (xs ++ ys) p a
+  said_stays (Replies ask word bound columns) so = λ speaks. word_stays ask word (so speaks)
+  said_stays (Piece ask low high rows columns) so = so ∙ ap (slice low high) (sym map_stays)
+  said_stays (Full places) so = (so.0 ∙ ap (λ z. z.pages) (sym away.shape), so.1)
+  said_stays Look so = tt
+
+-- a right answer stays right in each state that follows
+pub stay_lemma : (name : ℕ) (w w' : ForestState)
+    → Next IsRightByLists IsReference MayFollow name w w' → (i p : ℕ) (a : Saying)
+    → IsRightByLists w i p a → IsRightByLists w' i p a
+stay_lemma name w w' next i p a right = let away = next.0 in
+    let more = away.grows i right.list right.there in let within = right.point in record {
+      list = right.list ++ more.0;
+      there = more.1;
+      point = omega (arith, within, length-append right.list more.0);
+      said = said_stays name w w' away right.list more.0 p within a right.said;
+    }

@@ -1,0 +1,69 @@
+-- A put on the root of a space that was just opened, and the state that it leads to.
+use Rattle.std.specs.Prelude.{ℕ, Option, Some, None, List, [], ◌∷◌, length}
+use Rattle.key_tuple.specs.Order.{FieldList}
+use Rattle.map_history.specs.Map.{Put}
+use Rattle.map_history.specs.Report.{Columns}
+use Rattle.index_law.specs.Answers.{MadeChange}
+use Rattle.index_law.specs.OneRow.{leaf_with, list_with}
+use Rattle.index_law.specs.Shape.{Shape}
+use Rattle.forest_law.specs.declared.objects.Frame.{Frame}
+use Rattle.forest_law.specs.declared.objects.Pool.{Pool}
+use Rattle.forest_law.specs.declared.objects.Object.{Object}
+use Rattle.forest_law.specs.declared.objects.Object.TheVariants as object
+use Rattle.forest_law.specs.State.{ForestState}
+use Rattle.forest_law.specs.Law.{IsLawful, Follows}
+use Rattle.forest_law.specs.Opening.{new_frame, first_frame, first_tree, IsFirstPool}
+
+-- a space of one index and one page, for keys of so many fields
+abbrev pub one_index : ℕ → Shape
+one_index fields = record {
+  indexes = 1;
+  fields = fields ∷ [];
+  pages = 1;
+  parts = 0;
+  blocks = 1;
+  nodes = 0;
+  fold_bits = 1;
+}
+
+-- the put of a row, with some columns
+abbrev pub put_of : FieldList → List ℕ → Columns → MadeChange
+put_of key value columns = record { change = Put key value; columns = columns }
+
+-- the frame of the root before the put
+abbrev pub root_before : FieldList → Frame
+root_before key = first_frame (one_index (length key)) 0
+
+-- the frame of the root after the put: it has the row, and all else is as before
+abbrev pub root_after : FieldList → List ℕ → Frame
+root_after key value = new_frame (Some (leaf_with key value))
+
+-- of three objects the last is in hand, a frame
+abbrev pub frame_in_hand : Frame → List (Option Object)
+frame_in_hand f = None ∷ None ∷ Some (object.Frame f) ∷ []
+
+-- the pool, the tree of the one index, and a frame
+abbrev pub objects_with : Pool → Frame → List Object
+objects_with pool f = object.Pool pool ∷ object.Tree (first_tree 0) ∷ object.Frame f ∷ []
+
+-- the state after the put
+abbrev pub state_after : Pool → FieldList → List ℕ → Columns → List ℕ → (most passes : ℕ)
+    → ForestState
+state_after pool key value columns latches most passes = record {
+  shape = one_index (length key);
+  objects = objects_with pool (root_after key value);
+  latches = latches;
+  lists = list_with key value columns ∷ [];
+  max_changes = most;
+  passes = passes;
+}
+
+-- the put follows, and the state after it is lawful
+pub record OnePutIsLawful : Type 0 where
+  pub follows : (key : FieldList) (value : List ℕ) (columns : Columns)
+      → Follows (one_index (length key)) (frame_in_hand (root_before key))
+      (frame_in_hand (root_after key value)) (Some (0, put_of key value columns))
+  pub lawful : (pool : Pool) (key : FieldList) (value : List ℕ) (columns : Columns)
+      (latches : List ℕ) (most passes : ℕ)
+      → IsFirstPool (one_index (length key)) pool
+      → IsLawful (state_after pool key value columns latches most passes)

@@ -1,0 +1,82 @@
+-- What a space begins with.
+use Rattle.std.specs.Prelude.{ℕ, ◌≡◌, ◌+◌, ◌<◌, ◌≤◌, nat_lt, if◌then◌else◌, Option, None, Some, List, [], length}
+use mathlib.Core.Option.{some}
+use lib.ListN.{get_elem?}
+use Rattle.latch_law.specs.Opening.{opened}
+use Rattle.index_page.specs.Page.{PageRows}
+use Rattle.index_law.specs.Opening.{root_head}
+use Rattle.index_law.specs.Shape.{Shape}
+use Rattle.learning.specs.Opening.{opening_block}
+use Rattle.forest_law.specs.declared.objects.Frame.{Frame}
+use Rattle.forest_law.specs.declared.objects.Pool.{Pool}
+use Rattle.forest_law.specs.declared.objects.Tree.{Tree}
+use Rattle.forest_law.specs.declared.objects.Where.{Where}
+use Rattle.forest_law.specs.declared.objects.Where.TheVariants.{Free, InFrame}
+use Rattle.forest_law.specs.declared.objects.Object.{Object}
+use Rattle.forest_law.specs.declared.objects.Object.TheVariants as object
+use Rattle.forest_law.specs.Numbers.{pool_id, tree_id, frame_id, frames_of}
+use Rattle.forest_law.specs.State.{where_at, fields_for}
+use Rattle.forest_law.specs.Objects.{IsFrameOf}
+use Rattle.forest_law.specs.Law.{IsLawful}
+
+-- an index's empty first page
+abbrev pub empty_page : ℕ → ℕ → PageRows
+empty_page index fields = record { head = root_head index fields; rows = [] }
+
+-- the page that a block begins with: the empty root of the index of its number, if there is one
+abbrev pub first_page_in : Shape → ℕ → Option PageRows
+first_page_in shape b =
+    if nat_lt b shape.indexes then Some (empty_page b (fields_for shape b)) else None
+
+-- a frame of which nothing is known, with this page, if there is one
+abbrev pub new_frame : Option PageRows → Frame
+new_frame page = record {
+  page = page;
+  low = None;
+  high = None;
+  clock = 0;
+  figures = opening_block;
+  hashed = None;
+}
+
+-- the frame that a block begins with
+abbrev pub first_frame : Shape → ℕ → Frame
+first_frame shape b = new_frame (first_page_in shape b)
+
+-- the tree that an index begins with: its root is a leaf, of the index's number
+abbrev pub first_tree : ℕ → Tree
+first_tree i = record { index = i; root = i; height = 0 }
+
+-- where the page of a number is at the opening: each root in the frame of its number
+abbrev pub first_where : ℕ → ℕ → Where
+first_where indexes n = if nat_lt n indexes then InFrame n else Free
+
+-- the pool as it begins: it has a place for each page
+pub record IsFirstPool (shape : Shape) (pool : Pool) : Type 0 where
+  pub counted : length pool.place.items ≡ shape.pages
+  pub places : (n : ℕ) → where_at pool.place.items n ≡ first_where shape.indexes n
+
+-- the objects are the pool, the trees and the frames as they begin
+pub record AreFirstObjects (shape : Shape) (objects : List Object) : Type 0 where
+  pub counted : length objects ≡ frame_id shape (frames_of shape)
+  pub pool : Pool
+  pub pool_at : get_elem? objects pool_id ≡ some (object.Pool pool)
+  pub pool_is : IsFirstPool shape pool
+  pub trees : (i : ℕ) → i < shape.indexes
+      → get_elem? objects (tree_id i) ≡ some (object.Tree (first_tree i))
+  pub frames : (b : ℕ) → b < frames_of shape → IsFrameOf shape objects b (first_frame shape b)
+
+-- a space that begins with these objects, whatever its other numbers are, begins lawfully, where
+-- there is a page for each index
+abbrev pub ForestsOpenLawfully : Type 0
+ForestsOpenLawfully =
+    (shape : Shape) (objects : List Object) (most passes : ℕ)
+    → length shape.fields ≡ shape.indexes → shape.indexes ≤ shape.pages
+    → AreFirstObjects shape objects
+    → IsLawful (opened shape objects shape.indexes most passes)
+
+-- n items were added behind the old ones, one for each number, by a function of the numbers
+pub record AddsEach {X : Type 0} (old new : List X) (n : ℕ) (made : ℕ → X) : Type 0 where
+  pub counted : length new ≡ length old + n
+  pub kept : (k : ℕ) (x : X) → get_elem? old k ≡ some x → get_elem? new k ≡ some x
+  pub each : (i : ℕ) → i < n → get_elem? new (length old + i) ≡ some (made i)

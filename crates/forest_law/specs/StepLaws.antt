@@ -1,0 +1,37 @@
+-- Which steps of a holder follow.
+use Rattle.std.specs.Prelude.{ℕ, Option, Some, None, List, []}
+use Rattle.index_law.specs.Answers.{MadeChange}
+use Rattle.index_law.specs.Shape.{Shape}
+use Rattle.forest_law.specs.declared.objects.Object.{Object}
+use Rattle.forest_law.specs.Law.{Follows}
+use Rattle.forest_law.specs.Steps.{MakeSteps}
+use Rattle.forest_law.specs.Restructures.{SplitsInHand, MergesInHand, RaisesInHand, LiftsInHand, RearrangesInHand}
+use Rattle.forest_law.specs.RowSteps.{ChangesLeaf}
+use Rattle.forest_law.specs.PoolSteps.{BringsPage, TakesPage}
+
+-- a change of a leaf's row follows, and so does a step in which all is at rest
+pub record RowChangesFollow : Type 0 where
+  pub rest : (shape : Shape) (before news : List (Option Object))
+      → MakeSteps shape before news [] [] → Follows shape before news None
+  pub row : (shape : Shape) (before news : List (Option Object)) (d : ℕ × MadeChange)
+      → ChangesLeaf shape before news d → Follows shape before news (Some d)
+
+-- a split, a merge, a raise, a lift and a page rearranged follow
+pub record RestructuresFollow : Type 0 where
+  pub split : (shape : Shape) (before news : List (Option Object))
+      → SplitsInHand shape before news → Follows shape before news None
+  pub merge : (shape : Shape) (before news : List (Option Object))
+      → MergesInHand shape before news → Follows shape before news None
+  pub raise : (shape : Shape) (before news : List (Option Object))
+      → RaisesInHand shape before news → Follows shape before news None
+  pub lift : (shape : Shape) (before news : List (Option Object))
+      → LiftsInHand shape before news → Follows shape before news None
+  pub rearrange : (shape : Shape) (before news : List (Option Object))
+      → RearrangesInHand shape before news → Follows shape before news None
+
+-- a page outside the trees that comes or goes follows
+pub record PagesComeAndGo : Type 0 where
+  pub brings : (shape : Shape) (before news : List (Option Object))
+      → BringsPage shape before news → Follows shape before news None
+  pub takes : (shape : Shape) (before news : List (Option Object))
+      → TakesPage shape before news → Follows shape before news None

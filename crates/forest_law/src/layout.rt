@@ -1,0 +1,76 @@
+//! How many there are of each, and the numbers of the objects.
+ghost use Rattle.std.specs.Prelude.{◌≡◌, ◌^◌, ◌<◌, ◌+◌, IfOk, length};
+ghost use Rattle.index_law.specs.Shape.{shape_for};
+ghost use Rattle.forest_law.specs.Numbers.{pool_id, tree_id, frame_id};
+
+use key_tuple::NoMemory;
+use map_history::Sizes;
+use std::alloc::Global;
+use std::marker::Model;
+
+/// How many indexes, pages, blocks and partitions there are. It is fixed for good, and it alone knows
+/// which number an object has: the pool first, then the trees, then the frames.
+#[derive(Debug, Drop)]
+pub struct ForestLayout {
+    pub(crate) indexes: u32,
+    pub(crate) fields: Vec<u8>,
+    pub(crate) pages: u32,
+    pub(crate) parts: u32,
+    pub(crate) blocks: u32,
+    pub(crate) nodes: u32,
+    pub(crate) fold_bits: u8,
+}
+
+impl Model for ForestLayout {
+    ghost use Rattle.index_law.specs.Shape.{Shape};
+    ghost use Rattle.forest_law.specs.Numbers.{shape_of_layout};
+    ghost use Rattle.std.specs.Prelude.{◌≡◌, length};
+
+    ghost Value = { Shape };
+
+    ghost view = { shape_of_layout };
+
+    ghost invariant = { λ l. length l.fields.items ≡ l.indexes };
+}
+
+impl ForestLayout {
+    /// The shape of some sizes, for indexes with so many fields each.
+    pub fn try_new(alloc: Global, sizes: &Sizes, fields: &[u8]) -> Result<ForestLayout, NoMemory>
+        requires few { length fields.now < 2 ^ 32 }
+        requires bits { sizes.now.fold_bits < 256 }
+        ensures { IfOk result (λ layout. layout ≡ shape_for sizes.now fields.now) }
+    {
+        Ok(ForestLayout {
+            indexes: fields.len() as u32,
+            fields: Vec::from_slice(alloc, fields)?,
+            pages: sizes.pages,
+            parts: sizes.parts,
+            blocks: sizes.blocks,
+            nodes: sizes.nodes,
+            fold_bits: sizes.fold_bits as u8,
+        })
+    }
+
+    /// The number of the pool.
+    pub fn pool_id(&self) -> u32
+        ensures { result ≡ pool_id }
+    {
+        0
+    }
+
+    /// The number of an index's tree.
+    pub fn tree_id(&self, index: u32) -> u32
+        requires { tree_id index < 2 ^ 32 }
+        ensures { result ≡ tree_id index }
+    {
+        1 + index
+    }
+
+    /// The number of a block's frame.
+    pub fn frame_id(&self, block: u32) -> u32
+        requires { frame_id self.now block < 2 ^ 32 }
+        ensures { result ≡ frame_id self.now block }
+    {
+        1 + self.indexes + block
+    }
+}

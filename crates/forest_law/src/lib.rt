@@ -1,0 +1,20 @@
+//! The law of indexes that are trees of pages in one pool: the objects of their space, which states are
+//! lawful, and which steps may be made. Nothing here searches, and nothing waits.
+#![tactic(auto)]
+
+mod law;
+mod layout;
+mod objects;
+mod opening;
+mod pages;
+mod steps;
+
+pub use law::{
+    answers_stay_right, forests_open_lawfully, latches_play_no_part, references_last,
+    steps_stay_lawful, takes_stay_lawful,
+};
+pub use layout::ForestLayout;
+pub use objects::{Frame, Object, Pool, Tree, Where};
+pub use opening::first_forest;
+pub use pages::{cuts_have_frames, frames_tell_pages, roots_have_cuts};
+pub use steps::{one_put_is_lawful, pages_come_and_go, restructures_follow, row_changes_follow};

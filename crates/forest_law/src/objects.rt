@@ -1,0 +1,73 @@
+//! What lies under a latch.
+use index_page::Page;
+use key_tuple::Key;
+use learning::BlockFigures;
+
+/// A block of the pool: the page that it has, if any, and what is kept of it.
+#[derive(Drop)]
+pub struct Frame {
+    /// The page.
+    pub page: Option<Page>,
+    /// Each key of the page is this one or above it; none for the first page of a level.
+    pub low: Option<Key>,
+    /// Each key of the page is below this one; none for the last page of a level.
+    pub high: Option<Key>,
+    /// How often a row may have left its place, or the page the frame.
+    pub clock: u64,
+    /// How searches would be helped by hashing it, and how it is hashed.
+    pub figures: BlockFigures,
+    /// The index that it is hashed for, if it is.
+    pub hashed: Option<u32>,
+}
+
+impl Frame {
+    ghost use Rattle.std.specs.Prelude.{◌≡◌};
+    ghost use Rattle.clock_law.specs.ModifyClock.{raised};
+
+    /// The clock goes one up, or stays at its last value.
+    pub fn raise_clock(&mut self)
+        ensures { self.new ≡ record self.old { clock = raised self.old.clock } }
+    {
+        self.clock = self.clock.saturating_add(1);
+    }
+}
+
+/// Where a page is.
+#[derive(Debug, Drop, Clone, Copy)]
+pub enum Where {
+    /// No page has the number.
+    Free,
+    /// In a block's frame.
+    InFrame(u32),
+    /// In its image.
+    Image,
+}
+
+/// Where each page is.
+#[derive(Drop)]
+pub struct Pool {
+    /// By the numbers of the pages.
+    pub place: Vec<Where>,
+}
+
+/// The tree of an index.
+#[derive(Debug, Drop, Clone, Copy)]
+pub struct Tree {
+    /// The index.
+    pub index: u32,
+    /// The page that is the root, for good.
+    pub root: u32,
+    /// The level of the root.
+    pub height: u16,
+}
+
+/// An object of the space.
+#[derive(Drop)]
+pub enum Object {
+    /// A block's frame.
+    Frame(Frame),
+    /// The pool.
+    Pool(Pool),
+    /// An index's tree.
+    Tree(Tree),
+}

@@ -1,0 +1,17 @@
+//! Laws of what a pass has in hand.
+ghost use Rattle.forest_world.specs.HandLaws.{HandsMakeSteps, HandsChangeThePool, KnownIsAtRest};
+
+/// What a pass has made of the frames and trees in hand is a step of the law.
+pub fn hands_make_steps()
+    ensures { HandsMakeSteps }
+{}
+
+/// What a pass has made of the pool and of a page's frame in hand is a step of the law.
+pub fn hands_change_the_pool()
+    ensures { HandsChangeThePool }
+{}
+
+/// What is known to be as it is plays no part in a step.
+pub fn known_is_at_rest()
+    ensures { KnownIsAtRest }
+{}
