@@ -1,0 +1,18 @@
+use Rattle.std.proofs.Common.{sym, subst}
+use Rattle.latch_space.specs.Passes.{Lacks}
+use Rattle.latch_space.specs.Takes.{TellsTake}
+use Rattle.forest_law.specs.Law.{IsLawful}
+use Rattle.forest_law.specs.References.{IsReference, IsRightByLists}
+use Rattle.buffer_pool.proofs.FrameLemmas.{tells_frame}
+use Rattle.buffer_pool.proofs.frames.try_frame.Goals as goal
+
+pub try_take-requires-clause-lacks : goal.try_take-requires-clause-lacks
+try_take-requires-clause-lacks c =
+    subst (Lacks c.args.pass.now) (sym c.frame_number-number.ensures) c.requires.lacks
+
+pub returns-clause-did : goal.returns-clause-did
+returns-clause-did c =
+    tells_frame c.args.pass.now c.try_take.new.pass c.args.block c.try_take.result c.requires.there
+    (subst
+    (λ k. TellsTake IsLawful IsRightByLists IsReference c.args.pass.now k c.try_take.result
+    c.try_take.new.pass) c.frame_number-number.ensures c.try_take.ensures.did)

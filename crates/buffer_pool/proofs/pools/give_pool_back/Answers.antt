@@ -1,0 +1,24 @@
+use Rattle.std.proofs.Common.{sym, subst}
+use Rattle.latch_law.specs.declared.knows.Holding.{Holding}
+use Rattle.latch_law.specs.Rule.{Holds}
+use Rattle.latch_law.specs.Views.{holding}
+use Rattle.latch_space.specs.Has.{DidRelease}
+use Rattle.latch_space.specs.Passes.{view, Shows}
+use Rattle.forest_law.specs.declared.objects.Object.{Object}
+use Rattle.forest_law.specs.declared.objects.Object.TheVariants as object
+use Rattle.buffer_pool.proofs.PoolLemmas.{gives_pool}
+use Rattle.buffer_pool.proofs.pools.give_pool_back.Goals as goal
+
+pub release-requires-clause-known : goal.release-requires-clause-known
+release-requires-clause-known c = let p = c.args.pass.now in let h = c.requires.held in
+    subst (λ k. (x : Holding Object) × Holds (view p) k x × Shows p k x.known)
+    (sym c.pool_id.ensures) (holding h.1.held.0 (object.Pool h.0), h.1.held.1, h.1.value)
+
+pub release-requires-clause-rule : goal.release-requires-clause-rule
+release-requires-clause-rule c = λ w law fits. record { objects = law.objects }
+
+pub returns-clause-gave : goal.returns-clause-gave
+returns-clause-gave c = let h = c.requires.held in
+    gives_pool c.args.pass.now c.release.new.pass h.0 h.1
+    (subst (λ k. DidRelease c.args.pass.now k c.release.new.pass) c.pool_id.ensures
+    c.release.ensures.did)

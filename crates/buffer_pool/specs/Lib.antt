@@ -1,0 +1,7 @@
+pub mod Forests
+pub mod Hands
+pub mod Frames
+pub mod Lending
+pub mod Pools
+pub mod Trees
+pub mod Pages

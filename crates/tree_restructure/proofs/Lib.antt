@@ -1,0 +1,10 @@
+pub mod WalkLemmas
+pub mod FieldLemmas
+pub mod HalvesLemmas
+pub mod BehindLemmas
+pub mod FrameLemmas
+pub mod SplitLemmas
+pub mod RaiseLemmas
+pub mod BackLemmas
+pub mod FrameCutLemmas
+pub mod RootLemmas

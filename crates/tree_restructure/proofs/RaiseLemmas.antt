@@ -1,0 +1,154 @@
+-- Frames of a root that rose are a raise of the law.
+use Rattle.std.proofs.Common.{◌≡◌, ℕ, suc, true, false, [], ◌∷◌, List, sym, ap, ◌∙◌, refl, Option, None}
+use Rattle.index_page.specs.declared.head.PageHead.{PageHead}
+use Rattle.tree_law.specs.Pages.{Page, IsOrderly}
+use Rattle.tree_law.specs.PageMoves.{TwoStoreys, full_page}
+use Rattle.index_law.specs.Shape.{Shape}
+use Rattle.forest_law.specs.declared.objects.Frame.{Frame}
+use Rattle.forest_law.specs.declared.objects.Object.{Object}
+use Rattle.forest_law.specs.State.{bound, page_within, fields_for}
+use Rattle.forest_law.specs.Steps.{frame_step, MakesFrameStep, MakeSteps}
+use Rattle.forest_law.specs.Restructures.{raise_steps, RaisesInHand}
+use Rattle.tree_restructure.specs.Raises.{RaisesFrames, RaisesAreInHand}
+use Rattle.tree_restructure.proofs.FrameLemmas.{AreSame, has_page, orderly, fits_too, makes_step, was_orderly, was_own}
+
+module _ (shape : Shape) (before news : List (Option Object))
+    (s : RaisesFrames shape before news) where
+  abbrev root : ℕ
+  root = s.raise.page.head.number
+
+  abbrev under : ℕ
+  under = s.raise.fresh.head.number
+
+  abbrev storeys : TwoStoreys root under
+  storeys = record {
+    level = s.raise.page.head.level;
+    fields = s.raise.page.head.fields;
+    fresh = page_within s.raise.fresh s.below.old.low s.below.old.high;
+    rows = s.raise.page.rows;
+    moved = s.raise.new.rows;
+    pointer = s.raise.raises.one.pointer;
+    under_own = was_own shape before news under true s.below s.under s.raise.fresh
+        s.raise.had_fresh;
+    under_empty = s.raise.blank.empty;
+    same = s.raise.raises.go;
+    pointer_is = (s.raise.raises.one.child_is, s.raise.raises.one.first);
+  }
+
+  abbrev whole : Page
+  whole = full_page root s.raise.page.head.level s.raise.page.head.fields s.raise.page.rows
+
+  abbrev higher : Page
+  higher = full_page root (suc s.raise.page.head.level) s.raise.page.head.fields
+      (s.raise.raises.one.pointer ∷ [])
+
+  abbrev lower : Page
+  lower = full_page root s.raise.page.head.level s.raise.page.head.fields s.raise.new.rows
+
+  old : IsOrderly (fields_for shape) (page_within s.raise.page s.top.old.low s.top.old.high)
+  old = was_orderly shape before news root false s.top s.root s.raise.page s.raise.had
+
+  top_makes : MakesFrameStep shape before news (frame_step s.top root whole higher)
+  top_makes =
+      let r = s.raise in
+      let t = s.top.old in
+      let m = s.top.new in
+      let head = r.raises.head in
+      let low : bound m.low ≡ None = ap (λ (f : Frame). bound f.low) r.root
+      ∙ ap bound s.whole.low in
+      let high : bound m.high ≡ None = ap (λ (f : Frame). bound f.high) r.root
+      ∙ ap bound s.whole.high in
+      let fields : r.top.head.fields ≡ r.page.head.fields =
+      ap (λ (h : PageHead). h.fields) head in
+      let index : r.top.head.index ≡ r.page.head.index = ap (λ (h : PageHead). h.index) head in
+      let same : AreSame r.top m higher = record {
+        index = index ∙ s.whole.index;
+        level = ap (λ (h : PageHead). h.level) head;
+        fields = fields;
+        prev = ap (λ (h : PageHead). h.prev) head;
+        next = ap (λ (h : PageHead). h.next) head;
+        low = low;
+        high = high;
+        rows = r.raises.one.is;
+      } in
+      makes_step shape before news root false s.top s.root whole higher
+      (has_page t root r.page whole r.had refl (record {
+        index = s.whole.index;
+        level = refl;
+        fields = refl;
+        prev = s.whole.prev;
+        next = s.whole.next;
+        low = ap bound s.whole.low;
+        high = ap bound s.whole.high;
+        rows = refl;
+      }))
+      (has_page m root r.top higher r.has (ap (λ (h : PageHead). h.number) head) same)
+      (orderly (fields_for shape) r.top m higher same r.raises.order
+      (fields ∙ old.fields ∙ ap (fields_for shape) (sym index))
+      (fits_too _ _ _ None fields low tt) (fits_too _ _ _ None fields high tt))
+
+  below_makes : MakesFrameStep shape before news (frame_step s.below under storeys.fresh lower)
+  below_makes =
+      let r = s.raise in
+      let b = s.below.old in
+      let m = s.below.new in
+      let head = r.raises.new_head in
+      let low : bound m.low ≡ None = ap (λ (f : Frame). bound f.low) r.under in
+      let high : bound m.high ≡ None = ap (λ (f : Frame). bound f.high) r.under in
+      let fields : r.new.head.fields ≡ r.page.head.fields =
+      ap (λ (h : PageHead). h.fields) head ∙ r.blank.fields in
+      let index : r.new.head.index ≡ r.page.head.index =
+      ap (λ (h : PageHead). h.index) head ∙ r.blank.index in
+      let same : AreSame r.new m lower = record {
+        index = index ∙ s.whole.index;
+        level = ap (λ (h : PageHead). h.level) head ∙ r.blank.level;
+        fields = fields;
+        prev = ap (λ (h : PageHead). h.prev) head;
+        next = ap (λ (h : PageHead). h.next) head;
+        low = low;
+        high = high;
+        rows = refl;
+      } in
+      makes_step shape before news under true s.below s.under storeys.fresh lower
+      (has_page b under r.fresh storeys.fresh r.had_fresh refl (record {
+        index = refl;
+        level = refl;
+        fields = refl;
+        prev = refl;
+        next = refl;
+        low = refl;
+        high = refl;
+        rows = refl;
+      }))
+      (has_page m under r.new lower r.has_new (ap (λ (h : PageHead). h.number) head) same)
+      (orderly (fields_for shape) r.new m lower same r.raises.new_order
+      (fields ∙ old.fields ∙ ap (fields_for shape) (sym index))
+      (fits_too _ _ _ None fields low tt) (fits_too _ _ _ None fields high tt))
+
+  makes : MakeSteps shape before news (raise_steps root under storeys s.top s.below)
+      (s.tree ∷ [])
+  makes = record {
+    each = (top_makes, (below_makes, tt));
+    tops = (s.grows, tt);
+    others = λ k x y b apart aside. s.others k x y b (apart.0, (apart.1.0, (aside.0, tt)));
+  }
+
+  pub raise_in_hand : RaisesInHand shape before news
+  raise_in_hand = record {
+    root = root;
+    under = under;
+    storeys = storeys;
+    moves = record {
+      top = s.top;
+      below = s.below;
+      tree = s.tree;
+      index = s.index;
+      make = makes;
+      top_rises = s.raise.rises;
+      below_rises = s.raise.under_rises;
+    };
+    height = s.height;
+  }
+
+pub raises_are_in_hand : RaisesAreInHand
+raises_are_in_hand = raise_in_hand

@@ -1,0 +1,345 @@
+-- Frames that were split are a split of the law.
+use Rattle.std.proofs.Common.{◌≡◌, ◌≢◌, ℕ, true, false, [], ◌∷◌, List, sym, ap, subst, ◌∙◌, refl, arith, length, Option, Some, None}
+use Rattle.std.proofs.lemmas.Bool.{ne_eqb}
+use Rattle.std.specs.List.{AllByRecursion}
+use Rattle.key_tuple.specs.Order.{FieldList}
+use Rattle.index_page.specs.declared.head.PageHead.{PageHead}
+use Rattle.index_page.specs.Page.{IsRowOf}
+use Rattle.index_page.specs.Rows.{Row}
+use Rattle.tree_law.specs.Pages.{Page, is_own, IsOrderly}
+use Rattle.tree_law.specs.PageMoves.{TwoHalves, SplitsPage, BeginsAt, whole_page, left_page, right_page}
+use Rattle.index_law.specs.Shape.{Shape}
+use Rattle.forest_law.specs.declared.objects.Frame.{Frame}
+use Rattle.forest_law.specs.declared.objects.Object.{Object}
+use Rattle.forest_law.specs.State.{bound, page_within, fields_for}
+use Rattle.forest_law.specs.Steps.{InHand, ClockStands, MakesFrameStep, IsNoFrameOf, MakeSteps}
+use Rattle.forest_law.specs.Restructures.{up_before, up_after, beyond_steps, split_steps, SplitsInHand}
+use Rattle.tree_restructure.specs.Links.{RelinksNext}
+use Rattle.tree_restructure.specs.Parts.{frame_ids}
+use Rattle.tree_restructure.specs.Splits.{NextTakesPart, next_hands, SplitsFrames, SplitsAreInHand}
+use Rattle.tree_restructure.proofs.FrameLemmas.{AreSame, has_page, orderly, fits_too, makes_step, was_orderly, was_own}
+
+-- the key at which rows begin has as many fields as the page's keys
+first_fields : (head : PageHead) (at : FieldList) (rows : List Row) → BeginsAt at rows
+    → AllByRecursion (IsRowOf head) rows → length at ≡ head.fields
+first_fields head at [] b a = absurd b
+first_fields head at (x ∷ xs) b a = ap length (sym b) ∙ a.0.fields
+
+-- the page behind, where there is one
+module _ (shape : Shape) (before news : List (Option Object)) (right : ℕ) (hand : InHand) where
+  abbrev beyond_page : Page → (o : Option ℕ) → RelinksNext right o hand.old hand.new → Page
+  beyond_page none None x = none
+  beyond_page none (Some n) x = page_within x.0.page hand.old.low hand.old.high
+
+  abbrev beyond_prev : (o : Option ℕ) → RelinksNext right o hand.old hand.new → Option ℕ
+  beyond_prev None x = None
+  beyond_prev (Some n) x = x.0.page.head.prev
+
+  beyond_tree : (o : Option ℕ) (x : RelinksNext right o hand.old hand.new)
+      → NextTakesPart shape before news o hand → o ≢ Some right → (n : ℕ) → o ≡ Some n
+      → (is_own n (beyond_prev o x) ≡ false) × (is_own n (Some right) ≡ false)
+  beyond_tree None x part apart n e = absurd cc
+  beyond_tree (Some m) x part apart n e = let same : m ≡ n = cc in (
+    subst (λ k. is_own k x.0.page.head.prev ≡ false) same
+        (was_own shape before news m false hand part x.0.page x.0.had),
+    ne_eqb right n (λ q. apart (ap Some (same ∙ sym q))),
+  )
+
+  beyond_stands : (o : Option ℕ) → RelinksNext right o hand.old hand.new → ClockStands hand
+  beyond_stands None x = omega (arith, ap (λ (f : Frame). f.clock) x)
+  beyond_stands (Some n) x = omega (arith, ap (λ (f : Frame). f.clock) x.0.kept)
+
+  beyond_makes : (none : Page) (o : Option ℕ) (x : RelinksNext right o hand.old hand.new)
+      → NextTakesPart shape before news o hand
+      → AllByRecursion (MakesFrameStep shape before news)
+      (beyond_steps o hand (beyond_page none o x) (beyond_prev o x) (Some right))
+  beyond_makes none None x part = tt
+  beyond_makes none (Some n) x part =
+      let r = x.0 in
+      let old = was_orderly shape before news n false hand part r.page r.had in
+      let low : bound hand.new.low ≡ bound hand.old.low =
+      ap (λ (f : Frame). bound f.low) r.kept in
+      let high : bound hand.new.high ≡ bound hand.old.high =
+      ap (λ (f : Frame). bound f.high) r.kept in
+      let fields : r.new.head.fields ≡ r.page.head.fields =
+      ap (λ (h : PageHead). h.fields) r.head in
+      let index : r.new.head.index ≡ r.page.head.index =
+      ap (λ (h : PageHead). h.index) r.head in
+      let was = page_within r.page hand.old.low hand.old.high in
+      let is : Page = record was { prev = Some right } in
+      let same : AreSame r.new hand.new is = record {
+        index = index;
+        level = ap (λ (h : PageHead). h.level) r.head;
+        fields = fields;
+        prev = ap (λ (h : PageHead). h.prev) r.head;
+        next = ap (λ (h : PageHead). h.next) r.head;
+        low = low;
+        high = high;
+        rows = r.rows;
+      } in (
+        makes_step shape before news n false hand part was is
+            (has_page hand.old n r.page was r.had x.1 (record {
+              index = refl;
+              level = refl;
+              fields = refl;
+              prev = refl;
+              next = refl;
+              low = refl;
+              high = refl;
+              rows = refl;
+            }))
+            (has_page hand.new n r.new is (ap (λ (f : Frame). f.page) r.kept)
+            (ap (λ (h : PageHead). h.number) r.head ∙ x.1) same)
+            (orderly (fields_for shape) r.new hand.new is same r.order
+            (fields ∙ old.fields ∙ ap (fields_for shape) (sym index))
+            (fits_too _ _ _ _ fields low old.low) (fits_too _ _ _ _ fields high old.high)),
+        tt,
+      )
+
+  beyond_apart : (page : Page) (q r : Option ℕ) (k : ℕ) (o : Option ℕ)
+      → IsNoFrameOf shape k (beyond_steps o hand page q r)
+      → AllByRecursion (λ (j : ℕ). k ≢ j) (frame_ids shape (next_hands o hand))
+  beyond_apart page q r k None a = tt
+  beyond_apart page q r k (Some n) a = (a.0, tt)
+
+module _ (shape : Shape) (before news : List (Option Object))
+    (s : SplitsFrames shape before news) where
+  abbrev left : ℕ
+  left = s.cut.page.head.number
+
+  abbrev right : ℕ
+  right = s.cut.fresh.head.number
+
+  abbrev parent : ℕ
+  parent = s.pointer.page.head.number
+
+  abbrev next : Option ℕ
+  next = s.cut.page.head.next
+
+  abbrev whole : Page
+  whole = page_within s.cut.page s.hands.left.old.low s.hands.left.old.high
+
+  abbrev halves : TwoHalves left right parent
+  halves = record {
+    page = whole;
+    fresh = page_within s.cut.fresh s.hands.right.old.low s.hands.right.old.high;
+    up = page_within s.pointer.page s.hands.up.old.low s.hands.up.old.high;
+    beyond = beyond_page shape before news right s.hands.beyond whole next s.links;
+    whole_prev = beyond_prev shape before news right s.hands.beyond next s.links;
+    cut_prev = Some right;
+    at = s.at;
+    lower = s.cut.cuts.lower;
+    upper = s.cut.cuts.upper;
+    moved = s.cut.new.rows;
+    fore = s.pointer.fore;
+    this = s.pointer.this;
+    new = s.pointer.pointer;
+    aft = s.pointer.aft;
+    left_tree = was_own shape before news left false s.hands.left s.left s.cut.page s.cut.had;
+    right_own = was_own shape before news right true s.hands.right s.right s.cut.fresh
+        s.cut.had_fresh;
+    right_empty = s.cut.blank.empty;
+    up_tree = was_own shape before news parent false s.hands.up s.up s.pointer.page s.pointer.had;
+    beyond_tree = beyond_tree shape before news right s.hands.beyond next s.links s.beyond s.apart;
+    same = s.cut.cuts.go;
+    this_is = s.pointer.this_is;
+    new_is = s.pointer.pointer_is;
+  }
+
+  abbrev splits : SplitsPage left right parent
+  splits = record {
+    halves = halves;
+    stays = λ e. (let some = s.cut.cuts.halves.some_left in
+        let none : length s.cut.cuts.lower ≡ 0 = ap length e in omega arith);
+    cuts = s.cut.cuts.begins;
+    key = s.pointer.key_is;
+    names = refl;
+  }
+
+  -- the new key has as many fields as the others
+  at_fields : length s.at ≡ s.cut.page.head.fields
+  at_fields = first_fields s.cut.new.head s.at s.cut.new.rows s.cut.cuts.begins
+      s.cut.cuts.new_order.each ∙ ap (λ (h : PageHead). h.fields) s.cut.cuts.new_head
+      ∙ s.cut.blank.fields
+
+  left_old : IsOrderly (fields_for shape) whole
+  left_old = was_orderly shape before news left false s.hands.left s.left s.cut.page s.cut.had
+
+  left_makes : MakesFrameStep shape before news
+      (record {
+        hand = s.hands.left;
+        number = left;
+        was = whole_page left right parent halves;
+        is = left_page left right parent halves;
+      })
+  left_makes =
+      let c = s.cut in
+      let l = s.hands.left.old in
+      let m = s.hands.left.new in
+      let head = c.cuts.head in
+      let low : bound m.low ≡ bound l.low = ap (λ (f : Frame). bound f.low) c.left in
+      let fields : c.stays.head.fields ≡ c.page.head.fields =
+      ap (λ (h : PageHead). h.fields) head in
+      let index : c.stays.head.index ≡ c.page.head.index = ap (λ (h : PageHead). h.index) head in
+      let same : AreSame c.stays m (left_page left right parent halves) = record {
+        index = index;
+        level = ap (λ (h : PageHead). h.level) head;
+        fields = fields;
+        prev = ap (λ (h : PageHead). h.prev) head;
+        next = ap (λ (h : PageHead). h.next) head;
+        low = low;
+        high = c.ends;
+        rows = c.cuts.stay;
+      } in
+      makes_step shape before news left false s.hands.left s.left
+      (whole_page left right parent halves) (left_page left right parent halves)
+      (has_page l left c.page (whole_page left right parent halves) c.had refl (record {
+        index = refl;
+        level = refl;
+        fields = refl;
+        prev = refl;
+        next = refl;
+        low = refl;
+        high = refl;
+        rows = c.cuts.was;
+      }))
+      (has_page m left c.stays (left_page left right parent halves) c.has
+      (ap (λ (h : PageHead). h.number) head) same)
+      (orderly (fields_for shape) c.stays m (left_page left right parent halves) same c.cuts.order
+      (fields ∙ left_old.fields ∙ ap (fields_for shape) (sym index))
+      (fits_too _ _ _ _ fields low left_old.low)
+      (fits_too _ _ _ (Some s.at) fields c.ends at_fields))
+
+  right_makes : MakesFrameStep shape before news
+      (record {
+        hand = s.hands.right;
+        number = right;
+        was = halves.fresh;
+        is = right_page left right parent halves;
+      })
+  right_makes =
+      let c = s.cut in
+      let r = s.hands.right.old in
+      let m = s.hands.right.new in
+      let head = c.cuts.new_head in
+      let high : bound m.high ≡ bound s.hands.left.old.high = ap bound c.reaches in
+      let fields : c.new.head.fields ≡ c.page.head.fields =
+      ap (λ (h : PageHead). h.fields) head ∙ c.blank.fields in
+      let index : c.new.head.index ≡ c.page.head.index =
+      ap (λ (h : PageHead). h.index) head ∙ c.blank.index in
+      let same : AreSame c.new m (right_page left right parent halves) = record {
+        index = index;
+        level = ap (λ (h : PageHead). h.level) head ∙ c.blank.level;
+        fields = fields;
+        prev = ap (λ (h : PageHead). h.prev) head;
+        next = ap (λ (h : PageHead). h.next) head;
+        low = c.begins;
+        high = high;
+        rows = refl;
+      } in
+      makes_step shape before news right true s.hands.right s.right halves.fresh
+      (right_page left right parent halves) (has_page r right c.fresh halves.fresh c.had_fresh refl (record {
+        index = refl;
+        level = refl;
+        fields = refl;
+        prev = refl;
+        next = refl;
+        low = refl;
+        high = refl;
+        rows = refl;
+      }))
+      (has_page m right c.new (right_page left right parent halves) c.has_new
+      (ap (λ (h : PageHead). h.number) head) same)
+      (orderly (fields_for shape) c.new m (right_page left right parent halves) same
+      c.cuts.new_order
+      (fields ∙ left_old.fields ∙ ap (fields_for shape) (sym index))
+      (fits_too _ _ _ (Some s.at) fields c.begins at_fields)
+      (fits_too _ _ _ _ fields high left_old.high))
+
+  up_makes : MakesFrameStep shape before news
+      (record {
+        hand = s.hands.up;
+        number = parent;
+        was = up_before left right parent halves;
+        is = up_after left right parent halves;
+      })
+  up_makes =
+      let p = s.pointer in
+      let u = s.hands.up.old in
+      let m = s.hands.up.new in
+      let old = was_orderly shape before news parent false s.hands.up s.up p.page p.had in
+      let low : bound m.low ≡ bound u.low = ap (λ (f : Frame). bound f.low) p.kept in
+      let high : bound m.high ≡ bound u.high = ap (λ (f : Frame). bound f.high) p.kept in
+      let fields : p.new.head.fields ≡ p.page.head.fields =
+      ap (λ (h : PageHead). h.fields) p.head in
+      let index : p.new.head.index ≡ p.page.head.index = ap (λ (h : PageHead). h.index) p.head in
+      let same : AreSame p.new m (up_after left right parent halves) = record {
+        index = index;
+        level = ap (λ (h : PageHead). h.level) p.head;
+        fields = fields;
+        prev = ap (λ (h : PageHead). h.prev) p.head;
+        next = ap (λ (h : PageHead). h.next) p.head;
+        low = low;
+        high = high;
+        rows = p.is;
+      } in
+      makes_step shape before news parent false s.hands.up s.up
+      (up_before left right parent halves) (up_after left right parent halves)
+      (has_page u parent p.page (up_before left right parent halves) p.had refl (record {
+        index = refl;
+        level = refl;
+        fields = refl;
+        prev = refl;
+        next = refl;
+        low = refl;
+        high = refl;
+        rows = p.was;
+      }))
+      (has_page m parent p.new (up_after left right parent halves)
+      (ap (λ (f : Frame). f.page) p.kept) (ap (λ (h : PageHead). h.number) p.head) same)
+      (orderly (fields_for shape) p.new m (up_after left right parent halves) same p.order
+      (fields ∙ old.fields ∙ ap (fields_for shape) (sym index))
+      (fits_too _ _ _ _ fields low old.low) (fits_too _ _ _ _ fields high old.high))
+
+  makes : MakeSteps shape before news (split_steps left right parent halves s.hands) []
+  makes = record {
+    each = (
+      left_makes,
+      (
+        right_makes,
+        (
+          up_makes,
+          beyond_makes shape before news right s.hands.beyond whole next s.links s.beyond,
+        ),
+      ),
+    );
+    tops = tt;
+    others = λ k x y b apart aside. s.others k x y b (
+      apart.0,
+      (
+        apart.1.0,
+        (
+          apart.1.1.0,
+          beyond_apart shape before news right s.hands.beyond halves.beyond halves.whole_prev
+              (Some right) k next apart.1.1.1,
+        ),
+      ),
+    );
+  }
+
+  pub split_in_hand : SplitsInHand shape before news
+  split_in_hand = record {
+    left = left;
+    right = right;
+    parent = parent;
+    split = splits;
+    hands = s.hands;
+    make = makes;
+    left_rises = s.cut.rises;
+    right_rises = s.cut.right_rises;
+    up_stands = omega (arith, ap (λ (f : Frame). f.clock) s.pointer.kept);
+    beyond_stands = beyond_stands shape before news right s.hands.beyond next s.links;
+  }
+
+pub splits_are_in_hand : SplitsAreInHand
+splits_are_in_hand = split_in_hand
