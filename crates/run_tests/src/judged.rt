@@ -1,8 +1,7 @@
 //! Drawn lanes through the program, judged by the naive reading.
-use crate::drawn::{lane_texts, schema_text};
-use crate::judge::judge;
-use crate::setup::{ROOMY, run, slices_of};
+use crate::setup::{ROOMY, run};
 use ahi_cli::Status;
+use report_judge::{judge, lane_texts, schema_text, slices_of};
 use std::sync::Wait;
 use std::thread::Threads;
 
@@ -15,9 +14,9 @@ fn legal_report<R: AllocGlobal + Threads + Wait + Sync>(
     schema: &str,
     lanes: &[String],
 ) -> Option<Vec<u8>> {
-    let texts = slices_of(rt.alloc(), lanes)?;
+    let texts = slices_of(rt.alloc(), lanes).ok()?;
     let (status, sink) = run(rt, schema, &texts, ROOMY)?;
-    if status != Status::Done || judge(rt.alloc(), schema, lanes, sink.written()) != Ok(()) {
+    if status != Status::Done || judge(rt.alloc(), schema, &texts, sink.written()) != Ok(()) {
         return None;
     }
     sink.written().to_vec(rt.alloc()).ok()

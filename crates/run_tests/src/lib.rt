@@ -1,4 +1,4 @@
-//! Tests of the top call, and a naive judge of reports, which knows nothing of the program.
+//! Tests of the top call.
 #![tactic(auto)]
 
 #[cfg(test)]
@@ -6,9 +6,9 @@ mod drawn;
 #[cfg(test)]
 mod generated;
 #[cfg(test)]
-mod judge;
-#[cfg(test)]
 mod judged;
+#[cfg(test)]
+mod judging;
 #[cfg(test)]
 mod limits;
 #[cfg(test)]

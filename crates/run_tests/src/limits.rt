@@ -1,8 +1,8 @@
 //! How long files, keys, values and lanes may be.
-use crate::judge::judge;
 use crate::reported::{is_reported, report_of};
 use crate::setup::{PLAIN, ROOMY, SCHEMA, ends, run};
 use ahi_cli::Status;
+use report_judge::judge;
 use std::alloc::Global;
 use std::sync::Wait;
 use std::thread::Threads;
@@ -130,8 +130,7 @@ fn is_legal_in_turns<R: AllocGlobal + Threads + Wait + Sync>(rt: &R, pairs: u32)
     };
     match run(rt, SCHEMA, &[lane.as_str()], ROOMY) {
         Some((Status::Done, sink)) => {
-            let lanes = [lane];
-            judge(alloc, SCHEMA, &lanes, sink.written()) == Ok(())
+            judge(alloc, SCHEMA, &[lane.as_str()], sink.written()) == Ok(())
         }
         _ => false,
     }

@@ -1,6 +1,6 @@
 //! A naive reading of one lane over plain maps, which knows nothing of the crates' maps, parsers or
 //! printing.
-use crate::drawn::draw;
+use report_judge::draw;
 use std::alloc::{AllocError, Global};
 use std::collections::BTreeMap;
 

@@ -124,15 +124,6 @@ pub(crate) fn strings(alloc: Global, texts: &[&str]) -> Option<Vec<String>> {
     Some(strings)
 }
 
-/// The texts as slices.
-pub(crate) fn slices_of<'a>(alloc: Global, texts: &'a [String]) -> Option<Vec<&'a str>> {
-    let mut slices = Vec::new(alloc);
-    for text in texts {
-        slices.push(text.as_str()).ok()?;
-    }
-    Some(slices)
-}
-
 /// The name of the lane at this place.
 fn lane_name(alloc: Global, place: usize) -> Option<String> {
     format!(in alloc; "l{}", place.wrapping_add(1)).ok()

@@ -1,16 +1,16 @@
 //! What a report tells, read line by line against what was asked.
-use crate::judge::Lie;
-use crate::judge::asked::{Act, Index, Line};
-use crate::judge::words::{Reader, number_of, words_of};
+use crate::asked::{Act, Index, Line};
+use crate::judging::Lie;
+use crate::words::{Reader, number_of, words_of};
 use std::alloc::Global;
 
 /// What a line of statistics says after the name.
-pub(super) const COUNTS: &str =
+pub const COUNTS: &str =
     "hit 0 off 0 cold 0 short 0 part-busy 0 no-entry 0 block-busy 0 clock 0 unequal 0 by-clock 0 by-busy 0 by-moved 0 by-last 0 built 0 same 0 arena 0 raced 0 worn 0";
 
 /// What a line was told.
 #[derive(Clone, Copy, PartialEq, Eq)]
-pub(super) enum Said<'a> {
+pub(crate) enum Said<'a> {
     Done,
     Found(&'a str),
     Absent,
@@ -20,29 +20,29 @@ pub(super) enum Said<'a> {
 
 /// The answer to a line. The point of `log-full` is its count.
 #[derive(Clone, Copy)]
-pub(super) struct Answer<'a> {
-    pub(super) line: Line<'a>,
-    pub(super) said: Said<'a>,
-    pub(super) point: u64,
+pub(crate) struct Answer<'a> {
+    pub(crate) line: Line<'a>,
+    pub(crate) said: Said<'a>,
+    pub(crate) point: u64,
 }
 
 /// A change, with the lane and the line that it names.
 #[derive(Clone, Copy)]
-pub(super) struct Change<'a> {
-    pub(super) lane: u64,
-    pub(super) line: u64,
-    pub(super) act: Act<'a>,
-    pub(super) key: &'a str,
+pub(crate) struct Change<'a> {
+    pub(crate) lane: u64,
+    pub(crate) line: u64,
+    pub(crate) act: Act<'a>,
+    pub(crate) key: &'a str,
 }
 
 /// The answers of each lane and the changes of each index.
 #[derive(Drop)]
-pub(super) struct Report<'a> {
-    pub(super) lanes: Vec<Vec<Answer<'a>>>,
-    pub(super) lists: Vec<Vec<Change<'a>>>,
+pub(crate) struct Report<'a> {
+    pub(crate) lanes: Vec<Vec<Answer<'a>>>,
+    pub(crate) lists: Vec<Vec<Change<'a>>>,
 }
 
-pub(super) fn read_report<'a>(
+pub(crate) fn read_report<'a>(
     alloc: Global,
     indexes: &[Index<'_>],
     asked: &[Vec<Line<'a>>],

@@ -1,29 +1,19 @@
 //! A naive reading of what a legal report is. It takes texts and knows nothing of the program: no
 //! parser, no map and no printing of its crates. Keys and values have to be plain, without escapes.
-mod asked;
-mod by_hand;
-mod dealt;
-mod forms;
-mod full;
-mod history;
-mod lies;
-mod told;
-mod verdict;
-mod words;
 
-use asked::{Index, Line, read_lane, read_schema};
-use history::History;
+use crate::asked::{Index, Line, read_lane, read_schema};
+use crate::history::History;
+use crate::told::{Change, Report, read_report};
+use crate::verdict::{Evidence, check_changes};
 use std::alloc::{AllocError, AllocFailed, Global};
 use std::str;
-use told::{Change, Report, read_report};
-use verdict::{Evidence, check_changes};
 
 /// How many changes an index may have.
-pub(crate) const MOST_CHANGES: u64 = 1_000_000;
+pub const MOST_CHANGES: u64 = 1_000_000;
 
 /// Why a report isn't legal. Lines, lanes and changes are counted from 1, indexes from 0.
 #[derive(Clone, Copy, PartialEq, Eq, Debug)]
-pub(crate) enum Lie {
+pub enum Lie {
     /// Memory lacked, and nothing is said of the report.
     NoMemory,
     /// The schema, which is file 0, or a lane has a line that this reading can't read.
@@ -54,22 +44,17 @@ impl<T: Drop> From<AllocFailed<T>> for Lie {
 
 /// Whether these bytes are a legal report of the lanes, numbered from 1 in their order. An index may
 /// have 1,000,000 changes.
-pub(crate) fn judge(
-    alloc: Global,
-    schema: &str,
-    lanes: &[String],
-    report: &[u8],
-) -> Result<(), Lie> {
+pub fn judge(alloc: Global, schema: &str, lanes: &[&str], report: &[u8]) -> Result<(), Lie> {
     judge_within(alloc, MOST_CHANGES, schema, lanes, report)
 }
 
 /// The same where an index may have this many changes.
-pub(crate) fn judge_within(
+pub fn judge_within<'a>(
     alloc: Global,
     most_changes: u64,
     schema: &str,
-    lanes: &[String],
-    report: &[u8],
+    lanes: &[&'a str],
+    report: &'a [u8],
 ) -> Result<(), Lie> {
     let Ok(text) = str::from_utf8(report) else {
         return Err(Lie::Form { line: 0 });
@@ -82,10 +67,11 @@ pub(crate) fn judge_within(
     check_lanes(alloc, most_changes, &told, &histories)
 }
 
-fn read_lanes<'a>(
+/// The lines of each lane that say something.
+pub fn read_lanes<'a>(
     alloc: Global,
     indexes: &[Index<'_>],
-    lanes: &'a [String],
+    lanes: &[&'a str],
 ) -> Result<Vec<Vec<Line<'a>>>, Lie> {
     let mut asked = Vec::new(alloc);
     for (place, text) in lanes.iter().enumerate() {

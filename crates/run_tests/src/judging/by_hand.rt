@@ -1,7 +1,5 @@
 //! A report of two lanes, written by hand.
-use crate::judge::told::COUNTS;
-use crate::judge::{Lie, judge};
-use crate::setup::strings;
+use report_judge::{COUNTS, Lie, judge};
 use std::alloc::Global;
 
 /// Texts, and what is to stand in their place.
@@ -9,7 +7,7 @@ pub(super) type Edits = &'static [(&'static str, &'static str)];
 
 pub(super) const SCHEMA: &str = "# two indexes\nindex t 1\nindex u 2\n";
 
-pub(super) const LANES: [&str; 2] = [
+const LANES: [&str; 2] = [
     "# says nothing\nput t a x\nget t a\n\ndel t a\nput t a y\nget t b\nput u a,b x\n",
     "put t a z\ndel t a\nput t b w\nget t a\nget u a,b\ndel u a,b",
 ];
@@ -43,9 +41,8 @@ fn edited(alloc: Global, edits: &[(&str, &str)]) -> Option<String> {
 
 /// How the report of the lanes is judged with these edits made.
 pub(super) fn judge_edited(alloc: Global, edits: &[(&str, &str)]) -> Option<Result<(), Lie>> {
-    let lanes = strings(alloc, &LANES)?;
     let report = edited(alloc, edits)?;
-    Some(judge(alloc, SCHEMA, &lanes, report.as_bytes()))
+    Some(judge(alloc, SCHEMA, &LANES, report.as_bytes()))
 }
 
 #[test]

@@ -1,7 +1,6 @@
 //! Texts that aren't reports, and lanes that this reading can't read.
-use crate::judge::by_hand::{Edits, SCHEMA, judge_edited};
-use crate::judge::{Lie, judge};
-use crate::setup::strings;
+use crate::judging::by_hand::{Edits, SCHEMA, judge_edited};
+use report_judge::{Lie, judge};
 use std::alloc::Global;
 
 /// Edits of the report, and the line that isn't in its form then.
@@ -38,15 +37,14 @@ fn a_report_has_its_form(rt: HostRuntime) {
 }
 
 /// How some bytes are judged as the report of one lane.
-fn judge_bytes(alloc: Global, schema: &str, lane: &str, report: &[u8]) -> Option<Result<(), Lie>> {
-    let lanes = strings(alloc, &[lane])?;
-    Some(judge(alloc, schema, &lanes, report))
+fn judge_bytes(alloc: Global, schema: &str, lane: &str, report: &[u8]) -> Result<(), Lie> {
+    judge(alloc, schema, &[lane], report)
 }
 
 #[test]
 fn a_report_is_text(rt: HostRuntime) {
     let judged = judge_bytes(rt.alloc(), SCHEMA, "", b"ahi run\xff\n");
-    assert_eq!(rt; judged, Some(Err(Lie::Form { line: 0 })));
+    assert_eq!(rt; judged, Err(Lie::Form { line: 0 }));
 }
 
 /// A schema and a lane that can't be read, and the file and the line of what isn't plain.
@@ -67,7 +65,7 @@ fn other_asked(alloc: Global) -> Option<usize> {
             file: *file,
             line: *line,
         };
-        if judge_bytes(alloc, schema, lane, b"") != Some(Err(lie)) {
+        if judge_bytes(alloc, schema, lane, b"") != Err(lie) {
             return Some(place);
         }
     }

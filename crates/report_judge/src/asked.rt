@@ -1,18 +1,18 @@
 //! What a schema and its lanes ask.
-use crate::judge::Lie;
-use crate::judge::words::{number_of, words_of};
+use crate::judging::Lie;
+use crate::words::{number_of, words_of};
 use std::alloc::Global;
 
 /// An index: its name, and how many fields its keys have.
 #[derive(Clone, Copy)]
-pub(super) struct Index<'a> {
-    pub(super) name: &'a str,
-    pub(super) fields: u64,
+pub struct Index<'a> {
+    pub name: &'a str,
+    pub fields: u64,
 }
 
 /// What is asked of a key.
 #[derive(Clone, Copy, PartialEq, Eq)]
-pub(super) enum Act<'a> {
+pub enum Act<'a> {
     Get,
     Put(&'a str),
     Del,
@@ -20,14 +20,15 @@ pub(super) enum Act<'a> {
 
 /// A line that says something, by its number in its file.
 #[derive(Clone, Copy)]
-pub(super) struct Line<'a> {
-    pub(super) number: u64,
-    pub(super) index: usize,
-    pub(super) act: Act<'a>,
-    pub(super) key: &'a str,
+pub struct Line<'a> {
+    pub number: u64,
+    pub index: usize,
+    pub act: Act<'a>,
+    pub key: &'a str,
 }
 
-pub(super) fn read_schema<'a>(alloc: Global, text: &'a str) -> Result<Vec<Index<'a>>, Lie> {
+/// The indexes of a schema, in their order.
+pub fn read_schema<'a>(alloc: Global, text: &'a str) -> Result<Vec<Index<'a>>, Lie> {
     let mut indexes = Vec::new(alloc);
     let mut line: u64 = 0;
     for said in text.split('\n') {
@@ -41,7 +42,7 @@ pub(super) fn read_schema<'a>(alloc: Global, text: &'a str) -> Result<Vec<Index<
 }
 
 /// Reads a lane; its file is the lane's number.
-pub(super) fn read_lane<'a>(
+pub(crate) fn read_lane<'a>(
     alloc: Global,
     indexes: &[Index<'_>],
     file: usize,

@@ -1,7 +1,7 @@
 //! The list of an index, replayed from the empty map.
-use crate::judge::Lie;
-use crate::judge::asked::Act;
-use crate::judge::told::Change;
+use crate::asked::Act;
+use crate::judging::Lie;
+use crate::told::Change;
 use std::alloc::Global;
 
 /// The change of a number: its key, and the value that the key has from then on.
@@ -14,14 +14,14 @@ struct Event<'a> {
 
 /// The events of an index, key by key, those of one key in the order of the list.
 #[derive(Drop)]
-pub(super) struct History<'a> {
+pub(crate) struct History<'a> {
     events: Vec<Event<'a>>,
     length: u64,
 }
 
 impl<'a> History<'a> {
     /// Replays the list, in which each put has a key that isn't there, and each del one that is.
-    pub(super) fn replay(
+    pub(crate) fn replay(
         alloc: Global,
         index: usize,
         list: &[Change<'a>],
@@ -38,12 +38,12 @@ impl<'a> History<'a> {
     }
 
     /// How many changes the list has.
-    pub(super) fn length(&self) -> u64 {
+    pub(crate) fn length(&self) -> u64 {
         self.length
     }
 
     /// The value of the key after so many changes of the list, if the key is there.
-    pub(super) fn value_at(&self, key: &str, point: u64) -> Option<&'a str> {
+    pub(crate) fn value_at(&self, key: &str, point: u64) -> Option<&'a str> {
         let after = self.events.partition_point(|event| {
             event.key < key || (event.key == key && event.point <= point)
         });

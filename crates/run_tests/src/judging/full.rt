@@ -1,7 +1,5 @@
 //! Reports of a list that is full.
-use crate::judge::told::COUNTS;
-use crate::judge::{Lie, MOST_CHANGES, judge_within};
-use crate::setup::strings;
+use report_judge::{COUNTS, Lie, MOST_CHANGES, judge_within};
 use std::alloc::Global;
 
 const SCHEMA: &str = "index t 1\n";
@@ -38,9 +36,8 @@ fn report_of(alloc: Global, line: usize, other: &str) -> Option<String> {
 
 /// How that report is judged where an index may have so many changes.
 fn judge_told(alloc: Global, line: usize, other: &str, most: u64) -> Option<Result<(), Lie>> {
-    let lanes = strings(alloc, &[LANE])?;
     let report = report_of(alloc, line, other)?;
-    Some(judge_within(alloc, most, SCHEMA, &lanes, report.as_bytes()))
+    Some(judge_within(alloc, most, SCHEMA, &[LANE], report.as_bytes()))
 }
 
 /// The line that is told something else, this, the most changes, and how it is judged.

@@ -1,21 +1,21 @@
 //! The answers against the changes.
-use crate::judge::Lie;
-use crate::judge::asked::Act;
-use crate::judge::history::History;
-use crate::judge::told::{Answer, Change, Report, Said};
+use crate::asked::Act;
+use crate::history::History;
+use crate::judging::Lie;
+use crate::told::{Answer, Change, Report, Said};
 use std::alloc::Global;
 
 /// What a lane's answers are judged by.
 #[derive(Clone, Copy)]
-pub(super) struct Evidence<'r, 'a> {
-    pub(super) most_changes: u64,
-    pub(super) lane: usize,
-    pub(super) lists: &'r [Vec<Change<'a>>],
-    pub(super) histories: &'r [History<'a>],
+pub(crate) struct Evidence<'r, 'a> {
+    pub(crate) most_changes: u64,
+    pub(crate) lane: usize,
+    pub(crate) lists: &'r [Vec<Change<'a>>],
+    pub(crate) histories: &'r [History<'a>],
 }
 
 /// Each change is what its line asks, and that line is told `ok` at the change's number.
-pub(super) fn check_changes(report: &Report<'_>) -> Result<(), Lie> {
+pub(crate) fn check_changes(report: &Report<'_>) -> Result<(), Lie> {
     for (index, list) in report.lists.iter().enumerate() {
         check_list(report, index, list)?;
     }
@@ -61,7 +61,7 @@ fn makes(answer: &Answer<'_>, index: usize, number: u64, change: &Change<'_>) ->
 
 impl<'r, 'a> Evidence<'r, 'a> {
     /// Checks the lane's answers in their order.
-    pub(super) fn check_lane(&self, alloc: Global, answers: &[Answer<'a>]) -> Result<(), Lie> {
+    pub(crate) fn check_lane(&self, alloc: Global, answers: &[Answer<'a>]) -> Result<(), Lie> {
         let mut points = vec![in alloc; 0u64; self.lists.len()]?;
         for answer in answers {
             let (lane, line) = (self.lane, answer.line.number);

@@ -1,8 +1,8 @@
 //! Lanes dealt by chance to plain maps, a line at a time: such a run's report is legal.
-use crate::drawn::{draw, lane_texts, schema_text};
-use crate::judge::asked::{Act, Index, Line, read_schema};
-use crate::judge::told::COUNTS;
-use crate::judge::{Lie, judge, read_lanes};
+use report_judge::{
+    Act, COUNTS, Index, Lie, Line, draw, judge, lane_texts, read_lanes, read_schema, schema_text,
+    slices_of,
+};
 use std::alloc::Global;
 use std::collections::BTreeMap;
 
@@ -180,7 +180,7 @@ fn report_of(alloc: Global, indexes: &[Index<'_>], deal: &Deal<'_>) -> Result<St
 }
 
 /// Whether a run whose order the seed draws is legal.
-fn judge_dealt(alloc: Global, schema: &str, lanes: &[String], seed: u64) -> Result<(), Lie> {
+fn judge_dealt(alloc: Global, schema: &str, lanes: &[&str], seed: u64) -> Result<(), Lie> {
     let indexes = read_schema(alloc, schema)?;
     let asked = read_lanes(alloc, &indexes, lanes)?;
     let dealt = make_deal(alloc, &indexes, &asked, seed)?;
@@ -191,7 +191,8 @@ fn judge_dealt(alloc: Global, schema: &str, lanes: &[String], seed: u64) -> Resu
 /// Whether drawn lanes are legal with each of three seeds.
 fn are_legal(alloc: Global) -> Option<bool> {
     let schema = schema_text(alloc, 3).ok()?;
-    let lanes = lane_texts(alloc, 5, 8, 500, 3, 6).ok()?;
+    let texts = lane_texts(alloc, 5, 8, 500, 3, 6).ok()?;
+    let lanes = slices_of(alloc, &texts).ok()?;
     for seed in 0..3 {
         if judge_dealt(alloc, schema.as_str(), &lanes, seed) != Ok(()) {
             return Some(false);

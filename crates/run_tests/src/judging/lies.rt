@@ -1,8 +1,6 @@
 //! Reports with one lie each.
-use crate::judge::by_hand::{Edits, judge_edited};
-use crate::judge::told::COUNTS;
-use crate::judge::{Lie, judge};
-use crate::setup::strings;
+use crate::judging::by_hand::{Edits, judge_edited};
+use report_judge::{COUNTS, Lie, judge};
 use std::alloc::Global;
 
 /// The list of `t` with the changes of lane 1 before those of lane 2, and the points of that list.
@@ -143,12 +141,16 @@ fn each_lie_is_refused(rt: HostRuntime) {
 
 /// How a report of two lanes that put the same row is judged, where this is told to the second.
 fn judge_second(alloc: Global, said: &str) -> Option<Result<(), Lie>> {
-    let lanes = strings(alloc, &["put t a x\n", "put t a x\n"])?;
     let answers = "ahi run\nlane 1\n1 ok @1 - -\nlane 2\n";
     let report = format!(in alloc;
         "{answers}1 {said} - -\nchanges t 1\n1 1 1 put a x\nstats t {COUNTS}\nend\n"
     ).ok()?;
-    Some(judge(alloc, "index t 1\n", &lanes, report.as_bytes()))
+    Some(judge(
+        alloc,
+        "index t 1\n",
+        &["put t a x\n", "put t a x\n"],
+        report.as_bytes(),
+    ))
 }
 
 #[test]

@@ -1,9 +1,9 @@
 //! Texts taken apart: lines, words and numbers.
-use crate::judge::Lie;
+use crate::judging::Lie;
 use std::alloc::{AllocError, Global};
 
 /// What stands between single spaces.
-pub(super) fn words_of<'a>(alloc: Global, line: &'a str) -> Result<Vec<&'a str>, AllocError> {
+pub(crate) fn words_of<'a>(alloc: Global, line: &'a str) -> Result<Vec<&'a str>, AllocError> {
     let mut words = Vec::new(alloc);
     for word in line.split(' ') {
         words.push(word)?;
@@ -12,7 +12,7 @@ pub(super) fn words_of<'a>(alloc: Global, line: &'a str) -> Result<Vec<&'a str>,
 }
 
 /// The number that a word spells in its one way.
-pub(super) fn number_of(word: &str) -> Option<u64> {
+pub(crate) fn number_of(word: &str) -> Option<u64> {
     if word.starts_with('+') || (word.len() > 1 && word.starts_with('0')) {
         return None;
     }
@@ -21,13 +21,13 @@ pub(super) fn number_of(word: &str) -> Option<u64> {
 
 /// What is left of a report, and how many of its lines were taken.
 #[derive(Drop)]
-pub(super) struct Reader<'a> {
+pub(crate) struct Reader<'a> {
     rest: &'a str,
     line: u64,
 }
 
 impl<'a> Reader<'a> {
-    pub(super) fn new(text: &'a str) -> Reader<'a> {
+    pub(crate) fn new(text: &'a str) -> Reader<'a> {
         Reader {
             rest: text,
             line: 0,
@@ -35,11 +35,11 @@ impl<'a> Reader<'a> {
     }
 
     /// That the line taken last isn't one that may stand there.
-    pub(super) fn lie(&self) -> Lie {
+    pub(crate) fn lie(&self) -> Lie {
         Lie::Form { line: self.line }
     }
 
-    pub(super) fn take_line(&mut self) -> Result<&'a str, Lie> {
+    pub(crate) fn take_line(&mut self) -> Result<&'a str, Lie> {
         self.line = self.line.wrapping_add(1);
         match self.rest.split_once('\n') {
             Some((line, rest)) => {
@@ -50,7 +50,7 @@ impl<'a> Reader<'a> {
         }
     }
 
-    pub(super) fn expect_line(&mut self, wanted: &str) -> Result<(), Lie> {
+    pub(crate) fn expect_line(&mut self, wanted: &str) -> Result<(), Lie> {
         if self.take_line()? == wanted {
             Ok(())
         } else {
@@ -59,7 +59,7 @@ impl<'a> Reader<'a> {
     }
 
     /// That nothing is left.
-    pub(super) fn expect_end(&self) -> Result<(), Lie> {
+    pub(crate) fn expect_end(&self) -> Result<(), Lie> {
         if self.rest.is_empty() {
             Ok(())
         } else {

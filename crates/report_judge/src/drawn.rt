@@ -1,0 +1,90 @@
+//! Lanes drawn by number, over keys that all lanes share, so that they get in each other's way.
+use std::alloc::{AllocError, Global};
+
+/// The next number of a row of 31 bits each, and the state after it.
+pub fn draw(state: &mut u64) -> u64 {
+    *state = state
+        .wrapping_mul(6_364_136_223_846_793_005)
+        .wrapping_add(1_442_695_040_888_963_407);
+    *state >> 33
+}
+
+/// A number below this one, or 0 below 0.
+fn draw_below(state: &mut u64, most: u64) -> u64 {
+    draw(state).checked_rem(most).unwrap_or(0)
+}
+
+/// The schema of so many indexes, `t0` first, with keys of 1 to 4 fields.
+pub fn schema_text(alloc: Global, indexes: u64) -> Result<String, AllocError> {
+    let mut schema = String::new(alloc);
+    for index in 0..indexes {
+        let fields = index % 4 + 1;
+        schema.push_str(format!(in alloc; "index t{index} {fields}\n")?.as_str())?;
+    }
+    Ok(schema)
+}
+
+/// The lane of this number, counted from 1: so many lines over the first indexes of the schema and
+/// the first so many keys of each. A few lines say nothing. Each value names its lane and line.
+pub fn lane_text(
+    alloc: Global,
+    seed: u64,
+    lane: u64,
+    lines: u64,
+    indexes: u64,
+    keys: u64,
+) -> Result<String, AllocError> {
+    let mut state = seed.wrapping_mul(1_000_003).wrapping_add(lane);
+    let mut text = String::new(alloc);
+    for before in 0..lines {
+        let index = draw_below(&mut state, indexes);
+        let key = key_text(alloc, index, draw_below(&mut state, keys))?;
+        let key = key.as_str();
+        let line = before.wrapping_add(1);
+        let said = match draw_below(&mut state, 40) {
+            0 => String::from_str(alloc, "\n")?,
+            1 => String::from_str(alloc, "# says nothing\n")?,
+            2..15 => format!(in alloc; "get t{index} {key}\n")?,
+            15..28 => format!(in alloc; "put t{index} {key} v{lane}-{line}\n")?,
+            _ => format!(in alloc; "del t{index} {key}\n")?,
+        };
+        text.push_str(said.as_str())?;
+    }
+    Ok(text)
+}
+
+/// Lanes 1 to this number.
+pub fn lane_texts(
+    alloc: Global,
+    seed: u64,
+    lanes: u64,
+    lines: u64,
+    indexes: u64,
+    keys: u64,
+) -> Result<Vec<String>, AllocError> {
+    let mut texts = Vec::new(alloc);
+    for before in 0..lanes {
+        let lane = before.wrapping_add(1);
+        texts.push(lane_text(alloc, seed, lane, lines, indexes, keys)?)?;
+    }
+    Ok(texts)
+}
+
+/// The texts as slices.
+pub fn slices_of<'a>(alloc: Global, texts: &'a [String]) -> Result<Vec<&'a str>, AllocError> {
+    let mut slices = Vec::new(alloc);
+    for text in texts {
+        slices.push(text.as_str())?;
+    }
+    Ok(slices)
+}
+
+/// A key of the index by its number. Keys of two fields and more share their beginnings.
+fn key_text(alloc: Global, index: u64, key: u64) -> Result<String, AllocError> {
+    let mut text = String::new(alloc);
+    for _ in 0..index % 4 {
+        text.push_str(format!(in alloc; "{},", key / 4)?.as_str())?;
+    }
+    text.push_str(format!(in alloc; "k{key}")?.as_str())?;
+    Ok(text)
+}

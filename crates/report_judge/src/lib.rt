@@ -1,0 +1,16 @@
+//! A naive judge of reports, and lanes drawn by number to be judged: for tests. It knows nothing of
+//! the program: no parser, no map and no printing of its crates.
+#![tactic(auto)]
+
+mod asked;
+mod drawn;
+mod history;
+mod judging;
+mod told;
+mod verdict;
+mod words;
+
+pub use asked::{Act, Index, Line, read_schema};
+pub use drawn::{draw, lane_text, lane_texts, schema_text, slices_of};
+pub use judging::{Lie, MOST_CHANGES, judge, judge_within, read_lanes};
+pub use told::COUNTS;
