@@ -17,12 +17,13 @@ use Rattle.map_history.specs.Map.{is_allowed, key_of, value_of, write, map_after
 use Rattle.map_history.proofs.HistoryLemmas.{map_after-push, lawful-push}
 use Rattle.tree_law.proofs.ContentLemmas.{maps_are_written}
 use Rattle.index_law.specs.Answers.{MadeChange}
-use Rattle.index_law.specs.Law.{AreLawfulLists}
+use Rattle.forest_law.specs.Lists.{AreLawfulLists}
 use Rattle.index_law.specs.State.{Entries, changes}
 use Rattle.forest_law.specs.declared.objects.Object.{Object}
 use Rattle.forest_law.specs.State.{ForestState, list_of, maps_of}
 use Rattle.forest_law.specs.Law.{AreLawfulObjects, IsLawful, Follows, MayFollow}
-use Rattle.forest_law.specs.References.{IsReference, IsRightByLists}
+use Rattle.index_law.specs.Rightness.{IsRight}
+use Rattle.forest_law.specs.References.{IsReference}
 use Rattle.forest_law.proofs.ObjectLemmas.{Leads, Stays, Changes}
 use Rattle.forest_law.proofs.KeepingLemmas.{map_allows, objects_stay}
 
@@ -40,7 +41,7 @@ shape_after name w w' us None is = ap (λ (z : ForestState). z.shape) is
 shape_after name w w' us (Some d) is = ap (λ (z : ForestState). z.shape) is.3
 
 module _ (name : ℕ) (w w' : ForestState)
-    (moves : Moves IsRightByLists IsReference MayFollow name w w') where
+    (moves : Moves IsRight IsReference MayFollow name w w') where
   laid : w'.objects ≡ overlay moves.news w.objects
   laid = objects_after name w w' moves.news moves.change moves.is_changed
 
@@ -83,7 +84,7 @@ module _ (name : ℕ) (w w' : ForestState)
       fate k maybe.none e = inl (stays k (λ x q. some-ne-none (Some x) (sym q ∙ e)))
 
 module _ (name : ℕ) (w w' : ForestState) (law : AreLawfulObjects w.shape w.objects w.lists)
-    (moves : Moves IsRightByLists IsReference MayFollow name w w') where
+    (moves : Moves IsRight IsReference MayFollow name w w') where
   leads : Leads w.objects w'.objects (knowns moves.view.held) moves.news
   leads = step_leads name w w' moves
 
@@ -163,7 +164,7 @@ module _ (name : ℕ) (w w' : ForestState) (law : AreLawfulObjects w.shape w.obj
 
 -- a step that follows leads from a lawful state to a lawful one
 pub follow_lemma : (name : ℕ) (w w' : ForestState) → IsLawful w → name < w.passes
-    → Moves IsRightByLists IsReference MayFollow name w w' → IsLawful w'
+    → Moves IsRight IsReference MayFollow name w w' → IsLawful w'
 follow_lemma name w w' law below moves = record {
   objects = subst (λ s. AreLawfulObjects s w'.objects w'.lists)
       (sym (shape_after name w w' moves.news moves.change moves.is_changed))

@@ -9,7 +9,7 @@ use Rattle.tree_law.specs.PageChanges.{LeadTo}
 use Rattle.tree_law.proofs.ReachLemmas.{moves_keep}
 use Rattle.tree_law.proofs.SearchLemmas.{has_value}
 use Rattle.index_law.specs.Answers.{MadeChange}
-use Rattle.index_law.specs.Law.{AreLawfulLists}
+use Rattle.forest_law.specs.Lists.{AreLawfulLists}
 use Rattle.index_law.specs.Shape.{Shape}
 use Rattle.index_law.specs.State.{Entries, changes}
 use Rattle.forest_law.specs.declared.objects.Object.{Object}

@@ -10,7 +10,8 @@ use Rattle.forest_law.specs.declared.objects.Object.{Object}
 use Rattle.forest_law.specs.State.{ForestState, object_mark}
 use Rattle.forest_law.specs.Clocked.{IsLaterObject}
 use Rattle.forest_law.specs.Law.{MayFollow}
-use Rattle.forest_law.specs.References.{IsReference, IsRightByLists}
+use Rattle.index_law.specs.Rightness.{IsRight}
+use Rattle.forest_law.specs.References.{IsReference}
 use Rattle.forest_law.proofs.FollowingLemmas.{step_leads}
 
 -- an object is a later one of itself
@@ -29,7 +30,7 @@ pub record HasLater (w' : ForestState) (k : ℕ) (x : Object) : Type 0 where
 
 -- so it is in each next state
 pub next_later : (name : ℕ) (w w' : ForestState)
-    → Next IsRightByLists IsReference MayFollow name w w'
+    → Next IsRight IsReference MayFollow name w w'
     → (k : ℕ) (x : Object) → get_elem? w.objects k ≡ some x → HasLater w' k x
 next_later name w w' next k x at = elim (next.1) [
   | inl take ↦ rest (ap (λ (z : ForestState). z.objects) take.2)
@@ -43,7 +44,7 @@ next_later name w w' next k x at = elim (next.1) [
     rest same =
         record { now = x; there = ap (λ z. get_elem? z k) same ∙ at; later = object_itself x }
 
-    moved : Moves IsRightByLists IsReference MayFollow name w w' → HasLater w' k x
+    moved : Moves IsRight IsReference MayFollow name w w' → HasLater w' k x
     moved moves = elim ((step_leads name w w' moves).fate k) [
       | inl stays ↦ record { now = x; there = stays.same ∙ at; later = object_itself x }
       | inr c ↦ record {
@@ -56,7 +57,7 @@ next_later name w w' next k x at = elim (next.1) [
 
 -- what is known of a reference stays so
 pub reference_stays : (name : ℕ) (w w' : ForestState)
-    → Next IsRightByLists IsReference MayFollow name w w'
+    → Next IsRight IsReference MayFollow name w w'
     → (q : Reference Object) → IsReference w q → IsReference w' q
 reference_stays name w w' next q so = let on = next_later name w w' next q.object so.now so.there in
     record {
@@ -68,7 +69,7 @@ reference_stays name w w' next q so = let on = next_later name w w' next q.objec
 
 -- what the holder makes of the object is a later one of what it took
 pub reference_held : (name : ℕ) (w w' : ForestState)
-    → Next IsRightByLists IsReference MayFollow name w w'
+    → Next IsRight IsReference MayFollow name w w'
     → (k : ℕ) (t x y : Object) → get_elem? w.objects k ≡ some x → get_elem? w'.objects k ≡ some y
     → IsReference w (reference k t x) → IsReference w' (reference k t y)
 reference_held name w w' next k t x y at at' so = let on = next_later name w w' next k x at in

@@ -12,8 +12,8 @@ use Rattle.map_history.proofs.HistoryLemmas.{lawful-none, lawful-push}
 use Rattle.index_page.specs.Rows.{Bytes, Row, placed_row}
 use Rattle.tree_law.specs.Pages.{Page, first_page}
 use Rattle.index_law.specs.Answers.{MadeChange}
-use Rattle.index_law.specs.Law.{AreLawfulLists}
-use Rattle.index_law.specs.OneRow.{list_with}
+use Rattle.forest_law.specs.Lists.{AreLawfulLists}
+use Rattle.forest_law.specs.OnePut.{list_with}
 use Rattle.index_law.specs.Shape.{Shape}
 use Rattle.index_law.specs.State.{Entries, changes}
 use Rattle.forest_law.specs.declared.objects.Pool.{Pool}

@@ -8,11 +8,11 @@ use Rattle.map_history.specs.Map.{slice, map_after}
 use Rattle.map_history.specs.Operation.{Ask}
 use Rattle.map_history.proofs.HistoryLemmas.{map_after-stays}
 use Rattle.index_law.specs.Answers.{MadeChange, Word, Gives, LogFull, SpaceFull, Saying, Replies, Piece, Full, Look}
-use Rattle.index_law.specs.Rightness.{map_at, IsReply, IsAllowed, IsWord, IsSaid}
+use Rattle.index_law.specs.Rightness.{map_at, IsReply, IsAllowed, IsWord, IsSaid, IsRight}
 use Rattle.index_law.specs.State.{Entries, changes}
 use Rattle.forest_law.specs.State.{ForestState}
 use Rattle.forest_law.specs.Law.{MayFollow}
-use Rattle.forest_law.specs.References.{IsReference, without_objects, IsRightByLists}
+use Rattle.forest_law.specs.References.{IsReference}
 
 module _ (name : ℕ) (w w' : ForestState) (away : Away name w w') (xs ys : Entries) (p : ℕ)
     (within : p ≤ length xs) where
@@ -31,16 +31,16 @@ module _ (name : ℕ) (w w' : ForestState) (away : Away name w w') (xs ys : Entr
       ∙ map_after-stays (changes xs) (changes ys) p point
 
   -- so a word that was right at the point stays right there
-  word_stays : (ask : Ask) (word : Word) → IsWord (without_objects w) xs p ask word
-      → IsWord (without_objects w') (xs ++ ys) p ask word
+  word_stays : (ask : Ask) (word : Word) → IsWord w xs p ask word
+      → IsWord w' (xs ++ ys) p ask word
   word_stays ask (Gives reply) so = subst (λ m. IsReply m ask reply) (sym map_stays) so
   word_stays ask LogFull so =
       (so.0 ∙ sym away.max_changes, subst (λ m. IsAllowed m ask) (sym map_stays) so.1)
   word_stays ask SpaceFull so = so
 
   -- and so does all that is said
-  said_stays : (a : Saying) → IsSaid (without_objects w) xs p a
-      → IsSaid (without_objects w') (xs ++ ys) p a
+  said_stays : (a : Saying) → IsSaid w xs p a
+      → IsSaid w' (xs ++ ys) p a
   said_stays (Replies ask word bound columns) so = λ speaks. word_stays ask word (so speaks)
   said_stays (Piece ask low high rows columns) so = so ∙ ap (slice low high) (sym map_stays)
   said_stays (Full places) so = (so.0 ∙ ap (λ z. z.pages) (sym away.shape), so.1)
@@ -48,8 +48,8 @@ module _ (name : ℕ) (w w' : ForestState) (away : Away name w w') (xs ys : Entr
 
 -- a right answer stays right in each state that follows
 pub stay_lemma : (name : ℕ) (w w' : ForestState)
-    → Next IsRightByLists IsReference MayFollow name w w' → (i p : ℕ) (a : Saying)
-    → IsRightByLists w i p a → IsRightByLists w' i p a
+    → Next IsRight IsReference MayFollow name w w' → (i p : ℕ) (a : Saying)
+    → IsRight w i p a → IsRight w' i p a
 stay_lemma name w w' next i p a right = let away = next.0 in
     let more = away.grows i right.list right.there in let within = right.point in record {
       list = right.list ++ more.0;

@@ -7,7 +7,7 @@ use Rattle.map_history.specs.Map.{Map}
 use Rattle.tree_law.specs.Pages.{AreLawfulPages}
 use Rattle.tree_law.specs.PageChanges.{LeaveOrder}
 use Rattle.index_law.specs.Answers.{MadeChange, Saying}
-use Rattle.index_law.specs.Law.{AreLawfulLists}
+use Rattle.forest_law.specs.Lists.{AreLawfulLists}
 use Rattle.index_law.specs.Shape.{Shape}
 use Rattle.index_law.specs.State.{Entries}
 use Rattle.forest_law.specs.declared.objects.Frame.{Frame}

@@ -1,12 +1,19 @@
 -- Each change is allowed where it is made.
 use Rattle.std.specs.Prelude.{ℕ, ◌≡◌, true, false, Option, Some, None, List}
 use Rattle.key_tuple.specs.KeyPlace.{At, within}
-use Rattle.map_history.specs.Map.{MapChange, is_allowed, key_of}
+use mathlib.Core.Option.{some}
+use lib.ListN.{get_elem?}
+use Rattle.map_history.specs.Map.{MapChange, is_allowed, key_of, AreLawful}
 use Rattle.tree_law.specs.Pages.{Page, is_own, low_place, high_place, row_pairs}
 use Rattle.index_law.specs.Answers.{MadeChange}
 use Rattle.index_law.specs.Shape.{Shape}
+use Rattle.index_law.specs.State.{Entries, changes}
 use Rattle.forest_law.specs.declared.objects.Object.{Object}
 use Rattle.forest_law.specs.Turns.{IsInHand}
+
+-- each change of a list is allowed by the map of those before it
+abbrev pub AreLawfulLists : List Entries → Type 0
+AreLawfulLists lists = (i : ℕ) (xs : Entries) → get_elem? lists i ≡ some xs → AreLawful (changes xs)
 
 -- the page is a leaf of the trees, of this index, which has the change's key in its bounds and
 -- whose rows allow the change

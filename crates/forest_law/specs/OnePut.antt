@@ -3,16 +3,31 @@ use Rattle.std.specs.Prelude.{ℕ, Option, Some, None, List, [], ◌∷◌, leng
 use Rattle.key_tuple.specs.Order.{FieldList}
 use Rattle.map_history.specs.Map.{Put}
 use Rattle.map_history.specs.Report.{Columns}
+use Rattle.index_page.specs.Page.{PageRows}
+use Rattle.index_page.specs.Rows.{Bytes, placed_row}
 use Rattle.index_law.specs.Answers.{MadeChange}
-use Rattle.index_law.specs.OneRow.{leaf_with, list_with}
 use Rattle.index_law.specs.Shape.{Shape}
+use Rattle.index_law.specs.State.{Entries}
 use Rattle.forest_law.specs.declared.objects.Frame.{Frame}
 use Rattle.forest_law.specs.declared.objects.Pool.{Pool}
 use Rattle.forest_law.specs.declared.objects.Object.{Object}
 use Rattle.forest_law.specs.declared.objects.Object.TheVariants as object
 use Rattle.forest_law.specs.State.{ForestState}
 use Rattle.forest_law.specs.Law.{IsLawful, Follows}
-use Rattle.forest_law.specs.Opening.{new_frame, first_frame, first_tree, IsFirstPool}
+use Rattle.forest_law.specs.Opening.{root_head, new_frame, first_frame, first_tree, IsFirstPool}
+
+-- the page of index 0 with the one row, at place 0
+abbrev pub leaf_with : FieldList → List ℕ → PageRows
+leaf_with key value =
+    record {
+      head = root_head 0 (length key);
+      rows = placed_row 0 key (Bytes value) ∷ [];
+    }
+
+-- the list with the one put of the row, made by pass 0
+abbrev pub list_with : FieldList → List ℕ → Columns → Entries
+list_with key value columns =
+    record { change = record { change = Put key value; columns = columns }; by = 0 } ∷ []
 
 -- a space of one index and one page, for keys of so many fields
 abbrev pub one_index : ℕ → Shape

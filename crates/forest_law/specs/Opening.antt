@@ -4,7 +4,7 @@ use mathlib.Core.Option.{some}
 use lib.ListN.{get_elem?}
 use Rattle.latch_law.specs.Opening.{opened}
 use Rattle.index_page.specs.Page.{PageRows}
-use Rattle.index_law.specs.Opening.{root_head}
+use Rattle.index_page.specs.declared.head.PageHead.{PageHead}
 use Rattle.index_law.specs.Shape.{Shape}
 use Rattle.learning.specs.Opening.{opening_block}
 use Rattle.forest_law.specs.declared.objects.Frame.{Frame}
@@ -18,6 +18,18 @@ use Rattle.forest_law.specs.Numbers.{pool_id, tree_id, frame_id, frames_of}
 use Rattle.forest_law.specs.State.{where_at, fields_for}
 use Rattle.forest_law.specs.Objects.{IsFrameOf}
 use Rattle.forest_law.specs.Law.{IsLawful}
+
+-- the head of an index's first page
+abbrev pub root_head : ℕ → ℕ → PageHead
+root_head index fields =
+    record {
+      number = index;
+      index = index;
+      level = 0;
+      prev = None;
+      next = None;
+      fields = fields;
+    }
 
 -- an index's empty first page
 abbrev pub empty_page : ℕ → ℕ → PageRows

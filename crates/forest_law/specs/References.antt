@@ -1,11 +1,8 @@
--- What is known of an object that was given back, and what is right to be said.
-use Rattle.std.specs.Prelude.{ℕ, ◌≡◌, []}
+-- What is known of an object that was given back.
+use Rattle.std.specs.Prelude.{◌≡◌}
 use mathlib.Core.Option.{some}
 use lib.ListN.{get_elem?}
 use Rattle.latch_law.specs.declared.knows.Reference.{Reference}
-use Rattle.index_law.specs.Answers.{Saying}
-use Rattle.index_law.specs.Rightness.{IsRight}
-use Rattle.index_law.specs.State.{State}
 use Rattle.forest_law.specs.declared.objects.Object.{Object}
 use Rattle.forest_law.specs.State.{ForestState}
 use Rattle.forest_law.specs.Clocked.{IsLaterObject}
@@ -17,18 +14,3 @@ pub record IsReference (w : ForestState) (q : Reference Object) : Type 0 where
   pub there : get_elem? w.objects q.object ≡ some now
   pub held : IsLaterObject q.taken q.released
   pub later : IsLaterObject q.released now
-
--- the lists and numbers of a state, without its objects
-abbrev pub without_objects : ForestState → State
-without_objects w = record {
-  shape = w.shape;
-  objects = [];
-  latches = [];
-  lists = w.lists;
-  max_changes = w.max_changes;
-  passes = w.passes;
-}
-
--- what is said is right by the lists and numbers alone
-abbrev pub IsRightByLists : ForestState → ℕ → ℕ → Saying → Type 0
-IsRightByLists w i p a = IsRight (without_objects w) i p a

@@ -9,7 +9,8 @@ use Rattle.index_law.specs.Answers.{Saying}
 use Rattle.forest_law.specs.declared.objects.Object.{Object}
 use Rattle.forest_law.specs.State.{ForestState}
 use Rattle.forest_law.specs.Law.{IsLawful, MayFollow}
-use Rattle.forest_law.specs.References.{IsReference, IsRightByLists}
+use Rattle.index_law.specs.Rightness.{IsRight}
+use Rattle.forest_law.specs.References.{IsReference}
 
 -- a lawful state stays lawful when a free object is taken
 abbrev pub TakesStayLawful : Type 0
@@ -25,24 +26,24 @@ LatchesPlayNoPart = (w : ForestState) (k n : ℕ) → IsLawful w → IsLawful (l
 abbrev pub StepsStayLawful : Type 0
 StepsStayLawful =
     (name : ℕ) (w w' : ForestState) → IsLawful w → name < w.passes
-    → Moves IsRightByLists IsReference MayFollow name w w' → IsLawful w'
+    → Moves IsRight IsReference MayFollow name w w' → IsLawful w'
 
 -- what is right at a point stays right there in each next state
 abbrev pub AnswersStayRight : Type 0
 AnswersStayRight =
     (name : ℕ) (w w' : ForestState) → IsLawful w → IsLawful w'
-    → Next IsRightByLists IsReference MayFollow name w w' → (i p : ℕ) (a : Saying)
-    → IsRightByLists w i p a → IsRightByLists w' i p a
+    → Next IsRight IsReference MayFollow name w w' → (i p : ℕ) (a : Saying)
+    → IsRight w i p a → IsRight w' i p a
 
 -- what is known of a reference: it is so right after a take, stays so in each next state, and goes
 -- on to be so of what the holder makes of the object
 pub record ReferencesLast : Type 0 where
   pub stay : (name : ℕ) (w w' : ForestState) → IsLawful w → IsLawful w'
-      → Next IsRightByLists IsReference MayFollow name w w' → (q : Reference Object)
+      → Next IsRight IsReference MayFollow name w w' → (q : Reference Object)
       → IsReference w q → IsReference w' q
   pub begin : (w : ForestState) (k name : ℕ) (x : Object) → IsLawful w → IsFree w k
       → get_elem? w.objects k ≡ some x → IsReference (latched w k (name + 1)) (reference k x x)
   pub held : (name : ℕ) (w w' : ForestState) → IsLawful w → IsLawful w'
-      → Next IsRightByLists IsReference MayFollow name w w' → (k : ℕ) (t x y : Object)
+      → Next IsRight IsReference MayFollow name w w' → (k : ℕ) (t x y : Object)
       → IsHeldBy w k name → get_elem? w.objects k ≡ some x → get_elem? w'.objects k ≡ some y
       → IsReference w (reference k t x) → IsReference w' (reference k t y)

@@ -17,7 +17,8 @@ impl World for ForestWorld {
 
     ghost use Rattle.index_law.specs.Shape.{no_shape};
     ghost use Rattle.forest_law.specs.Law.{IsLawful, MayFollow};
-    ghost use Rattle.forest_law.specs.References.{IsReference, IsRightByLists};
+    ghost use Rattle.forest_law.specs.References.{IsReference};
+    ghost use Rattle.index_law.specs.Rightness.{IsRight};
     ghost use Rattle.forest_law.proofs.WorldLemmas.{takes_stay_lawful, steps_stay_lawful};
     ghost use Rattle.forest_law.proofs.WorldLemmas.{answers_stay_right, references_last};
 
@@ -27,7 +28,7 @@ impl World for ForestWorld {
 
     ghost follows = { MayFollow };
 
-    ghost answers = { IsRightByLists };
+    ghost answers = { IsRight };
 
     ghost refers = { IsReference };
 

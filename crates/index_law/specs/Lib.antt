@@ -1,12 +1,5 @@
 pub mod Shape
 pub mod Answers
 pub mod State
-pub mod Law
 pub mod Rightness
-pub mod References
 pub mod Meanings
-pub mod Spoken
-pub mod Trace
-pub mod Once
-pub mod Opening
-pub mod OneRow

@@ -3,12 +3,14 @@ use Rattle.std.specs.Prelude.{ℕ, ◌≡◌, ◌≢◌, ◌≤◌, Bool, true, 
 use Rattle.std.specs.List.{AllByRecursion}
 use mathlib.Core.Option.{some}
 use lib.ListN.{get_elem?}
+use Rattle.latch_law.specs.Whole.{Whole}
 use Rattle.map_history.specs.Map.{Map, MapChange, is_allowed, map_after, slice, writes}
 use Rattle.map_history.specs.Operation.{Ask, Make}
 use Rattle.map_history.specs.Reply.{MapReply, Done, reply_of}
 use Rattle.map_history.specs.LegalReport.{may_reply}
-use Rattle.index_law.specs.Answers.{Word, Gives, LogFull, SpaceFull, Where, Free, InFrame, Image, Saying, Replies, Piece, Full, Look, speaks_at}
-use Rattle.index_law.specs.State.{State, Entries, changes}
+use Rattle.index_law.specs.Answers.{MadeChange, Word, Gives, LogFull, SpaceFull, Where, Free, InFrame, Image, Saying, Replies, Piece, Full, Look, speaks_at}
+use Rattle.index_law.specs.Shape.{Shape}
+use Rattle.index_law.specs.State.{Entries, changes}
 
 -- the map after the first p changes of a list
 abbrev pub map_at : Entries → ℕ → Map
@@ -33,33 +35,34 @@ pub record IsReply (m : Map) (ask : Ask) (reply : MapReply) : Type 0 where
   pub is : reply_of m ask ≡ reply
   pub changes_nothing : reply ≢ Done
 
--- the word is right: the map's reply; a full list's refusal of what the map allows; or, of an
--- operation that writes a row, that there is no page for it, which says nothing of how many
--- there are
-abbrev pub IsWord : State → Entries → ℕ → Ask → Word → Type 0
-IsWord w xs p ask (Gives reply) = IsReply (map_at xs p) ask reply
-IsWord w xs p ask LogFull = (p ≡ w.max_changes) × IsAllowed (map_at xs p) ask
-IsWord w xs p ask SpaceFull = AsksToWrite ask
-
 -- a page has this place
 abbrev pub is_used : Where → Bool
 is_used Free = false
 is_used (InFrame block) = true
 is_used Image = true
 
--- what is said is right at the point p of the list: a reply where it speaks, a piece that has
--- just the map's rows of its range, and a full that names as many places as there are pages,
--- each one used
-abbrev pub IsSaid : State → Entries → ℕ → Saying → Type 0
-IsSaid w xs p (Replies ask word bound columns) = speaks_at bound p ≡ true → IsWord w xs p ask word
-IsSaid w xs p (Piece ask low high rows columns) = rows ≡ slice low high (map_at xs p)
-IsSaid w xs p (Full places) =
-    (length places ≡ w.shape.pages) × AllByRecursion (λ (x : Where). is_used x ≡ true) places
-IsSaid w xs p Look = Unit {0}
+module _ {O : Type 0} where
+  -- the word is right: the map's reply; a full list's refusal of what the map allows; or, of an
+  -- operation that writes a row, that there is no page for it, which says nothing of how many
+  -- there are
+  abbrev pub IsWord : Whole Shape O MadeChange → Entries → ℕ → Ask → Word → Type 0
+  IsWord w xs p ask (Gives reply) = IsReply (map_at xs p) ask reply
+  IsWord w xs p ask LogFull = (p ≡ w.max_changes) × IsAllowed (map_at xs p) ask
+  IsWord w xs p ask SpaceFull = AsksToWrite ask
 
--- the index has a list with that point, and what is said is right there
-pub record IsRight (w : State) (i p : ℕ) (a : Saying) : Type 0 where
-  pub list : Entries
-  pub there : get_elem? w.lists i ≡ some list
-  pub point : p ≤ length list
-  pub said : IsSaid w list p a
+  -- what is said is right at the point p of the list: a reply where it speaks, a piece that has
+  -- just the map's rows of its range, and a full that names as many places as there are pages,
+  -- each one used
+  abbrev pub IsSaid : Whole Shape O MadeChange → Entries → ℕ → Saying → Type 0
+  IsSaid w xs p (Replies ask word bound columns) = speaks_at bound p ≡ true → IsWord w xs p ask word
+  IsSaid w xs p (Piece ask low high rows columns) = rows ≡ slice low high (map_at xs p)
+  IsSaid w xs p (Full places) =
+      (length places ≡ w.shape.pages) × AllByRecursion (λ (x : Where). is_used x ≡ true) places
+  IsSaid w xs p Look = Unit {0}
+
+  -- the index has a list with that point, and what is said is right there
+  pub record IsRight (w : Whole Shape O MadeChange) (i p : ℕ) (a : Saying) : Type 0 where
+    pub list : Entries
+    pub there : get_elem? w.lists i ≡ some list
+    pub point : p ≤ length list
+    pub said : IsSaid w list p a

@@ -1,7 +1,6 @@
--- The shape of the world.
+-- The shape of a space of indexes.
 use Rattle.std.specs.Prelude.{ℕ, List, [], length}
 use Rattle.map_history.specs.declared.sizes.Sizes.{Sizes}
-use Rattle.index_law.specs.declared.layout.Layout.TheInside.{Inside}
 
 -- how many there are of each: indexes, with the number of fields of each one's keys, pages,
 -- partitions, blocks, nodes of a partition, and bits of a fold
@@ -13,19 +12,6 @@ pub record Shape : Type 0 where
   pub blocks : ℕ
   pub nodes : ℕ
   pub fold_bits : ℕ
-
--- the shape that a layout stands for
-abbrev pub shape_of : Inside → Shape
-shape_of l =
-    record {
-      indexes = l.indexes;
-      fields = l.fields.items;
-      pages = l.pages;
-      parts = l.parts;
-      blocks = l.blocks;
-      nodes = l.nodes;
-      fold_bits = l.fold_bits;
-    }
 
 -- a shape with nothing
 abbrev pub no_shape : Shape
@@ -52,7 +38,3 @@ shape_for sizes fields =
       nodes = sizes.nodes;
       fold_bits = sizes.fold_bits;
     }
-
--- the object that is the leaf of an index: the frame of its number
-abbrev pub leaf_id : Shape → ℕ → ℕ
-leaf_id shape index = index

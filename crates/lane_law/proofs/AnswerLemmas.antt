@@ -12,15 +12,15 @@ use Rattle.index_law.specs.Answers.{MadeChange}
 use Rattle.map_history.specs.Reply.{Done}
 use Rattle.map_history.specs.Report.{Columns, ScanPiece, Answer, Replied, LogFull, SpaceFull, Scanned, AnswerLine, IndexPart, Report}
 use Rattle.map_history.specs.LegalReport.{Line, Answers, Run, IsAnswered, Mark, marks_of, Precedes}
-use Rattle.index_law.specs.State.{State}
-use Rattle.index_law.specs.Spoken.{View, Spoken}
+use Rattle.forest_law.specs.State.{ForestState}
+use Rattle.call_law.specs.Spoken.{View, Spoken}
 use Rattle.lane_law.specs.Worked.{AreInOrder}
 use Rattle.lane_law.specs.Runs.{RunsAll}
 use Rattle.list_facts.proofs.Elements.{contains_head, zip_get, all_zip_at}
 use Rattle.lane_law.proofs.PairLemmas.{flat_pairs}
 use Rattle.lane_law.proofs.SaidLemmas.{IsMadeAt, IsAnswerSo, spoken_so, spoken_from, all_contains, lane_said}
 
-module _ (run : Run) (report : Report) (w : State) (v : View) (all : RunsAll run report w v) where
+module _ (run : Run) (report : Report) (w : ForestState) (v : View) (all : RunsAll run report w v) where
   told_so : (lane place : ℕ) (line : Line) (answer : Answer) → ((pieces : List ScanPiece) → answer ≢ Scanned pieces) → IsAnswered run report lane place line answer → IsAnswerSo w line.op.index lane line.op.ask answer
   told_so lane place line answer other a =
       let told : AnswerLine = record { line = line.line; answer = answer } in
@@ -32,7 +32,7 @@ module _ (run : Run) (report : Report) (w : State) (v : View) (all : RunsAll run
 
   -- the report has a part for each list
   pub parts_counted : length report.indexes ≡ length w.lists
-  parts_counted = sym (length-map report.indexes (λ (part : IndexPart). part.name)) ∙ (ap length all.names ∙ (sym all.indexes ∙ sym all.lawful.counted.lists))
+  parts_counted = sym (length-map report.indexes (λ (part : IndexPart). part.name)) ∙ (ap length all.names ∙ (sym all.indexes ∙ sym all.lawful.objects.counted.lists))
 
   -- what a line is answered is so
   pub answer_so : (lane place : ℕ) (line : Line) (answer : Answer) → IsAnswered run report lane place line answer → IsAnswerSo w line.op.index lane line.op.ask answer
@@ -60,7 +60,7 @@ ok_rises lines answers i j k x y p q c d order lt is_x is_y ej ek fj fk =
     flat_pairs (λ (z : Line × AnswerLine). cond (eqb z.0.op.index i) (marks_of z.1.answer) []) Precedes (zip lines answers) j k (x, a) (y, b) m n lt (zip_get lines answers j x a ej fj) (zip_get lines answers k y b ek fk)
     (mark_here i x (Replied Done p c) m is_x (contains_head m [])) (mark_here i y (Replied Done q d) n is_y (contains_head n [])) (order.order i)
 
-module _ (run : Run) (report : Report) (w : State) (v : View) (all : RunsAll run report w v) where
+module _ (run : Run) (report : Report) (w : ForestState) (v : View) (all : RunsAll run report w v) where
   -- two changes of one lane with one index and point are one line
   pub ok_once : (lane j k : ℕ) (x y : Line) (p q : ℕ) (c d : Columns) → x.op.index ≡ y.op.index → p ≡ q → IsAnswered run report lane j x (Replied Done p c) → IsAnswered run report lane k y (Replied Done q d) → (j ≡ k) × (x ≡ y)
   ok_once lane j k x y p q c d index point a b =

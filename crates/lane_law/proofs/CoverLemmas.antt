@@ -12,8 +12,9 @@ use Rattle.map_history.specs.Reply.{MapReply, Done}
 use Rattle.map_history.specs.Report.{Columns, ScanPiece, Answer, Replied, LogFull, SpaceFull, Scanned, AnswerLine, Report}
 use Rattle.map_history.specs.LegalReport.{Line, Run, IsAnswered}
 use Rattle.index_law.specs.Answers.{MadeChange}
-use Rattle.index_law.specs.State.{State, Entries}
-use Rattle.index_law.specs.Spoken.{View, OwnAnswer, Spoken, sayings}
+use Rattle.forest_law.specs.State.{ForestState}
+use Rattle.index_law.specs.State.{Entries}
+use Rattle.call_law.specs.Spoken.{View, OwnAnswer, Spoken, sayings}
 use Rattle.lane_law.specs.Worked.{lane_sayings}
 use Rattle.lane_law.specs.Runs.{all_sayings, RunsAll}
 use Rattle.list_facts.proofs.Elements.{contains_none, contains_one, contains_head, get_contains, map_get_from, flat_from, zip_from}
@@ -52,7 +53,7 @@ pub record IsToldOk (run : Run) (report : Report) (i point : ℕ) (c : MapChange
   pub asked : line.op.ask ≡ Make c
 
 -- an entry of a list has such a line
-pub entry_told : (run : Run) (report : Report) (w : State) (v : View) → RunsAll run report w v → (i n : ℕ) (xs : Entries) (d : Entry MadeChange) → get_elem? w.lists i ≡ some xs → get_elem? xs n ≡ some d → IsToldOk run report i (n + 1) d.change.change
+pub entry_told : (run : Run) (report : Report) (w : ForestState) (v : View) → RunsAll run report w v → (i n : ℕ) (xs : Entries) (d : Entry MadeChange) → get_elem? w.lists i ≡ some xs → get_elem? xs n ≡ some d → IsToldOk run report i (n + 1) d.change.change
 entry_told run report w v all i n xs d at at_n =
     let made = all.fits.makers i n d (xs, at, at_n) in
     let low : v.low ≤ d.by = omega (arith, all.low) in

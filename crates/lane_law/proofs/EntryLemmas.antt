@@ -15,8 +15,9 @@ use Rattle.map_history.specs.Reply.{Done}
 use Rattle.map_history.specs.Report.{Columns, Replied, ChangeLine, Report, entries_in, entries_at, changes_at}
 use Rattle.map_history.specs.LegalReport.{Line, Run, IsAnswered, NamesLine, IsNamed}
 use Rattle.index_law.specs.Answers.{MadeChange}
-use Rattle.index_law.specs.State.{State, Entries, changes}
-use Rattle.index_law.specs.Spoken.{View}
+use Rattle.forest_law.specs.State.{ForestState}
+use Rattle.index_law.specs.State.{Entries, changes}
+use Rattle.call_law.specs.Spoken.{View}
 use Rattle.lane_law.specs.Runs.{RunsAll, AreEntries}
 use Rattle.list_facts.proofs.Elements.{get_past, map_get, map_get_from, same_places}
 use Rattle.lane_law.proofs.AnswerLemmas.{ok_made, ok_once, parts_counted}
@@ -26,12 +27,12 @@ same_asked : (c d : MapChange) → Make c ≡ Make d → c ≡ d
 same_asked c d e = cc
 
 -- an entry of the report is the entry of the list, made by its lane
-pub record IsListed (w : State) (i n by : ℕ) (c : MapChange) : Type 0 where
+pub record IsListed (w : ForestState) (i n by : ℕ) (c : MapChange) : Type 0 where
   pub deed : MadeChange
   pub change : deed.change ≡ c
   pub entry : IsEntry w i n (record { change = deed; by = by })
 
-module _ (run : Run) (report : Report) (w : State) (v : View) (all : RunsAll run report w v) (entries : AreEntries run report w) where
+module _ (run : Run) (report : Report) (w : ForestState) (v : View) (all : RunsAll run report w v) (entries : AreEntries run report w) where
   pub listed : (i n : ℕ) (entry : ChangeLine) (named : NamesLine run report i n entry) → IsListed w i n named.lane entry.change
   listed i n entry named =
       let made = ok_made run report w v all named.lane named.place named.line (n + 1) named.columns named.answered in
@@ -61,7 +62,7 @@ module _ (run : Run) (report : Report) (w : State) (v : View) (all : RunsAll run
   -- the changes of each index are lawful
   pub changes_lawful : (i : ℕ) → AreLawful (changes_at report i)
   changes_lawful i = dite (dec_lt i (length w.lists))
-      (λ within. let xs = there w.lists i within in subst AreLawful (sym (changes_same i xs.0 xs.1)) (all.lawful.lists i xs.0 xs.1))
+      (λ within. let xs = there w.lists i within in subst AreLawful (sym (changes_same i xs.0 xs.1)) (all.lawful.objects.lists i xs.0 xs.1))
       (λ past. let none : slice_get report.indexes i ≡ None = get_past report.indexes i (omega (arith, parts_counted run report w v all)) in
       subst AreLawful (ap (λ o. map (λ (e : ChangeLine). e.change) (entries_in o)) (sym none)) (λ n c e. absurd cc))
 

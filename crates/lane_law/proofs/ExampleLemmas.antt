@@ -18,12 +18,13 @@ use Rattle.map_history.specs.Reply.{Value}
 use Rattle.map_history.specs.Report.{IndexPart, dashes}
 use Rattle.map_history.specs.Statistics.{counts_of}
 use Rattle.map_history.specs.LegalReport.{Mark, Precedes, columns_at}
-use Rattle.index_law.specs.declared.frame.Object.{Object}
+use Rattle.forest_law.specs.declared.objects.Object.{Object}
 use Rattle.index_law.specs.Answers.{MadeChange, Saying, Gives, Replies}
-use Rattle.index_law.specs.State.{State, Entries}
+use Rattle.forest_law.specs.State.{ForestState}
+use Rattle.index_law.specs.State.{Entries}
 use Rattle.index_law.specs.Rightness.{IsRight}
-use Rattle.index_law.specs.References.{IsReference}
-use Rattle.index_law.specs.Spoken.{OwnAnswer}
+use Rattle.forest_law.specs.References.{IsReference}
+use Rattle.call_law.specs.Spoken.{OwnAnswer}
 use Rattle.lane_law.specs.Runs.{HasNoScan, RunsAll, AreEntries}
 use Rattle.lane_law.specs.Merged.{note_at, HasMerged}
 use Rattle.lane_law.specs.Example.{row_made, key, value, line_of_put, example_run, example_report, example_logs, example_view, IsExample, IsMet}
@@ -49,7 +50,7 @@ found = what.TheVariants.Answer (Replies (Get key) (Gives (Value value)) None da
 abbrev made : Entry MadeChange
 made = record { change = row_made; by = 0 }
 
-module _ (sizes : Sizes) (w : State) (is : IsExample sizes w) where
+module _ (sizes : Sizes) (w : ForestState) (is : IsExample sizes w) where
   list_is : (i : ℕ) (xs : Entries) → get_elem? w.lists i ≡ some xs → (i ≡ 0) × (made ∷ [] ≡ xs)
   list_is i xs at = one_place (made ∷ []) xs i (ap (λ z. get_elem? z i) (sym is.lists) ∙ at)
 

@@ -6,7 +6,7 @@ use Rattle.std.specs.List.{AllZip, flat_map, zip}
 use Rattle.latch_law.specs.Views.{both_parts}
 use Rattle.map_history.specs.Report.{Answer, AnswerLine}
 use Rattle.map_history.specs.LegalReport.{Line}
-use Rattle.index_law.specs.Spoken.{View, OwnAnswer, Spoken, spoken, spoken_at}
+use Rattle.call_law.specs.Spoken.{View, OwnAnswer, Spoken, spoken, spoken_at}
 use Rattle.lane_law.specs.Worked.{lane_sayings, AreInOrder, Worked}
 use Rattle.lane_law.specs.Runs.{all_sayings}
 use Rattle.lane_law.specs.Merged.{notes_of, lane_notes, all_notes}

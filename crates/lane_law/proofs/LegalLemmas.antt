@@ -8,8 +8,9 @@ use Rattle.map_history.specs.Operation.{Ask, Get, Make, Seek, Scan, is_scan}
 use Rattle.map_history.specs.Report.{ScanPiece, Replied, LogFull, AnswerLine, Report, changes_at}
 use Rattle.map_history.specs.LegalReport.{Line, Run, Answers, HasReplies, RepliesAt, IsInOrder, HasScans, ScansFor, HasLogFull, IsLogFull, IsLegalButRoom}
 use Rattle.index_law.specs.Answers.{MadeChange}
-use Rattle.index_law.specs.State.{State, changes}
-use Rattle.index_law.specs.Spoken.{View}
+use Rattle.forest_law.specs.State.{ForestState}
+use Rattle.index_law.specs.State.{changes}
+use Rattle.call_law.specs.Spoken.{View}
 use Rattle.lane_law.specs.Worked.{AreInOrder}
 use Rattle.lane_law.specs.Runs.{HasNoScan, RunsAll, AreEntries}
 use Rattle.list_facts.proofs.Elements.{all_at, all_zip_at}
@@ -30,7 +31,7 @@ scans_for (Make c) cs pieces plain = tt
 scans_for (Seek mode tuple) cs pieces plain = tt
 scans_for (Scan from to limit) cs pieces plain = absurd cc
 
-module _ (run : Run) (report : Report) (w : State) (v : View) (plain : HasNoScan run) (all : RunsAll run report w v) (entries : AreEntries run report w) where
+module _ (run : Run) (report : Report) (w : ForestState) (v : View) (plain : HasNoScan run) (all : RunsAll run report w v) (entries : AreEntries run report w) where
   replies : HasReplies run report
   replies lane place line reply point columns a other = ⊎_elim (λ h. absurd (other h.0)) (λ h. at h.1) (answer_so run report w v all lane place line (Replied reply point columns) a)
     where

@@ -10,8 +10,9 @@ use Rattle.change_log.specs.Merge.{notes_on, notes_in, IsMerge}
 use Rattle.map_history.specs.Reply.{Done}
 use Rattle.map_history.specs.Report.{Columns, Replied, AnswerLine, Report}
 use Rattle.map_history.specs.LegalReport.{Line, Run, IsAnswered}
-use Rattle.index_law.specs.State.{State, Entries}
-use Rattle.index_law.specs.Spoken.{View}
+use Rattle.forest_law.specs.State.{ForestState}
+use Rattle.index_law.specs.State.{Entries}
+use Rattle.call_law.specs.Spoken.{View}
 use Rattle.lane_law.specs.Runs.{RunsAll}
 use Rattle.lane_law.specs.Merged.{note_at, lane_notes, all_notes, HasNotes, IsNoted, IsNumbered}
 use Rattle.list_facts.proofs.Elements.{contains_get, get_contains, flat_contains, flat_from, zip_get, zip_from}
@@ -33,7 +34,7 @@ record IsNotedBy (run : Run) (report : Report) (i k : ℕ) (note : ChangeNote) :
 abbrev number : ChangeNote → ℕ
 number e = e.number
 
-module _ (run : Run) (report : Report) (w : State) (v : View) (all : RunsAll run report w v) (i : ℕ) where
+module _ (run : Run) (report : Report) (w : ForestState) (v : View) (all : RunsAll run report w v) (i : ℕ) where
   -- a change that a line leaves
   line_noted : (k : ℕ) (lines : List Line) (answers : List AnswerLine) (place : ℕ) (x : Line × AnswerLine) (e : ChangeNote) → slice_get run.lanes k ≡ Some lines → slice_get report.lanes k ≡ Some answers → slice_get (zip lines answers) place ≡ Some x → Contains (line_notes i k x) e
       → (columns : Columns) × IsAnswered run report k place x.0 (Replied Done e.number columns) × (x.0.op.index ≡ i) × (note_at k x.0 e.number ≡ e)

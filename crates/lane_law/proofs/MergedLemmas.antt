@@ -14,8 +14,9 @@ use Rattle.map_history.specs.Operation.{Operation, Make, change_asked}
 use Rattle.map_history.specs.Reply.{Done}
 use Rattle.map_history.specs.Report.{Replied, ChangeLine, IndexPart, Report, entries_in}
 use Rattle.map_history.specs.LegalReport.{Run, IsAnswered, NamesLine}
-use Rattle.index_law.specs.State.{State, Entries}
-use Rattle.index_law.specs.Spoken.{View}
+use Rattle.forest_law.specs.State.{ForestState}
+use Rattle.index_law.specs.State.{Entries}
+use Rattle.call_law.specs.Spoken.{View}
 use Rattle.lane_law.specs.Runs.{RunsAll, AreEntries}
 use Rattle.lane_law.specs.Merged.{HasNotes, IsNoted, IsNumbered, HasMerged}
 use Rattle.lane_law.proofs.AnswerLemmas.{parts_counted}
@@ -52,7 +53,7 @@ pub noted_printed : (run : Run) (report : Report) (i : ℕ) (notes : List Change
 noted_printed run report i [] noted = refl
 noted_printed run report i (note ∷ notes) noted = let is = noted 0 note refl in printed_more note notes is.change (ap (λ (o : Operation). o.ask) is.same_op) (noted_printed run report i notes (λ n. noted (suc n)))
 
-module _ (run : Run) (report : Report) (w : State) (v : View) (logs : List Log) (all : RunsAll run report w v) (noted : HasNotes run report logs) (merges : HasMerged report logs) where
+module _ (run : Run) (report : Report) (w : ForestState) (v : View) (logs : List Log) (all : RunsAll run report w v) (noted : HasNotes run report logs) (merges : HasMerged report logs) where
   -- an index with a part has a list
   list_there : (i : ℕ) (part : IndexPart) → slice_get report.indexes i ≡ Some part → (xs : Entries) × (get_elem? w.lists i ≡ some xs)
   list_there i part at = there w.lists i (let room = get_inside report.indexes i part at in omega (arith, room, parts_counted run report w v all))

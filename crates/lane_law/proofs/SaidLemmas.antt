@@ -14,29 +14,30 @@ use Rattle.map_history.specs.Report.{Columns, ScanPiece, Answer, Replied, LogFul
 use Rattle.map_history.specs.LegalReport.{Line}
 use Rattle.index_law.specs.Answers.{MadeChange, Word, Gives, Saying, Replies, Piece, Full, Look, speaks_at}
 use Rattle.index_law.specs.Answers as word
-use Rattle.index_law.specs.State.{State, Entries}
+use Rattle.forest_law.specs.State.{ForestState}
+use Rattle.index_law.specs.State.{Entries}
 use Rattle.index_law.specs.Rightness.{map_at, IsAllowed, AsksToWrite, IsRight}
-use Rattle.index_law.specs.Spoken.{OwnAnswer, Spoken, spoken, spoken_at, spoken_saying, printed_word, sayings}
+use Rattle.call_law.specs.Spoken.{OwnAnswer, Spoken, spoken, spoken_at, spoken_saying, printed_word, sayings}
 use Rattle.lane_law.specs.Worked.{lane_sayings}
 use Rattle.lane_law.specs.Runs.{all_sayings}
 use Rattle.list_facts.proofs.Elements.{contains_none, contains_one, contains_head, flat_contains, zip_get}
 
 -- a change that is asked for is the entry before the point of its list, made by the number
-pub record IsMadeAt (w : State) (i point by : ℕ) (ask : Ask) : Type 0 where
+pub record IsMadeAt (w : ForestState) (i point by : ℕ) (ask : Ask) : Type 0 where
   pub deed : MadeChange
   pub asked : ask ≡ Make deed.change
   pub above : 0 < point
   pub entry : IsEntry w i (point - 1) (record { change = deed; by = by })
 
 -- the list has the point, and its map replies so there
-pub record IsRepliedAt (w : State) (i point : ℕ) (ask : Ask) (reply : MapReply) : Type 0 where
+pub record IsRepliedAt (w : ForestState) (i point : ℕ) (ask : Ask) (reply : MapReply) : Type 0 where
   pub list : Entries
   pub there : get_elem? w.lists i ≡ some list
   pub within : point ≤ length list
   pub reply_is : reply_of (map_at list point) ask ≡ reply
 
 -- the list has the point, which is the largest that there may be, and its map allows there what is asked
-pub record IsFullAt (w : State) (i point : ℕ) (ask : Ask) : Type 0 where
+pub record IsFullAt (w : ForestState) (i point : ℕ) (ask : Ask) : Type 0 where
   pub list : Entries
   pub there : get_elem? w.lists i ≡ some list
   pub within : point ≤ length list
@@ -44,22 +45,22 @@ pub record IsFullAt (w : State) (i point : ℕ) (ask : Ask) : Type 0 where
   pub allowed : IsAllowed (map_at list point) ask
 
 -- what it means that the number was answered so; of scans nothing is meant here
-abbrev pub IsAnswerSo : State → ℕ → ℕ → Ask → Answer → Type 0
+abbrev pub IsAnswerSo : ForestState → ℕ → ℕ → Ask → Answer → Type 0
 IsAnswerSo w i by ask (Replied reply point columns) = ((reply ≡ Done) × IsMadeAt w i point by ask) ⊎ ((reply ≢ Done) × IsRepliedAt w i point ask reply)
 IsAnswerSo w i by ask (LogFull n columns) = IsFullAt w i n ask
 IsAnswerSo w i by ask (SpaceFull columns) = AsksToWrite ask
 IsAnswerSo w i by ask (Scanned pieces) = Unit {0}
 
-abbrev IsSpokenSo : State → Spoken → Type 0
+abbrev IsSpokenSo : ForestState → Spoken → Type 0
 IsSpokenSo w s = IsAnswerSo w s.index s.by s.ask s.answer
 
 -- a right word that is spoken is so
-word_so : (w : State) (i p n : ℕ) (ask : Ask) (w' : Word) (bound : Option ℕ) (columns : Columns) → IsRight w i p (Replies ask w' bound columns) → speaks_at bound p ≡ true → IsAnswerSo w i n ask (printed_word w' p columns)
+word_so : (w : ForestState) (i p n : ℕ) (ask : Ask) (w' : Word) (bound : Option ℕ) (columns : Columns) → IsRight w i p (Replies ask w' bound columns) → speaks_at bound p ≡ true → IsAnswerSo w i n ask (printed_word w' p columns)
 word_so w i p n ask (Gives reply) bound columns right speaks = let so = right.said speaks in inr (so.changes_nothing, record { list = right.list; there = right.there; within = right.point; reply_is = so.is })
 word_so w i p n ask word.LogFull bound columns right speaks = let so = right.said speaks in record { list = right.list; there = right.there; within = right.point; is_most = so.0; allowed = so.1 }
 word_so w i p n ask word.SpaceFull bound columns right speaks = right.said speaks
 
-saying_so : (w : State) (i p n : ℕ) (a : Saying) (s : Spoken) → IsRight w i p a → Contains (spoken_saying i p n a) s → IsSpokenSo w s
+saying_so : (w : ForestState) (i p n : ℕ) (a : Saying) (s : Spoken) → IsRight w i p a → Contains (spoken_saying i p n a) s → IsSpokenSo w s
 saying_so w i p n (Replies ask w' bound columns) s right c = pick (speaks_at bound p) refl c
   where
     pick : (b : Bool) → speaks_at bound p ≡ b → Contains (cond b (record { index = i; by = n; ask = ask; answer = printed_word w' p columns } ∷ []) []) s → IsSpokenSo w s
@@ -70,7 +71,7 @@ saying_so w i p n (Full places) s right c = absurd (contains_none s c)
 saying_so w i p n Look s right c = absurd (contains_none s c)
 
 -- what an own answer says is so
-pub spoken_so : (w : State) (q : OwnAnswer) (s : Spoken) → IsSo IsRight w q.index q.point q.by q.what → Contains (spoken_at q) s → IsSpokenSo w s
+pub spoken_so : (w : ForestState) (q : OwnAnswer) (s : Spoken) → IsSo IsRight w q.index q.point q.by q.what → Contains (spoken_at q) s → IsSpokenSo w s
 spoken_so w q s so c = by_kind q.what so c
   where
     by_kind : (kind : what.Statement MadeChange Saying) → IsSo IsRight w q.index q.point q.by kind → Contains (spoken_at (record { index = q.index; point = q.point; by = q.by; what = kind })) s → IsSpokenSo w s

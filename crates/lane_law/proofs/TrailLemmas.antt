@@ -8,15 +8,15 @@ use Rattle.latch_law.specs.declared.knows.Entry.{Entry}
 use Rattle.latch_law.specs.declared.knows.Statement as what
 use Rattle.latch_law.specs.Rule.{Fits}
 use Rattle.latch_law.specs.Whole.{IsEntry}
-use Rattle.index_law.specs.References.{IsReference}
+use Rattle.forest_law.specs.References.{IsReference}
 use Rattle.index_law.specs.Rightness.{IsRight}
 use Rattle.list_facts.proofs.Places.{inside, one_value, get_there, get_inside}
 use Rattle.map_history.specs.Operation.{Ask}
 use Rattle.map_history.specs.Report.{ScanPiece, Answer, Replied, LogFull, SpaceFull, Scanned, AnswerLine, ChangeLine, Report, entries_at}
 use Rattle.map_history.specs.LegalReport.{Line, Run}
 use Rattle.index_law.specs.Answers.{MadeChange}
-use Rattle.index_law.specs.State.{State}
-use Rattle.index_law.specs.Spoken.{View, OwnAnswer, Spoken, sayings}
+use Rattle.forest_law.specs.State.{ForestState}
+use Rattle.call_law.specs.Spoken.{View, OwnAnswer, Spoken, sayings}
 use Rattle.lane_law.specs.Worked.{lane_sayings}
 use Rattle.lane_law.specs.Runs.{all_sayings, RunsAll, AreEntries}
 use Rattle.lane_law.specs.Trail.{Changed, IsOwnChange, IsEntered, IsTrail}
@@ -87,7 +87,7 @@ of_lane n k zero (x ∷ lanes) (y ∷ told) lines answers is e f =
 of_lane n k (suc j) (x ∷ lanes) (y ∷ told) lines answers is e f = those_append k (lane_sayings n x y) (all_sayings (n + 1) lanes told)
     ∙ (λ i. left_out n k (lane_sayings n x y) (λ same. omega arith) (pairs_by n (zip x y)) i ++ of_lane (n + 1) k j lanes told lines answers (omega arith) e f i)
 
-module _ (run : Run) (report : Report) (w : State) (v : View) (all : RunsAll run report w v) (entries : AreEntries run report w) where
+module _ (run : Run) (report : Report) (w : ForestState) (v : View) (all : RunsAll run report w v) (entries : AreEntries run report w) where
   -- the entries that are printed are changes that the pass made
   own_change : (i n : ℕ) (entry : ChangeLine) → slice_get (entries_at report i) n ≡ Some entry → IsOwnChange v i n entry
   own_change i n entry at =
@@ -139,7 +139,7 @@ module _ (run : Run) (report : Report) (w : State) (v : View) (all : RunsAll run
   }
 
 -- a state that fits such a pass has no other changes
-pub whole : (run : Run) (report : Report) (v : View) (w : State) → IsTrail run report v → Fits IsRight IsReference w v → (i n : ℕ) (e : Entry MadeChange) → IsEntry w i n e → Changed v i (n + 1) e.by e.change × IsEntered report i (n + 1) e.by e.change
+pub whole : (run : Run) (report : Report) (v : View) (w : ForestState) → IsTrail run report v → Fits IsRight IsReference w v → (i n : ℕ) (e : Entry MadeChange) → IsEntry w i n e → Changed v i (n + 1) e.by e.change × IsEntered report i (n + 1) e.by e.change
 whole run report v w trail fits i n e here =
     let low : v.low ≤ e.by = omega (arith, trail.low) in
     let high : e.by < v.end = omega (arith, fits.makers i n e here, fits.passes, trail.passes) in

@@ -13,10 +13,10 @@ use Rattle.map_history.specs.Operation.{Ask, Get, Make, Seek, Scan, is_scan}
 use Rattle.map_history.specs.Report.{Answer, Replied, LogFull, SpaceFull, Scanned, AnswerLine}
 use Rattle.map_history.specs.LegalReport.{Line, Answers, Mark, marks_of, marks_in, Precedes, has_form, is_done}
 use Rattle.index_law.specs.State.{Entries}
-use Rattle.index_law.specs.Spoken.{View, Spoken, spoken, sayings}
-use Rattle.index_law.specs.Once.{AnswersOnce}
-use Rattle.index_law.specs.Trace.{SeesMore}
-use Rattle.index_law.proofs.TraceLemmas.{sees_more, once_said}
+use Rattle.call_law.specs.Spoken.{View, Spoken, spoken, sayings}
+use Rattle.call_law.specs.Once.{AnswersOnce}
+use Rattle.call_law.specs.Trace.{SeesMore}
+use Rattle.call_law.proofs.TraceLemmas.{sees_more, once_said}
 use Rattle.lane_law.specs.Worked.{answered, lane_sayings, IsSeenTo, Worked}
 use Rattle.list_facts.proofs.Elements.{zip_push, all_zip_push, all_zip_length}
 use Rattle.lane_law.proofs.PairLemmas.{all_pairs_none, all_pairs_one, all_pairs_append}

@@ -11,10 +11,12 @@ use Rattle.map_history.specs.Report.{AnswerLine, Replied, Report, dashes}
 use Rattle.map_history.specs.Statistics.{counts_of}
 use Rattle.map_history.specs.LegalReport.{Line, Run, IsLegalButRoom}
 use Rattle.index_law.specs.Answers.{MadeChange, Gives, Replies}
-use Rattle.index_law.specs.State.{State}
-use Rattle.index_law.specs.Law.{IsLawful}
-use Rattle.index_law.specs.Spoken.{View}
-use Rattle.index_law.specs.OneRow.{state_with}
+use Rattle.forest_law.specs.declared.objects.Pool.{Pool}
+use Rattle.forest_law.specs.State.{ForestState}
+use Rattle.forest_law.specs.Law.{IsLawful}
+use Rattle.forest_law.specs.Opening.{IsFirstPool}
+use Rattle.forest_law.specs.OnePut.{one_index, state_after}
+use Rattle.call_law.specs.Spoken.{View}
 use Rattle.lane_law.specs.Worked.{answered}
 use Rattle.lane_law.specs.Trail.{IsTrail}
 use Rattle.lane_law.specs.Runs.{HasNoScan, RunsAll}
@@ -77,7 +79,7 @@ example_logs = record { noted = note_at 0 line_of_put 1 ∷ []; room = 1 }
     ∷ record { noted = []; room = 1 } ∷ []
 
 -- a lawful state of one index whose list has the put, with nothing held
-pub record IsExample (sizes : Sizes) (w : State) : Type 0 where
+pub record IsExample (sizes : Sizes) (w : ForestState) : Type 0 where
   pub lawful : IsLawful w
   pub lists : w.lists ≡ (record { change = row_made; by = 0 } ∷ []) ∷ []
   pub latches : w.latches ≡ replicate (length w.objects) 0
@@ -88,7 +90,7 @@ pub record IsExample (sizes : Sizes) (w : State) : Type 0 where
   pub pages : w.shape.pages ≡ sizes.pages
 
 -- what the joined pass of the two lanes knows
-abbrev pub example_view : State → View
+abbrev pub example_view : ForestState → View
 example_view w = record {
   terms = record {
     shape = w.shape;
@@ -113,7 +115,7 @@ example_view w = record {
 }
 
 -- all that the laws ask for holds of it, and so does what they give
-pub record IsMet (sizes : Sizes) (w : State) : Type 0 where
+pub record IsMet (sizes : Sizes) (w : ForestState) : Type 0 where
   pub plain : HasNoScan (example_run sizes)
   pub runs : RunsAll (example_run sizes) example_report w (example_view w)
   pub notes : HasNotes (example_run sizes) example_report example_logs
@@ -123,9 +125,14 @@ pub record IsMet (sizes : Sizes) (w : State) : Type 0 where
 
 -- in each such state
 abbrev pub LanesExample : Type 0
-LanesExample = (sizes : Sizes) (w : State) → IsExample sizes w → IsMet sizes w
+LanesExample = (sizes : Sizes) (w : ForestState) → IsExample sizes w → IsMet sizes w
 
--- where a list may have a change, there is such a state
+-- the state after the put, where a list may have a change and there is one page
+abbrev pub example_state : Sizes → Pool → ForestState
+example_state sizes pool =
+    state_after pool key value dashes (0 ∷ 0 ∷ 0 ∷ []) sizes.max_changes 2
+
+-- it is such a state, with whatever pool a space of one page begins
 abbrev pub ExampleStands : Type 0
-ExampleStands = (sizes : Sizes) → 1 ≤ sizes.max_changes
-    → IsExample sizes (state_with sizes key value dashes 2)
+ExampleStands = (sizes : Sizes) (pool : Pool) → sizes.pages ≡ 1 → 1 ≤ sizes.max_changes
+    → IsFirstPool (one_index (length key)) pool → IsExample sizes (example_state sizes pool)

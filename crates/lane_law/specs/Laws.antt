@@ -12,12 +12,13 @@ use Rattle.change_log.specs.Merge.{IsMerge}
 use Rattle.map_history.specs.Operation.{is_scan}
 use Rattle.map_history.specs.Report.{Answer, AnswerLine, Report}
 use Rattle.map_history.specs.LegalReport.{Line, Run, Precedes, marks_of, IsLegalButRoom}
-use Rattle.index_law.specs.State.{State, Entries}
+use Rattle.forest_law.specs.State.{ForestState}
+use Rattle.index_law.specs.State.{Entries}
 use Rattle.index_law.specs.Answers.{MadeChange}
-use Rattle.index_law.specs.References.{IsReference}
+use Rattle.forest_law.specs.References.{IsReference}
 use Rattle.index_law.specs.Rightness.{IsRight}
-use Rattle.index_law.specs.Spoken.{View, spoken}
-use Rattle.index_law.specs.Once.{AnswersOnce}
+use Rattle.call_law.specs.Spoken.{View, spoken}
+use Rattle.call_law.specs.Once.{AnswersOnce}
 use Rattle.lane_law.specs.Worked.{answered, AreInOrder, Worked}
 use Rattle.lane_law.specs.Runs.{all_sayings, HasNoScan, RunsAll, AreEntries}
 use Rattle.lane_law.specs.Trail.{Changed, IsEntered, IsTrail}
@@ -59,29 +60,29 @@ pub record RunsJoin : Type 0 where
 
 -- what lanes without scans are told is a legal report, but for room
 abbrev pub LanesAreLegal : Type 0
-LanesAreLegal = (run : Run) (report : Report) (w : State) (v : View) → HasNoScan run
+LanesAreLegal = (run : Run) (report : Report) (w : ForestState) (v : View) → HasNoScan run
     → RunsAll run report w v → AreEntries run report w → IsLegalButRoom run report
 
 -- where each lane noted its changes, the merged logs of an index are its list, change by change
 abbrev pub MergedLogsAreLists : Type 0
-MergedLogsAreLists = (run : Run) (report : Report) (w : State) (v : View) (logs : List Log)
+MergedLogsAreLists = (run : Run) (report : Report) (w : ForestState) (v : View) (logs : List Log)
     → RunsAll run report w v → HasNotes run report logs
     → (i : ℕ) (xs : Entries) (merged : List ChangeNote) → get_elem? w.lists i ≡ some xs
     → IsMerge i logs merged → IsNumbered run report i xs merged
 
 -- and entries that are the merged changes are those of the lists
 abbrev pub MergedLogsAreEntries : Type 0
-MergedLogsAreEntries = (run : Run) (report : Report) (w : State) (v : View) (logs : List Log)
+MergedLogsAreEntries = (run : Run) (report : Report) (w : ForestState) (v : View) (logs : List Log)
     → RunsAll run report w v → HasNotes run report logs → HasMerged report logs
     → AreEntries run report w
 
 -- and the joined pass of the lanes tells that what is printed is what it did
 abbrev pub PassesAreTrails : Type 0
-PassesAreTrails = (run : Run) (report : Report) (w : State) (v : View) → RunsAll run report w v
+PassesAreTrails = (run : Run) (report : Report) (w : ForestState) (v : View) → RunsAll run report w v
     → AreEntries run report w → IsTrail run report v
 
 -- in a state that fits such a pass each entry of a list is a change that it made, and is printed
 abbrev pub TrailsAreWhole : Type 0
-TrailsAreWhole = (run : Run) (report : Report) (v : View) (w : State) → IsTrail run report v
+TrailsAreWhole = (run : Run) (report : Report) (v : View) (w : ForestState) → IsTrail run report v
     → Fits IsRight IsReference w v → (i n : ℕ) (e : Entry MadeChange) → IsEntry w i n e
     → Changed v i (n + 1) e.by e.change × IsEntered report i (n + 1) e.by e.change

@@ -8,11 +8,12 @@ use Rattle.map_history.specs.Operation.{is_scan}
 use Rattle.map_history.specs.Report.{AnswerLine, ChangeLine, IndexPart, Report, entries_at}
 use Rattle.map_history.specs.Statistics.{counts_of}
 use Rattle.map_history.specs.LegalReport.{Line, Run, NamesLine, columns_at}
-use Rattle.index_law.specs.State.{State, Entries}
-use Rattle.index_law.specs.Law.{IsLawful}
+use Rattle.forest_law.specs.State.{ForestState}
+use Rattle.index_law.specs.State.{Entries}
+use Rattle.forest_law.specs.Law.{IsLawful}
 use Rattle.index_law.specs.Rightness.{IsRight}
-use Rattle.index_law.specs.References.{IsReference}
-use Rattle.index_law.specs.Spoken.{View, Spoken, spoken}
+use Rattle.forest_law.specs.References.{IsReference}
+use Rattle.call_law.specs.Spoken.{View, Spoken, spoken}
 use Rattle.lane_law.specs.Worked.{lane_sayings, AreInOrder}
 
 -- no line asks for the rows of a range
@@ -31,7 +32,7 @@ all_sayings n (lines ∷ lanes) (answers ∷ told) =
 -- What is known when the passes of all lanes are joined: a lawful state of the run's sizes fits
 -- their pass, which said what the lanes were answered. The report has these answers, and a part for
 -- each name with the counts of its columns.
-pub record RunsAll (run : Run) (report : Report) (w : State) (v : View) : Type 0 where
+pub record RunsAll (run : Run) (report : Report) (w : ForestState) (v : View) : Type 0 where
   pub lawful : IsLawful w
   pub fits : Fits IsRight IsReference w v
   pub low : v.low ≡ 0
@@ -48,7 +49,7 @@ pub record RunsAll (run : Run) (report : Report) (w : State) (v : View) : Type 0
 
 -- the report's entries of each index are as many as those of the list, and each names a line that
 -- is answered `ok` at its number
-pub record AreEntries (run : Run) (report : Report) (w : State) : Type 0 where
+pub record AreEntries (run : Run) (report : Report) (w : ForestState) : Type 0 where
   pub long : (i : ℕ) (xs : Entries) → get_elem? w.lists i ≡ some xs
       → length (entries_at report i) ≡ length xs
   pub named : (i n : ℕ) (entry : ChangeLine) → slice_get (entries_at report i) n ≡ Some entry

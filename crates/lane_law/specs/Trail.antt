@@ -8,7 +8,7 @@ use Rattle.latch_law.specs.declared.knows.Statement as what
 use Rattle.map_history.specs.Report.{AnswerLine, ChangeLine, Report, entries_at}
 use Rattle.map_history.specs.LegalReport.{Line, Run}
 use Rattle.index_law.specs.Answers.{MadeChange}
-use Rattle.index_law.specs.Spoken.{View, OwnAnswer, Spoken, spoken}
+use Rattle.call_law.specs.Spoken.{View, OwnAnswer, Spoken, spoken}
 use Rattle.lane_law.specs.Worked.{lane_sayings}
 
 -- what the pass said under one of its numbers, no looks and no fulls

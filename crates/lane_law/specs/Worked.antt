@@ -6,8 +6,8 @@ use lib.ListN.{get_elem?}
 use Rattle.map_history.specs.Report.{Answer, AnswerLine}
 use Rattle.map_history.specs.LegalReport.{Line, Answers, Mark, marks_in, Precedes}
 use Rattle.index_law.specs.State.{Entries}
-use Rattle.index_law.specs.Spoken.{View, Spoken, spoken, sayings}
-use Rattle.index_law.specs.Trace.{SameNumbers, SeesMore}
+use Rattle.call_law.specs.Spoken.{View, Spoken, spoken, sayings}
+use Rattle.call_law.specs.Trace.{SameNumbers, SeesMore}
 
 -- the answer with the number of its line
 abbrev pub answered : Line → Answer → AnswerLine

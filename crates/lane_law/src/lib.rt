@@ -1,4 +1,4 @@
-//! Why what some lanes are told of one space is a legal report.
+//! Why what some lanes are told of one space is a report that is legal but for room.
 //! Laws alone: nothing here runs, waits or takes memory.
 #![tactic(auto)]
 

@@ -1,17 +1,17 @@
-use Rattle.std.proofs.Common.{refl}
-use Rattle.index_law.proofs.OneRowLemmas.{one_row_lemma}
+use Rattle.std.proofs.Common.{[], ◌∷◌, refl, sym}
+use Rattle.forest_law.proofs.OnePutLemmas.{one_put_is_lawful}
 use Rattle.lane_law.specs.Example.{key, value}
 use Rattle.map_history.specs.Report.{dashes}
 use Rattle.lane_law.proofs.laws.example_stands.Goals as goal
 
 pub returns : goal.returns
-returns c sizes room = record {
-  lawful = one_row_lemma sizes key value dashes 2;
+returns c sizes pool one room first = record {
+  lawful = one_put_is_lawful.lawful pool key value dashes (0 ∷ 0 ∷ 0 ∷ []) sizes.max_changes 2 first;
   lists = refl;
   latches = refl;
   passes = refl;
   max_changes = refl;
   room = room;
   indexes = refl;
-  pages = refl;
+  pages = sym one;
 }

@@ -10,8 +10,8 @@ use Rattle.map_history.specs.LegalReport.{Mark, marks_of, is_done, has_form, Sca
 use Rattle.index_law.specs.Answers.{Where}
 use Rattle.index_law.specs.State.{Entries, changes}
 use Rattle.index_law.specs.Rightness.{IsAllowed, AsksToWrite, map_at}
-use Rattle.index_law.specs.Spoken.{View, spoken, sayings}
-use Rattle.index_law.specs.Trace.{Added, Adds, AreGivenAt, fulls}
+use Rattle.call_law.specs.Spoken.{View, spoken, sayings}
+use Rattle.call_law.specs.Trace.{Added, Adds, AreGivenAt, fulls}
 
 -- nothing was answered: looks alone were said
 pub record IsQuiet (v v' : View) (i : ℕ) : Type 0 where

@@ -7,7 +7,7 @@ use Rattle.map_history.specs.Operation.{Ask, Make}
 use Rattle.map_history.specs.Reply.{Done}
 use Rattle.map_history.specs.Report.{Columns, ScanPiece, Answer, Replied, Scanned}
 use Rattle.map_history.specs.Report as answer
-use Rattle.index_law.specs.declared.frame.Object.{Object}
+use Rattle.forest_law.specs.declared.objects.Object.{Object}
 use Rattle.index_law.specs.Answers.{MadeChange, Word, Gives, LogFull, SpaceFull, Saying, Replies, Piece, Full, Look, speaks_at}
 use Rattle.index_law.specs.Shape.{Shape}
 

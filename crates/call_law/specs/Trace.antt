@@ -1,19 +1,17 @@
 -- What a call adds to what its pass knows.
-use Rattle.std.specs.Prelude.{ℕ, ◌≡◌, Some, List, [], ◌∷◌, ◌++◌}
+use Rattle.std.specs.Prelude.{ℕ, ◌≡◌, ◌≢◌, ◌<◌, List, [], ◌∷◌, ◌++◌}
 use Rattle.std.specs.List.{AllByRecursion}
 use mathlib.Core.Option.{some}
 use lib.ListN.{get_elem?}
-use Rattle.latch_law.specs.declared.knows.Holding.{Holding}
 use Rattle.latch_law.specs.declared.knows.Reference.{Reference}
 use Rattle.latch_law.specs.declared.knows.Refusal.{Refusal}
 use Rattle.latch_law.specs.declared.knows.Statement as what
-use Rattle.latch_law.specs.Fitting.{AreTriesOf}
-use Rattle.latch_law.specs.Views.{holding, with_held, with_refused, releasing}
-use Rattle.latch_law.specs.Whole.{reference}
-use Rattle.index_law.specs.declared.frame.Object.{Object}
+use Rattle.forest_law.specs.declared.objects.Object.{Object}
+use Rattle.forest_law.specs.Numbers.{tree_id}
 use Rattle.index_law.specs.Answers.{MadeChange, Where, Saying, Replies, Piece, Full, Look}
-use Rattle.index_law.specs.Spoken.{View, OwnAnswer}
+use Rattle.index_law.specs.Shape.{Shape}
 use Rattle.index_law.specs.State.{Entries}
+use Rattle.call_law.specs.Spoken.{View, OwnAnswer}
 
 -- the same numbers of the same space
 pub record SameNumbers (v v' : View) : Type 0 where
@@ -47,27 +45,15 @@ pub record IsOnlySaid (added : Added) : Type 0 where
   pub refused : added.refused ≡ []
   pub references : added.references ≡ []
 
--- the object k was taken, after some refused tries of it
-pub record Takes (v v' : View) (k : ℕ) : Type 0 where
-  pub refused : List (Refusal Object)
-  pub tries : AreTriesOf v k refused
-  pub value : Object
-  pub view : v' ≡ with_held (with_refused v refused) k (Some (holding value value))
+-- the number is that of no tree
+abbrev pub IsNoTree : Shape → ℕ → Type 0
+IsNoTree shape k = (i : ℕ) → i < shape.indexes → k ≢ tree_id i
 
--- the object k was given back
-pub record GivesBack (v v' : View) (k : ℕ) : Type 0 where
-  pub holding : Holding Object
-  pub view : v' ≡ releasing v k holding
-
--- The object k was taken, and nothing else: each refused try was of it, with nothing more in
--- hand than before, and it was given back. So there is one reference, to it, by what was known
--- of it at the take and at the release, and the same is in hand as before.
-pub record TookAlone (v v' : View) (k : ℕ) (added : Added) : Type 0 where
-  pub tries : AreTriesOf v k added.refused
-  pub taken : Object
-  pub released : Object
-  pub once : added.references ≡ reference k taken released ∷ []
-  pub held : v'.held ≡ v.held
+-- no tree was tried in vain or given back
+pub record SparesTrees (shape : Shape) (added : Added) : Type 0 where
+  pub refused : AllByRecursion (λ (f : Refusal Object). IsNoTree shape f.object) added.refused
+  pub references : AllByRecursion (λ (q : Reference Object). IsNoTree shape q.object)
+      added.references
 
 -- each of these was given at the list of the index i, by the number n
 abbrev pub AreGivenAt : ℕ → ℕ → List OwnAnswer → Type 0

@@ -1,0 +1,4 @@
+pub mod Spoken
+pub mod Trace
+pub mod Once
+pub mod Hands
