@@ -1,0 +1,3 @@
+pub mod ValueLemmas
+pub mod ChangeLemmas
+pub mod FullLemmas

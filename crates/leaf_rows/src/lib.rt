@@ -1,0 +1,13 @@
+//! The rows of a leaf as a map: the row of a key is found, put in and taken out.
+//! Nothing here looks at another page, takes a latch or keeps anything.
+#![tactic(auto)]
+
+mod changing;
+mod finding;
+mod laws;
+#[cfg(test)]
+mod tests;
+
+pub use changing::{delete_row, put_row, take_back};
+pub use finding::find_key;
+pub use laws::{refusals_are_full, rows_are_taken_out};

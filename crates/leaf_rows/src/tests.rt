@@ -1,0 +1,158 @@
+//! A worked leaf: a row is put in, found, taken back and taken out.
+ghost use Rattle.std.specs.Prelude.{◌<◌, length, IfSome};
+ghost use Rattle.leaf_rows.specs.Changing.{LacksRow, WasPut, HasRowOf};
+ghost use Rattle.leaf_rows.specs.Finding.{HasSpot};
+
+use crate::{delete_row, find_key, put_row, take_back};
+use forest_law::Frame;
+use index_page::{Page, PageHead, Place, Spot};
+use key_tuple::{Fields, Key, Mode, Value};
+use learning::BlockFigures;
+use std::alloc::Global;
+
+/// An empty leaf for keys of one field.
+fn empty_leaf(alloc: Global) -> Option<Page> {
+    let head = PageHead {
+        number: 3,
+        index: 1,
+        level: 0,
+        prev: None,
+        next: None,
+        fields: 1,
+    };
+    Page::empty(alloc, head).ok()
+}
+
+/// A frame with an empty leaf.
+fn leaf_frame(alloc: Global) -> Frame {
+    Frame {
+        page: empty_leaf(alloc),
+        low: None,
+        high: None,
+        clock: 5,
+        figures: BlockFigures::opening(),
+        hashed: None,
+    }
+}
+
+fn bytes_of(alloc: Global, bytes: &[u8]) -> Option<Vec<u8>> {
+    bytes.to_vec(alloc).ok()
+}
+
+fn one_field(alloc: Global, field: Vec<u8>) -> Option<Vec<Vec<u8>>>
+    ensures { IfSome result (λ fields. 0 < length fields.items) }
+{
+    vec![in alloc; field].ok()
+}
+
+fn fields_of(alloc: Global, bytes: &[u8]) -> Option<Vec<Vec<u8>>>
+    ensures { IfSome result (λ fields. 0 < length fields.items) }
+{
+    let field = bytes_of(alloc, bytes)?;
+    one_field(alloc, field)
+}
+
+fn key_of(alloc: Global, bytes: &[u8]) -> Option<Key> {
+    let fields = fields_of(alloc, bytes)?;
+    Key::try_new(alloc, fields).ok()
+}
+
+fn value_of(alloc: Global, bytes: &[u8]) -> Option<Value> {
+    let bytes = bytes_of(alloc, bytes)?;
+    Value::try_new(bytes).ok()
+}
+
+/// Where the key belongs, if the page is a leaf for such keys.
+fn spot_of(page: &Page, key: &Key) -> Option<Spot>
+    ensures { IfSome result (λ spot. HasSpot page.now key.now.tuple spot) }
+{
+    if page.head().level == 0 && page.head().fields == key.count() {
+        Some(page.search(key, Mode::Ge))
+    } else {
+        None
+    }
+}
+
+/// Where the key belongs, if its row is missing.
+fn free_spot(frame: &Frame, key: &Key) -> Option<Spot>
+    ensures { IfSome result (λ spot. LacksRow frame.now key.now.tuple spot) }
+{
+    let Some(page) = &frame.page else { return None };
+    let Some(spot) = spot_of(page, key) else {
+        return None;
+    };
+    match find_key(page, key, &spot) {
+        Some(_) => None,
+        None => Some(spot),
+    }
+}
+
+/// Where the key's row stands.
+fn place_of(frame: &Frame, key: &Key) -> Option<Place>
+    ensures { IfSome result (λ place. HasRowOf frame.now place key.now.tuple) }
+{
+    let Some(page) = &frame.page else { return None };
+    let Some(spot) = spot_of(page, key) else {
+        return None;
+    };
+    find_key(page, key, &spot)
+}
+
+/// Puts a row in whose key is missing.
+fn put_in(frame: &mut Frame, key: &Key, value: &Value) -> Option<Place>
+    ensures { IfSome result (λ place. WasPut frame.new place) }
+{
+    let Some(spot) = free_spot(frame, key) else {
+        return None;
+    };
+    match put_row(frame, &spot, key, value) {
+        Ok(place) => Some(place),
+        Err(_) => None,
+    }
+}
+
+/// The row is there once it is put in, and isn't when it is taken back.
+fn comes_and_goes_back(frame: &mut Frame, key: &Key, value: &Value) -> bool {
+    let Some(place) = put_in(frame, key, value) else {
+        return false;
+    };
+    let there = place_of(frame, key) == Some(place);
+    take_back(frame, place);
+    there && place_of(frame, key).is_none()
+}
+
+/// The row is there once it is put in, and isn't when it is deleted.
+fn comes_and_goes(frame: &mut Frame, key: &Key, value: &Value) -> bool {
+    if put_in(frame, key, value).is_none() {
+        return false;
+    }
+    let Some(place) = place_of(frame, key) else {
+        return false;
+    };
+    delete_row(frame, place);
+    place_of(frame, key).is_none()
+}
+
+/// So it is with a row of three letters, and the clock ends there.
+fn tries(alloc: Global, back: bool, clock: u64) -> bool {
+    let (Some(key), Some(value)) = (key_of(alloc, b"oak"), value_of(alloc, b"tree")) else {
+        return false;
+    };
+    let mut frame = leaf_frame(alloc);
+    let went = if back {
+        comes_and_goes_back(&mut frame, &key, &value)
+    } else {
+        comes_and_goes(&mut frame, &key, &value)
+    };
+    went && frame.clock == clock
+}
+
+#[test]
+fn a_row_is_taken_back(rt: HostRuntime) {
+    assert!(rt; tries(rt.alloc(), true, 5));
+}
+
+#[test]
+fn a_row_that_is_deleted_raises_the_clock(rt: HostRuntime) {
+    assert!(rt; tries(rt.alloc(), false, 6));
+}

@@ -1,0 +1,9 @@
+pub mod FrameLemmas
+pub mod LeafLemmas
+pub mod InnerLemmas
+pub mod ChildLemmas
+pub mod KeyLemmas
+pub mod RangeLemmas
+pub mod CutLemmas
+pub mod NeighbourLemmas
+pub mod LevelLemmas

@@ -1,0 +1,36 @@
+-- The page after another.
+use Rattle.std.proofs.Common.{sym, ap, subst, ◌∙◌}
+use Rattle.list_facts.proofs.Places.{same_some}
+use Rattle.tree_law.specs.TreeShape.{Tag, tag_of, map_tag, tag_at, NextFits}
+use Rattle.tree_law.specs.Pages.{outline, forest}
+use Rattle.tree_law.proofs.NeighbourLemmas.{fore_link}
+use Rattle.tree_law.proofs.PlacingLemmas.{low_not_high}
+use Rattle.forest_law.specs.State.{page_within, pages_of, heights_of, fields_for}
+use Rattle.tree_facts.specs.TreeFrames.{low_of, high_of}
+use Rattle.tree_facts.specs.Neighbours.{NeighboursHaveFrames}
+use Rattle.tree_facts.proofs.FrameLemmas.{tells_page, tree_outline, tagged_page}
+
+pub neighbours_have_frames : NeighboursHaveFrames
+neighbours_have_frames w law b f page is m next = let trees = forest (pages_of w.shape w.objects) in
+    let shape = law.objects.pages.shape in
+    let this = outline (page_within page f.low f.high) in
+    let there = tree_outline w law b f page is in
+    let fits = subst (NextFits trees (tag_of this)) next (shape.nexts b this there) in
+    let has = tagged_page w law m fits.0 fits.1 in
+    let after = tree_outline w law m has.frame has.page has.is in
+    let index = has.index ∙ fits.2.index in
+    record {
+      frame = has.frame;
+      after = has.page;
+      is = has.is;
+      index = index;
+      level = has.at_level ∙ fits.2.level;
+      fields = (tells_page w law m has.frame has.page has.is).order.fields
+          ∙ (ap (fields_for w.shape) index ∙ sym (tells_page w law b f page is).order.fields);
+      other = λ e. low_not_high (low_of f) (high_of f) (shape.pages b this there).bounds
+          (ap (λ (t : Tag). t.low) (same_some (tag_of this) fits.0
+          (sym (ap map_tag there) ∙ (ap (tag_at trees) (sym e) ∙ fits.1))) ∙ fits.2.meets);
+      meets = has.low ∙ fits.2.meets;
+      back = fore_link w.shape.indexes (heights_of w.objects) trees shape m b this
+          (outline (page_within has.page has.frame.low has.frame.high)) there after next;
+    }

@@ -1,0 +1,14 @@
+//! Laws of the pages of a level, and of how many levels there are.
+ghost use Rattle.tree_facts.specs.Levels.{LevelsAreFew};
+ghost use Rattle.tree_facts.specs.Neighbours.{NeighboursHaveFrames};
+
+/// The page after one of the trees is in the frame of its number, begins where that one ends, and
+/// leads back to it.
+pub fn neighbours_have_frames()
+    ensures { NeighboursHaveFrames }
+{}
+
+/// Where there is a page outside the trees, each tree has fewer levels than there are page numbers.
+pub fn levels_are_few()
+    ensures { LevelsAreFew }
+{}

@@ -1,0 +1,14 @@
+//! What a lawful state of the trees tells about the pages in frames, for descents and splits.
+//! Laws alone: nothing here runs, takes a latch or holds a page.
+#![tactic(auto)]
+
+mod inner;
+mod leaves;
+mod levels;
+
+pub use inner::{
+    children_have_frames, cuts_are_in_ranges, inner_pages_point, pointers_bound_children,
+    ranges_have_cuts,
+};
+pub use leaves::leaves_tell_maps;
+pub use levels::{levels_are_few, neighbours_have_frames};
