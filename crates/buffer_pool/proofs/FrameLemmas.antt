@@ -23,7 +23,8 @@ use Rattle.forest_law.specs.declared.objects.Object.{Object}
 use Rattle.forest_law.specs.declared.objects.Object.TheVariants as object
 use Rattle.forest_law.specs.Law.{IsLawful}
 use Rattle.forest_law.specs.Numbers.{frame_id, frames_of}
-use Rattle.forest_law.specs.References.{IsReference, IsRightByLists}
+use Rattle.index_law.specs.Rightness.{IsRight}
+use Rattle.forest_law.specs.References.{IsReference}
 use Rattle.forest_law.specs.Steps.{Rests}
 use Rattle.forest_law.proofs.ObjectLemmas.{same_frame}
 use Rattle.forest_world.specs.Held.{TreePass, shape_of_pass, HasFrame}
@@ -47,13 +48,13 @@ no_more : (v : TreeView) → with_refused v [] ≡ v
 no_more v = ap (λ (fs : List (Refusal Object)). record v { refused = fs }) (append-nil v.refused)
 
 -- what was taken at once was taken after no refused try
-pub after_none : (p q : TreePass) (k : ℕ) → DidTake IsLawful IsRightByLists IsReference p k q
-    → DidTakeAfter IsLawful IsRightByLists IsReference p k q
+pub after_none : (p q : TreePass) (k : ℕ) → DidTake IsLawful IsRight IsReference p k q
+    → DidTakeAfter IsLawful IsRight IsReference p k q
 after_none p q k told = record {
   refused = [];
   tries = λ j f at. absurd (some-ne-none f (sym at));
   value = told.value;
-  was_free = subst (λ v. WasFree IsLawful IsRightByLists IsReference v k told.value)
+  was_free = subst (λ v. WasFree IsLawful IsRight IsReference v k told.value)
       (sym (no_more (view p))) told.was_free;
   view = told.view
       ∙ ap (λ v. with_held v k (Some (holding told.value told.value))) (sym (no_more (view p)));
@@ -72,7 +73,7 @@ taken_rests q k x has h held = (
 )
 
 module _ (p q : TreePass) (b : ℕ)
-    (told : DidTakeAfter IsLawful IsRightByLists IsReference p (frame_id (shape_of_pass p) b) q)
+    (told : DidTakeAfter IsLawful IsRight IsReference p (frame_id (shape_of_pass p) b) q)
     (below : b < frames_of (shape_of_pass p)) where
   -- in the state in which it was free, the object is the block's frame
   pub frame_there : (f : Frame) × (told.value ≡ object.Frame f)
@@ -125,7 +126,7 @@ module _ (p q : TreePass) (b : ℕ)
 
 -- what a try tells
 pub tells_frame : (p q : TreePass) (b : ℕ) (r : Take) → b < frames_of (shape_of_pass p)
-    → TellsTake IsLawful IsRightByLists IsReference p (frame_id (shape_of_pass p) b) r q
+    → TellsTake IsLawful IsRight IsReference p (frame_id (shape_of_pass p) b) r q
     → TellsFrame p b r q
 unfolding takes_frame after_none
 tells_frame p q b Taken below told =

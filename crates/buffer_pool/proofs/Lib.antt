@@ -3,4 +3,16 @@ pub mod KeepLemmas
 pub mod FrameLemmas
 pub mod TreeLemmas
 pub mod PoolLemmas
+pub mod AddedLemmas
+pub mod CallLemmas
 pub mod PageLemmas
+pub mod PagingLemmas
+pub mod FullLemmas
+pub mod FreeLemmas
+pub mod LookLemmas
+pub mod AgainLemmas
+pub mod PlaceLemmas
+pub mod PlacingLemmas
+pub mod PlaceStepLemmas
+pub mod NewPageLemmas
+pub mod FreePageLemmas

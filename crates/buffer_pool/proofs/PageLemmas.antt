@@ -1,10 +1,10 @@
 -- The page of a number, and the frame of its block.
-use Rattle.std.proofs.Common.{◌≡◌, ℕ, ◌<◌, true, false, List, [], ◌∷◌, inl, inr, sym, ap, subst, ◌∙◌, arith, refl, is_some, append-nil, Option, Some, None}
+use Rattle.std.proofs.Common.{◌≡◌, ℕ, ◌<◌, List, [], ◌∷◌, inl, inr, sym, ap, subst, ◌∙◌, arith, refl, append-nil, Option, Some, None}
 use Rattle.std.proofs.lemmas.Bool.{cases_eq}
 use mathlib.Core.Option.{some, some-injective}
 use mathlib.Core.Option as maybe
 use lib.ListN.{get_elem?}
-use Rattle.atomic_table.proofs.Lists.{set_again}
+use Rattle.atomic_table.proofs.Lists.{set_again, set_here}
 use Rattle.list_facts.proofs.Places.{inside, there, not_both, set_twice}
 use Rattle.latch_law.specs.declared.knows.Holding.{Holding}
 use Rattle.latch_law.specs.declared.knows.Reference.{Reference}
@@ -13,6 +13,8 @@ use Rattle.latch_law.specs.declared.knows.Terms.{Terms}
 use Rattle.latch_law.specs.Rule.{Holds}
 use Rattle.latch_law.specs.Views.{holding, with_held, with_refused, releasing}
 use Rattle.latch_law.specs.Whole.{reference}
+use Rattle.call_law.proofs.TraceLemmas.{both_added}
+use Rattle.latch_space.specs.Has.{IsKnown}
 use Rattle.latch_space.specs.Passes.{view, Lacks}
 use Rattle.index_page.specs.Page.{PageRows}
 use Rattle.index_law.specs.Shape.{Shape}
@@ -31,7 +33,11 @@ use Rattle.forest_world.specs.Held.{TreePass, shape_of_pass}
 use Rattle.buffer_pool.specs.Forests.{TreeView, FitsTrees, IsFittedTree, WasFrame}
 use Rattle.buffer_pool.specs.Hands.{LacksFrame}
 use Rattle.buffer_pool.specs.Frames.{TakesFrame, GivesFrame}
-use Rattle.buffer_pool.specs.Pages.{IsLive, HasOtherPage, HoldsOtherPages, with_tried, PagesIn, FindsNoPage}
+use Rattle.buffer_pool.specs.Pages.{IsLive, HasOtherPage, HoldsOtherPages, with_tried, PagesIn, HasTreePage, FindsPage, FindsNoPage}
+use Rattle.buffer_pool.specs.Calls.{Does}
+use Rattle.buffer_pool.proofs.AddedLemmas.{only_refused, only_given, frame_no_tree, tries_spare}
+use Rattle.buffer_pool.proofs.CallLemmas.{does_both, does_again, took_frame, gave_frame}
+use Rattle.buffer_pool.proofs.FrameLemmas.{one_held}
 
 -- what is so where more tries were refused is so where fewer were
 pub fits_before : (w : ForestState) (v : TreeView) (fs : List (Refusal Object))
@@ -114,15 +120,6 @@ lacks_page p n fitted below objects others =
         ∙ (fitted.fits.known (frame_id (shape_of_pass p) n) h held ∙ ap some other.is) in
         other.other (frame_tells w fitted.is_lawful n other.frame other.rows at other.paged).number
 
--- a page, if there is one
-pub some_page : (o : Option PageRows) → is_some o ≡ true → (rows : PageRows) × (o ≡ Some rows)
-some_page (Some rows) e = (rows, refl)
-some_page None e = absurd cc
-
-pub none_page : (o : Option PageRows) → is_some o ≡ false → o ≡ None
-none_page (Some rows) e = absurd cc
-none_page None e = refl
-
 module _ (p q : TreePass) (n : ℕ) (lacks : LacksFrame p n) (took : TakesFrame p n q) where
   was_before : WasFrame (view p) n took.frame
   was_before = record {
@@ -149,6 +146,8 @@ module _ (p q : TreePass) (n : ℕ) (lacks : LacksFrame p n) (took : TakesFrame 
         (frame_id (shape_of_pass p) n)
         (Some (holding (object.Frame took.frame) (object.Frame took.frame))))
         (sym (append-nil (view p).references));
+    spares = tries_spare (shape_of_pass p) (view p) (frame_id (shape_of_pass p) n) took.refused
+        took.tries (frame_no_tree (shape_of_pass p) n);
     lacked = lacks;
     has = took.has;
     hand = took.hand;
@@ -166,41 +165,87 @@ module _ (p q : TreePass) (n : ℕ) (lacks : LacksFrame p n) (took : TakesFrame 
           absurd (some_is_not page.0
           (sym (no_page was.whole was.is_lawful n took.frame was.at e) ∙ page.1))
 
-  -- and without one it was given back
-  module _ (r : TreePass) (none : took.frame.page ≡ None) (gave : GivesFrame q n r) where
+  -- where it is a page of the trees, it is the one that was looked for
+  pub finds_page : (i level : ℕ) → HasTreePage n took.frame i level → FindsPage p n i level n q
+  finds_page i level is = record {
+    lacked = lacks;
+    taken = took;
+    is = is;
+    number = (frame_tells took.was.whole took.was.is_lawful n took.frame is.page took.was.at
+        is.paged).number;
+  }
+
+  -- and where it isn't, the frame was given back
+  module _ (r : TreePass) (gave : GivesFrame q n r) where
     abbrev k : ℕ
     k = frame_id (shape_of_pass p) n
-
-    abbrev h : Holding Object
-    h = holding gave.taken (object.Frame gave.frame)
-
-    abbrev added : Reference Object
-    added = reference k gave.taken (object.Frame gave.frame)
 
     same_shape : shape_of_pass q ≡ shape_of_pass p
     same_shape = ap (λ (t : Terms Shape). t.shape) took.hand.terms
 
-    still_view : view r ≡ with_tried (view p) took.refused (added ∷ [])
+    -- it went out as it was taken
+    same_holding : holding gave.taken (object.Frame gave.frame)
+        ≡ holding (object.Frame took.frame) (object.Frame took.frame)
+    same_holding = one_held q k (holding gave.taken (object.Frame gave.frame))
+        (holding (object.Frame took.frame) (object.Frame took.frame))
+        (subst
+        (λ (s : Shape). Holds (view q) (frame_id s n)
+        (holding gave.taken (object.Frame gave.frame)))
+        same_shape gave.held)
+        (ap (λ (v : TreeView). get_elem? v.held k) took.view
+        ∙ set_here (view p).held k
+        (Some (holding (object.Frame took.frame) (object.Frame took.frame)))
+        (inside (view p).held k None lacks))
+
+    abbrev given : Reference Object
+    given = reference k (object.Frame took.frame) (object.Frame took.frame)
+
+    still_view : view r ≡ with_tried (view p) took.refused (given ∷ [])
     still_view =
         gave.view
-        ∙ (ap (λ (s : Shape). releasing (view q) (frame_id s n) h) same_shape
-        ∙ (ap (λ (v : TreeView). releasing v k h) took.view
+        ∙ (ap (λ (s : Shape). releasing (view q) (frame_id s n)
+        (holding gave.taken (object.Frame gave.frame))) same_shape
+        ∙ (ap (releasing (view q) k) same_holding
+        ∙ (ap (λ (v : TreeView). releasing v k
+        (holding (object.Frame took.frame) (object.Frame took.frame))) took.view
         ∙ ap (λ (hs : List (Option (Holding Object))). record (with_tried (view p) took.refused
-        (added ∷ [])) { held = hs })
+        (given ∷ [])) { held = hs })
         (set_twice (view p).held k (Some (holding (object.Frame took.frame)
-        (object.Frame took.frame))) None ∙ set_again (view p).held k None lacks)))
+        (object.Frame took.frame))) None ∙ set_again (view p).held k None lacks))))
 
-    pub finds_no_page : FindsNoPage p n r
-    finds_no_page = record {
-      was = record {
-        whole = was_before.whole;
-        is_lawful = was_before.is_lawful;
-        fits = was_before.fits;
-        none = no_page was_before.whole was_before.is_lawful n took.frame was_before.at none;
-      };
+    -- and this is all that was done
+    does_still : IsKnown p → Does p r []
+        (record { said = []; refused = took.refused; references = given ∷ [] })
+    does_still known =
+        let first = took_frame p q known n took in
+        let second =
+        subst (λ (s : Shape). Does q r (frame_id s n ∷ [])
+        (only_given (frame_id s n) gave.taken (object.Frame gave.frame))) same_shape
+        (gave_frame q r first.known n gave) in
+        let both =
+        does_both p q r (k ∷ []) (only_refused took.refused)
+        (only_given k gave.taken (object.Frame gave.frame)) first second in
+        subst (λ (fs : List (Refusal Object)). Does p r []
+        (record { said = []; refused = fs; references = given ∷ [] }))
+        (append-nil took.refused)
+        (subst
+        (λ (h : Holding Object). Does p r []
+        (both_added (only_refused took.refused) (only_given k h.taken h.known))) same_holding
+        (does_again p r
+        (both_added (only_refused took.refused)
+        (only_given k gave.taken (object.Frame gave.frame))) k [] both
+        (subst (λ (s : Shape). get_elem? (view r).held (frame_id s n) ≡ some None)
+        (ap (λ (t : Terms Shape). t.shape) gave.hand.terms ∙ same_shape) gave.lacks ∙ sym lacks)))
+
+    pub finds_no_page : (i level : ℕ) → (HasTreePage n took.frame i level → ⊥)
+        → FindsNoPage p n i level r
+    finds_no_page i level not = record {
+      frame = took.frame;
+      was = was_before;
+      not = not;
       still = record {
         refused = took.refused;
-        references = added ∷ [];
+        references = given ∷ [];
         frames = λ c f g has. elim (cases_eq c n) [
           | inl e ↦ absurd (not_both (view p).held (frame_id (shape_of_pass p) c)
               (holding has.held.0 (object.Frame f))
@@ -212,7 +257,15 @@ module _ (p q : TreePass) (n : ℕ) (lacks : LacksFrame p n) (took : TakesFrame 
             (took.hand.trees i t u below has);
         pool = λ x y has. gave.hand.pool x y (took.hand.pool x y has);
         rest = λ ks rest. gave.rest ks (took.rest ks rest);
+        spares = record {
+          refused = (tries_spare (shape_of_pass p) (view p) (frame_id (shape_of_pass p) n)
+              took.refused took.tries (frame_no_tree (shape_of_pass p) n)).refused;
+          references = (frame_no_tree (shape_of_pass p) n, tt);
+        };
+        known = λ known. (gave_frame q r (took_frame p q known n took).known n gave).known;
         view = still_view;
         count = (let a = took.count in let b = gave.count in omega (arith, a, b));
       };
+      references = refl;
+      does = does_still;
     }

@@ -15,7 +15,8 @@ use Rattle.forest_law.specs.declared.objects.Object.{Object}
 use Rattle.forest_law.specs.declared.objects.Object.TheVariants as object
 use Rattle.forest_law.specs.Law.{IsLawful}
 use Rattle.forest_law.specs.Numbers.{pool_id}
-use Rattle.forest_law.specs.References.{IsReference, IsRightByLists}
+use Rattle.index_law.specs.Rightness.{IsRight}
+use Rattle.forest_law.specs.References.{IsReference}
 use Rattle.forest_world.specs.Held.{TreePass, HasPool}
 use Rattle.buffer_pool.specs.Forests.{TreeView, WasObject}
 use Rattle.buffer_pool.specs.Pools.{TakesPool, TakesPoolOut, PutsPoolBack, GivesPool}
@@ -33,7 +34,7 @@ pub same_pool : (x y : Pool) → object.Pool x ≡ object.Pool y → x ≡ y
 same_pool x y e = ap (the_pool x) e
 
 module _ (p q : TreePass)
-    (told : DidTakeAfter IsLawful IsRightByLists IsReference p pool_id q) where
+    (told : DidTakeAfter IsLawful IsRight IsReference p pool_id q) where
   -- what was taken is the pool
   pub takes_pool : TakesPool p q
   takes_pool =

@@ -11,7 +11,8 @@ use Rattle.forest_law.specs.declared.objects.Tree.{Tree}
 use Rattle.forest_law.specs.declared.objects.Object.TheVariants as object
 use Rattle.forest_law.specs.Law.{IsLawful}
 use Rattle.forest_law.specs.Numbers.{tree_id}
-use Rattle.forest_law.specs.References.{IsReference, IsRightByLists}
+use Rattle.index_law.specs.Rightness.{IsRight}
+use Rattle.forest_law.specs.References.{IsReference}
 use Rattle.forest_world.specs.Held.{TreePass, shape_of_pass, HasTree}
 use Rattle.buffer_pool.specs.Forests.{TreeView, WasObject}
 use Rattle.buffer_pool.specs.Trees.{TakesTree, ChangesTree, GivesTree}
@@ -19,7 +20,7 @@ use Rattle.buffer_pool.proofs.FrameLemmas.{one_held, taken_rests}
 use Rattle.buffer_pool.proofs.KeepLemmas.{keeps_beside_tree, rest_kept, rest_but}
 
 module _ (p q : TreePass) (i : ℕ)
-    (told : DidTakeAfter IsLawful IsRightByLists IsReference p (tree_id i) q)
+    (told : DidTakeAfter IsLawful IsRight IsReference p (tree_id i) q)
     (below : i < (shape_of_pass p).indexes) where
   -- what was taken is the index's tree
   pub takes_tree : TakesTree p i q

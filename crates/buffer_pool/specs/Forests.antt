@@ -12,12 +12,14 @@ use Rattle.forest_law.specs.declared.objects.Object.{Object}
 use Rattle.forest_law.specs.Law.{IsLawful}
 use Rattle.forest_law.specs.Numbers.{frame_id, frames_of}
 use Rattle.forest_law.specs.Objects.{IsFrameOf}
-use Rattle.forest_law.specs.References.{IsReference, IsRightByLists}
+use Rattle.index_law.specs.Rightness.{IsRight}
+use Rattle.forest_law.specs.References.{IsReference}
 use Rattle.forest_law.specs.State.{ForestState}
 
--- the space has the objects of its shape
+-- the space has the objects of its shape, and a list for each index
 pub record IsForest {Q : Type 0} (space : SpaceOf Shape Object MadeChange Saying Q) : Type 0 where
   pub objects : space.terms.objects ≡ frame_id space.terms.shape (frames_of space.terms.shape)
+  pub lists : space.terms.indexes ≡ space.terms.shape.indexes
 
 -- what a pass of such a space knows
 abbrev pub TreeView : Type 0
@@ -25,15 +27,15 @@ TreeView = Knows Shape Object MadeChange Saying
 
 -- all that is known is so in this state
 abbrev pub FitsTrees : ForestState → TreeView → Type 0
-FitsTrees w v = Fits IsRightByLists IsReference w v
+FitsTrees w v = Fits IsRight IsReference w v
 
 -- all that is known is so in some lawful state
 abbrev pub IsFittedTree : TreeView → Type 0
-IsFittedTree v = IsFitted IsLawful IsRightByLists IsReference v
+IsFittedTree v = IsFitted IsLawful IsRight IsReference v
 
 -- in some lawful state in which all that is known is so, nobody holds the object k, which is x
 abbrev pub WasObject : TreeView → ℕ → Object → Type 0
-WasObject v k x = WasFree IsLawful IsRightByLists IsReference v k x
+WasObject v k x = WasFree IsLawful IsRight IsReference v k x
 
 -- in some lawful state in which all that is known is so, nobody holds the block's frame, which is f
 pub record WasFrame (v : TreeView) (b : ℕ) (f : Frame) : Type 0 where

@@ -13,7 +13,8 @@ use Rattle.forest_law.specs.declared.objects.Object.{Object}
 use Rattle.forest_law.specs.declared.objects.Object.TheVariants as object
 use Rattle.forest_law.specs.Law.{IsLawful}
 use Rattle.forest_law.specs.Numbers.{frame_id}
-use Rattle.forest_law.specs.References.{IsReference, IsRightByLists}
+use Rattle.index_law.specs.Rightness.{IsRight}
+use Rattle.forest_law.specs.References.{IsReference}
 use Rattle.forest_world.specs.Held.{TreePass, shape_of_pass, HasFrame}
 use Rattle.buffer_pool.specs.Forests.{WasFrame}
 use Rattle.buffer_pool.specs.Hands.{LacksFrame, HasOut, KeepsBeside, KeepsRest, KeepsRestBut}
@@ -34,7 +35,7 @@ pub record TakesFrame (p : TreePass) (b : ℕ) (q : TreePass) : Type 0 where
 
 -- the pass n, another one, held the block's frame: one refused try more, and nothing else
 pub record RefusesFrame (p : TreePass) (b n : ℕ) (q : TreePass) : Type 0 where
-  pub was_held : WasHeld IsLawful IsRightByLists IsReference (view p)
+  pub was_held : WasHeld IsLawful IsRight IsReference (view p)
       (frame_id (shape_of_pass p) b) n
   pub view : view q ≡ refusing (view p) (frame_id (shape_of_pass p) b) n
   pub same : SameHands p q

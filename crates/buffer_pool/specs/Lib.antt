@@ -4,4 +4,9 @@ pub mod Frames
 pub mod Lending
 pub mod Pools
 pub mod Trees
+pub mod Calls
 pub mod Pages
+pub mod NewPages
+pub mod FreeNumbers
+pub mod Full
+pub mod Placing

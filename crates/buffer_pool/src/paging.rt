@@ -1,5 +1,5 @@
 //! A page's frame is held by the page's number.
-ghost use Rattle.std.specs.Prelude.{◌≡◌, ◌<◌, is_some, IfOk, IfErr};
+ghost use Rattle.std.specs.Prelude.{◌≡◌, ◌<◌, IsTrue, IfOk, IfErr};
 ghost use Rattle.latch_space.specs.Passes.{view, count, IsSamePass};
 ghost use Rattle.latch_space.specs.Spaces.{IsPassOf};
 ghost use Rattle.forest_law.specs.Numbers.{frames_of};
@@ -7,6 +7,7 @@ ghost use Rattle.forest_world.specs.Held.{shape_of_pass};
 ghost use Rattle.buffer_pool.specs.declared.error.PoolError.TheVariants as refused;
 ghost use Rattle.buffer_pool.specs.Forests.{IsForest, IsFittedTree};
 ghost use Rattle.buffer_pool.specs.Pages.{IsLive, HoldsOtherPages, PagesIn, PagesInIf, HoldsStill};
+ghost use Rattle.buffer_pool.specs.Pages.{HasTreePage};
 ghost use Rattle.buffer_pool.specs.Pools.{LacksPool};
 
 use crate::error::PoolError;
@@ -39,36 +40,43 @@ pub fn page_in<R: Wait>(
     Ok(page)
 }
 
-/// The same where the number may have no page by now: then it answers `None`, and holds what it held.
+/// Holds the page's frame where it is a page of the trees, of this index and level, and answers its
+/// block. Where it isn't, or the number has no page by now, it answers `None` and holds what it held.
 pub fn page_if<R: Wait>(
     space: &ForestSpace,
     pass: &mut ForestPass,
     page: u32,
+    index: u32,
+    level: u16,
     wait: &R,
-) -> Result<Option<u32>, PoolError>
+) -> Option<u32>
     requires own { IsForest space.now × IsPassOf space.now pass.old }
     requires there { page < frames_of (shape_of_pass pass.old) }
     requires others { LacksPool pass.old × HoldsOtherPages pass.old page }
     requires room { count pass.old < 16 }
     ensures own { IsSamePass pass.old pass.new × IsPassOf space.now pass.new }
-    ensures ok { IfOk result (λ found. PagesInIf pass.old page found pass.new) }
-
-    // It never tells that the space is full.
-    ensures err { IfErr result (λ e. (e ≡ refused.NoMemory) × HoldsStill pass.old pass.new) }
+    ensures did { PagesInIf pass.old page index level result pass.new }
     ensures fits { IsFittedTree (view pass.new) }
 {
     pass.fits();
     take_frame(space, pass, page, wait);
-    if has_page(frame(space, pass, page)) {
-        return Ok(Some(page));
+    if has_tree_page(frame(space, pass, page), page, index, level) {
+        return Some(page);
     }
     give_back(space, pass, page);
-    Ok(None)
+    None
 }
 
-// Whether the frame has a page.
-fn has_page(frame: &Frame) -> bool
-    ensures { result ≡ is_some frame.now.page }
+// Whether the block's frame has a page of the trees, of this index and level.
+fn has_tree_page(frame: &Frame, block: u32, index: u32, level: u16) -> bool
+    ensures there { IsTrue result → HasTreePage block frame.now index level }
+    ensures none { HasTreePage block frame.now index level → IsTrue result }
 {
-    frame.page.is_some()
+    match &frame.page {
+        Some(page) => {
+            let head = page.head();
+            head.prev != Some(block) && head.index == index && head.level == level
+        }
+        None => false,
+    }
 }

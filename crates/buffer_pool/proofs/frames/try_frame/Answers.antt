@@ -2,7 +2,8 @@ use Rattle.std.proofs.Common.{sym, subst}
 use Rattle.latch_space.specs.Passes.{Lacks}
 use Rattle.latch_space.specs.Takes.{TellsTake}
 use Rattle.forest_law.specs.Law.{IsLawful}
-use Rattle.forest_law.specs.References.{IsReference, IsRightByLists}
+use Rattle.index_law.specs.Rightness.{IsRight}
+use Rattle.forest_law.specs.References.{IsReference}
 use Rattle.buffer_pool.proofs.FrameLemmas.{tells_frame}
 use Rattle.buffer_pool.proofs.frames.try_frame.Goals as goal
 
@@ -14,5 +15,5 @@ pub returns-clause-did : goal.returns-clause-did
 returns-clause-did c =
     tells_frame c.args.pass.now c.try_take.new.pass c.args.block c.try_take.result c.requires.there
     (subst
-    (λ k. TellsTake IsLawful IsRightByLists IsReference c.args.pass.now k c.try_take.result
+    (λ k. TellsTake IsLawful IsRight IsReference c.args.pass.now k c.try_take.result
     c.try_take.new.pass) c.frame_number-number.ensures c.try_take.ensures.did)

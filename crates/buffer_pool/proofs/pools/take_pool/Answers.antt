@@ -2,7 +2,8 @@ use Rattle.std.proofs.Common.{sym, subst}
 use Rattle.latch_space.specs.Passes.{Lacks}
 use Rattle.latch_space.specs.Takes.{DidTakeAfter}
 use Rattle.forest_law.specs.Law.{IsLawful}
-use Rattle.forest_law.specs.References.{IsReference, IsRightByLists}
+use Rattle.index_law.specs.Rightness.{IsRight}
+use Rattle.forest_law.specs.References.{IsReference}
 use Rattle.buffer_pool.proofs.PoolLemmas.{takes_pool}
 use Rattle.buffer_pool.proofs.pools.take_pool.Goals as goal
 
@@ -14,5 +15,5 @@ pub returns-clause-took : goal.returns-clause-took
 returns-clause-took g c =
     takes_pool c.args.pass.now c.take.new.pass
     (subst
-    (λ k. DidTakeAfter IsLawful IsRightByLists IsReference c.args.pass.now k c.take.new.pass)
+    (λ k. DidTakeAfter IsLawful IsRight IsReference c.args.pass.now k c.take.new.pass)
     c.pool_id.ensures c.take.ensures.did)

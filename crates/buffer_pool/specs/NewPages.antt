@@ -1,0 +1,102 @@
+-- Pages that get a number, or give theirs back.
+use Rattle.std.specs.Prelude.{ℕ, ◌≡◌, ◌≢◌, ◌<◌, ◌+◌, Some, None, [], ◌∷◌, length, slice_set}
+use Rattle.latch_law.specs.Whole.{reference}
+use Rattle.latch_space.specs.Passes.{view, count}
+use Rattle.index_page.specs.declared.head.PageHead.{PageHead}
+use Rattle.index_page.specs.Page.{PageRows}
+use Rattle.tree_law.specs.TreeShape.{In}
+use Rattle.clock_law.specs.ModifyClock.{ClockRises}
+use Rattle.forest_law.specs.declared.objects.Frame.{Frame}
+use Rattle.forest_law.specs.declared.objects.Pool.{Pool}
+use Rattle.forest_law.specs.declared.objects.Where.TheVariants.{Free, InFrame}
+use Rattle.forest_law.specs.declared.objects.Object.{Object}
+use Rattle.forest_law.specs.declared.objects.Object.TheVariants as object
+use Rattle.forest_law.specs.Numbers.{pool_id, frame_id}
+use Rattle.forest_law.specs.State.{where_at}
+use Rattle.forest_world.specs.Held.{TreePass, shape_of_pass}
+use Rattle.call_law.specs.Hands.{KnowsFrame}
+use Rattle.call_law.specs.Spoken.{View}
+use Rattle.call_law.specs.Trace.{Added}
+use Rattle.buffer_pool.specs.Hands.{LacksFrame}
+use Rattle.buffer_pool.specs.Calls.{DoesSilently, FindsFull}
+
+-- each frame that is held is known to have a page
+abbrev pub HoldsPages : View → Type 0
+HoldsPages v = (b : ℕ) (f : Frame) → KnowsFrame v b f → (page : PageRows) × (f.page ≡ Some page)
+
+-- the number is the lowest that is free
+pub record IsLowestFree (pool : Pool) (n : ℕ) : Type 0 where
+  pub below : n < length pool.place.items
+  pub free : where_at pool.place.items n ≡ Free
+  pub lowest : (m : ℕ) → m < n → where_at pool.place.items m ≢ Free
+
+-- no number is free
+abbrev pub HasNoneFree : Pool → Type 0
+HasNoneFree pool = (n : ℕ) → n < length pool.place.items → where_at pool.place.items n ≢ Free
+
+-- the pool was held, as it was before, and given back
+pub record HeldPool (added : Added) (pool : Pool) : Type 0 where
+  pub now : Pool
+  pub among : In (reference pool_id (object.Pool pool) (object.Pool now)) added.references
+
+-- an empty page with this number, outside the trees: it has itself as its left neighbour
+abbrev pub outside_page : PageHead → ℕ → PageRows
+outside_page head n = record { head = record head { number = n; prev = Some n }; rows = [] }
+
+-- the frame has that page, and no bounds
+pub record HasOutsidePage (f : Frame) (head : PageHead) (n : ℕ) : Type 0 where
+  pub page : f.page ≡ Some (outside_page head n)
+  pub low : f.low ≡ None
+  pub high : f.high ≡ None
+
+-- the lowest number that was free in the pool, as it was held, has a new page outside the trees,
+-- and its frame is held
+pub record GetsPage (p : TreePass) (head : PageHead) (n : ℕ) (q : TreePass) : Type 0 where
+  pub silently : DoesSilently p q (frame_id (shape_of_pass p) n ∷ [])
+  pub pool : Pool
+  pub held : HeldPool silently.added pool
+  pub lowest : IsLowestFree pool n
+  pub placed : held.now.place.items ≡ slice_set pool.place.items n (InFrame n)
+  pub lacked : LacksFrame p n
+  pub frame : Frame
+  pub knows : KnowsFrame (view q) n frame
+  pub has : HasOutsidePage frame head n
+  pub count : count q ≡ count p + 1
+
+-- no number was free in the pool, as it was held
+pub record FindsNoneFree (p : TreePass) (i : ℕ) (q : TreePass) : Type 0 where
+  pub full : FindsFull p i q
+  pub pool : Pool
+  pub held : HeldPool full.added pool
+  pub none : HasNoneFree pool
+  pub same : held.now ≡ pool
+
+-- the frame is known to have an empty page, outside the trees
+pub record HoldsOutsidePage (v : View) (b : ℕ) : Type 0 where
+  pub frame : Frame
+  pub knows : KnowsFrame v b frame
+  pub page : PageRows
+  pub paged : frame.page ≡ Some page
+  pub own : page.head.prev ≡ Some b
+  pub empty : page.rows ≡ []
+
+-- the frame that was held was given back as this one, at a higher clock
+pub record GaveFrame (v : View) (added : Added) (b : ℕ) (frame : Frame) : Type 0 where
+  pub was : Frame
+  pub knew : KnowsFrame v b was
+  pub taken : Object
+  pub among : In (reference (frame_id v.terms.shape b) taken (object.Frame frame)) added.references
+  pub clock : ClockRises was.clock frame.clock
+
+-- the page's number is free in the pool, as it was given back, and its frame was given back without
+-- a page
+pub record FreesPage (p : TreePass) (b : ℕ) (q : TreePass) : Type 0 where
+  pub silently : DoesSilently p q (frame_id (shape_of_pass p) b ∷ [])
+  pub pool : Pool
+  pub held : HeldPool silently.added pool
+  pub placed : held.now.place.items ≡ slice_set pool.place.items b Free
+  pub frame : Frame
+  pub gave : GaveFrame (view p) silently.added b frame
+  pub empty : frame.page ≡ None
+  pub lacks : LacksFrame q b
+  pub count : count q + 1 ≡ count p
