@@ -1,0 +1,101 @@
+-- Ways in vain, and the one that comes to the leaf.
+use Rattle.std.proofs.Common.{◌≡◌, ℕ, ◌<◌, None, [], ◌∷◌, ◌++◌, sym, ap, subst, ◌∙◌, refl, arith}
+use mathlib.Core.Option.{some}
+use lib.ListN.{get_elem?}
+use Rattle.key_tuple.specs.Order.{FieldList}
+use Rattle.key_tuple.specs.declared.mode.Mode.{Mode}
+use Rattle.latch_law.specs.declared.knows.Terms.{Terms}
+use Rattle.latch_space.specs.Has.{IsKnown}
+use Rattle.latch_space.specs.Passes.{view}
+use Rattle.index_page.specs.declared.spot.Spot.{Spot}
+use Rattle.index_page.specs.Search.{Finds}
+use Rattle.tree_law.specs.Pages.{IsOrderly}
+use Rattle.index_law.specs.Shape.{Shape}
+use Rattle.forest_law.specs.Numbers.{pool_id, frame_id, frames_of}
+use Rattle.forest_law.specs.State.{page_within, fields_for}
+use Rattle.forest_world.specs.Held.{TreePass, shape_of_pass}
+use Rattle.call_law.specs.Hands.{HoldsNoFrameBut, HoldsNoPool}
+use Rattle.call_law.proofs.TraceLemmas.{both_added}
+use Rattle.buffer_pool.specs.Calls.{Does, GetsNothing}
+use Rattle.buffer_pool.proofs.CallLemmas.{does_both, does_none, does_nothing, silently_both}
+use Rattle.tree_descent.specs.Descents.{Descends}
+use Rattle.tree_descent.specs.Leaves.{HasCutWithin, cut_in}
+use Rattle.tree_descent.specs.Paths.{LeadFromRoot}
+use Rattle.tree_descent.specs.Ways.{ComesDown}
+use Rattle.tree_descent.proofs.WayLemmas.{way_page}
+
+-- before the first way
+pub vain_none : (p : TreePass) → IsKnown p → GetsNothing p p
+vain_none p known = record { silently = does_nothing p known; count = refl }
+
+-- one way in vain after others
+pub vain_more : (p q r : TreePass) → GetsNothing p q → GetsNothing q r → GetsNothing p r
+vain_more p q r first second = record {
+  silently = silently_both p q r [] first.silently second.silently;
+  count = second.count ∙ first.count;
+}
+
+module _ (p q : TreePass) (vain : GetsNothing p q) where
+  -- after ways in vain all is held as before
+  pub vain_shape : shape_of_pass q ≡ shape_of_pass p
+  vain_shape = ap (λ (t : Terms Shape). t.shape) vain.silently.does.adds.numbers.terms
+
+  vain_lacks : (k : ℕ) → get_elem? (view p).held k ≡ some None
+      → get_elem? (view q).held k ≡ some None
+  vain_lacks k lacks = vain.silently.does.rest k tt ∙ lacks
+
+  pub vain_frames : HoldsNoFrameBut (view p) [] → HoldsNoFrameBut (view q) []
+  vain_frames frames c below apart = subst
+      (λ (s : Shape). get_elem? (view q).held (frame_id s c) ≡ some None) (sym vain_shape)
+      (vain_lacks (frame_id (shape_of_pass p) c)
+      (frames c (subst (λ (s : Shape). c < frames_of s) vain_shape below) tt))
+
+  pub vain_pool : HoldsNoPool (view p) → HoldsNoPool (view q)
+  vain_pool pool = vain_lacks pool_id pool
+
+  module _ (r : TreePass) (i : ℕ) (mode : Mode) (tuple : FieldList) (b : ℕ)
+      (down : ComesDown q (cut_in (shape_of_pass q) i mode tuple) i b r) where
+    leaf_does : Does q r (frame_id (shape_of_pass p) b ∷ []) down.way.silently.added
+    leaf_does = subst (λ (s : Shape). Does q r (frame_id s b ∷ []) down.way.silently.added)
+        vain_shape down.way.silently.does
+
+    -- the way that comes to the leaf after ways in vain is a descent
+    pub descends : (spot : Spot) → Finds mode tuple down.way.page.is.page.rows spot
+        → Descends p i mode tuple (record { block = b; spot = spot }) r
+    descends spot finds = let k = frame_id (shape_of_pass p) b in
+        let a = vain.silently.added in
+        let way = down.way in
+        record {
+          silently = record {
+            added = both_added a way.silently.added;
+            does = does_both p q r (k ∷ []) a way.silently.added
+                (does_none p q a (k ∷ []) vain.silently.does) leaf_does;
+            silent = λ j. vain.silently.silent j ++ way.silently.silent j;
+          };
+          path = record {
+            vain = a.references;
+            path = way.silently.added.references;
+            references = refl;
+            leads = subst
+                (λ (s : Shape). LeadFromRoot s (cut_in s i mode tuple) i 0 b
+                way.silently.added.references) vain_shape way.leads;
+          };
+          lacked = sym (vain.silently.does.rest k tt)
+              ∙ subst (λ (s : Shape). get_elem? (view q).held (frame_id s b) ≡ some None)
+              vain_shape way.lacked;
+          frame = way.frame;
+          knows = (way_page q (cut_in (shape_of_pass q) i mode tuple) i 0 b r way).knows;
+          is = record {
+            page = record {
+              is = way.page.is;
+              order = subst
+                  (λ (s : Shape). IsOrderly (fields_for s)
+                  (page_within way.page.is.page way.frame.low way.frame.high)) vain_shape
+                  way.page.order;
+              within = subst (λ (s : Shape). HasCutWithin way.frame (cut_in s i mode tuple))
+                  vain_shape down.within;
+            };
+            finds = finds;
+          };
+          count = (let x = vain.count in let y = way.count in omega (arith, x, y));
+        }

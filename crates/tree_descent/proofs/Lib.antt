@@ -1,0 +1,4 @@
+pub mod PageLemmas
+pub mod InnerLemmas
+pub mod WayLemmas
+pub mod DescentLemmas

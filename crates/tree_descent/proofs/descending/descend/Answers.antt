@@ -1,0 +1,62 @@
+use Rattle.std.proofs.Common.{◌<◌, ◌≤◌, sym, subst, arith, rules, length}
+use Rattle.index_law.specs.Shape.{Shape}
+use Rattle.forest_law.specs.State.{fields_for}
+use Rattle.forest_world.specs.Held.{shape_of_pass}
+use Rattle.tree_descent.specs.Leaves.{cut_in}
+use Rattle.tree_descent.proofs.DescentLemmas.{vain_none, vain_more, vain_shape, vain_frames, vain_pool, descends}
+use Rattle.tree_descent.proofs.WayLemmas.{way_page}
+use Rattle.tree_descent.proofs.descending.descend.Goals as goal
+
+pub loop-init : goal.loop-init
+loop-init g c =
+    record { own = search rules; vain = vain_none c.args.pass.now c.requires.known }
+
+pub try_down-requires-clause-index : goal.try_down-requires-clause-index
+try_down-requires-clause-index g c = subst (λ (s : Shape). c.args.index < s.indexes)
+    (sym (vain_shape c.args.pass.now c.loop.pass c.loop.invariant.vain)) c.requires.index
+
+pub try_down-requires-clause-fields : goal.try_down-requires-clause-fields
+try_down-requires-clause-fields g c = subst
+    (λ (s : Shape). length (g.T.Fields.fields_of c.args.tuple.now) ≤ fields_for s c.args.index)
+    (sym (vain_shape c.args.pass.now c.loop.pass c.loop.invariant.vain)) c.requires.fields
+
+pub try_down-requires-clause-frames : goal.try_down-requires-clause-frames
+try_down-requires-clause-frames g c =
+    vain_frames c.args.pass.now c.loop.pass c.loop.invariant.vain c.requires.frames
+
+pub try_down-requires-clause-pool : goal.try_down-requires-clause-pool
+try_down-requires-clause-pool g c =
+    vain_pool c.args.pass.now c.loop.pass c.loop.invariant.vain c.requires.pool
+
+pub try_down-requires-clause-room : goal.try_down-requires-clause-room
+try_down-requires-clause-room g c = let same = c.loop.invariant.vain.count in
+    let room = c.requires.room in omega (arith, same, room)
+
+pub spot_on-spot-requires-clause-held : goal.spot_on-spot-requires-clause-held
+spot_on-spot-requires-clause-held g c =
+    let q = c.loop.pass in
+    let i = c.args.index in
+    let tuple = g.T.Fields.fields_of c.args.tuple.now in (
+      0,
+      way_page q (cut_in (shape_of_pass q) i c.args.mode tuple) i 0 c.in-Some-try_down.block
+          c.try_down.new.pass c.in-Some-try_down.ensures.tried.way,
+    )
+
+pub returns-in-Some-try_down-clause-went : goal.returns-in-Some-try_down-clause-went
+returns-in-Some-try_down-clause-went g c =
+    let q = c.loop.pass in
+    let i = c.args.index in
+    let tuple = g.T.Fields.fields_of c.args.tuple.now in
+    let down = c.in-Some-try_down.ensures.tried in
+    descends c.args.pass.now q c.loop.invariant.vain c.try_down.new.pass i c.args.mode tuple
+    c.in-Some-try_down.block down c.spot_on-spot.result
+    (c.spot_on-spot.ensures 0
+    (way_page q (cut_in (shape_of_pass q) i c.args.mode tuple) i 0 c.in-Some-try_down.block
+    c.try_down.new.pass down.way))
+
+pub loop-preserved : goal.loop-preserved
+loop-preserved g c = record {
+  own = search rules;
+  vain = vain_more c.args.pass.now c.loop.pass c.try_down.new.pass c.loop.invariant.vain
+      c.in_default.ensures.tried;
+}

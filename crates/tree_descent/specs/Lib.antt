@@ -1,0 +1,4 @@
+pub mod Leaves
+pub mod Paths
+pub mod Descents
+pub mod Ways
