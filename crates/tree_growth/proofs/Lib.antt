@@ -1,0 +1,15 @@
+pub mod AddLemmas
+pub mod KnownLemmas
+pub mod HandLemmas
+pub mod RoomLemmas
+pub mod PageLemmas
+pub mod HalvesLemmas
+pub mod FullLemmas
+pub mod RefusalLemmas
+pub mod SplitLemmas
+pub mod RootLemmas
+pub mod RaiseLemmas
+pub mod ChildLemmas
+pub mod WalkLemmas
+pub mod TreeLemmas
+pub mod AnswerLemmas

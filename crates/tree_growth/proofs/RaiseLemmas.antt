@@ -1,0 +1,157 @@
+-- A root that was raised, and the page under it.
+use Rattle.std.proofs.Common.{◌≡◌, ℕ, suc, ◌+◌, ◌≤◌, [], ◌∷◌, length, Some, sym, ap, subst, ◌∙◌, arith}
+use Rattle.list_facts.proofs.Places.{same_some}
+use Rattle.key_tuple.specs.declared.mode.Mode.TheVariants as mode
+use Rattle.key_tuple.specs.Order.{FieldList}
+use Rattle.latch_space.specs.Passes.{view}
+use Rattle.index_page.specs.declared.head.PageHead.{PageHead}
+use Rattle.index_page.specs.declared.TheConstants.{PAGE_ROOM}
+use Rattle.index_page.specs.Loads.{load_of}
+use Rattle.index_page.specs.Page.{PageRows}
+use Rattle.index_page.specs.Rows.{Child}
+use Rattle.tree_law.specs.Pages.{low_place, high_place, is_own, IsOrderly}
+use Rattle.index_law.specs.Shape.{Shape}
+use Rattle.forest_law.specs.declared.objects.Frame.{Frame}
+use Rattle.forest_law.specs.Numbers.{tree_id, frame_id}
+use Rattle.forest_law.specs.State.{bound, page_within, fields_for}
+use Rattle.forest_world.specs.Held.{TreePass, shape_of_pass}
+use Rattle.call_law.specs.Hands.{KnowsFrame}
+use Rattle.buffer_pool.specs.Forests.{IsFittedTree}
+use Rattle.buffer_pool.specs.NewPages.{outside_page}
+use Rattle.buffer_pool.specs.Pages.{HasTreePage}
+use Rattle.tree_descent.specs.Descents.{PointsAt}
+use Rattle.tree_descent.specs.Leaves.{cut_in}
+use Rattle.tree_smo.specs.Raising.{RaisesRoot}
+use Rattle.tree_smo.specs.Splitting.{most_for_pointer}
+use Rattle.tree_growth.specs.declared.looking.PageInHand.{PageInHand}
+use Rattle.tree_growth.specs.Pages.{IsWithinRoom, HoldsChild}
+use Rattle.tree_growth.specs.Ways.{IsGoingDown, GoesOn, GrowsRoot, GrowsChild}
+use Rattle.tree_growth.proofs.AddLemmas.{goes_silently, reaches_after}
+use Rattle.tree_growth.proofs.HandLemmas.{way_more}
+use Rattle.tree_growth.proofs.PageLemmas.{HasKey}
+use Rattle.tree_growth.proofs.RoomLemmas.{one_row, load_of-same}
+use Rattle.tree_growth.proofs.RootLemmas.{key_cuts}
+use Rattle.tree_growth.proofs.KnownLemmas.{frame_one, known_tells}
+
+module _ (p q : TreePass) (i : ℕ) (key : FieldList) (under : ℕ) (way : IsGoingDown p i key (i ∷ []))
+    (raises : RaisesRoot p i under q) where
+  -- the root and the page under it are in hand
+  pub goes_raised : GoesOn p q
+  goes_raised = goes_silently p q
+      (frame_id (shape_of_pass p) i ∷ frame_id (shape_of_pass p) under ∷ tree_id i ∷ [])
+      raises.silently
+
+  pub way_raised : IsGoingDown q i key (i ∷ under ∷ [])
+  way_raised = let does = raises.silently.does in let s = shape_of_pass p in
+      let had = way.count in let more = raises.count in
+      way_more p q i key (i ∷ []) (i ∷ under ∷ []) way
+      (frame_id s i ∷ frame_id s under ∷ tree_id i ∷ []) raises.silently.added does.adds does.rest
+      does.known (λ k not each. ((each.0, (each.1.0, (not, tt))), (each.0, tt))) raises.tree
+      raises.knows_tree (omega (arith, had, more))
+
+  -- the page that rose
+  same_page : raises.raises.page ≡ raises.was.page.page
+  same_page =
+      same_some raises.raises.page raises.was.page.page (sym raises.raises.had ∙ raises.was.page.paged)
+
+  -- the new page is that of the block
+  fresh_is : raises.raises.fresh ≡ outside_page raises.head under
+  fresh_is = same_some raises.raises.fresh (outside_page raises.head under)
+      (sym raises.raises.had_fresh ∙ raises.blank.page)
+
+  top_page : HasTreePage i raises.root i (suc raises.was.level)
+  top_page = let head = raises.raises.raises.head in record {
+    page = raises.raises.top;
+    paged = raises.raises.has;
+    tree = ap (λ (h : PageHead). is_own i h.prev) head;
+    index = ap (λ (h : PageHead). h.index) head
+        ∙ (ap (λ (r : PageRows). r.head.index) same_page ∙ raises.was.page.index);
+    at_level = ap (λ (h : PageHead). h.level) head
+        ∙ (ap (λ (r : PageRows). suc r.head.level) same_page ∙ ap suc raises.was.page.at_level);
+  }
+
+  under_page : HasTreePage under raises.below i raises.was.level
+  under_page = let head = raises.raises.raises.new_head in let blank = raises.raises.blank in
+      record {
+        page = raises.raises.new;
+        paged = raises.raises.has_new;
+        tree = ap (λ (h : PageHead). is_own under h.prev) head;
+        index = ap (λ (h : PageHead). h.index) head
+            ∙ (blank.index ∙ (ap (λ (r : PageRows). r.head.index) same_page
+            ∙ raises.was.page.index));
+        at_level = ap (λ (h : PageHead). h.level) head
+            ∙ (blank.level ∙ (ap (λ (r : PageRows). r.head.level) same_page
+            ∙ raises.was.page.at_level));
+      }
+
+  top_points : PointsAt raises.raises.top.rows under
+  top_points = let one = raises.raises.raises.one in record {
+    fore = [];
+    this = one.pointer;
+    aft = [];
+    was = one.is;
+    child = one.child_is ∙ ap (λ (r : PageRows). Child r.head.number) fresh_is;
+  }
+
+  top_room : load_of raises.raises.top.rows + most_for_pointer ≤ PAGE_ROOM
+  top_room = let one = raises.raises.raises.one in
+      let small = one_row raises.raises.top raises.raises.raises.order
+      (let e = ap length one.is in omega (arith, e)) in omega (arith, small)
+
+  module _ (fitted : IsFittedTree (view q)) where
+    under_has : HasKey (shape_of_pass q) under i raises.was.level key raises.below
+    unfolding under_page
+    under_has = let cuts = key_cuts (shape_of_pass q) i key in record {
+      is = under_page;
+      order = subst
+          (λ (s : Shape). IsOrderly (fields_for s)
+          (page_within raises.raises.new raises.below.low raises.below.high)) fitted.fits.shape
+          (known_tells (view q) fitted under raises.below raises.raises.new raises.knows_below
+          raises.raises.has_new).order;
+      within = record {
+        low = ap (λ (f : Frame). cut_in (shape_of_pass q) i mode.Ge key (low_place (bound f.low)))
+            raises.raises.under ∙ cuts.begins;
+        high = ap (λ (f : Frame). cut_in (shape_of_pass q) i mode.Ge key (high_place (bound f.high)))
+            raises.raises.under ∙ cuts.ends;
+      };
+    }
+
+    pub under_held : HoldsChild (view q) i under i key
+    unfolding top_page under_has
+    under_held = record {
+      level = raises.was.level;
+      up = raises.root;
+      low = raises.below;
+      knows_up = raises.knows_root;
+      knows_low = raises.knows_below;
+      above = top_page;
+      below = under_has;
+      points = top_points;
+      room = top_room;
+    }
+
+    -- whose rows take no more than the room of a page if the root's took no more
+    pub under_within : (f : Frame) (page : PageRows) → KnowsFrame (view p) i f
+        → f.page ≡ Some page → IsWithinRoom page → IsWithinRoom under_held.below.is.page
+    unfolding under_held under_has under_page
+    under_within f page knows paged within =
+        let same : page ≡ raises.raises.page = same_some page raises.raises.page
+        (sym paged
+        ∙ (ap (λ (g : Frame). g.page)
+        (frame_one (view p) i f raises.was.root knows raises.was.knows_root) ∙ raises.raises.had)) in
+        subst (λ n. n ≤ PAGE_ROOM)
+        (ap (λ (r : PageRows). load_of r.rows) same
+        ∙ load_of-same raises.raises.page.rows raises.raises.new.rows raises.raises.raises.go) within
+
+-- what has the key of the page under the root is in hand
+pub grows_raised : (p q r : TreePass) (root : PageInHand) (i : ℕ) (key : FieldList)
+    (need under : ℕ) → root.block ≡ i → (way : IsGoingDown p i key (i ∷ []))
+    (raises : RaisesRoot p i under q) (fitted : IsFittedTree (view q)) (at : PageInHand)
+    → GrowsChild q i under i key need at r → GrowsRoot p root i key need at r
+grows_raised p q r root i key need under is way raises fitted at grows = record {
+  reaches = reaches_after p q r i key need at (goes_raised p q i key under way raises)
+      grows.reaches;
+  room = λ held within. grows.room (under_held p q i key under way raises fitted)
+      (under_within p q i key under way raises fitted held.frame held.page.is.page
+      (subst (λ b. KnowsFrame (view p) b held.frame) is held.knows) held.page.is.paged within);
+}

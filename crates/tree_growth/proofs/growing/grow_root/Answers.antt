@@ -1,0 +1,97 @@
+use Rattle.std.proofs.Common.{◌≡◌, [], ◌∷◌, true, false, ap, subst, Err, arith}
+use Rattle.latch_space.specs.Passes.{view}
+use Rattle.call_law.specs.Hands.{KnowsFrame}
+use Rattle.buffer_pool.proofs.CallLemmas.{frame_has}
+use Rattle.tree_growth.specs.Ways.{IsGoingDown, StopsOnWay, GrowsRoot, GrowsChild}
+use Rattle.tree_growth.proofs.AddLemmas.{goes_nowhere, stops_after}
+use Rattle.tree_growth.proofs.HandLemmas.{no_frame_but, no_pool}
+use Rattle.tree_growth.proofs.RefusalLemmas.{is_refused, stops_one}
+use Rattle.tree_growth.proofs.RootLemmas.{can_raise}
+use Rattle.tree_growth.proofs.AnswerLemmas.{ok_more, err_more}
+use Rattle.tree_growth.proofs.RaiseLemmas.{goes_raised, way_raised, under_held, grows_raised}
+use Rattle.tree_growth.proofs.growing.grow_root.Goals as goal
+
+pub returns-then-not-root-clause-ok : goal.returns-then-not-root-clause-ok
+returns-then-not-root-clause-ok g c =
+    let not_full : c.args.root.is_full ≡ false = let so = c.if-not-root.true in grind arith in
+    record {
+      reaches = record {
+        goes = goes_nowhere c.args.pass.now;
+        way = c.requires.way;
+        is = c.requires.held;
+      };
+      room = λ held within. not_full;
+    }
+
+pub raise_root-requires-clause-held : goal.raise_root-requires-clause-held
+raise_root-requires-clause-held g c =
+    let full : c.args.root.is_full ≡ true = let no = c.if-not-root.false in grind arith in
+    can_raise (view c.args.pass.now) c.args.index c.args.key.now.tuple c.args.need c.args.root
+    c.requires.held c.requires.root c.requires.way.tree c.requires.way.knows full
+
+pub raise_root-requires-clause-frames : goal.raise_root-requires-clause-frames
+raise_root-requires-clause-frames g c =
+    no_frame_but c.args.space.now c.args.pass.now c.requires.own.0 c.requires.own.1 c.args.index
+    c.args.key.now.tuple (c.args.index ∷ [])
+    (subst (λ b. IsGoingDown c.args.pass.now c.args.index c.args.key.now.tuple (b ∷ []))
+    c.requires.root c.requires.way)
+
+pub raise_root-requires-clause-pool : goal.raise_root-requires-clause-pool
+raise_root-requires-clause-pool g c =
+    no_pool c.args.space.now c.args.pass.now c.requires.own.0 c.requires.own.1 c.args.index
+    c.args.key.now.tuple (c.args.root.block ∷ []) c.requires.way
+
+pub grow_child-requires-clause-way : goal.grow_child-requires-clause-way
+grow_child-requires-clause-way g c =
+    way_raised c.args.pass.now c.raise_root.new.pass c.args.index c.args.key.now.tuple
+    c.in-Ok.under
+    (subst (λ b. IsGoingDown c.args.pass.now c.args.index c.args.key.now.tuple (b ∷ []))
+    c.requires.root c.requires.way) c.in-Ok.ensures.ok
+
+pub grow_child-requires-clause-held : goal.grow_child-requires-clause-held
+grow_child-requires-clause-held g c =
+    under_held c.args.pass.now c.raise_root.new.pass c.args.index c.args.key.now.tuple
+    c.in-Ok.under
+    (subst (λ b. IsGoingDown c.args.pass.now c.args.index c.args.key.now.tuple (b ∷ []))
+    c.requires.root c.requires.way) c.in-Ok.ensures.ok c.in-Ok.ensures.fits
+
+pub give_back-requires-clause-held : goal.give_back-requires-clause-held
+give_back-requires-clause-held g c =
+    let p = c.args.pass.now in let q = c.raise_root.new.pass in let held = c.requires.held in
+    let refused = is_refused p q c.args.index c.args.key.now.tuple (c.args.index ∷ [])
+    (subst (λ b. IsGoingDown p c.args.index c.args.key.now.tuple (b ∷ [])) c.requires.root
+    c.requires.way) c.in-Err.error
+    (λ e. c.in-Err.ensures.full (ap Err e)) (λ e. c.in-Err.ensures.memory (ap Err e)) in (
+      held.frame,
+      frame_has q refused.way.known c.args.index held.frame
+          (refused.frames c.args.index held.frame
+          (subst (λ b. KnowsFrame (view p) b held.frame) c.requires.root held.knows)),
+    )
+
+pub returns-in-Ok-clause-ok : goal.returns-in-Ok-clause-ok
+returns-in-Ok-clause-ok g c =
+    let p = c.args.pass.now in let q = c.raise_root.new.pass in let r = c.grow_child.new.pass in
+    let i = c.args.index in let key = c.args.key.now.tuple in let need = c.args.need in
+    let way = subst (λ b. IsGoingDown p i key (b ∷ [])) c.requires.root c.requires.way in
+    ok_more (λ at. GrowsChild q i c.in-Ok.under i key need at r)
+    (λ at. GrowsRoot p c.args.root i key need at r) c.grow_child.result
+    (λ at. grows_raised p q r c.args.root i key need c.in-Ok.under c.requires.root way
+    c.in-Ok.ensures.ok c.in-Ok.ensures.fits at) c.grow_child.ensures.ok
+
+pub returns-in-Ok-clause-err : goal.returns-in-Ok-clause-err
+returns-in-Ok-clause-err g c =
+    let p = c.args.pass.now in let q = c.raise_root.new.pass in let r = c.grow_child.new.pass in
+    let i = c.args.index in let key = c.args.key.now.tuple in
+    let way = subst (λ b. IsGoingDown p i key (b ∷ [])) c.requires.root c.requires.way in
+    err_more (λ e. StopsOnWay q i key e r) (λ e. StopsOnWay p i key e r) c.grow_child.result
+    (λ e. stops_after p q r i key e
+    (goes_raised p q i key c.in-Ok.under way c.in-Ok.ensures.ok)) c.grow_child.ensures.err
+
+pub returns-in-Err-clause-err : goal.returns-in-Err-clause-err
+returns-in-Err-clause-err g c =
+    let p = c.args.pass.now in let q = c.raise_root.new.pass in let r = c.give_back.new.pass in
+    let i = c.args.index in let key = c.args.key.now.tuple in
+    let way = subst (λ b. IsGoingDown p i key (b ∷ [])) c.requires.root c.requires.way in
+    let refused = is_refused p q i key (i ∷ []) way c.in-Err.error
+    (λ e. c.in-Err.ensures.full (ap Err e)) (λ e. c.in-Err.ensures.memory (ap Err e)) in
+    stops_one p q r i key i c.in-Err.error refused c.give_back.ensures.gave

@@ -1,0 +1,61 @@
+use Rattle.std.proofs.Common.{not, rules, arith}
+use Rattle.buffer_pool.proofs.CallLemmas.{frame_has}
+use Rattle.tree_growth.specs.Ways.{StopsOnWay}
+use Rattle.tree_growth.proofs.AddLemmas.{reaches_after, stops_after}
+use Rattle.tree_growth.proofs.HandLemmas.{same_pass}
+use Rattle.tree_growth.proofs.AnswerLemmas.{err_more}
+use Rattle.tree_growth.proofs.WalkLemmas.{walks_down}
+use Rattle.tree_growth.proofs.way.walk_down.Goals.{then-loop-at-test+else-not-at, else-loop-at-test}
+use Rattle.tree_growth.proofs.way.walk_down.Goals as goal
+
+pub returns-in_err-at-clause-err : goal.returns-in_err-at-clause-err
+returns-in_err-at-clause-err g c =
+    let p = c.args.pass.now in let q = c.take_root-root.new.pass in let r = c.grow_root.new.pass in
+    let i = c.args.index in let key = c.args.key.now.tuple in
+    err_more (λ e. StopsOnWay q i key e r) (λ e. StopsOnWay p i key e r) c.from_residual.result
+    (λ e. stops_after p q r i key e c.take_root-root.ensures.took.goes) (search rules)
+
+pub loop-at-init : goal.loop-at-init
+loop-at-init g c =
+    let p = c.args.pass.now in let q = c.take_root-root.new.pass in let r = c.grow_root.new.pass in
+    record {
+      same = same_pass p q r c.take_root-root.ensures.own.0 c.grow_root.ensures.own.0;
+      own = c.grow_root.ensures.own.1;
+      reaches = reaches_after p q r c.args.index c.args.key.now.tuple c.args.need c.in_ok-at.at
+          c.take_root-root.ensures.took.goes c.in_ok-at.ensures.ok.reaches;
+    }
+
+pub give_back-requires-clause-held : goal.give_back-requires-clause-held
+give_back-requires-clause-held g c = let reaches = c.loop-at.invariant.reaches in (
+  reaches.is.frame,
+  frame_has c.loop-at.pass reaches.way.known c.loop-at.at.block
+      reaches.is.frame reaches.is.knows,
+)
+
+pub returns-in_err-at-2-clause-err : goal.returns-in_err-at-2-clause-err
+returns-in_err-at-2-clause-err g c =
+    let p = c.args.pass.now in let q = c.loop-at.pass in let r = c.grow_below.new.pass in
+    let i = c.args.index in let key = c.args.key.now.tuple in
+    err_more (λ e. StopsOnWay q i key e r) (λ e. StopsOnWay p i key e r) c.from_residual-in_err-at-2.result
+    (λ e. stops_after p q r i key e c.loop-at.invariant.reaches.goes) (search rules)
+
+pub loop-at-preserved : goal.loop-at-preserved
+loop-at-preserved g c =
+    let p = c.args.pass.now in let q = c.loop-at.pass in let r = c.grow_below.new.pass in
+    record {
+      same = same_pass p q r c.loop-at.invariant.same c.grow_below.ensures.own.0;
+      own = c.grow_below.ensures.own.1;
+      reaches = reaches_after p q r c.args.index c.args.key.now.tuple c.args.need c.in_ok-at-2.at
+          c.loop-at.invariant.reaches.goes c.in_ok-at-2.ensures.ok;
+    }
+
+pub returns-clause-ok : goal.returns-clause-ok
+returns-clause-ok g c =
+    let at = c.loop-at.at in
+    walks_down c.args.pass.now c.loop-at.pass c.give_back.new.pass c.args.index
+    c.args.key.now.tuple c.args.need at c.loop-at.invariant.reaches c.give_back.ensures.gave
+    (not at.is_full)
+    (λ so. elim c.loop-at-test.branch [
+      | then-loop-at-test+else-not-at w ↦ (let no = w.if-not-at.false in absurd (grind arith))
+      | else-loop-at-test w ↦ (let no = w.loop-at-test.false in (omega (arith, no), grind arith))
+    ])

@@ -1,0 +1,203 @@
+-- A planned split in hand is a split of the law, and is known once it is settled.
+use Rattle.std.proofs.Common.{◌≡◌, ◌≢◌, ℕ, true, false, ◌∷◌, sym, ap, subst, ◌∙◌, refl, Option, Some, None}
+use Rattle.std.specs.List.{AllByRecursion}
+use Rattle.list_facts.proofs.Places.{same_some}
+use Rattle.latch_law.specs.Views.{without_seen}
+use Rattle.latch_space.specs.Has.{DidSettle}
+use Rattle.latch_space.specs.Passes.{view, values, known_values, IsWhole}
+use Rattle.index_page.specs.declared.head.PageHead.{PageHead}
+use Rattle.index_page.specs.Page.{PageRows}
+use Rattle.tree_law.specs.Pages.{is_own}
+use Rattle.index_law.specs.Shape.{Shape}
+use Rattle.forest_law.specs.declared.objects.Object.TheVariants as object
+use Rattle.forest_law.specs.Law.{IsLawful, MayFollow}
+use Rattle.forest_law.specs.State.{ForestState}
+use Rattle.forest_law.proofs.RestructureLemmas.{restructures_follow}
+use Rattle.forest_world.specs.Held.{TreePass, shape_of_pass}
+use Rattle.forest_world.proofs.HandLemmas.{rests_of}
+use Rattle.tree_restructure.specs.Parts.{frame_ids}
+use Rattle.tree_restructure.specs.Pointers.{PutsPointer}
+use Rattle.tree_restructure.specs.Splits.{next_hands, SplitsFrames}
+use Rattle.tree_restructure.proofs.SplitLemmas.{split_in_hand}
+use Rattle.call_law.specs.Spoken.{View}
+use Rattle.buffer_pool.specs.Forests.{FitsTrees}
+use Rattle.buffer_pool.specs.NewPages.{outside_page}
+use Rattle.tree_smo.specs.declared.halves.SplitHands.{SplitHands}
+use Rattle.tree_smo.specs.declared.plans.SplitPlan.{SplitPlan}
+use Rattle.tree_smo.specs.Halves.{SplitsHalves, ChangesHalves}
+use Rattle.tree_smo.specs.Plans.{HoldsNext, HoldsPlan, blocks_of, next_ids, plan_ids, RelinksBehind, MakesSplit}
+use Rattle.tree_smo.specs.Remakes.{Remakes}
+use Rattle.tree_smo.proofs.LawfulLemmas.{that_page, outside_own}
+use Rattle.tree_smo.proofs.PartLemmas.{number_of, part_of}
+use Rattle.tree_smo.proofs.PlanLemmas.{frames_of_plan}
+use Rattle.tree_smo.proofs.SettledLemmas.{whole_but, known_beyond, rests_beyond, settled_does, settled_count, settled_frame}
+use Rattle.tree_smo.proofs.BehindLemmas.{Behind, behind, shows_next, knows_next}
+use Rattle.tree_smo.proofs.ChangedLemmas.{halves, next_right, IsRemade, remade}
+use Rattle.tree_smo.proofs.PlanLemmas.{SplitCall}
+
+module _ (p : TreePass) (plan : SplitPlan) (right : ℕ) (c : SplitCall p plan right) (m0 : TreePass)
+    (changes : ChangesHalves p (blocks_of plan right) plan.cut.key.tuple m0) (m : TreePass)
+    (relinks : RelinksBehind m0 plan.head.next right m) where
+  abbrev h : HoldsPlan (view p) plan
+  h = c.held
+
+  abbrev w : ForestState
+  w = c.fitted.whole
+
+  abbrev law : IsLawful w
+  law = c.fitted.is_lawful
+
+  abbrev was : SplitHands
+  was = frames_of_plan p plan right c
+
+  abbrev changed : SplitsHalves p (blocks_of plan right) plan.cut.key.tuple was m0
+  changed = halves p plan right c m0 changes
+
+  all : IsRemade p plan right c m0 changes m plan.head.next
+  all = remade p plan right c m0 changes m plan.head.next refl h.next relinks
+
+  fits_now : FitsTrees w (view m)
+  fits_now = subst (FitsTrees w) (sym all.remakes.same_view) c.fitted.fits
+
+  shapes : shape_of_pass p ≡ shape_of_pass m
+  shapes = ap (λ (v : View). v.terms.shape) (sym all.remakes.same_view)
+
+  now_ids : Remakes p m (plan_ids (shape_of_pass m) plan right)
+  now_ids = subst (λ (s : Shape). Remakes p m (plan_ids s plan right)) shapes all.remakes
+
+  -- nothing is taken out
+  pub whole : IsWhole m
+  whole = whole_but m (plan_ids (shape_of_pass m) plan right)
+      (known_beyond p m (plan_ids (shape_of_pass m) plan right) c.known now_ids) (
+        (object.Frame changed.now.up, all.has.up.value),
+        (
+          (object.Frame changed.now.left, all.has.left.value),
+          (
+            (object.Frame changed.now.right, all.has.right.value),
+            shows_next m plan.head.index h.can.level plan.head.next right all.next,
+          ),
+        ),
+      )
+
+  abbrev cut_page : PageRows
+  cut_page = changed.splits.cut.page
+
+  abbrev cut_fresh : PageRows
+  cut_fresh = changed.splits.cut.fresh
+
+  left_is : h.can.below.page ≡ cut_page
+  left_is = that_page h.can.low h.can.below.page cut_page h.can.below.paged
+      changed.splits.cut.had
+
+  fresh_is : outside_page plan.head right ≡ cut_fresh
+  fresh_is = that_page c.fresh (outside_page plan.head right) cut_fresh c.blank.page
+      changed.splits.cut.had_fresh
+
+  up_is : h.can.above.page ≡ changed.splits.pointer.page
+  up_is = that_page h.can.up h.can.above.page changed.splits.pointer.page h.can.above.paged
+      changed.splits.pointer.had
+
+  next_is : plan.head.next ≡ cut_page.head.next
+  next_is = ap (λ (z : PageHead). z.next)
+      (h.is.head h.can.below.page h.can.below.paged ∙ ap (λ (z : PageRows). z.head) left_is)
+
+  right_is : right ≡ cut_fresh.head.number
+  right_is = ap (λ (z : PageRows). z.head.number) fresh_is
+
+  after : Behind m cut_page.head.next cut_fresh.head.number
+  after = subst (λ o. Behind m o cut_fresh.head.number) next_is
+      (subst (λ n. Behind m plan.head.next n) right_is
+      (behind m w law fits_now c.fresh plan.head.index h.can.level plan.head.next right
+      all.next))
+
+  no_loop : (o : Option ℕ) → plan.head.next ≡ o
+      → HoldsNext (view p) plan.head.index h.can.level o → o ≢ Some right
+  no_loop None e held z = absurd cc
+  no_loop (Some n) e held z =
+      next_right p plan right c m0 changes n held.0 held.1 held.2 (same_some right n (sym z))
+
+  left_ids : (k : ℕ) → AllByRecursion (λ (j : ℕ). k ≢ j)
+      (frame_ids (shape_of_pass m)
+      (record { block = plan.child; old = was.left; new = changed.now.left }
+      ∷ record { block = right; old = was.right; new = changed.now.right }
+      ∷ record { block = plan.parent; old = was.up; new = changed.now.up }
+      ∷ next_hands cut_page.head.next after.hand))
+      → AllByRecursion (λ (j : ℕ). k ≢ j) (plan_ids (shape_of_pass m) plan right)
+  left_ids k a = (
+    a.1.1.0,
+    (
+      a.0,
+      (
+        a.1.0,
+        subst (λ o. AllByRecursion (λ (j : ℕ). k ≢ j)
+            (next_ids (shape_of_pass m) o)) (sym next_is) (after.ids k a.1.1.1),
+      ),
+    ),
+  )
+
+  -- the frames in hand are a split of the law
+  splits_frames : SplitsFrames (shape_of_pass m) (known_values m) (values m)
+  splits_frames = record {
+    hands = record {
+      left = record { block = plan.child; old = was.left; new = changed.now.left };
+      right = record { block = right; old = was.right; new = changed.now.right };
+      up = record { block = plan.parent; old = was.up; new = changed.now.up };
+      beyond = after.hand;
+    };
+    at = plan.cut.key.tuple;
+    cut = changed.splits.cut;
+    pointer = changed.splits.pointer;
+    links = after.links;
+    left = part_of m w law fits_now plan.child was.left changed.now.left all.has.left cut_page
+        changed.splits.cut.had cut_page.head.number refl false
+        (ap (λ (x : PageRows). is_own plan.child x.head.prev) (sym left_is)
+        ∙ h.can.below.tree);
+    right = part_of m w law fits_now right was.right changed.now.right all.has.right cut_fresh
+        changed.splits.cut.had_fresh cut_fresh.head.number refl true
+        (ap (λ (x : PageRows). is_own right x.head.prev) (sym fresh_is)
+        ∙ outside_own plan.head right);
+    up = part_of m w law fits_now plan.parent was.up changed.now.up all.has.up
+        changed.splits.pointer.page changed.splits.pointer.had
+        changed.splits.pointer.page.head.number refl false
+        (ap (λ (x : PageRows). is_own plan.parent x.head.prev) (sym up_is)
+        ∙ h.can.above.tree);
+    beyond = after.part;
+    apart = λ e. no_loop plan.head.next refl h.next
+        (next_is ∙ (e ∙ ap Some (sym right_is)));
+    others = λ k x y becomes a. rests_of m (plan_ids (shape_of_pass m) plan right)
+        (rests_beyond p m (plan_ids (shape_of_pass m) plan right) c.known now_ids) k x y becomes
+        (left_ids k a);
+  }
+
+  -- so it may be settled
+  pub follows : MayFollow (without_seen (view m)) (values m) None
+  follows = restructures_follow.split (shape_of_pass m) (known_values m) (values m)
+      (split_in_hand (shape_of_pass m) (known_values m) (values m) splits_frames)
+
+  pub makes_split : (q : TreePass) → DidSettle m q → MakesSplit p plan right q
+  makes_split q did = record {
+    silently = settled_does p m (plan_ids (shape_of_pass p) plan right) c.known all.remakes whole
+        q did;
+    splits = record {
+      was = h;
+      fresh = c.fresh;
+      blank = c.blank;
+      now = changed.now;
+      knows = record {
+        up = settled_frame m q did plan.parent was.up changed.now.up all.has.up;
+        left = settled_frame m q did plan.child was.left changed.now.left all.has.left;
+        right = settled_frame m q did right was.right changed.now.right all.has.right;
+      };
+      cuts = changed.splits.cut;
+      pointer = subst
+          (λ n. PutsPointer plan.child n h.can.up changed.now.up plan.cut.key.tuple)
+          (sym right_is)
+          (subst (λ n. PutsPointer n cut_fresh.head.number h.can.up changed.now.up
+          plan.cut.key.tuple)
+          (number_of m w law fits_now plan.child was.left changed.now.left all.has.left cut_page
+          changed.splits.cut.had) changed.splits.pointer);
+      next = knows_next m q did plan.head.index h.can.level plan.head.next right all.next;
+    };
+    count = settled_count p m (plan_ids (shape_of_pass p) plan right) c.known all.remakes whole q
+        did;
+  }

@@ -1,0 +1,52 @@
+use Rattle.std.proofs.Common.{refl, sym, ap, Err}
+use Rattle.buffer_pool.proofs.SpaceLemmas.{objects_of}
+use Rattle.tree_smo.proofs.BesideLemmas.{index_below, fields_are, holds_pages, plan_still, holds_outside, no_pool, splits_beside, gets_nothing}
+use Rattle.tree_smo.proofs.splitting.split_beside.Goals as goal
+
+pub new_page-requires-clause-index : goal.new_page-requires-clause-index
+new_page-requires-clause-index g c = let f = c.fits.ensures in
+    index_below c.args.pass.now f.whole f.is_lawful f.fits c.args.plan c.requires.held
+
+pub new_page-requires-clause-fields : goal.new_page-requires-clause-fields
+new_page-requires-clause-fields g c = let f = c.fits.ensures in
+    fields_are c.args.pass.now f.whole f.is_lawful f.fits c.args.plan c.requires.held
+
+pub new_page-requires-clause-pages : goal.new_page-requires-clause-pages
+new_page-requires-clause-pages g c = let own = c.requires.own in
+    holds_pages c.args.pass.now c.args.plan c.requires.held
+    (objects_of c.args.space.now c.args.pass.now own.0 own.1) c.requires.frames
+
+pub returns-in_err-right-clause-full : goal.returns-in_err-right-clause-full
+returns-in_err-right-clause-full g c = λ e. let r = rw e at c.from_residual.ensures in
+    c.in_err-right.ensures.full (ap Err (sym r.1))
+
+pub make_split-requires-clause-held : goal.make_split-requires-clause-held
+make_split-requires-clause-held g c =
+    plan_still c.args.pass.now c.new_page.new.pass c.args.plan.head c.in_ok-right.right
+    c.in_ok-right.ensures.ok c.args.plan c.requires.held
+
+pub make_split-requires-clause-blank : goal.make_split-requires-clause-blank
+make_split-requires-clause-blank g c = let got = c.in_ok-right.ensures.ok in
+    (got.frame, got.knows, got.has)
+
+pub free_page-requires-clause-held : goal.free_page-requires-clause-held
+free_page-requires-clause-held g c =
+    holds_outside c.args.pass.now c.new_page.new.pass c.args.plan.head c.in_ok-right.right
+    c.in_ok-right.ensures.ok c.make_split.new.pass c.in-Err.ensures.err
+
+pub free_page-requires-clause-pool : goal.free_page-requires-clause-pool
+free_page-requires-clause-pool g c =
+    no_pool c.args.pass.now c.new_page.new.pass c.args.plan.head c.in_ok-right.right
+    c.in_ok-right.ensures.ok c.make_split.new.pass c.in-Err.ensures.err.same_view c.requires.pool
+
+pub returns-in-Ok-clause-ok : goal.returns-in-Ok-clause-ok
+returns-in-Ok-clause-ok g c =
+    splits_beside c.args.pass.now c.new_page.new.pass c.args.plan.head c.in_ok-right.right
+    c.in_ok-right.ensures.ok c.make_split.new.pass c.args.plan refl c.requires.held
+    c.in-Ok.ensures.ok
+
+pub returns-in-Err-clause-memory : goal.returns-in-Err-clause-memory
+returns-in-Err-clause-memory g c = λ e.
+    gets_nothing c.args.pass.now c.new_page.new.pass c.args.plan.head c.in_ok-right.right
+    c.in_ok-right.ensures.ok c.make_split.new.pass c.free_page.new.pass c.in-Err.ensures.err
+    c.free_page.ensures.freed

@@ -1,0 +1,60 @@
+-- A child that is split under its parent, both in hand.
+use Rattle.std.specs.Prelude.{ℕ, suc, ◌≡◌, ◌<◌, ◌≤◌, ◌+◌, ◌∷◌, [], length}
+use Rattle.key_tuple.specs.Order.{FieldList}
+use Rattle.key_tuple.specs.declared.TheConstants.{MAX_POINTER_SIZE}
+use Rattle.key_tuple.specs.Sizes.{charge}
+use Rattle.latch_space.specs.Passes.{view, count}
+use Rattle.index_page.specs.declared.head.PageHead.{PageHead}
+use Rattle.index_page.specs.declared.TheConstants.{PAGE_ROOM}
+use Rattle.index_page.specs.Loads.{load_of}
+use Rattle.forest_law.specs.declared.objects.Frame.{Frame}
+use Rattle.forest_law.specs.Numbers.{frame_id}
+use Rattle.forest_world.specs.Held.{TreePass, shape_of_pass}
+use Rattle.tree_restructure.specs.FrameCuts.{CutsFrame}
+use Rattle.tree_restructure.specs.Pointers.{PutsPointer}
+use Rattle.call_law.specs.Hands.{KnowsFrame}
+use Rattle.call_law.specs.Spoken.{View}
+use Rattle.buffer_pool.specs.Calls.{DoesSilently}
+use Rattle.buffer_pool.specs.Hands.{LacksFrame}
+use Rattle.buffer_pool.specs.NewPages.{HasOutsidePage}
+use Rattle.buffer_pool.specs.Pages.{HasTreePage}
+use Rattle.tree_descent.specs.Descents.{PointsAt}
+
+-- the most that a page is charged for a pointer
+abbrev pub most_for_pointer : ℕ
+most_for_pointer = charge MAX_POINTER_SIZE
+
+-- the pass holds a page of an index, which has two rows or more, and the page above it, which
+-- points to it and has room for any pointer
+pub record CanSplit (v : View) (parent child i : ℕ) : Type 0 where
+  pub level : ℕ
+  pub up : Frame
+  pub low : Frame
+  pub knows_up : KnowsFrame v parent up
+  pub knows_low : KnowsFrame v child low
+  pub above : HasTreePage parent up i (suc level)
+  pub below : HasTreePage child low i level
+  pub points : PointsAt above.page.rows child
+  pub room : load_of above.page.rows + most_for_pointer ≤ PAGE_ROOM
+  pub two : 1 < length below.page.rows
+
+-- the upper half of the child's rows is on a new page, in the frame `right`, which is held besides,
+-- and the parent points to that too
+pub record SplitsChild (p : TreePass) (parent child i right : ℕ) (q : TreePass) : Type 0 where
+  pub silently : DoesSilently p q (frame_id (shape_of_pass p) parent
+      ∷ frame_id (shape_of_pass p) child ∷ frame_id (shape_of_pass p) right ∷ [])
+  pub was : CanSplit (view p) parent child i
+  pub lacked : LacksFrame p right
+  pub at : FieldList
+  pub head : PageHead
+  pub fresh : Frame
+  pub blank : HasOutsidePage fresh head right
+  pub up : Frame
+  pub left : Frame
+  pub new : Frame
+  pub knows_up : KnowsFrame (view q) parent up
+  pub knows_left : KnowsFrame (view q) child left
+  pub knows_new : KnowsFrame (view q) right new
+  pub cuts : CutsFrame was.low left fresh new at
+  pub pointer : PutsPointer child right was.up up at
+  pub count : count q ≡ count p + 1

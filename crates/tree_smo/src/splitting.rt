@@ -1,0 +1,135 @@
+//! A page is split under its parent.
+ghost use Rattle.std.specs.Prelude.{◌≡◌, ◌+◌, ◌≤◌, [], ◌∷◌, Err, IfOk};
+ghost use Rattle.latch_space.specs.Has.{IsKnown};
+ghost use Rattle.latch_space.specs.Passes.{view, count, IsSamePass};
+ghost use Rattle.latch_space.specs.Spaces.{IsPassOf};
+ghost use Rattle.forest_law.specs.declared.objects.Frame.{Frame};
+ghost use Rattle.call_law.specs.Hands.{KnowsFrame, HoldsNoFrameBut, HoldsNoPool};
+ghost use Rattle.buffer_pool.specs.declared.error.PoolError.TheVariants as refused;
+ghost use Rattle.buffer_pool.specs.Calls.{GetsNothing};
+ghost use Rattle.buffer_pool.specs.Forests.{IsForest, IsFittedTree};
+ghost use Rattle.buffer_pool.specs.NewPages.{FindsNoneFree};
+ghost use Rattle.tree_smo.specs.Plans.{IsPlanOf, HoldsPlan, next_blocks, SplitsBeside};
+ghost use Rattle.tree_smo.specs.Splitting.{CanSplit, SplitsChild};
+
+use crate::plans::{SplitPlan, head_of};
+use crate::settling::make_split;
+use buffer_pool::{PoolError, frame, free_page, give_back, new_page, take_frame};
+use forest_world::{ForestPass, ForestSpace};
+use std::alloc::Global;
+use std::sync::Wait;
+use tree_restructure::find_cut;
+
+/// Splits the child's page where its load halves, and answers the block of the right half, which is
+/// held besides. The tree of the index is held by whoever calls, so that no other split overtakes
+/// this one. After an error all is as before; `SpaceFull` comes where no page number was free.
+pub fn split_child<R: Wait>(
+    alloc: Global,
+    space: &ForestSpace,
+    pass: &mut ForestPass,
+    parent: u32,
+    child: u32,
+    index: u32,
+    wait: &R,
+) -> Result<u32, PoolError>
+    requires own { IsForest space.now × IsPassOf space.now pass.old }
+    requires held { CanSplit (view pass.old) parent child index }
+    requires known { IsKnown pass.old }
+    requires frames { HoldsNoFrameBut (view pass.old) (parent ∷ child ∷ []) }
+    requires pool { HoldsNoPool (view pass.old) }
+    requires room { count pass.old + 3 ≤ 16 }
+    ensures own { IsSamePass pass.old pass.new × IsPassOf space.now pass.new }
+    ensures ok { IfOk result (λ right. SplitsChild pass.old parent child index right pass.new) }
+    ensures full { result ≡ Err refused.SpaceFull → FindsNoneFree pass.old index pass.new }
+    ensures memory { result ≡ Err refused.NoMemory → GetsNothing pass.old pass.new }
+    ensures fits { IsFittedTree (view pass.new) }
+{
+    pass.fits();
+    let low = frame(space, pass, child);
+    let head = head_of(low);
+    let cut = match find_cut(alloc, low) {
+        Ok(cut) => cut,
+        Err(_) => return Err(PoolError::NoMemory),
+    };
+    cut.key.tuple().is_within_limits();
+    split_planned(
+        alloc,
+        space,
+        pass,
+        SplitPlan {
+            parent,
+            child,
+            head,
+            cut,
+        },
+        wait,
+    )
+}
+
+/// Makes a planned split. The page behind is held as long as that takes, where there is one.
+fn split_planned<R: Wait>(
+    alloc: Global,
+    space: &ForestSpace,
+    pass: &mut ForestPass,
+    plan: SplitPlan,
+    wait: &R,
+) -> Result<u32, PoolError>
+    requires own { IsForest space.now × IsPassOf space.now pass.old }
+    requires held { (can : CanSplit (view pass.old) plan.parent plan.child plan.head.index)
+        × IsPlanOf can.low plan }
+    requires known { IsKnown pass.old }
+    requires frames { HoldsNoFrameBut (view pass.old) (plan.parent ∷ plan.child ∷ []) }
+    requires pool { HoldsNoPool (view pass.old) }
+    requires room { count pass.old + 3 ≤ 16 }
+    ensures own { IsSamePass pass.old pass.new × IsPassOf space.now pass.new }
+    ensures ok { IfOk result
+        (λ right. SplitsChild pass.old plan.parent plan.child plan.head.index right pass.new) }
+    ensures full { result ≡ Err refused.SpaceFull
+        → FindsNoneFree pass.old plan.head.index pass.new }
+    ensures memory { result ≡ Err refused.NoMemory → GetsNothing pass.old pass.new }
+    ensures fits { IsFittedTree (view pass.new) }
+{
+    pass.fits();
+    match plan.head.next {
+        None => split_beside(alloc, space, pass, plan, wait),
+        Some(next) => {
+            take_frame(space, pass, next, wait);
+            let made = split_beside(alloc, space, pass, plan, wait);
+            give_back(space, pass, next);
+            made
+        }
+    }
+}
+
+/// Makes a planned split with a new page as the right half, which is held besides.
+fn split_beside<R: Wait>(
+    alloc: Global,
+    space: &ForestSpace,
+    pass: &mut ForestPass,
+    plan: SplitPlan,
+    wait: &R,
+) -> Result<u32, PoolError>
+    requires own { IsForest space.now × IsPassOf space.now pass.old }
+    requires held { HoldsPlan (view pass.old) plan }
+    requires known { IsKnown pass.old }
+    requires frames { HoldsNoFrameBut (view pass.old)
+        (plan.parent ∷ plan.child ∷ next_blocks plan.head.next) }
+    requires pool { HoldsNoPool (view pass.old) }
+    requires room { count pass.old + 2 ≤ 16 }
+    ensures own { IsSamePass pass.old pass.new × IsPassOf space.now pass.new }
+    ensures ok { IfOk result (λ right. SplitsBeside pass.old plan right pass.new) }
+    ensures full { result ≡ Err refused.SpaceFull
+        → FindsNoneFree pass.old plan.head.index pass.new }
+    ensures memory { result ≡ Err refused.NoMemory → GetsNothing pass.old pass.new }
+    ensures fits { IsFittedTree (view pass.new) }
+{
+    pass.fits();
+    let right = new_page(alloc, space, pass, plan.head, wait)?;
+    match make_split(space, pass, plan, right) {
+        Ok(()) => Ok(right),
+        Err(_) => {
+            free_page(space, pass, right, wait);
+            Err(PoolError::NoMemory)
+        }
+    }
+}

@@ -1,0 +1,67 @@
+//! A root and the page that gets its rows, in hand.
+ghost use Rattle.std.specs.Prelude.{◌<◌, ◌≤◌, OnOk, OnErr};
+ghost use Rattle.latch_space.specs.Has.{IsKnown};
+ghost use Rattle.latch_space.specs.Passes.{view, IsSamePass};
+ghost use Rattle.latch_space.specs.Spaces.{IsPassOf};
+ghost use Rattle.forest_world.specs.Held.{shape_of_pass};
+ghost use Rattle.buffer_pool.specs.Forests.{IsForest, IsFittedTree};
+ghost use Rattle.tree_smo.specs.Remakes.{IsAsBefore};
+ghost use Rattle.tree_smo.specs.Storeys.{SuitsStoreys, ChangesStoreys, HoldsStoreys, MakesRaise};
+
+use buffer_pool::{change_tree, frame_back, frame_out, tree};
+use forest_world::{ForestPass, ForestSpace, Tree};
+use key_tuple::NoMemory;
+use std::alloc::Global;
+use tree_restructure::raise_frames;
+
+/// Raises an index's root in hand over the new page of the block `under`, and makes that known with
+/// the tree's height. After `NoMemory` all is as before.
+pub(crate) fn make_raise(
+    alloc: Global,
+    space: &ForestSpace,
+    pass: &mut ForestPass,
+    index: u32,
+    under: u32,
+) -> Result<(), NoMemory>
+    requires own { IsForest space.now × IsPassOf space.now pass.old }
+    requires index { index < (shape_of_pass pass.old).indexes }
+    requires few { (shape_of_pass pass.old).pages ≤ 65536 }
+    requires held { HoldsStoreys (view pass.old) index under }
+    requires known { IsKnown pass.old }
+    ensures own { IsSamePass pass.old pass.new × IsPassOf space.now pass.new }
+    ensures ok { OnOk result (MakesRaise pass.old index under pass.new) }
+    ensures err { OnErr result (IsAsBefore pass.old pass.new) }
+    ensures fits { IsFittedTree (view pass.new) }
+{
+    pass.fits();
+    change_storeys(alloc, space, pass, index, under)?;
+    let old = tree(space, pass, index);
+    let height = old.height + 1;
+    change_tree(space, pass, index, Tree { height, ..old });
+    space.settle(pass);
+    Ok(())
+}
+
+/// Moves all rows of a root in hand to the page of another frame. After `NoMemory` all is as
+/// before.
+fn change_storeys(
+    alloc: Global,
+    space: &ForestSpace,
+    pass: &mut ForestPass,
+    root: u32,
+    under: u32,
+) -> Result<(), NoMemory>
+    requires own { IsForest space.now × IsPassOf space.now pass.old }
+    requires suits { SuitsStoreys pass.old root under }
+    requires known { IsKnown pass.old }
+    ensures own { IsSamePass pass.old pass.new × IsPassOf space.now pass.new }
+    ensures ok { OnOk result (ChangesStoreys pass.old root under pass.new) }
+    ensures err { OnErr result (IsAsBefore pass.old pass.new) }
+{
+    let mut top = frame_out(space, pass, root);
+    let mut low = frame_out(space, pass, under);
+    let outcome = raise_frames(alloc, &mut top, &mut low);
+    frame_back(space, pass, root, top);
+    frame_back(space, pass, under, low);
+    outcome
+}
