@@ -1,6 +1,7 @@
 //! What is wrong with a line that isn't in its grammar.
 use crate::lines::{count_of_words, has_empty_word, word_of};
 use key_tuple::{MAX_KEY_BYTES, MAX_VALUE_BYTES};
+use settings::find_setting;
 
 const SPACES: &str = "one space stands between two words, and none before or behind them";
 
@@ -19,8 +20,40 @@ pub fn flaw_of_schema(line: &[u8]) -> &'static str {
     match (word_of(line, 0), count_of_words(line)) {
         (Some(b"index"), 3) => flaw_of_index(line),
         (Some(b"index"), _) => "index wants a name and a number of fields",
-        _ => "a line of a schema begins with index",
+        (Some(word), count) if find_setting(word).is_some() => flaw_of_setting(line, count),
+        _ => "a line of a schema begins with index or a setting",
     }
+}
+
+fn flaw_of_setting(line: &[u8], count: usize) -> &'static str {
+    if count != 2 {
+        return "a setting wants a number";
+    }
+    if !is_number(word_of(line, 1).unwrap_or(b"")) {
+        return "a number is 0 to 4294967295, without a leading zero";
+    }
+    "a setting stands once, and before the first index"
+}
+
+/// Whether the word is a number below 2^32, as files have them.
+fn is_number(word: &[u8]) -> bool {
+    match word {
+        [] => false,
+        [only] => only.is_ascii_digit(),
+        [first, ..] => *first != b'0' && is_below_2_to_32(word),
+    }
+}
+
+fn is_below_2_to_32(word: &[u8]) -> bool {
+    let mut value: u64 = 0;
+    for byte in word {
+        if !byte.is_ascii_digit() {
+            return false;
+        }
+        let digit = u64::from(byte.saturating_sub(b'0'));
+        value = value.saturating_mul(10).saturating_add(digit);
+    }
+    value <= u64::from(u32::MAX)
 }
 
 fn flaw_of_index(line: &[u8]) -> &'static str {

@@ -1,6 +1,5 @@
 //! What a setting has to be.
 use map_history::LANE_BLOCKS;
-use script::DEFAULT_SIZES;
 use std::alloc::{AllocError, Global};
 
 /// What the setting of this name has to be, for so many lanes.
@@ -27,9 +26,7 @@ pub fn wanted(alloc: Global, setting: &str, lanes: usize) -> Result<String, Allo
 }
 
 fn blocks(alloc: Global, lanes: usize) -> Result<String, AllocError> {
-    let there = DEFAULT_SIZES.blocks as usize;
     let each = LANE_BLOCKS as usize;
-    let most = (there / each).saturating_sub(1);
     let want = lanes.saturating_add(1).saturating_mul(each);
-    format!(in alloc; "{most} lanes want blocks {there} or more; {lanes} want {want}")
+    format!(in alloc; "blocks is to be {want} or more for so many lanes, and at most 65,536")
 }

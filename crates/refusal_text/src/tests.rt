@@ -85,8 +85,23 @@ const LINES: &[(&str, &[u8], &str)] = &[
     ),
     (
         "script 0 2 1\n",
+        b"index t 1\npage 100\n",
+        "s, line 2: a line of a schema begins with index or a setting (page 100)",
+    ),
+    (
+        "script 0 2 1\n",
         b"index t 1\npages 100\n",
-        "s, line 2: a line of a schema begins with index (pages 100)",
+        "s, line 2: a setting stands once, and before the first index (pages 100)",
+    ),
+    (
+        "script 0 1 1\n",
+        b"pages\n",
+        "s, line 1: a setting wants a number (pages)",
+    ),
+    (
+        "script 0 1 1\n",
+        b"pages 4294967296\n",
+        "s, line 1: a number is 0 to 4294967295, without a leading zero (pages 4294967296)",
     ),
     (
         "script 0 1 1\n",
@@ -250,8 +265,20 @@ fn blocks_are_said(alloc: Global, lanes: usize, wanted: &str) -> bool {
 #[test]
 fn the_blocks_of_all_lanes_are_counted(rt: HostRuntime) {
     let alloc = rt.alloc();
-    assert!(rt; blocks_are_said(alloc, 32, "31 lanes want blocks 256 or more; 32 want 264"));
-    assert!(rt; blocks_are_said(alloc, 64, "31 lanes want blocks 256 or more; 64 want 520"));
+    assert!(rt;
+        blocks_are_said(
+            alloc,
+            32,
+            "blocks is to be 264 or more for so many lanes, and at most 65,536"
+        )
+    );
+    assert!(rt;
+        blocks_are_said(
+            alloc,
+            64,
+            "blocks is to be 520 or more for so many lanes, and at most 65,536"
+        )
+    );
 }
 
 /// What is said of a put whose key and value have so many bytes.

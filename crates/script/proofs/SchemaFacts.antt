@@ -12,12 +12,13 @@ use Rattle.std.proofs.lemmas.Bool.{leb-true, ltb-false, ltb-true, eqb-false}
 use Rattle.key_tuple.specs.declared.TheConstants.{MAX_FIELDS}
 use Rattle.map_history.specs.declared.TheConstants.{MAX_INDEXES}
 use Rattle.script.specs.declared.entry.Entry.{Entry}
-use Rattle.script.specs.declared.entry.Entry.TheVariants.{Index}
+use Rattle.script.specs.declared.entry.Entry.TheVariants.{Index, Set}
+use Rattle.settings.specs.declared.setting.Setting.{Setting}
 use Rattle.script.specs.declared.error.ScriptError.TheVariants as error
 use Rattle.script.specs.declared.error.Flaw.TheVariants.{BadLine}
 use Rattle.script.specs.Steps.{or_bad, numbered}
-use Rattle.script.specs.Grammar.{is_from, number_spelled, is_name, both, says_nothing, line_words, lines_of}
-use Rattle.script.specs.Schema.{SchemaText, IsFieldCount, IsSchema, index_by_name, count_spelled, takes_name, with_index, index_line, entry_named, after_entry, after_words, schema_line, schema_from, schema_of}
+use Rattle.script.specs.Grammar.{is_from, number_spelled, is_name, only, both, says_nothing, line_words, lines_of}
+use Rattle.script.specs.Schema.{SchemaText, SchemaDraft, IsFieldCount, IsSchema, index_by_name, count_spelled, takes_name, takes_setting, with_index, with_setting, draft_with_index, index_line, setting_line, entry_named, after_entry, after_words, schema_line, schema_from, schema_of, empty_draft}
 use Rattle.script.proofs.Results.{bind_ok, some_of, chosen, given, both_so, unnumbered}
 
 -- what holds from the first line on
@@ -64,27 +65,39 @@ with_index_keeps s name n d takes count =
       counts = All-push IsFieldCount s.fields n d.counts count;
     }
 
-index_line_keeps : (s t : SchemaText) (parts : List (List ℕ)) → IsDraft s → index_line s parts ≡ Ok t → IsDraft t
+index_line_keeps : (s t : SchemaDraft) (parts : List (List ℕ)) → IsDraft s.text → index_line s parts ≡ Ok t → IsDraft t.text
 index_line_keeps s t parts d h =
     let two = bind_ok (or_bad (both parts)) _ t h in
     let count = bind_ok (or_bad (count_spelled two.0.1)) _ t two.2 in
-    let taken = chosen (takes_name s two.0.0) (with_index s two.0.0 count.0) t BadLine count.2 in
-    subst (λ (u : SchemaText). IsDraft u) taken.1 (with_index_keeps s two.0.0 count.0 d taken.0 (count_in two.0.1 count.0 (some_of _ _ count.1)))
+    let taken = chosen (takes_name s.text two.0.0) (draft_with_index s two.0.0 count.0) t BadLine count.2 in
+    subst (λ (u : SchemaDraft). IsDraft u.text) taken.1 (with_index_keeps s.text two.0.0 count.0 d taken.0 (count_in two.0.1 count.0 (some_of _ _ count.1)))
 
-after_entry_keeps : (entry : Entry) (s t : SchemaText) (parts : List (List ℕ)) → IsDraft s → after_entry entry s parts ≡ Ok t → IsDraft t
+-- a setting leaves the indexes as they are
+with_setting_keeps : (s : SchemaDraft) (setting : Setting) (n : ℕ) → IsDraft s.text → IsDraft (with_setting s setting n).text
+with_setting_keeps s setting n d = record { paired = d.paired; few = d.few; named = d.named; apart = d.apart; counts = d.counts }
+
+setting_line_keeps : (setting : Setting) (s t : SchemaDraft) (parts : List (List ℕ)) → IsDraft s.text → setting_line setting s parts ≡ Ok t → IsDraft t.text
+setting_line_keeps setting s t parts d h =
+    let word = bind_ok (or_bad (only parts)) _ t h in
+    let n = bind_ok (or_bad (number_spelled word.0)) _ t word.2 in
+    let taken = chosen (takes_setting s setting) (with_setting s setting n.0) t BadLine n.2 in
+    subst (λ (u : SchemaDraft). IsDraft u.text) taken.1 (with_setting_keeps s setting n.0 d)
+
+after_entry_keeps : (entry : Entry) (s t : SchemaDraft) (parts : List (List ℕ)) → IsDraft s.text → after_entry entry s parts ≡ Ok t → IsDraft t.text
 after_entry_keeps Index s t parts d h = index_line_keeps s t parts d h
+after_entry_keeps (Set setting) s t parts d h = setting_line_keeps setting s t parts d h
 
-after_words_keeps : (s t : SchemaText) (words : List (List ℕ)) → IsDraft s → after_words s words ≡ Ok t → IsDraft t
+after_words_keeps : (s t : SchemaDraft) (words : List (List ℕ)) → IsDraft s.text → after_words s words ≡ Ok t → IsDraft t.text
 after_words_keeps s t [] d h = absurd cc
 after_words_keeps s t (word ∷ parts) d h =
     let entry = bind_ok (or_bad (entry_named word)) (λ (e : Entry). after_entry e s parts) t h in
     after_entry_keeps entry.0 s t parts d entry.2
 
-line_keeps : (silent : Bool) (s t : SchemaText) (words : List (List ℕ)) → IsDraft s → cond silent (Ok s) (after_words s words) ≡ Ok t → IsDraft t
-line_keeps true s t words d h = let is : s ≡ t = cc in subst (λ (u : SchemaText). IsDraft u) is d
+line_keeps : (silent : Bool) (s t : SchemaDraft) (words : List (List ℕ)) → IsDraft s.text → cond silent (Ok s) (after_words s words) ≡ Ok t → IsDraft t.text
+line_keeps true s t words d h = let is : s ≡ t = cc in subst (λ (u : SchemaDraft). IsDraft u.text) is d
 line_keeps false s t words d h = after_words_keeps s t words d h
 
-schema_line_keeps : (s t : SchemaText) (line : List ℕ) → IsDraft s → schema_line s line ≡ Ok t → IsDraft t
+schema_line_keeps : (s t : SchemaDraft) (line : List ℕ) → IsDraft s.text → schema_line s line ≡ Ok t → IsDraft t.text
 unfolding schema_line
 schema_line_keeps s t line d h = line_keeps (says_nothing line) s t (line_words line) d h
 
@@ -95,16 +108,16 @@ done n false s t e d h =
     let ne : length s.names ≡ 0 → ⊥ = eqb-false _ _ e in
     subst (λ (u : SchemaText). IsSchema u.names u.fields) is (record { paired = d.paired; some = omega arith; few = d.few; named = d.named; apart = d.apart; counts = d.counts })
 
-from_keeps : (n : ℕ) (s t : SchemaText) (lines : List (List ℕ)) → IsDraft s → schema_from n s lines ≡ Ok t → IsSchema t.names t.fields
-from_keeps n s t [] d h = done n (eqb (length s.names) 0) s t refl d h
+from_keeps : (n : ℕ) (s : SchemaDraft) (t : SchemaText) (lines : List (List ℕ)) → IsDraft s.text → schema_from n s lines ≡ Ok t → IsSchema t.names t.fields
+from_keeps n s t [] d h = done n (eqb (length s.text.names) 0) s.text t refl d h
 from_keeps n s t (line ∷ lines) d h =
-    let one = bind_ok (numbered n (schema_line s line)) (λ (u : SchemaText). schema_from (n + 1) u lines) t h in
+    let one = bind_ok (numbered n (schema_line s line)) (λ (u : SchemaDraft). schema_from (n + 1) u lines) t h in
     from_keeps (n + 1) one.0 t lines (schema_line_keeps s one.0 line d (unnumbered n _ _ one.1)) one.2
 
 -- a schema that a file spells is one: paired lists within their limits, of names that differ
 pub spelled_schema : (bytes : List ℕ) (t : SchemaText) → schema_of bytes ≡ Ok t → IsSchema t.names t.fields
 unfolding schema_of
-spelled_schema bytes t h = from_keeps 1 _ t (lines_of bytes) (record {
+spelled_schema bytes t h = from_keeps 1 empty_draft t (lines_of bytes) (record {
   paired = refl;
   few = omega arith;
   named = All-nil _;

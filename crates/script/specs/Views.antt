@@ -2,19 +2,22 @@
 use Rattle.std.specs.Prelude.{map, string_bytes}
 use Rattle.script.specs.declared.schema.Schema.{Schema}
 use Rattle.script.specs.declared.draft.Draft.{Draft}
-use Rattle.script.specs.declared.TheConstants.{DEFAULT_SIZES}
 use Rattle.key_tuple.specs.Order.{FieldList}
 use Rattle.key_tuple.specs.Parts.{parts}
 use Rattle.script.specs.declared.rows.KeyText.{KeyText}
-use Rattle.script.specs.Schema.{SchemaText}
+use Rattle.script.specs.Schema.{SchemaText, SchemaDraft}
 
 -- the schema that a draft stands for
 abbrev pub draft_text : Draft → SchemaText
 draft_text d = record {
-  sizes = DEFAULT_SIZES;
+  sizes = d.sizes;
   names = map string_bytes d.names.items;
   fields = d.fields.items;
 }
+
+-- a draft: its schema, and the settings that were given
+abbrev pub draft_view : Draft → SchemaDraft
+draft_view d = record { text = draft_text d; given = d.given.items }
 
 -- a schema's text
 abbrev pub schema_text : Schema → SchemaText

@@ -2,11 +2,15 @@
 ghost use Rattle.std.specs.Prelude.{◌≡◌};
 ghost use Rattle.script.specs.Schema.{entry_named};
 
+use settings::{Setting, find_setting};
+
 /// What a line of a schema sets.
 #[derive(Debug, Clone, Copy, PartialEq, Eq)]
 pub enum Entry {
     /// An index: its name, and the number of its keys' fields.
     Index,
+    /// A setting: its number.
+    Set(Setting),
 }
 
 /// The entry of a word.
@@ -16,6 +20,6 @@ pub fn find_entry(word: &[u8]) -> Option<Entry>
     if word == b"index".as_slice() {
         Some(Entry::Index)
     } else {
-        None
+        find_setting(word).map(Entry::Set)
     }
 }

@@ -5,7 +5,6 @@ ghost use Rattle.script.specs.Lane.{lane_of, line_meaning, AreLaneLines, Numbers
 ghost use Rattle.script.specs.Schema.{schema_of};
 ghost use Rattle.script.specs.Steps.{GivesWhole, Fails, RefusesAlike, HasCause};
 ghost use Rattle.script.specs.Views.{schema_text, draft_text};
-ghost use Rattle.script.specs.declared.TheConstants.{DEFAULT_SIZES};
 ghost use Rattle.map_history.specs.Lines.{line_texts};
 
 use crate::draft::Draft;
@@ -24,11 +23,10 @@ pub fn read_schema(alloc: Global, bytes: &[u8]) -> Result<Schema, ScriptError>
     ensures ok { IfOk result (λ s. schema_of bytes.now ≡ Ok (schema_text s)) }
     ensures refused { RefusesAlike result (schema_of bytes.now) }
     ensures cause { HasCause result (schema_of bytes.now) }
-    ensures sizes { IfOk result (λ s. s.sizes ≡ DEFAULT_SIZES) }
 {
     let draft = read_indexes(alloc, bytes)?;
     Ok(Schema {
-        sizes: DEFAULT_SIZES,
+        sizes: draft.sizes,
         names: draft.names,
         fields: draft.fields,
     })
@@ -55,6 +53,8 @@ fn read_indexes(alloc: Global, bytes: &[u8]) -> Result<Draft, ScriptError>
     ensures { GivesWhole draft_text result (schema_of bytes.now) }
 {
     let mut draft = Draft {
+        sizes: DEFAULT_SIZES,
+        given: Vec::new(alloc),
         names: Vec::new(alloc),
         fields: Vec::new(alloc),
     };

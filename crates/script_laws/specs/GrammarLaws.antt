@@ -10,7 +10,7 @@ use Rattle.script.specs.declared.error.Flaw.TheVariants.{BadLine}
 use Rattle.script.specs.Bytes.{AreBytes, AreFields}
 use Rattle.script.specs.Grammar.{lines_of, field_of, tuple_of}
 use Rattle.script.specs.Lane.{line_meaning, lane_of}
-use Rattle.script.specs.Schema.{SchemaText, no_index, schema_line, schema_of}
+use Rattle.script.specs.Schema.{SchemaText, SchemaDraft, empty_draft, schema_line, schema_of}
 
 -- the bytes that were written as a field are read again, so no two fields are written alike
 pub record FieldsAreReadAgain : Type 0 where
@@ -33,28 +33,28 @@ pub record IsFirstFlaw (s : SchemaText) (lines : List (List ℕ)) (e : ScriptErr
   pub bad : line_meaning s line ≡ Err flaw
   pub number : e ≡ Flawed (length before + 1) flaw
 
--- one schema after another by lines that are in the grammar
-abbrev pub Makes : SchemaText → List (List ℕ) → SchemaText → Type 0
+-- one draft after another by lines that are in the grammar
+abbrev pub Makes : SchemaDraft → List (List ℕ) → SchemaDraft → Type 0
 Makes s [] t = s ≡ t
-Makes s (line ∷ lines) t = (u : SchemaText) × (schema_line s line ≡ Ok u) × Makes u lines t
+Makes s (line ∷ lines) t = (u : SchemaDraft) × (schema_line s line ≡ Ok u) × Makes u lines t
 
 -- a schema's error is that of its first line that doesn't go with the lines before it
 pub record IsFirstSchemaFlaw (lines : List (List ℕ)) (e : ScriptError) : Type 0 where
   pub before : List (List ℕ)
-  pub schema : SchemaText
+  pub schema : SchemaDraft
   pub line : List ℕ
   pub rest : List (List ℕ)
   pub flaw : Flaw
   pub split : lines ≡ before ++ line ∷ rest
-  pub good : Makes no_index before schema
+  pub good : Makes empty_draft before schema
   pub bad : schema_line schema line ≡ Err flaw
   pub number : e ≡ Flawed (length before + 1) flaw
 
 -- or all lines are in the grammar, and none is an index: the error is behind the last
 pub record LacksIndex (lines : List (List ℕ)) (e : ScriptError) : Type 0 where
-  pub schema : SchemaText
-  pub good : Makes no_index lines schema
-  pub none : length schema.names ≡ 0
+  pub schema : SchemaDraft
+  pub good : Makes empty_draft lines schema
+  pub none : length schema.text.names ≡ 0
   pub number : e ≡ Flawed (length lines + 1) BadLine
 
 -- each refusal speaks of the first line that isn't in the grammar
