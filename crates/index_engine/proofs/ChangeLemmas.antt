@@ -1,85 +1,146 @@
--- A leaf that is taken out of the hand, changed and put back is held still, and now is what it was changed to.
-use Rattle.std.proofs.Common.{◌≡◌, ℕ, List, set, sym, ap, subst, ◌∙◌, Option, Some, None, Result, Ok, Err, IfOk, OnErr}
+-- A leaf that is taken out of the hand, changed and put back is held still, and is what it became.
+use Rattle.std.proofs.Common.{◌≡◌, ◌≢◌, ◌⊎◌, inl, inr, ℕ, ◌+◌, ◌<◌, List, sym, ap, subst, ◌∙◌, arith, Option, Some, None, Result, Ok, Err, IfOk, IfErr, OnErr}
 use mathlib.Core.Option.{some, none}
 use mathlib.Core.Option as maybe
 use lib.ListN.{get_elem?}
-use Rattle.atomic_table.proofs.Lists.{set_here}
 use Rattle.key_tuple.specs.Order.{FieldList}
-use Rattle.key_tuple.specs.declared.error.NoMemory.{NoMemory}
-use Rattle.list_facts.proofs.Places.{inside, one_value, same_some}
-use Rattle.latch_space.specs.Passes.{values, count, Shows}
-use Rattle.latch_space.proofs.Pointwise.{swapped_of}
-use Rattle.index_law.specs.declared.frame.Frame.{Frame}
-use Rattle.index_law.specs.declared.frame.Object.{Object}
-use Rattle.index_law.specs.declared.frame.Object.TheVariants as object
-use Rattle.index_law.specs.Law.{IsRootLeaf}
-use Rattle.index_law.specs.Spoken.{View}
-use Rattle.index_engine.specs.Changes.{PutIn, HoldsRowAt, TookOut}
-use Rattle.index_engine.specs.Frames.{PutsRow, StandsOn, frame_without}
-use Rattle.index_engine.specs.Passes.{IndexPass, HoldsLeaf}
-
--- the frame that an object is, read back
-abbrev frame_in : Object → Frame
-frame_in (object.Frame f) = f
+use Rattle.list_facts.proofs.Places.{same_some}
+use Rattle.latch_space.specs.Has.{SameBut}
+use Rattle.latch_space.specs.Passes.{view, values}
+use Rattle.index_page.specs.declared.error.PageError.{PageError}
+use Rattle.index_page.specs.declared.error.PageError.TheVariants as refused
+use Rattle.index_page.specs.declared.spot.Spot.{Spot}
+use Rattle.index_page.specs.declared.TheConstants.{PAGE_ROOM}
+use Rattle.index_page.specs.Loads.{charge_of, load_of}
+use Rattle.index_page.specs.Page.{PageRows}
+use Rattle.index_page.specs.Rows.{Bytes}
+use Rattle.forest_law.specs.declared.objects.Frame.{Frame}
+use Rattle.forest_law.specs.declared.objects.Object.{Object}
+use Rattle.forest_law.specs.declared.objects.Object.TheVariants as object
+use Rattle.forest_law.specs.Numbers.{frame_id}
+use Rattle.forest_law.specs.Opening.{new_frame}
+use Rattle.forest_world.specs.Held.{TreePass, shape_of_pass, HasFrame}
+use Rattle.call_law.specs.Spoken.{View}
+use Rattle.buffer_pool.specs.Frames.{TakesOut, PutsBack}
+use Rattle.leaf_rows.specs.Changing.{PutsRow, WasPut, HasSomeRow, IsFullFor, LacksRow, frame_without}
+use Rattle.index_engine.specs.Changes.{HoldsNewRow, HoldsRefusing, KnowsSame, HoldsPutRow, TookBack, HoldsRowAt, TookOut}
+use Rattle.index_engine.specs.Holds.{IsLeafOf, HoldsLeaf}
 
 -- the frame that stands in a hand, if one does
 abbrev frame_at : maybe.Option (Option Object) → Frame
 frame_at (some (Some (object.Frame f))) = f
-frame_at (some None) = record { page = None; low = None; high = None; clock = 0 }
-frame_at none = record { page = None; low = None; high = None; clock = 0 }
+frame_at (some (Some (object.Pool x))) = new_frame None
+frame_at (some (Some (object.Tree t))) = new_frame None
+frame_at (some None) = new_frame None
+frame_at none = new_frame None
 
--- the leaf that is held is in the hand
-pub leaf_shows : (p : IndexPass) (i k : ℕ) (f g : Frame) → k ≡ i → HoldsLeaf p i f g → (x : Object) × Shows p k x
-leaf_shows p i k f g at holds = (object.Frame g, subst (λ n. Shows p n (object.Frame g)) (sym at) holds.has.value)
+-- the block's frame in hand as it now is
+abbrev pub frame_in : TreePass → ℕ → Frame
+frame_in p b = frame_at (get_elem? (values p) (frame_id (shape_of_pass p) b))
 
--- the leaf of the index as it now is
-abbrev pub leaf_in : IndexPass → ℕ → Frame
-leaf_in p i = frame_at (get_elem? (values p) i)
+pub frame_in_is : (p : TreePass) (b : ℕ) (f g : Frame) → HasFrame p b f g → frame_in p b ≡ g
+frame_in_is p b f g has = ap frame_at has.value
 
-pub leaf_is : (p : IndexPass) (i : ℕ) (f g : Frame) → HoldsLeaf p i f g → leaf_in p i ≡ g
-leaf_is p i f g holds = ap frame_at holds.has.value
+module _ (p p1 : TreePass) (b : ℕ) (frame : Frame) (out : TakesOut p b frame p1) where
+  -- the frame was taken out as it was
+  pub taken_is : (f g : Frame) → HasFrame p b f g → frame ≡ g
+  taken_is f g has = (out.out f g has).1
 
--- an object that was taken out has left its place
-pub left_out : (p q : IndexPass) (i : ℕ) (x : Object) → Shows p i x → values q ≡ set (values p) i None → get_elem? (values q) i ≡ some None
-left_out p q i x shows out = ap (λ z. get_elem? z i) out ∙ set_here (values p) i None (inside (values p) i (Some x) shows)
+  -- so it has what it had
+  pub was_put : (place : ℕ) → HoldsPutRow p b place → WasPut frame place
+  was_put place held =
+      subst (λ z. WasPut z place) (sym (taken_is held.known held.now held.has)) held.put
 
--- the object k, which is x, is taken out, and y is put back in its place
-pub record Swaps (p q r : IndexPass) (k : ℕ) (x y : Object) : Type 0 where
-  pub shows : Shows p k x
-  pub out_seat : (q.seat ≡ p.seat) × (count q ≡ count p)
-  pub out : values q ≡ set (values p) k None
-  pub in_seat : (r.seat ≡ q.seat) × (count r ≡ count q)
-  pub back : values r ≡ set (values q) k (Some y)
+  pub stands_there : (place : ℕ) → HoldsRowAt p b place → HasSomeRow frame place
+  stands_there place held =
+      subst (λ z. HasSomeRow z place) (sym (taken_is held.known held.now held.has)) held.stands
 
-module _ (p q r : IndexPass) (i k : ℕ) (x : Object) (f0 g' : Frame) (is : x ≡ object.Frame f0) (at : k ≡ i) (swaps : Swaps p q r k x (object.Frame g')) where
-  -- that object is the leaf
-  here : Swaps p q r i x (object.Frame g')
-  here = subst (λ n. Swaps p q r n x (object.Frame g')) at swaps
+  pub lacks_there : (key : FieldList) (spot : Spot) (f : Frame) → HasFrame p b f f
+      → LacksRow f key spot → LacksRow frame key spot
+  lacks_there key spot f has lacks =
+      subst (λ z. LacksRow z key spot) (sym (taken_is f f has)) lacks
 
-  -- what was taken out is the frame that is held
-  taken_is : (f g : Frame) → HoldsLeaf p i f g → g ≡ f0
-  taken_is f g holds = ap frame_in (same_some (object.Frame g) x (one_value (values p) i (Some (object.Frame g)) (Some x) holds.has.value here.shows) ∙ is)
+module _ (p p1 p2 : TreePass) (b : ℕ) (frame now : Frame) (out : TakesOut p b frame p1)
+    (back : PutsBack p1 b now p2) where
+  -- it is what was put back
+  swapped_has : (f g : Frame) → HasFrame p b f g → HasFrame p2 b f now
+  swapped_has f g has = back.has f (out.out f g has).0
 
-  -- the leaf is held still, and is what was put back
-  put_leaf : (f g : Frame) → HoldsLeaf p i f g → HoldsLeaf r i f g'
-  put_leaf f g holds = let swapped = swapped_of p q r i x (object.Frame g') here.shows here.out_seat here.out here.in_seat here.back in record {
-    has = swapped.has (object.Frame f) (object.Frame g) holds.has;
-    alone = λ k h at. holds.alone k h (ap (λ (v : View). get_elem? v.held k) (sym swapped.same_view) ∙ at);
-    one = swapped.count ∙ holds.one;
-    root = subst (λ (v : View). IsRootLeaf v.terms.shape i f) (sym swapped.same_view) holds.root;
+  same_view : view p2 ≡ view p
+  same_view = back.view ∙ out.view
+
+  pub knows_same : KnowsSame p p2
+  knows_same = record { view = same_view; count = back.count ∙ out.count }
+
+  -- and all else is as before
+  swapped_others : SameBut p p2 (frame_id (shape_of_pass p) b)
+  swapped_others j differs = let first = out.hand.others j differs in
+      let second = back.hand.others j
+      (λ e. differs (e ∙ ap (λ (v : View). frame_id v.terms.shape b) out.view)) in
+      (second.0 ∙ first.0, second.1 ∙ first.1)
+
+  pub swapped_leaf : (i : ℕ) (key : FieldList) (f g h : Frame) → now ≡ h
+      → HoldsLeaf p b i key f g → HoldsLeaf p2 b i key f h
+  swapped_leaf i key f g h is holds = record {
+    has = subst (HasFrame p2 b f) is (swapped_has f g holds.has);
+    rest = λ j x differs held. (let ne : j ≢ frame_id (shape_of_pass p) b =
+        λ e. differs (e ∙ ap (λ (v : View). frame_id v.terms.shape b) (sym same_view)) in
+        let same = swapped_others j ne in same.1 ∙ holds.rest j x ne (sym same.0 ∙ held));
+    one = back.count ∙ (out.count ∙ holds.one);
+    leaf = subst (λ (v : View). IsLeafOf v.terms.shape b i key f) (sym same_view) holds.leaf;
   }
 
-  pub inserted_ok : (key : FieldList) (value : List ℕ) (result : Result ℕ NoMemory) → IfOk result (λ place. PutsRow f0 g' place key value) → IfOk result (λ place. PutIn p r i place key value)
-  inserted_ok key value (Ok place) puts = λ f holds. (g', put_leaf f f holds, subst (λ z. PutsRow z g' place key value) (sym (taken_is f f holds)) puts)
-  inserted_ok key value (Err e) puts = tt
+  module _ (i : ℕ) (key : FieldList) (value : List ℕ) where
+    -- a row was put in
+    pub inserted_ok : (held : Frame) → HoldsLeaf p b i key held held → (result : Result ℕ PageError)
+        → IfOk result (λ place. PutsRow frame now place key value)
+        → IfOk result (λ place. HoldsNewRow p2 b i place key value)
+    inserted_ok held holds (Ok place) puts = record {
+      known = held;
+      made = now;
+      holds = swapped_leaf i key held held now (λ _. now) holds;
+      puts = subst (λ z. PutsRow z now place key value)
+          (taken_is p p1 b frame out held held holds.has) puts;
+    }
+    inserted_ok held holds (Err e) puts = tt
 
-  pub inserted_err : (result : Result ℕ NoMemory) → OnErr result (g' ≡ f0) → OnErr result ((f : Frame) → HoldsLeaf p i f f → HoldsLeaf r i f f)
-  inserted_err (Ok place) same = tt
-  inserted_err (Err e) same = λ f holds. subst (HoldsLeaf r i f) (same ∙ sym (taken_is f f holds)) (put_leaf f f holds)
+    -- where there is too little free, the load and the charge are more than the room
+    too_full : (held : Frame) (page : PageRows) (e : PageError) → held.page ≡ Some page
+        → frame ≡ held → IsFullFor frame key value e
+        → PAGE_ROOM < load_of page.rows + charge_of key (Bytes value)
+    too_full held page e paged is full = let same : full.page ≡ page =
+        same_some full.page page (sym full.paged ∙ (ap (λ (f : Frame). f.page) is ∙ paged)) in
+        let more = full.more in
+        let load = ap (λ (r : PageRows). load_of r.rows) same in omega (arith, more, load)
 
-  pub deleted_ok : (place : ℕ) → g' ≡ frame_without place f0 → TookOut p r i place
-  deleted_ok place is_less f g holds = subst (HoldsLeaf r i f) (is_less ∙ ap (frame_without place) (sym (taken_is f g holds))) (put_leaf f g holds)
+    pub inserted_err : (held : Frame) → HoldsLeaf p b i key held held
+        → (result : Result ℕ PageError)
+        → IfErr result (λ e. (e ≡ refused.NoMemory) ⊎ IsFullFor frame key value e)
+        → OnErr result (now ≡ frame) → IfErr result (λ e. HoldsRefusing p2 b i key value e)
+    inserted_err held holds (Ok place) why same = tt
+    inserted_err held holds (Err e) why same =
+        let is = taken_is p p1 b frame out held held holds.has in
+        let still = swapped_leaf i key held held held (same ∙ is) holds in record {
+          frame = held;
+          holds = still;
+          why = elim why [
+            | inl memory ↦ inl memory
+            | inr full ↦ inr (too_full held still.leaf.page.is.page e still.leaf.page.is.paged is
+                full)
+          ];
+        }
 
-  -- the row stands on what was taken out
-  pub stands_ok : (place : ℕ) → HoldsRowAt p i place → StandsOn f0 place
-  stands_ok place held = subst (λ z. StandsOn z place) (taken_is held.known held.now held.holds) held.stands
+  -- a row that was put in was taken back
+  pub took_back : (place : ℕ)
+      → ((f : Frame) (k : FieldList) (v : List ℕ) → PutsRow f frame place k v → now ≡ f)
+      → TookBack p p2 b place
+  took_back place back_is i key value f g holds puts =
+      swapped_leaf i key f g f
+      (back_is f key value (subst (λ z. PutsRow f z place key value)
+      (sym (taken_is p p1 b frame out f g holds.has)) puts)) holds
+
+  -- a row was deleted
+  pub took_out : (place : ℕ) → now ≡ frame_without place frame → TookOut p p2 b place
+  took_out place is f g has =
+      subst (HasFrame p2 b f) (is ∙ ap (frame_without place) (taken_is p p1 b frame out f g has))
+      (swapped_has f g has)

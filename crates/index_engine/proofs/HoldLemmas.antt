@@ -1,106 +1,122 @@
 -- What is known of a leaf that is held.
-use Rattle.std.proofs.Common.{◌≡◌, ℕ, suc, ◌+◌, ◌<◌, List, [], ◌∷◌, length, replicate, sym, ap, subst, ◌∙◌, arith, refl, Option, Some, None}
-use Rattle.std.proofs.lemmas.List.{length-map}
-use mathlib.Core.Logic.{dite}
-use mathlib.Core.Option.{some, some-injective}
-use native.Mathlib.Decide.{ℕ_discrete}
+use Rattle.std.proofs.Common.{◌≡◌, ℕ, ◌+◌, true, length, sym, ap, subst, ◌∙◌, Option, Some, None}
 use lib.ListN.{get_elem?}
-use Rattle.latch_law.specs.declared.knows.Entry.{Entry}
-use Rattle.latch_law.specs.declared.knows.Holding.{Holding}
-use Rattle.latch_law.specs.Rule.{Holds, Fits}
-use Rattle.latch_law.specs.Views.{with_refused}
-use Rattle.list_facts.proofs.Places.{inside, there, same_some, none_is_not}
-use Rattle.latch_space.specs.Has.{Has, SameHands}
+use Rattle.key_tuple.specs.Order.{FieldList}
+use Rattle.key_tuple.specs.KeyPlace.{At, within}
+use Rattle.key_tuple.specs.Position.{IsOfFields}
+use Rattle.key_tuple.specs.declared.mode.Mode.TheVariants as mode
+use Rattle.key_tuple.proofs.PositionLemmas.{has_key}
+use Rattle.latch_law.specs.declared.knows.Terms.{Terms}
+use Rattle.latch_law.specs.Views.{holding}
+use Rattle.latch_space.specs.Has.{Has, SameHands, IsKnownBut}
 use Rattle.latch_space.specs.Passes.{view, count}
-use Rattle.latch_space.specs.Takes.{DidTakeAfter}
-use Rattle.latch_space.proofs.Pointwise.{lacks_each}
-use Rattle.map_history.specs.Map.{slice, map_after}
-use Rattle.index_page.specs.Page.{PageRows}
-use Rattle.index_law.specs.declared.frame.Frame.{Frame}
-use Rattle.index_law.specs.declared.frame.Object.{Object}
-use Rattle.index_law.specs.declared.frame.Object.TheVariants as object
-use Rattle.index_law.specs.Answers.{MadeChange}
-use Rattle.index_law.specs.Law.{IsRootLeaf, IsLawful}
-use Rattle.index_law.specs.References.{IsReference}
-use Rattle.index_law.specs.Rightness.{IsRight}
-use Rattle.index_law.specs.Spoken.{View}
-use Rattle.index_law.specs.State.{State, Entries, changes, frame_of, low_in, high_in, row_pair, rows_of}
-use Rattle.index_engine.specs.Passes.{IndexPass, HoldsLeaf, HoldsFresh, HasAtMost}
-use Rattle.index_engine.proofs.MapLemmas.{slice_all, map_fits}
+use Rattle.latch_space.proofs.Pointwise.{has_again}
+use Rattle.tree_law.specs.Pages.{low_place, high_place, HasFields}
+use Rattle.index_law.specs.Shape.{Shape}
+use Rattle.forest_law.specs.declared.objects.Frame.{Frame}
+use Rattle.forest_law.specs.declared.objects.Object.TheVariants as object
+use Rattle.forest_law.specs.Numbers.{frame_id}
+use Rattle.forest_law.specs.Objects.{IsFrameOf}
+use Rattle.forest_law.specs.State.{ForestState, fields_for}
+use Rattle.forest_law.proofs.FramePageLemmas.{frames_tell_pages}
+use Rattle.forest_world.specs.Held.{TreePass, shape_of_pass, HasFrame}
+use Rattle.call_law.specs.Hands.{KnowsFrame}
+use Rattle.call_law.specs.Spoken.{View}
+use Rattle.buffer_pool.specs.Forests.{FitsTrees, IsFittedTree}
+use Rattle.buffer_pool.proofs.CallLemmas.{frame_has}
+use Rattle.tree_facts.specs.TreeFrames.{low_of, high_of}
+use Rattle.tree_descent.specs.declared.descending.Leaf.{Leaf}
+use Rattle.tree_descent.specs.Descents.{Descends}
+use Rattle.tree_descent.specs.Leaves.{cut_in, IsPageFor, IsLeafFor}
+use Rattle.index_engine.specs.Holds.{IsLeafOf, HoldsLeaf, HoldsFresh}
 
-pub framed : (x : Object) → x ≡ object.Frame (frame_of x)
-framed (object.Frame f) = refl
+-- in each state that fits, a frame that is held is the block's
+pub frame_there : (v : View) (b : ℕ) (f : Frame) → KnowsFrame v b f → (w : ForestState)
+    → FitsTrees w v → IsFrameOf w.shape w.objects b f
+frame_there v b f knows w fits = ap (λ s. get_elem? w.objects (frame_id s b)) fits.shape
+    ∙ fits.known (frame_id v.terms.shape b) (holding knows.0 (object.Frame f)) knows.1
 
--- in a lawful state the root of an index has the map of its list
-pub root_map : (w : State) (i : ℕ) (f : Frame) (page : PageRows) (xs : Entries) → IsLawful w → get_elem? w.objects i ≡ some (object.Frame f) → f.page ≡ Some page → get_elem? w.lists i ≡ some xs → rows_of page ≡ map_after (changes xs)
-root_map w i f page xs law at paged listed = let root = law.rooted i f at in
-    let same : root.page ≡ page = same_some root.page page (sym root.paged ∙ paged) in
-    let level : page.head.level ≡ 0 = ap (λ (p : PageRows). p.head.level) (sym same) ∙ root.level in
-    let index : page.head.index ≡ i = ap (λ (p : PageRows). p.head.index) (sym same) ∙ root.index in
-    law.contents i f page xs at paged level (ap (get_elem? w.lists) index ∙ listed) ∙ ((λ k. slice (low_in (root.bounds.0 k)) (high_in (root.bounds.1 k)) (map_after (changes xs))) ∙ slice_all (map_after (changes xs)))
+-- a bound of so many fields, as a place
+low_fields : (n m : ℕ) (o : Option FieldList) → n ≡ m → HasFields n o → IsOfFields m (low_place o)
+low_fields n m None e has = tt
+low_fields n m (Some k) e has = has ∙ e
 
--- and no more rows than the list may have changes
-pub root_fits : (w : State) (v : View) (i : ℕ) (f : Frame) → IsLawful w → Fits IsRight IsReference w v → get_elem? w.objects i ≡ some (object.Frame f) → HasAtMost v.terms.max_changes f
-root_fits w v i f law fits at page paged =
-    let below : i < length w.lists = (let room = inside w.objects i (object.Frame f) at in let counted = law.counted in omega (arith, room, counted.frames, counted.lists)) in
-    let xs = there w.lists i below in
-    let same : length (rows_of page) ≡ length page.rows = length-map page.rows row_pair in
-    let rows : length (rows_of page) ≡ length (map_after (changes xs.0)) = ap length (root_map w i f page xs.0 law at paged xs.1) in
-    let few : length (changes xs.0) ≡ length xs.0 = length-map xs.0 (λ (e : Entry MadeChange). e.change.change) in
-    let most = fits.bounded i xs.0 xs.1 in
-    let terms = fits.max_changes in
-    omega (arith, same, rows, map_fits (changes xs.0), few, most, terms)
+high_fields : (n m : ℕ) (o : Option FieldList) → n ≡ m → HasFields n o
+    → IsOfFields m (high_place o)
+high_fields n m None e has = tt
+high_fields n m (Some k) e has = has ∙ e
 
-module _ (p q : IndexPass) (i : ℕ) (none : count p ≡ 0) (told : DidTakeAfter IsLawful IsRight IsReference p i q) where
-  abbrev taken : Frame
-  taken = frame_of told.value
+module _ (shape : Shape) (b i : ℕ) (key : FieldList) (f : Frame)
+    (page : IsPageFor shape b f i 0 (cut_in shape i mode.Ge key))
+    (as_many : length key ≡ fields_for shape i) where
+  -- the page's keys have as many fields as those of the index
+  pub page_fields : page.is.page.head.fields ≡ fields_for shape i
+  page_fields = page.order.fields ∙ ap (fields_for shape) page.is.index
 
-  at : get_elem? told.was_free.whole.objects i ≡ some (object.Frame taken)
-  at = told.was_free.value ∙ ap some (framed told.value)
+  -- a key of the index is within the bounds that have its position
+  pub key_inside : within (low_of f) (high_of f) (At key) ≡ true
+  key_inside = has_key (fields_for shape i) mode.Ge key (low_of f) (high_of f) as_many
+      (low_fields page.is.page.head.fields (fields_for shape i) _ page_fields page.order.low)
+      (high_fields page.is.page.head.fields (fields_for shape i) _ page_fields page.order.high)
+      (record { at_low = page.within.low; at_high = page.within.high })
 
-  same_shape : told.was_free.whole.shape ≡ (view q).terms.shape
-  same_shape = told.was_free.fits.shape ∙ ap (λ (z : View). z.terms.shape) (sym told.view)
+-- a page of the trees that is held has its block's number
+pub page_number : (v : View) (b i : ℕ) (key : FieldList) (f : Frame)
+    → (page : IsPageFor v.terms.shape b f i 0 (cut_in v.terms.shape i mode.Ge key))
+    → KnowsFrame v b f → IsFittedTree v → page.is.page.head.number ≡ b
+page_number v b i key f page knows fitted =
+    let there = frame_there v b f knows fitted.whole fitted.fits in
+    let tells = frames_tell_pages fitted.whole fitted.is_lawful b f page.is.page there
+    page.is.paged in
+    tells.number
 
-  -- what it held before it holds still, which is nothing
-  alone : (k : ℕ) (h : Holding Object) → Holds (view q) k h → k ≡ i
-  alone k h held = dite (ℕ_discrete k i) (λ is. is) (λ isnt. absurd (never k h (sym (told.took.others k isnt).0 ∙ held)))
-    where
-      never : (k : ℕ) (h : Holding Object) → get_elem? (view p).held k ≡ some (Some h) → ⊥
-      never k h e = none_is_not h (sym (lacks_each p k none (let room = inside (view p).held k (Some h) e in let all = p.all in omega (arith, room, all.0))) ∙ e)
+-- a leaf to which a way led is held alone
+pub fresh_leaf : (p q : TreePass) (i : ℕ) (key : FieldList) (leaf : Leaf)
+    → Descends p i mode.Ge key leaf q → IsFittedTree (view q) → count p ≡ 0
+    → length key ≡ fields_for (shape_of_pass p) i → HoldsFresh q leaf.block i key leaf.spot
+fresh_leaf p q i key leaf went fitted none fits =
+    let same = went.silently.does.adds.numbers.terms in
+    let known = went.silently.does.known in
+    let is = subst
+    (λ (t : Terms Shape). IsLeafFor t.shape leaf.block went.frame i mode.Ge key leaf.spot)
+    (sym same) went.is in
+    let as_many = fits ∙ ap (λ (t : Terms Shape). fields_for t.shape i) (sym same) in
+    record {
+      frame = went.frame;
+      holds = record {
+        has = frame_has q known leaf.block went.frame went.knows;
+        rest = λ j h differs held. known j h held;
+        one = went.count ∙ ap (λ n. n + 1) none;
+        leaf = record {
+          page = is.page;
+          number = page_number (view q) leaf.block i key went.frame is.page went.knows fitted;
+          inside = key_inside (shape_of_pass q) leaf.block i key went.frame is.page as_many;
+        };
+      };
+      finds = record {
+        level = is.page.is.at_level;
+        fields = as_many
+            ∙ sym (page_fields (shape_of_pass q) leaf.block i key went.frame is.page as_many);
+        finds = is.finds;
+      };
+    }
 
-  -- a leaf that was taken is held alone
-  pub took_leaf : HoldsFresh q i
-  took_leaf = record {
-    frame = taken;
-    holds = record {
-      has = subst (λ (x : Object). Has q i x x) (framed told.value) told.took.has;
-      alone = alone;
-      one = told.took.count ∙ ap (λ n. n + 1) none;
-      root = subst (λ s. IsRootLeaf s i taken) same_shape (told.was_free.is_lawful.rooted i taken at);
-    };
-    few = subst (λ (v : View). HasAtMost v.terms.max_changes taken) (sym told.view) (root_fits told.was_free.whole (with_refused (view p) told.refused) i taken told.was_free.is_lawful told.was_free.fits at);
-  }
+-- a frame is held still where what is in hand stays
+pub frame_again : (p q : TreePass) (b : ℕ) (f g : Frame) → SameHands p q
+    → (view q).terms ≡ (view p).terms → HasFrame p b f g → HasFrame q b f g
+frame_again p q b f g same terms has =
+    subst (λ (t : Terms Shape). Has q (frame_id t.shape b) (object.Frame f) (object.Frame g))
+    (sym terms)
+    (has_again p q (frame_id (shape_of_pass p) b) (object.Frame f) (object.Frame g) same has)
 
--- a list of places that are all empty is one of so many
-empty_places : {O : Type 0} (l : List (Option O)) → ((k : ℕ) → k < length l → get_elem? l k ≡ some None) → l ≡ replicate (length l) None
-empty_places [] none = refl
-empty_places (x ∷ l) none = λ n. some-injective x None (none 0 (omega arith)) n ∷ empty_places l (λ k below. none (suc k) (omega arith)) n
-
--- two passes of one space that hold nothing hold the same
-pub held_same : (p q : IndexPass) → count p ≡ 0 → count q ≡ 0 → (view q).terms ≡ (view p).terms → (view q).held ≡ (view p).held
-held_same p q none none' terms = empty q none' ∙ (ap (λ n. replicate n None) (let one = p.all in let two = q.all in one_length one.0 two.0) ∙ sym (empty p none))
-  where
-    empty : (r : IndexPass) → count r ≡ 0 → (view r).held ≡ replicate (length (view r).held) None
-    empty r nothing = empty_places (view r).held (λ k below. lacks_each r k nothing (let all = r.all in omega (arith, below, all.0)))
-
-    one_length : length (view p).held ≡ (view p).terms.objects → length (view q).held ≡ (view q).terms.objects → length (view q).held ≡ length (view p).held
-    one_length one two = two ∙ (ap (λ t. t.objects) terms ∙ sym one)
-
--- a leaf is held still where what is in hand stays
-pub held_still : (p q : IndexPass) (i : ℕ) (f g : Frame) → SameHands p q → (view q).terms ≡ (view p).terms → HoldsLeaf p i f g → HoldsLeaf q i f g
-held_still p q i f g same terms holds = record {
-  has = record { held = (holds.has.held.0, ap (λ z. get_elem? z i) same.held ∙ holds.has.held.1); value = ap (λ z. get_elem? z i) same.values ∙ holds.has.value };
-  alone = λ k h at. holds.alone k h (ap (λ z. get_elem? z k) (sym same.held) ∙ at);
+-- and so is a leaf
+pub leaf_again : (p q : TreePass) (b i : ℕ) (key : FieldList) (f g : Frame) → SameHands p q
+    → (view q).terms ≡ (view p).terms → HoldsLeaf p b i key f g → HoldsLeaf q b i key f g
+leaf_again p q b i key f g same terms holds = record {
+  has = frame_again p q b f g same terms holds.has;
+  rest = subst (λ (t : Terms Shape). IsKnownBut q (frame_id t.shape b)) (sym terms)
+      (λ j h differs held. ap (λ vs. get_elem? vs j) same.values
+      ∙ holds.rest j h differs (ap (λ hs. get_elem? hs j) (sym same.held) ∙ held));
   one = same.count ∙ holds.one;
-  root = subst (λ t. IsRootLeaf t.shape i f) (sym terms) holds.root;
+  leaf = subst (λ (t : Terms Shape). IsLeafOf t.shape b i key f) (sym terms) holds.leaf;
 }

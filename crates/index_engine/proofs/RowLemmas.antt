@@ -1,86 +1,161 @@
--- A row that is put into a held leaf, or taken out of it, makes a change that may be committed.
-use Rattle.std.proofs.Common.{◌≡◌, ℕ, true, false, List, sym, ap, subst, ◌∙◌, refl, Option, Some, None, IsSome, rules, is_none, is_some}
+-- A row that is put into the held leaf, or is to go from it, makes a change that may be committed.
+use Rattle.std.proofs.Common.{◌≡◌, ◌≤◌, ℕ, true, false, List, [], ◌∷◌, ◌++◌, inl, inr, length, sym, ap, subst, ◌∙◌, refl, Option, Some, None, is_none, is_some}
+use Rattle.std.specs.List.{AllByRecursion}
 use Rattle.std.specs.Option.{option_map}
 use Rattle.key_tuple.specs.Order.{FieldList}
-use Rattle.key_tuple.specs.KeyPlace.{At, before, within}
+use Rattle.list_facts.proofs.Each.{each_left, each_right, each_append, each_weaker}
 use Rattle.list_facts.proofs.Places.{same_some}
 use Rattle.map_history.specs.Map.{Put, Del, value_at}
-use Rattle.index_page.specs.Page.{PageRows, IsPageInOrder}
+use Rattle.index_page.specs.declared.head.PageHead.{PageHead}
+use Rattle.index_page.specs.declared.spot.Spot.{Spot}
 use Rattle.index_page.specs.Changes.{page_without}
-use Rattle.index_page.specs.Rows.{Bytes, placed_row}
-use Rattle.index_law.specs.declared.frame.Frame.{Frame}
-use Rattle.index_law.specs.Law.{IsRootLeaf, MakesChange}
+use Rattle.index_page.specs.Page.{PageRows, PlacesDiffer, FitsLevel, IsRowOf, IsPageInOrder}
+use Rattle.index_page.specs.Rows.{Row}
+use Rattle.tree_law.specs.Pages.{row_pairs, HasFields, IsOrderly}
 use Rattle.index_law.specs.Shape.{Shape}
-use Rattle.index_law.specs.Spoken.{View}
-use Rattle.index_law.specs.State.{low_in, high_in, low_of, high_of, rows_of}
-use Rattle.index_engine.specs.Frames.{PutsRow, StandsOn, frame_without}
-use Rattle.index_engine.specs.Leaf.{HasRow, IsFoundAt}
-use Rattle.index_engine.specs.Says.{SeesFull, OnlyLooks}
-use Rattle.index_engine.proofs.LeafChangeLemmas.{del-rows}
-use Rattle.index_page.proofs.WithoutLemmas.{without_deletes, put_without}
+use Rattle.forest_law.specs.declared.objects.Frame.{Frame}
+use Rattle.forest_law.specs.State.{bound, page_within, fields_for}
+use Rattle.clock_law.specs.ModifyClock.{last_clock}
+use Rattle.leaf_rows.specs.Changing.{PutsRow, LacksRow, HasRowOf, frame_without}
+use Rattle.leaf_rows.specs.Finding.{HasSpot, IsFoundAt}
+use Rattle.leaf_rows.proofs.ChangeLemmas.{takes_out}
+use Rattle.index_engine.specs.Changes.{HasSpotIn, HasOldRow, FindsRow}
+use Rattle.index_engine.specs.Commits.{MakesChange}
+use Rattle.index_engine.specs.Holds.{IsLeafOf}
 
--- each key is within the bounds of a root
-root_range : (shape : Shape) (i : ℕ) (f : Frame) (key : FieldList) → IsRootLeaf shape i f → within (low_of f) (high_of f) (At key) ≡ true
-unfolding before
-root_range shape i f key root = λ k. within (low_in (root.bounds.0 k)) (high_in (root.bounds.1 k)) (At key)
+-- what holds of each row holds of the others without one
+each_drop : (P : Row → Type 0) (left : List Row) (row : Row) (right : List Row)
+    → AllByRecursion P (left ++ row ∷ right) → AllByRecursion P (left ++ right)
+each_drop P left row right all = let rest = each_right P left (row ∷ right) all in
+    each_append P left right (each_left P left (row ∷ right) all) rest.1
 
--- a row that was put into a leaf that lacked its key is a change
-pub put_makes : (shape : Shape) (i : ℕ) (f g : Frame) (place : ℕ) (key : FieldList) (value : List ℕ) → IsRootLeaf shape i f → (puts : PutsRow f g place key value) → MakesChange i (Put key value) f g
-put_makes shape i f g place key value root puts = let same = same_some root.page puts.before (sym root.paged ∙ puts.paged_before) in record {
-  before = puts.before;
-  paged_before = puts.paged_before;
-  after = puts.after;
-  paged_after = puts.paged_after;
-  head = puts.puts.inserts.head;
-  low = puts.range.low;
-  high = puts.range.high;
-  index = ap (λ (p : PageRows). p.head.index) (sym same) ∙ root.index;
-  level = ap (λ (p : PageRows). p.head.level) (sym same) ∙ root.level;
-  inside = root_range shape i f key root;
-  allowed = ap is_none puts.puts.absent;
-  made = puts.puts.map;
-}
+differ_drop : (left : List Row) (row : Row) (right : List Row)
+    → PlacesDiffer (left ++ row ∷ right) → PlacesDiffer (left ++ right)
+differ_drop [] row right differ = differ.1
+differ_drop (x ∷ left) row right differ =
+    (each_drop _ left row right differ.0, differ_drop left row right differ.1)
 
--- and so is a row less
-pub del_makes : (shape : Shape) (i : ℕ) (f : Frame) (place : ℕ) (key : FieldList) (page : PageRows) → IsRootLeaf shape i f → f.page ≡ Some page → IsPageInOrder page → HasRow page place key → MakesChange i (Del key) f (frame_without place f)
-del_makes shape i f place key page root paged order has = let same = same_some root.page page (sym root.paged ∙ paged) in record {
-  before = page;
-  paged_before = paged;
-  after = page_without place page;
-  paged_after = ap (option_map (page_without place)) paged;
-  head = refl;
-  low = refl;
-  high = refl;
-  index = ap (λ (p : PageRows). p.head.index) (sym same) ∙ root.index;
-  level = ap (λ (p : PageRows). p.head.level) (sym same) ∙ root.level;
-  inside = root_range shape i f key root;
-  allowed = ap is_some has.value;
-  made = del-rows page (page_without place page) place key order.ascend order.places has (without_deletes page place has.row order.places has.there);
-}
+-- what a search of a frame's leaf finds
+pub finds_row : (f : Frame) (page : PageRows) (key : FieldList) (spot : Spot) (o : Option ℕ)
+    → f.page ≡ Some page → IsPageInOrder page → f.clock ≤ last_clock → HasSpotIn f key spot
+    → IsFoundAt page key o → FindsRow f key spot o
+finds_row f page key spot o paged order within spot_in found =
+    by_place o found
+  where
+    finds : HasSpot page key spot
+    finds = subst (λ (r : PageRows). HasSpot r key spot)
+        (same_some spot_in.page page (sym spot_in.paged ∙ paged)) spot_in.finds
 
--- a row that was put in stands on the leaf, which without it is what it was
-pub put_stands : (f g : Frame) (place : ℕ) (key : FieldList) (value : List ℕ) → PutsRow f g place key value → StandsOn g place
-put_stands f g place key value puts = record { page = puts.after; paged = puts.paged_after; there = subst IsSome (sym puts.puts.inserts.stands) (search rules) }
+    by_place : (place : Option ℕ) → IsFoundAt page key place → FindsRow f key spot place
+    by_place None absent =
+        record { page = page; paged = paged; spot_is = finds; absent = absent }
+    by_place (Some place) has =
+        let row : HasRowOf f place key =
+        record { page = page; paged = paged; level = finds.level; has = has } in
+        record { has = row; goes = takes_out f place page paged order within key row }
 
-pub put_leaves : (f g : Frame) (place : ℕ) (key : FieldList) (value : List ℕ) → PutsRow f g place key value → frame_without place g ≡ f
-put_leaves f g place key value puts =
-    let page = ap (option_map (page_without place)) puts.paged_after ∙ (ap Some (put_without puts.before puts.after (placed_row place key (Bytes value)) puts.puts.inserts) ∙ sym puts.paged_before) in
-    λ i. record { page = page i; low = puts.range.low i; high = puts.range.high i; clock = puts.range.clock i }
+-- a row that was found, or none
+pub found_old : (f : Frame) (key : FieldList) (spot : Spot) (o : Option ℕ) → FindsRow f key spot o
+    → is_some o ≡ true → (place : ℕ) × HasOldRow f key place
+found_old f key spot (Some place) found there = (place, found)
+found_old f key spot None found there = absurd cc
 
--- a row that was found has a value
-pub found_some : (page : PageRows) (key : FieldList) (o : Option ℕ) → IsFoundAt page key o → is_some o ≡ true → (value : List ℕ) × (value_at key (rows_of page) ≡ Some value)
-found_some page key (Some place) found there = (_, found.value)
-found_some page key None found there = absurd cc
+pub found_new : (f : Frame) (key : FieldList) (spot : Spot) (o : Option ℕ) → FindsRow f key spot o
+    → is_some o ≡ false → LacksRow f key spot
+found_new f key spot (Some place) found none = absurd cc
+found_new f key spot None found none = found
 
--- and where none was there is none
-pub found_none : (page : PageRows) (key : FieldList) (o : Option ℕ) → IsFoundAt page key o → is_some o ≡ false → value_at key (rows_of page) ≡ None
-found_none page key (Some place) found none = absurd cc
-found_none page key None found none = found
+module _ (shape : Shape) (b i : ℕ) (key : FieldList) (f : Frame)
+    (leaf : IsLeafOf shape b i key f) where
+  -- the leaf's page, by the frame
+  page_is : (page : PageRows) → f.page ≡ Some page → leaf.page.is.page ≡ page
+  page_is page paged = same_some leaf.page.is.page page (sym leaf.page.is.paged ∙ paged)
 
--- what a full list was known to be, once the hand was changed
-pub full_same : (i : ℕ) (v0 v1 : View) → SeesFull v0 i → v1 ≡ v0 → SeesFull v1 i
-full_same i v0 v1 full same = subst (λ (v : View). SeesFull v i) (sym same) full
+  -- the leaf's values, by the frame
+  pub lacks_key : (spot : Spot) → LacksRow f key spot
+      → value_at key (row_pairs leaf.page.is.page.rows) ≡ None
+  lacks_key spot lacks =
+      ap (λ (r : PageRows). value_at key (row_pairs r.rows)) (page_is lacks.page lacks.paged)
+      ∙ lacks.absent
 
--- the number of a full list, as the pass knows it then
-pub most_same : (i n : ℕ) (v v0 v1 : View) → n ≡ v.terms.max_changes → OnlyLooks v v0 i → v1 ≡ v0 → n ≡ v1.terms.max_changes
-most_same i n v v0 v1 is looks same = is ∙ (ap (λ t. t.max_changes) (sym looks.quiet.adds.numbers.terms) ∙ ap (λ (z : View). z.terms.max_changes) (sym same))
+  pub lacked_key : (g : Frame) (place : ℕ) (value : List ℕ) → PutsRow f g place key value
+      → value_at key (row_pairs leaf.page.is.page.rows) ≡ None
+  lacked_key g place value puts =
+      ap (λ (r : PageRows). value_at key (row_pairs r.rows)) (page_is puts.page puts.had)
+      ∙ puts.absent
+
+  pub has_key : (place : ℕ) → HasOldRow f key place
+      → (value : List ℕ) × (value_at key (row_pairs leaf.page.is.page.rows) ≡ Some value)
+  has_key place row = (
+    row.goes.value,
+    ap (λ (r : PageRows). value_at key (row_pairs r.rows)) (page_is row.goes.page row.goes.had)
+        ∙ row.goes.has,
+  )
+
+  -- a row that was put in is a change
+  pub put_makes : (g : Frame) (place : ℕ) (value : List ℕ) → PutsRow f g place key value
+      → MakesChange shape (Put key value) f g
+  put_makes g place value puts =
+      let head : puts.new.head ≡ leaf.page.is.page.head =
+      puts.head ∙ ap (λ (r : PageRows). r.head) (sym (page_is puts.page puts.had)) in
+      let fields = ap (λ (h : PageHead). h.fields) head in
+      let low : g.low ≡ f.low = ap (λ (h : Frame). h.low) puts.kept in
+      let high : g.high ≡ f.high = ap (λ (h : Frame). h.high) puts.kept in record {
+        page = puts.page;
+        new = puts.new;
+        had = puts.had;
+        has = ap (λ (h : Frame). h.page) puts.kept;
+        head = puts.head;
+        low = low;
+        high = high;
+        allowed = ap is_none puts.absent;
+        changes = inl puts.inserts;
+        order = record {
+          fields = subst (λ (h : PageHead). h.fields ≡ fields_for shape h.index) (sym head)
+              leaf.page.order.fields;
+          keys = each_weaker (IsRowOf puts.new.head)
+              (λ (x : Row). length x.key ≡ puts.new.head.fields) (λ x is. is.fields)
+              puts.new.rows puts.order.each;
+          low = subst (λ o. HasFields puts.new.head.fields (bound o)) (sym low)
+              (subst (λ n. HasFields n (bound f.low)) (sym fields) leaf.page.order.low);
+          high = subst (λ o. HasFields puts.new.head.fields (bound o)) (sym high)
+              (subst (λ n. HasFields n (bound f.high)) (sym fields) leaf.page.order.high);
+          bodies = each_weaker (IsRowOf puts.new.head)
+              (λ (x : Row). FitsLevel puts.new.head.level x.body) (λ x is. is.body)
+              puts.new.rows puts.order.each;
+          places = puts.order.places;
+        };
+      }
+
+  -- and so is a row that is to go
+  pub del_makes : (place : ℕ) → HasOldRow f key place
+      → MakesChange shape (Del key) f (frame_without place f)
+  del_makes place row = let goes = row.goes in let d = goes.deletes in
+      let old = subst
+      (λ (r : PageRows). IsOrderly (fields_for shape) (page_within r f.low f.high))
+      (page_is goes.page goes.had) leaf.page.order in record {
+        page = goes.page;
+        new = page_without place goes.page;
+        had = goes.had;
+        has = ap (option_map (page_without place)) goes.had;
+        head = refl;
+        low = refl;
+        high = refl;
+        allowed = ap is_some goes.has;
+        changes = inr (inr d);
+        order = record {
+          fields = old.fields;
+          keys = subst (AllByRecursion (λ (x : Row). length x.key ≡ goes.page.head.fields))
+              (sym d.is) (each_drop _ d.left d.row d.right
+              (subst (AllByRecursion (λ (x : Row). length x.key ≡ goes.page.head.fields)) d.was
+              old.keys));
+          low = old.low;
+          high = old.high;
+          bodies = subst (AllByRecursion (λ (x : Row). FitsLevel goes.page.head.level x.body))
+              (sym d.is) (each_drop _ d.left d.row d.right
+              (subst (AllByRecursion (λ (x : Row). FitsLevel goes.page.head.level x.body)) d.was
+              old.bodies));
+          places = subst PlacesDiffer (sym d.is)
+              (differ_drop d.left d.row d.right (subst PlacesDiffer d.was old.places));
+        };
+      }

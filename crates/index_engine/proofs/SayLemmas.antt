@@ -1,45 +1,39 @@
--- An answer that is said while the leaf is held is right, and is the one that is told.
-use Rattle.std.proofs.Common.{◌≡◌, ◌≢◌, ℕ, true, [], ◌∷◌, ◌++◌, length, length-append, set, sym, ap, subst, ◌∙◌, arith, refl, Option, Some, None, Contains}
-use Rattle.std.proofs.lemmas.List.{length-map, take_all}
-use mathlib.Core.Option.{some, some-injective}
-use lib.ListN.{get_elem?}
-use Rattle.latch_law.specs.declared.knows.Entry.{Entry}
-use Rattle.latch_law.specs.declared.knows.Statement.TheVariants as what
-use Rattle.latch_law.specs.Fitting.{DidRead, MayAnswer}
-use Rattle.latch_law.specs.Rule.{Fits}
-use Rattle.latch_law.specs.Views.{holding, reading}
+-- An answer that is said while the leaf is held is the one that is told.
+use Rattle.std.proofs.Common.{◌≡◌, ◌≢◌, ℕ, true, [], ◌∷◌, length, length-append, set, sym, ap, subst, ◌∙◌, arith, refl, Option, Some, None, Contains}
+use Rattle.key_tuple.specs.Order.{FieldList}
+use Rattle.latch_law.specs.Fitting.{DidRead}
+use Rattle.latch_law.specs.Views.{answer_said, reading}
 use Rattle.list_facts.proofs.Places.{same_some}
-use Rattle.latch_space.specs.Has.{SameHands}
 use Rattle.latch_space.specs.Passes.{view}
 use Rattle.map_history.specs.declared.reply.Reply.{Reply}
 use Rattle.map_history.specs.declared.reply.Reply.TheVariants as words
 use Rattle.map_history.specs.declared.columns.How.TheVariants as how
 use Rattle.map_history.specs.declared.columns.Note.TheVariants as note
-use Rattle.map_history.specs.Map.{Pair, map_after}
+use Rattle.map_history.specs.Map.{Pair, Map, map_after}
 use Rattle.map_history.specs.Operation.{Ask}
 use Rattle.map_history.specs.Reply.{MapReply, Value, Row, Done, Absent, Duplicate, reply_of}
 use Rattle.map_history.specs.Report.{Columns, Answer, Replied, dashes}
 use Rattle.map_history.specs.Report as answers
 use Rattle.map_history.specs.LegalReport.{Mark, marks_of, is_done, has_form}
 use Rattle.map_history.specs.Told as tells
-use Rattle.index_law.specs.declared.frame.Object.TheVariants as object
-use Rattle.index_law.specs.Answers.{MadeChange, Word, Gives, LogFull, SpaceFull, Replies}
-use Rattle.index_law.specs.Law.{IsLawful}
+use Rattle.tree_law.specs.Pages.{row_pairs}
+use Rattle.index_law.specs.Answers.{Word, Gives, LogFull, SpaceFull, Replies}
 use Rattle.index_law.specs.Meanings.{reply_word, gives, said_word}
-use Rattle.index_law.specs.Once.{HasFulls, IsRightBy, AnswersOnce}
-use Rattle.index_law.specs.References.{IsReference}
-use Rattle.index_law.specs.Rightness.{IsRight, IsReply, IsWord, IsAllowed, map_at}
-use Rattle.index_law.specs.Spoken.{View, OwnAnswer, printed_word, sayings}
-use Rattle.index_law.specs.State.{State, Entries, changes, rows_of}
-use Rattle.index_law.specs.Trace.{SeesMore}
-use Rattle.index_engine.specs.Passes.{IndexPass}
-use Rattle.index_engine.specs.Says.{SeesFull, MaySay, TellsMost, TellsPoint, CanSay, SaysOnce, AnswersHolding}
-use Rattle.index_engine.proofs.HoldLemmas.{root_map, held_still}
-use Rattle.index_engine.proofs.ViewLemmas.{only_said, only_said_only, adds_said, one_mark, more_seen, extends_length, now_seen}
-
--- a list is what it is after all of its changes
-map_at_end : (xs : Entries) → map_at xs (length xs) ≡ map_after (changes xs)
-map_at_end xs = let same : length (changes xs) ≡ length xs = length-map xs (λ (e : Entry MadeChange). e.change.change) in ap map_after (take_all (length xs) (changes xs) (omega (arith, same)))
+use Rattle.index_law.specs.Rightness.{IsRight, map_at}
+use Rattle.index_law.specs.State.{changes}
+use Rattle.forest_law.specs.Law.{IsLawful}
+use Rattle.forest_law.specs.Objects.{IsFrameOf}
+use Rattle.forest_law.specs.References.{IsReference}
+use Rattle.forest_world.specs.Held.{TreePass}
+use Rattle.call_law.specs.Hands.{KnowsFrame}
+use Rattle.call_law.specs.Once.{HasFulls, IsRightBy, AnswersOnce}
+use Rattle.call_law.specs.Spoken.{View, OwnAnswer, printed_word, sayings}
+use Rattle.buffer_pool.proofs.AddedLemmas.{only_said, read_adds}
+use Rattle.index_engine.specs.Says.{SeesFull, MaySay, TellsMost, CanSay, SaysOnce}
+use Rattle.index_engine.specs.Tells.{TellsPoint}
+use Rattle.index_engine.proofs.HoldLemmas.{frame_there}
+use Rattle.index_engine.proofs.SeenLemmas.{one_mark, extends_length, now_seen}
+use Rattle.index_engine.proofs.RightLemmas.{map_at_end, reply_here, allowed_here}
 
 -- a reply that changes nothing
 no_change : (r : MapReply) → r ≢ Done → is_done r ≡ 0
@@ -50,146 +44,178 @@ no_change Absent apart = refl
 no_change Duplicate apart = refl
 
 -- the words of a map's reply print as that reply
-printed_reply : (point : ℕ) (o : Option MapReply) (word : Word) → gives o ≡ Some word → tells.replied_at o (Some point) dashes ≡ Some (printed_word word point dashes)
+printed_reply : (point : ℕ) (o : Option MapReply) (word : Word) → gives o ≡ Some word
+    → tells.replied_at o (Some point) dashes ≡ Some (printed_word word point dashes)
 printed_reply point None word e = absurd cc
-printed_reply point (Some r) word e = ap (λ w. Some (printed_word w point dashes)) (same_some (Gives r) word e)
+printed_reply point (Some r) word e =
+    ap (λ w. Some (printed_word w point dashes)) (same_some (Gives r) word e)
 
 -- a word is one answer
-one_saying : (i n : ℕ) (ask : Ask) (word : Word) (point : ℕ) → sayings i n ask (printed_word word point dashes) ≡ record { index = i; by = n; ask = ask; answer = printed_word word point dashes } ∷ []
+one_saying : (i n : ℕ) (ask : Ask) (word : Word) (point : ℕ)
+    → sayings i n ask (printed_word word point dashes)
+    ≡ record { index = i; by = n; ask = ask; answer = printed_word word point dashes } ∷ []
 one_saying i n ask (Gives r) point = refl
 one_saying i n ask LogFull point = refl
 one_saying i n ask SpaceFull point = refl
 
-module _ (p : IndexPass) (i : ℕ) (ask : Ask) (reply : Reply) (row : Pair) (can : CanSay p i ask reply row) where
-  module _ (w : State) (law : IsLawful w) (at : get_elem? w.objects i ≡ some (object.Frame can.frame)) (xs : Entries) (listed : get_elem? w.lists i ≡ some xs) where
-    rows_here : rows_of can.page ≡ map_after (changes xs)
-    rows_here = root_map w i can.frame can.page xs law at can.paged listed
+module _ (p : TreePass) (i : ℕ) (key : FieldList) (ask : Ask) (reply : Reply) (row : Pair)
+    (can : CanSay p i key ask reply row) where
+  abbrev rows : Map
+  rows = row_pairs can.holds.leaf.page.is.page.rows
 
-  module _ (w : State) (law : IsLawful w) (fits : Fits IsRight IsReference w (view p)) (xs : Entries) (listed : get_elem? w.lists i ≡ some xs) where
-    held_at : get_elem? w.objects i ≡ some (object.Frame can.frame)
-    held_at = let held = can.holds.has.held in fits.known i (holding held.0 (object.Frame can.frame)) held.1
-
-    -- a list that was seen full is at its end
-    full_here : SeesFull (view p) i → length xs ≡ w.max_changes
-    full_here full = let more = fits.seen i full.list full.seen in
-        let same : full.list ++ more.0 ≡ xs = some-injective (full.list ++ more.0) xs (sym more.1 ∙ listed) in
-        let whole = ap length same in let most = fits.bounded i xs listed in let seen = full.full in let terms = fits.max_changes in
-        omega (arith, whole, length-append full.list more.0, most, seen, terms)
-
-    word_right : (word : Word) → MaySay (view p) i (rows_of can.page) ask word → IsWord w xs (length xs) ask word
-    word_right (Gives r) may = subst (λ m. IsReply m ask r) (rows_here w law held_at xs listed ∙ sym (map_at_end xs)) may
-    word_right LogFull may = (full_here may.0, subst (λ m. IsAllowed m ask) (rows_here w law held_at xs listed ∙ sym (map_at_end xs)) may.1)
-    word_right SpaceFull may = absurd may
-
-  -- the answer may be given
-  pub may_answer : MayAnswer IsLawful IsRight IsReference (view p) i (said_word ask (reply_word ask reply row) None dashes)
-  may_answer w law fits xs listed = subst (λ o. IsRight w i (length xs) (said_word ask o None dashes)) (sym can.is_word) (record {
-    list = xs;
-    there = listed;
-    point = omega arith;
-    said = λ speaks. word_right w law fits xs listed can.word can.may;
-  })
-
-  module _ (q : IndexPass) (point : ℕ) (did : DidRead IsLawful IsRight IsReference (view p) i (said_word ask (reply_word ask reply row) None dashes) point (view q)) where
+  module _ (q : TreePass) (point : ℕ)
+      (did : DidRead IsLawful IsRight IsReference (view p) i
+      (said_word ask (reply_word ask reply row) None dashes) point (view q)) where
     abbrev most : ℕ
     most = (view p).terms.max_changes
 
     view_is : view q ≡ reading (view p) i did.list (Replies ask can.word None dashes)
-    view_is = did.view ∙ ap (λ o. reading (view p) i did.list (said_word ask o None dashes)) can.is_word
+    view_is = did.view
+        ∙ ap (λ o. reading (view p) i did.list (said_word ask o None dashes)) can.is_word
 
     seen_is : (view q).seen ≡ set (view p).seen i did.list
     seen_is = ap (λ (z : View). z.seen) view_is
 
-    rows_there : rows_of can.page ≡ map_after (changes did.list)
-    rows_there = let held = can.holds.has.held in
-        rows_here did.stands.whole did.stands.is_lawful (did.stands.fits.known i (holding held.0 (object.Frame can.frame)) (ap (λ (z : View). get_elem? z.held i) view_is ∙ held.1)) did.list did.stands.list
+    then_at : IsFrameOf did.stands.whole.shape did.stands.whole.objects can.block can.frame
+    then_at = frame_there (view q) can.block can.frame
+        (subst (λ (z : View). KnowsFrame z can.block can.frame) (sym view_is) can.holds.has.held)
+        did.stands.whole did.stands.fits
+
+    reply_then : reply_of (map_after (changes did.list)) ask ≡ reply_of rows ask
+    reply_then = sym (reply_here p i key ask reply row can did.stands.whole did.stands.is_lawful then_at did.list
+        did.stands.list)
 
     -- at a list that was seen full the point is the most
     full_point : SeesFull (view p) i → point ≡ most
-    full_point full = let more = did.extends full.list full.seen in let whole = ap length more.1 in let within = did.stands.fits.bounded i did.list did.stands.list in
-        let terms = did.stands.fits.max_changes ∙ ap (λ (z : View). z.terms.max_changes) view_is in let at = did.point in let seen = full.full in
+    full_point full = let more = did.extends full.list full.seen in
+        let whole = ap length more.1 in
+        let within = did.stands.fits.bounded i did.list did.stands.list in
+        let terms = did.stands.fits.max_changes
+        ∙ ap (λ (z : View). z.terms.max_changes) view_is in
+        let at = did.point in let seen = full.full in
         omega (arith, whole, length-append full.list more.0, within, terms, at, seen)
 
-    answer_is : (r : Reply) (word : Word) → reply_word ask r row ≡ Some word → MaySay (view p) i (rows_of can.page) ask word → TellsMost r most → tells.answer_of ask (record { reply = r; point = Some point; how = how.Dash; note = note.Dash }) row ≡ Some (printed_word word point dashes)
-    answer_is words.Found word e may tell = printed_reply point (tells.said ask words.Found row) word e
-    answer_is words.Absent word e may tell = printed_reply point (tells.said ask words.Absent row) word e
+    answer_is : (r : Reply) (word : Word) → reply_word ask r row ≡ Some word
+        → MaySay (view p) i rows ask word → TellsMost r most
+        → tells.answer_of ask
+        (record { reply = r; point = Some point; how = how.Dash; note = note.Dash }) row
+        ≡ Some (printed_word word point dashes)
+    answer_is words.Found word e may tell =
+        printed_reply point (tells.said ask words.Found row) word e
+    answer_is words.Absent word e may tell =
+        printed_reply point (tells.said ask words.Absent row) word e
     answer_is words.Ok word e may tell = printed_reply point (tells.said ask words.Ok row) word e
-    answer_is words.Duplicate word e may tell = printed_reply point (tells.said ask words.Duplicate row) word e
-    answer_is words.SpaceFull word e may tell = absurd (subst (MaySay (view p) i (rows_of can.page) ask) (sym (same_some SpaceFull word e)) may)
-    answer_is (words.LogFull n) word e may tell = let full = subst (MaySay (view p) i (rows_of can.page) ask) (sym (same_some LogFull word e)) may in
-        ap (λ k. Some (answers.LogFull k dashes)) (tell ∙ sym (full_point full.0)) ∙ ap (λ w. Some (printed_word w point dashes)) (same_some LogFull word e)
+    answer_is words.Duplicate word e may tell =
+        printed_reply point (tells.said ask words.Duplicate row) word e
+    answer_is words.SpaceFull word e may tell =
+        absurd (subst (MaySay (view p) i rows ask) (sym (same_some SpaceFull word e)) may)
+    answer_is (words.LogFull n) word e may tell =
+        let full = subst (MaySay (view p) i rows ask) (sym (same_some LogFull word e)) may in
+        ap (λ k. Some (answers.LogFull k dashes)) (tell ∙ sym (full_point full.0))
+        ∙ ap (λ w. Some (printed_word w point dashes)) (same_some LogFull word e)
 
-    form_is : (word : Word) → MaySay (view p) i (rows_of can.page) ask word → has_form ask (printed_word word point dashes) ≡ true
+    form_is : (word : Word) → MaySay (view p) i rows ask word
+        → has_form ask (printed_word word point dashes) ≡ true
     form_is (Gives r) may = may.form
     form_is LogFull may = ap (λ a. has_form a (answers.LogFull point dashes)) may.1.asked
     form_is SpaceFull may = absurd may
 
-    mark_is : (word : Word) (m : Mark) → MaySay (view p) i (rows_of can.page) ask word → Contains (marks_of (printed_word word point dashes)) m → (m.point ≡ point) × (m.grows ≡ 0)
-    mark_is (Gives r) m may among = let same = one_mark (record { point = point; grows = is_done r }) m among in (ap (λ (z : Mark). z.point) (sym same), ap (λ (z : Mark). z.grows) (sym same) ∙ no_change r may.changes_nothing)
-    mark_is LogFull m may among = let same = one_mark (record { point = point; grows = 0 }) m among in (ap (λ (z : Mark). z.point) (sym same), ap (λ (z : Mark). z.grows) (sym same))
+    mark_is : (word : Word) (m : Mark) → MaySay (view p) i rows ask word
+        → Contains (marks_of (printed_word word point dashes)) m
+        → (m.point ≡ point) × (m.grows ≡ 0)
+    mark_is (Gives r) m may among =
+        let same = one_mark (record { point = point; grows = is_done r }) m among in (
+          ap (λ (z : Mark). z.point) (sym same),
+          ap (λ (z : Mark). z.grows) (sym same) ∙ no_change r may.changes_nothing,
+        )
+    mark_is LogFull m may among =
+        let same = one_mark (record { point = point; grows = 0 }) m among in
+        (ap (λ (z : Mark). z.point) (sym same), ap (λ (z : Mark). z.grows) (sym same))
     mark_is SpaceFull m may among = absurd may
 
-    right_by : (word : Word) → MaySay (view p) i (rows_of can.page) ask word → IsRightBy most did.list ask (printed_word word point dashes)
-    right_by (Gives r) may = let none = no_change r may.changes_nothing in let at = did.point in
-        ap (λ n. reply_of (map_at did.list n) ask) (omega (arith, none, at)) ∙ (ap (λ m. reply_of m ask) (map_at_end did.list ∙ sym rows_there) ∙ may.is)
-    right_by LogFull may = (full_point may.0, did.point, subst (λ m. IsAllowed m ask) rows_there may.1)
+    right_by : (word : Word) → MaySay (view p) i rows ask word
+        → IsRightBy most did.list ask (printed_word word point dashes)
+    right_by (Gives r) may = let none = no_change r may.changes_nothing in
+        let at = did.point in
+        ap (λ n. reply_of (map_at did.list n) ask) (omega (arith, none, at))
+        ∙ (ap (λ m. reply_of m ask) (map_at_end did.list) ∙ (reply_then ∙ may.is))
+    right_by LogFull may = (
+      full_point may.0,
+      did.point,
+      allowed_here p i key ask reply row can did.stands.whole did.stands.is_lawful then_at did.list did.stands.list may.1,
+    )
     right_by SpaceFull may = absurd may
 
     -- at a full list the point is its length
-    point_is : (r : Reply) (word : Word) → reply_word ask r row ≡ Some word → MaySay (view p) i (rows_of can.page) ask word → TellsMost r most → TellsPoint r (Some point)
+    point_is : (r : Reply) (word : Word) → reply_word ask r row ≡ Some word
+        → MaySay (view p) i rows ask word → TellsMost r most → TellsPoint r (Some point)
     point_is words.Found word e may tell = refl
     point_is words.Absent word e may tell = refl
     point_is words.Ok word e may tell = refl
     point_is words.Duplicate word e may tell = refl
-    point_is words.SpaceFull word e may tell = absurd (subst (MaySay (view p) i (rows_of can.page) ask) (sym (same_some SpaceFull word e)) may)
-    point_is (words.LogFull n) word e may tell = ap Some (full_point (subst (MaySay (view p) i (rows_of can.page) ask) (sym (same_some LogFull word e)) may).0 ∙ sym tell)
+    point_is words.SpaceFull word e may tell =
+        absurd (subst (MaySay (view p) i rows ask) (sym (same_some SpaceFull word e)) may)
+    point_is (words.LogFull n) word e may tell =
+        ap Some (full_point (subst (MaySay (view p) i rows ask)
+        (sym (same_some LogFull word e)) may).0 ∙ sym tell)
 
-    -- nothing is space-full
-    has_room : reply ≢ words.SpaceFull
-    has_room full = subst (MaySay (view p) i (rows_of can.page) ask) (sym (same_some SpaceFull can.word (ap (λ r. reply_word ask r row) (sym full) ∙ can.is_word))) can.may
+    -- nothing is told space-full
+    has_page : reply ≢ words.SpaceFull
+    has_page full = subst (MaySay (view p) i rows ask)
+        (sym (same_some SpaceFull can.word
+        (ap (λ r. reply_word ask r row) (sym full) ∙ can.is_word))) can.may
 
     -- and no answer comes with a full
-    fulls_are : (word : Word) → MaySay (view p) i (rows_of can.page) ask word → HasFulls (printed_word word point dashes) []
+    fulls_are : (word : Word) → MaySay (view p) i rows ask word
+        → HasFulls (printed_word word point dashes) []
     fulls_are (Gives r) may = refl
     fulls_are LogFull may = refl
     fulls_are SpaceFull may = absurd may
 
     -- what was said
     abbrev answered : OwnAnswer
-    answered = record { index = i; point = length did.list; by = (view p).low; what = what.Answer (Replies ask can.word None dashes) }
-
-    sees : SeesMore (view p) (view q)
-    sees = more_seen (view p) i did.list did.extends (view q).seen seen_is
+    answered = answer_said (view p) i did.list (Replies ask can.word None dashes)
 
     once : AnswersOnce (view p) (view q) i ask (printed_word can.word point dashes)
     once = record {
-      added = only_said (answered ∷ []);
-      adds = adds_said (view p) (view q) (answered ∷ []) (record { low = ap (λ (z : View). z.low) view_is; end = ap (λ (z : View). z.end) view_is; terms = ap (λ (z : View). z.terms) view_is })
-          (ap (λ (z : View). z.said) view_is) (ap (λ (z : View). z.refused) view_is) (ap (λ (z : View). z.references) view_is) sees;
+      added = only_said answered;
+      adds = read_adds (view p) (view q) i did.list (Replies ask can.word None dashes)
+          did.extends view_is;
       given = ((refl, refl), tt);
-      said = ap (λ n. record { index = i; by = (view p).low; ask = ask; answer = printed_word can.word n dashes } ∷ []) (sym did.point) ∙ sym (one_saying i (view p).low ask can.word point);
+      said = ap (λ n. record {
+        index = i;
+        by = (view p).low;
+        ask = ask;
+        answer = printed_word can.word n dashes;
+      } ∷ []) (sym did.point) ∙ sym (one_saying i (view p).low ask can.word point);
       fulls = fulls_are can.word can.may;
       form = form_is can.word can.may;
-      least = λ m ys among seen. (let mark = mark_is can.word m can.may among in let long = extends_length (view p) i did.list did.extends (view q).seen seen_is ys seen in let at = did.point in omega (arith, mark.0, mark.1, long, at));
-      most = λ m zs among seen. (let mark = mark_is can.word m can.may among in let same = ap length (now_seen (view p) i did.list did.extends (view q).seen seen_is zs seen) in let at = did.point in omega (arith, mark.0, same, at));
-      right = λ zs seen. subst (λ z. IsRightBy most z ask (printed_word can.word point dashes)) (now_seen (view p) i did.list did.extends (view q).seen seen_is zs seen) (right_by can.word can.may);
+      least = λ m ys among seen. (let mark = mark_is can.word m can.may among in
+          let long = extends_length (view p) i did.list did.extends (view q).seen seen_is ys seen in
+          let at = did.point in omega (arith, mark.0, mark.1, long, at));
+      most = λ m zs among seen. (let mark = mark_is can.word m can.may among in
+          let same = ap length (now_seen (view p) i did.list did.extends (view q).seen seen_is zs
+          seen) in
+          let at = did.point in omega (arith, mark.0, same, at));
+      right = λ zs seen. subst
+          (λ z. IsRightBy most z ask (printed_word can.word point dashes))
+          (now_seen (view p) i did.list did.extends (view q).seen seen_is zs seen)
+          (right_by can.word can.may);
     }
 
     -- what is told is the one answer
-    pub says_once : SaysOnce (view p) (view q) i ask (record { reply = reply; point = Some point; how = how.Dash; note = note.Dash }) row
+    pub says_once : SaysOnce (view p) (view q) i ask
+        (record { reply = reply; point = Some point; how = how.Dash; note = note.Dash }) row
     unfolding once
     says_once = record {
       answer = printed_word can.word point dashes;
       is_told = record {
         is = answer_is reply can.word can.is_word can.may can.most;
         point = point_is reply can.word can.is_word can.may can.most;
-        key = can.key;
-        plain = record { dashed = refl; room = has_room };
+        key = can.row_key;
+        dashed = refl;
       };
       once = once;
-      only = only_said_only (answered ∷ []);
+      only = record { refused = refl; references = refl };
+      placed = has_page;
     }
-
-  -- and the leaf is held still
-  pub said_answers : (q : IndexPass) → (point : ℕ) → DidRead IsLawful IsRight IsReference (view p) i (said_word ask (reply_word ask reply row) None dashes) point (view q) → SameHands p q → AnswersHolding p q i ask (record { reply = reply; point = Some point; how = how.Dash; note = note.Dash }) row
-  said_answers q point did same = record { says = says_once q point did; holds = (can.frame, held_still p q i can.frame can.frame same (ap (λ (z : View). z.terms) (view_is q point did)) can.holds) }

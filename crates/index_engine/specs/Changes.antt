@@ -1,57 +1,99 @@
 -- Changes of the leaf that a pass holds.
-use Rattle.std.specs.Prelude.{ℕ, ◌≡◌, List}
+use Rattle.std.specs.Prelude.{ℕ, ◌≡◌, ◌⊎◌, ◌+◌, ◌<◌, Option, Some, None, List}
 use Rattle.key_tuple.specs.Order.{FieldList}
-use Rattle.latch_space.specs.Passes.{view, IsSamePass}
-use Rattle.map_history.specs.Map.{Del}
-use Rattle.index_law.specs.declared.frame.Frame.{Frame}
-use Rattle.index_law.specs.Law.{MakesChange}
-use Rattle.index_engine.specs.Frames.{PutsRow, StandsOn, frame_without}
-use Rattle.index_engine.specs.Passes.{IndexPass, HoldsLeaf}
+use Rattle.latch_space.specs.Passes.{view, count}
+use Rattle.index_page.specs.declared.error.PageError.{PageError}
+use Rattle.index_page.specs.declared.error.PageError.TheVariants as refused
+use Rattle.index_page.specs.declared.spot.Spot.{Spot}
+use Rattle.index_page.specs.declared.TheConstants.{PAGE_ROOM}
+use Rattle.index_page.specs.Loads.{charge_of, load_of}
+use Rattle.index_page.specs.Page.{PageRows}
+use Rattle.index_page.specs.Rows.{Bytes}
+use Rattle.forest_law.specs.declared.objects.Frame.{Frame}
+use Rattle.forest_world.specs.Held.{TreePass, HasFrame}
+use Rattle.leaf_rows.specs.Changing.{LacksRow, PutsRow, WasPut, HasRowOf, HasSomeRow, TakesRowOut, frame_without}
+use Rattle.leaf_rows.specs.Finding.{HasSpot}
+use Rattle.index_engine.specs.Holds.{HoldsLeaf}
+use Rattle.index_engine.specs.Says.{OnlyLooks}
 
--- it is the same pass, and knows what it knew
-pub record SamePass (p q : IndexPass) : Type 0 where
-  pub same : IsSamePass p q
-  pub view : view q ≡ view p
+-- the frame has a leaf, on which the key belongs at the spot
+pub record HasSpotIn (f : Frame) (key : FieldList) (spot : Spot) : Type 0 where
+  pub page : PageRows
+  pub paged : f.page ≡ Some page
+  pub finds : HasSpot page key spot
 
--- a leaf that it holds as it is known to be is held so still
-abbrev pub HoldsAsBefore : IndexPass → IndexPass → ℕ → Type 0
-HoldsAsBefore p q i = (f : Frame) → HoldsLeaf p i f f → HoldsLeaf q i f f
+-- the key's row stands at the place of the frame's leaf, and a del takes it out
+pub record HasOldRow (f : Frame) (key : FieldList) (place : ℕ) : Type 0 where
+  pub has : HasRowOf f place key
+  pub goes : TakesRowOut f place key
 
--- it holds the leaf, which is what it is known to be, and of which this is so
-pub record HoldsWith (p : IndexPass) (i : ℕ) (P : Frame → Type 0) : Type 0 where
+-- the place of the key's row; none where the frame's leaf lacks the key
+abbrev pub FindsRow : Frame → FieldList → Spot → Option ℕ → Type 0
+FindsRow f key spot None = LacksRow f key spot
+FindsRow f key spot (Some place) = HasOldRow f key place
+
+-- the pass holds the leaf as it is known to be, and it lacks the key, which belongs at the spot
+pub record HoldsLacking (p : TreePass) (b i : ℕ) (key : FieldList) (spot : Spot) : Type 0 where
   pub frame : Frame
-  pub holds : HoldsLeaf p i frame frame
-  pub so : P frame
-
--- a row was put in at the place of the leaf
-abbrev pub PutIn : IndexPass → IndexPass → ℕ → ℕ → FieldList → List ℕ → Type 0
-PutIn p q i place key value = (f : Frame) → HoldsLeaf p i f f
-    → (g : Frame) × HoldsLeaf q i f g × PutsRow f g place key value
-
--- the pass holds the leaf, on which a row now stands at the place
-pub record HoldsRowAt (p : IndexPass) (i place : ℕ) : Type 0 where
-  pub known : Frame
-  pub now : Frame
-  pub holds : HoldsLeaf p i known now
-  pub stands : StandsOn now place
-
--- that row is out, and the leaf is known to be what it was known to be
-abbrev pub TookOut : IndexPass → IndexPass → ℕ → ℕ → Type 0
-TookOut p q i place = (f g : Frame) → HoldsLeaf p i f g → HoldsLeaf q i f (frame_without place g)
+  pub holds : HoldsLeaf p b i key frame frame
+  pub lacks : LacksRow frame key spot
 
 -- the pass holds the leaf, which lacked the key, and into which its row was put at the place
-pub record HoldsNewRow (p : IndexPass) (i place : ℕ) (key : FieldList)
+pub record HoldsNewRow (p : TreePass) (b i place : ℕ) (key : FieldList)
     (value : List ℕ) : Type 0 where
   pub known : Frame
   pub made : Frame
-  pub holds : HoldsLeaf p i known made
+  pub holds : HoldsLeaf p b i key known made
   pub puts : PutsRow known made place key value
+
+-- the pass holds the leaf as it is known to be; where it wasn't memory that lacked, the leaf has
+-- too little room for the key's row
+pub record HoldsRefusing (p : TreePass) (b i : ℕ) (key : FieldList) (value : List ℕ)
+    (e : PageError) : Type 0 where
+  pub frame : Frame
+  pub holds : HoldsLeaf p b i key frame frame
+  pub why : (e ≡ refused.NoMemory)
+      ⊎ (PAGE_ROOM < load_of holds.leaf.page.is.page.rows + charge_of key (Bytes value))
+
+-- the pass knows and holds as much as before
+pub record KnowsSame (p q : TreePass) : Type 0 where
+  pub view : view q ≡ view p
+  pub count : count q ≡ count p
+
+-- the pass holds the block's frame, into which some row was put at the place
+pub record HoldsPutRow (p : TreePass) (b place : ℕ) : Type 0 where
+  pub known : Frame
+  pub now : Frame
+  pub has : HasFrame p b known now
+  pub put : WasPut now place
+
+-- the row that was put into a leaf is out again, and the leaf is what it is known to be
+abbrev pub TookBack : TreePass → TreePass → (b place : ℕ) → Type 0
+TookBack p q b place = (i : ℕ) (key : FieldList) (value : List ℕ) (f g : Frame)
+    → HoldsLeaf p b i key f g → PutsRow f g place key value → HoldsLeaf q b i key f f
+
+-- the pass holds the block's frame, on which some row stands at the place
+pub record HoldsRowAt (p : TreePass) (b place : ℕ) : Type 0 where
+  pub known : Frame
+  pub now : Frame
+  pub has : HasFrame p b known now
+  pub stands : HasSomeRow now place
+
+-- that row is out, and the frame is known to be what it was known to be
+abbrev pub TookOut : TreePass → TreePass → (b place : ℕ) → Type 0
+TookOut p q b place = (f g : Frame) → HasFrame p b f g → HasFrame q b f (frame_without place g)
 
 -- the pass holds the leaf, on which the key's row stands at the place, and which is to become this
 -- one, without it
-pub record HoldsOldRow (p : IndexPass) (i place : ℕ) (key : FieldList) (next : Frame) : Type 0 where
+pub record HoldsOldRow (p : TreePass) (b i place : ℕ) (key : FieldList)
+    (next : Frame) : Type 0 where
   pub known : Frame
-  pub holds : HoldsLeaf p i known known
-  pub stands : StandsOn known place
+  pub holds : HoldsLeaf p b i key known known
+  pub row : HasOldRow known key place
   pub next_is : next ≡ frame_without place known
-  pub makes : MakesChange i (Del key) known next
+
+-- nothing was answered, since the row wasn't taken, and the leaf is held as it is known to be
+pub record RefusesHolding (p q : TreePass) (b i : ℕ) (key : FieldList) (value : List ℕ)
+    (e : PageError) : Type 0 where
+  pub looks : OnlyLooks (view p) (view q) i
+  pub holds : HoldsRefusing q b i key value e

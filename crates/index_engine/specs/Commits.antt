@@ -1,61 +1,89 @@
 -- Changes of the held leaf that are committed, made or to be made.
-use Rattle.std.specs.Prelude.{ℕ, ◌≡◌, Result, Ok, Err}
-use Rattle.latch_space.specs.Passes.{view}
+use Rattle.std.specs.Prelude.{ℕ, ◌≡◌, true, Some, Result, Ok, Err}
+use Rattle.key_tuple.specs.Order.{FieldList}
 use Rattle.latch_space.specs.declared.committing.LogFull.{LogFull}
-use Rattle.map_history.specs.Map.{MapChange}
+use Rattle.latch_space.specs.Has.{SameHands}
+use Rattle.latch_space.specs.Passes.{view, count}
+use Rattle.map_history.specs.Map.{MapChange, is_allowed, key_of}
 use Rattle.map_history.specs.Operation.{Make}
 use Rattle.map_history.specs.Reply.{Done}
 use Rattle.map_history.specs.Report.{Replied, dashes}
-use Rattle.index_law.specs.declared.frame.Frame.{Frame}
-use Rattle.index_law.specs.Law.{MakesChange}
-use Rattle.index_law.specs.Once.{AnswersOnce}
-use Rattle.index_law.specs.Trace.{IsOnlySaid}
-use Rattle.index_engine.specs.Passes.{IndexPass, HoldsLeaf}
+use Rattle.index_page.specs.Page.{PageRows}
+use Rattle.tree_law.specs.Pages.{row_pairs, IsOrderly}
+use Rattle.index_law.specs.Shape.{Shape}
+use Rattle.forest_law.specs.declared.objects.Frame.{Frame}
+use Rattle.forest_law.specs.RowSteps.{ChangesRow}
+use Rattle.forest_law.specs.State.{page_within, fields_for}
+use Rattle.forest_world.specs.Held.{TreePass, shape_of_pass, HasFrame}
+use Rattle.call_law.specs.Once.{AnswersOnce}
+use Rattle.call_law.specs.Trace.{IsOnlySaid}
+use Rattle.index_engine.specs.Holds.{HoldsLeaf}
 use Rattle.index_engine.specs.Says.{SeesFull, OnlyLooks}
 
--- the pass holds the leaf, on which the change was made and isn't known yet
-pub record CanCommit (p : IndexPass) (i : ℕ) (change : MapChange) : Type 0 where
+-- the change, which the rows of the frame f allow, makes it the frame g, whose page is in order
+pub record MakesChange (shape : Shape) (change : MapChange) (f g : Frame) : Type 0 where
+  pub page : PageRows
+  pub new : PageRows
+  pub had : f.page ≡ Some page
+  pub has : g.page ≡ Some new
+  pub head : new.head ≡ page.head
+  pub low : g.low ≡ f.low
+  pub high : g.high ≡ f.high
+  pub allowed : is_allowed (row_pairs page.rows) change ≡ true
+  pub changes : ChangesRow change page.rows new.rows f.clock g.clock
+  pub order : IsOrderly (fields_for shape) (page_within new g.low g.high)
+
+-- the pass holds the leaf of the key, on which the change was made and isn't known yet
+pub record CanCommit (p : TreePass) (i : ℕ) (key : FieldList) (change : MapChange) : Type 0 where
+  pub block : ℕ
   pub known : Frame
   pub made : Frame
-  pub holds : HoldsLeaf p i known made
-  pub makes : MakesChange i change known made
+  pub holds : HoldsLeaf p block i key known made
+  pub about : key_of change ≡ key
+  pub makes : MakesChange (shape_of_pass p) change known made
 
--- the pass holds the leaf, which is what it is known to be, and of which the change makes the next
--- one
-pub record CanWriteAhead (p : IndexPass) (i : ℕ) (change : MapChange) (next : Frame) : Type 0 where
+-- the pass holds the leaf of the key, which is what it is known to be, and of which the change
+-- makes the next one
+pub record CanWriteAhead (p : TreePass) (b i : ℕ) (key : FieldList) (change : MapChange)
+    (next : Frame) : Type 0 where
   pub known : Frame
-  pub holds : HoldsLeaf p i known known
-  pub makes : MakesChange i change known next
+  pub holds : HoldsLeaf p b i key known known
+  pub about : key_of change ≡ key
+  pub makes : MakesChange (shape_of_pass p) change known next
 
 -- the change is in its list, by the pass's name and at the point, and nothing else was said
-pub record IsCommitted (p q : IndexPass) (i : ℕ) (change : MapChange) (point : ℕ) : Type 0 where
+pub record IsCommitted (p q : TreePass) (i : ℕ) (change : MapChange) (point : ℕ) : Type 0 where
   pub once : AnswersOnce (view p) (view q) i (Make change) (Replied Done point dashes)
   pub only : IsOnlySaid once.added
 
--- the change is written, and the leaf is known to be what it is
-pub record DidWrite (p q : IndexPass) (i : ℕ) (change : MapChange) (point : ℕ) : Type 0 where
-  pub leaf : (f g : Frame) → HoldsLeaf p i f g → MakesChange i change f g → HoldsLeaf q i g g
+-- the change is written, and each frame in hand is known to be what it is
+pub record DidWrite (p q : TreePass) (i : ℕ) (change : MapChange) (point : ℕ) : Type 0 where
   pub written : IsCommitted p q i change point
+  pub frames : (b : ℕ) (f g : Frame) → HasFrame p b f g → HasFrame q b g g
+  pub count : count q ≡ count p
 
--- the change is written ahead, and the leaf is known to be the next one, which it isn't yet
-pub record DidWriteAhead (p q : IndexPass) (i : ℕ) (change : MapChange) (next : Frame)
+-- the change is written ahead, and the block's frame is known to be the next one, which it isn't
+-- yet
+pub record DidWriteAhead (p q : TreePass) (b i : ℕ) (change : MapChange) (next : Frame)
     (point : ℕ) : Type 0 where
-  pub leaf : (f g : Frame) → HoldsLeaf p i f g → MakesChange i change f next → HoldsLeaf q i next g
   pub written : IsCommitted p q i change point
+  pub frame : (f g : Frame) → HasFrame p b f g → HasFrame q b next g
+  pub count : count q ≡ count p
 
 -- the list is full, which was seen, and nothing else has changed
-pub record IsFullThen (p q : IndexPass) (i n : ℕ) : Type 0 where
-  pub leaf : (f g : Frame) → HoldsLeaf p i f g → HoldsLeaf q i f g
+pub record IsFullThen (p q : TreePass) (i n : ℕ) : Type 0 where
   pub looks : OnlyLooks (view p) (view q) i
   pub full : SeesFull (view q) i
   pub number : n ≡ (view p).terms.max_changes
+  pub same : SameHands p q
 
 -- how a commit ends
-abbrev pub Commits : IndexPass → ℕ → MapChange → Result ℕ LogFull → IndexPass → Type 0
+abbrev pub Commits : TreePass → ℕ → MapChange → Result ℕ LogFull → TreePass → Type 0
 Commits p i change (Ok point) q = DidWrite p q i change point
 Commits p i change (Err full) q = IsFullThen p q i full.0
 
 -- how one ends that is ahead of its change
-abbrev pub WritesAhead : IndexPass → ℕ → MapChange → Frame → Result ℕ LogFull → IndexPass → Type 0
-WritesAhead p i change next (Ok point) q = DidWriteAhead p q i change next point
-WritesAhead p i change next (Err full) q = IsFullThen p q i full.0
+abbrev pub WritesAhead : TreePass → (b i : ℕ) → MapChange → Frame → Result ℕ LogFull → TreePass
+    → Type 0
+WritesAhead p b i change next (Ok point) q = DidWriteAhead p q b i change next point
+WritesAhead p b i change next (Err full) q = IsFullThen p q i full.0

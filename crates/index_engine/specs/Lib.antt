@@ -1,8 +1,8 @@
-pub mod Leaf
-pub mod Passes
+pub mod Tells
+pub mod Traces
+pub mod Engines
+pub mod Holds
 pub mod Says
 pub mod Commits
-pub mod Frames
 pub mod Changes
-pub mod Settings
-pub mod Engines
+pub mod Puts

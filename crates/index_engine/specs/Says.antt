@@ -1,29 +1,30 @@
--- What may be said of a leaf that is held, and what is told of it.
-use Rattle.std.specs.Prelude.{ℕ, ◌≡◌, ◌≢◌, Option, Some, None, IsSome, length}
+-- What may be said of a leaf that is held, and what was said then.
+use Rattle.std.specs.Prelude.{ℕ, ◌≡◌, ◌≢◌, Some, None, length}
 use mathlib.Core.Option.{some}
 use lib.ListN.{get_elem?}
+use Rattle.key_tuple.specs.Order.{FieldList}
 use Rattle.latch_space.specs.Passes.{view}
 use Rattle.map_history.specs.declared.columns.How.TheVariants as how
 use Rattle.map_history.specs.declared.columns.Note.TheVariants as note
 use Rattle.map_history.specs.declared.reply.Reply.{Reply}
 use Rattle.map_history.specs.declared.reply.Reply.TheVariants as words
 use Rattle.map_history.specs.declared.reply.Told.{Told}
-use Rattle.map_history.specs.Map.{Pair, Map}
-use Rattle.map_history.specs.Operation.{Ask, Get}
-use Rattle.map_history.specs.Report.{Answer, dashes}
-use Rattle.map_history.specs.Told.{answer_of, columns_told}
-use Rattle.index_law.specs.declared.frame.Frame.{Frame}
+use Rattle.map_history.specs.Map.{Pair, Map, key_of}
+use Rattle.map_history.specs.Operation.{Ask, Get, Make}
+use Rattle.map_history.specs.Report.{Answer}
+use Rattle.tree_law.specs.Pages.{row_pairs}
 use Rattle.index_law.specs.Answers.{Word, Gives, SpaceFull}
 use Rattle.index_law.specs.Answers as answers
 use Rattle.index_law.specs.Meanings.{reply_word}
-use Rattle.index_law.specs.Once.{IsQuiet, AnswersOnce}
 use Rattle.index_law.specs.Rightness.{IsReply, IsAllowed}
-use Rattle.index_law.specs.Shape.{leaf_id}
-use Rattle.index_law.specs.Spoken.{View}
-use Rattle.index_law.specs.State.{Entries, rows_of}
-use Rattle.index_law.specs.Trace.{IsOnlySaid, TookAlone}
-use Rattle.index_page.specs.Page.{PageRows}
-use Rattle.index_engine.specs.Passes.{IndexPass, HoldsLeaf}
+use Rattle.index_law.specs.State.{Entries}
+use Rattle.forest_law.specs.declared.objects.Frame.{Frame}
+use Rattle.forest_world.specs.Held.{TreePass}
+use Rattle.call_law.specs.Once.{IsQuiet, AnswersOnce}
+use Rattle.call_law.specs.Spoken.{View}
+use Rattle.call_law.specs.Trace.{IsOnlySaid}
+use Rattle.index_engine.specs.Holds.{HoldsLeaf, HoldsKnown}
+use Rattle.index_engine.specs.Tells.{HasKeyOf, IsTold}
 
 -- the list of the index was seen with as many changes as it may have
 pub record SeesFull (v : View) (i : ℕ) : Type 0 where
@@ -43,82 +44,50 @@ abbrev pub TellsMost : Reply → ℕ → Type 0
 TellsMost (words.LogFull n) most = n ≡ most
 TellsMost reply most = Unit {0}
 
--- with the row that a get found comes the key that it asked for
-abbrev pub HasKeyOf : Ask → Reply → Pair → Type 0
-HasKeyOf (Get key) words.Found row = row.key ≡ key
-HasKeyOf ask reply row = Unit {0}
+-- what is asked is about this key alone
+abbrev pub AsksOf : FieldList → Ask → Type 0
+AsksOf key (Get k) = k ≡ key
+AsksOf key (Make change) = key_of change ≡ key
+AsksOf key ask = ⊥
 
--- the pass holds the leaf, which is what it is known to be, and its rows make the word right
-pub record CanSay (p : IndexPass) (i : ℕ) (ask : Ask) (reply : Reply) (row : Pair) : Type 0 where
+-- the pass holds the leaf of the key, which is what it is known to be, and its rows make the word
+-- right
+pub record CanSay (p : TreePass) (i : ℕ) (key : FieldList) (ask : Ask) (reply : Reply)
+    (row : Pair) : Type 0 where
+  pub block : ℕ
   pub frame : Frame
-  pub holds : HoldsLeaf p i frame frame
-  pub page : PageRows
-  pub paged : frame.page ≡ Some page
+  pub holds : HoldsLeaf p block i key frame frame
+  pub about : AsksOf key ask
   pub word : Word
   pub is_word : reply_word ask reply row ≡ Some word
-  pub may : MaySay (view p) i (rows_of page) ask word
+  pub may : MaySay (view p) i (row_pairs holds.leaf.page.is.page.rows) ask word
   pub most : TellsMost reply (view p).terms.max_changes
-  pub key : HasKeyOf ask reply row
+  pub row_key : HasKeyOf ask reply row
 
--- at a full list the point is its length, where there is no page there is none, and elsewhere there
--- is one
-abbrev pub TellsPoint : Reply → Option ℕ → Type 0
-TellsPoint (words.LogFull n) point = point ≡ Some n
-TellsPoint words.SpaceFull point = point ≡ None
-TellsPoint reply point = IsSome point
-
--- while there is no hash and each index has one page: both columns are dashes, and nothing is told
--- space-full
-pub record IsPlain (told : Told) : Type 0 where
-  pub dashed : columns_told told ≡ dashes
-  pub room : told.reply ≢ words.SpaceFull
-
--- what is told, with the row in the caller's buffer, is this answer
-pub record IsTold (ask : Ask) (told : Told) (row : Pair) (answer : Answer) : Type 0 where
-  pub is : answer_of ask told row ≡ Some answer
-  pub point : TellsPoint told.reply told.point
-  pub key : HasKeyOf ask told.reply row
-  pub plain : IsPlain told
-
--- the one answer of the whole call is told, in which the leaf was taken, alone, and given back
-pub record TellsOnce (v v' : View) (i : ℕ) (ask : Ask) (told : Told) (row : Pair) : Type 0 where
-  pub answer : Answer
-  pub is_told : IsTold ask told row answer
-  pub once : AnswersOnce v v' i ask answer
-  pub took : TookAlone v v' (leaf_id v.terms.shape i) once.added
-
--- nothing was answered by the whole call, in which the leaf was taken, alone, and given back
-pub record GivesUp (v v' : View) (i : ℕ) : Type 0 where
-  pub quiet : IsQuiet v v' i
-  pub took : TookAlone v v' (leaf_id v.terms.shape i) quiet.added
-
--- the one answer is told while the leaf is held
+-- the one answer was told, not for want of a page, and nothing else was done
 pub record SaysOnce (v v' : View) (i : ℕ) (ask : Ask) (told : Told) (row : Pair) : Type 0 where
   pub answer : Answer
   pub is_told : IsTold ask told row answer
   pub once : AnswersOnce v v' i ask answer
   pub only : IsOnlySaid once.added
+  pub placed : told.reply ≢ words.SpaceFull
 
--- nothing was answered while the leaf was held; the list may have been looked at
+-- nothing was answered, and nothing else was done; the list may have been looked at
 pub record OnlyLooks (v v' : View) (i : ℕ) : Type 0 where
   pub quiet : IsQuiet v v' i
   pub only : IsOnlySaid quiet.added
 
--- the pass holds the leaf, which is what it is known to be
-abbrev pub HoldsKnown : IndexPass → ℕ → Type 0
-HoldsKnown p i = (f : Frame) × HoldsLeaf p i f f
-
 -- the pass has answered once, and holds the leaf as it is known to be
-pub record AnswersHolding (p q : IndexPass) (i : ℕ) (ask : Ask) (told : Told)
+pub record AnswersHolding (p q : TreePass) (b i : ℕ) (ask : Ask) (told : Told)
     (row : Pair) : Type 0 where
   pub says : SaysOnce (view p) (view q) i ask told row
-  pub holds : HoldsKnown q i
-
--- the pass has answered nothing, and holds the leaf as it is known to be
-pub record StaysSilent (p q : IndexPass) (i : ℕ) : Type 0 where
-  pub looks : OnlyLooks (view p) (view q) i
-  pub holds : HoldsKnown q i
+  pub holds : HoldsKnown q b
 
 -- what is told of a change that was made at the point
 abbrev pub told_made : ℕ → Told
 told_made point = record { reply = words.Ok; point = Some point; how = how.Dash; note = note.Dash }
+
+-- what is told where there is no page for a row
+abbrev pub told_space_full : Told
+told_space_full =
+    record { reply = words.SpaceFull; point = None; how = how.Dash; note = note.Dash }

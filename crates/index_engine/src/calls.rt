@@ -4,10 +4,10 @@ ghost use Rattle.map_history.specs.Map as map;
 ghost use Rattle.map_history.specs.Operation as asked;
 ghost use Rattle.index_law.specs.Meanings.{lent_row};
 ghost use Rattle.index_engine.specs.Engines.{known, IsOf, IsSame, indexes_of, FitsKey};
-ghost use Rattle.index_engine.specs.Says.{TellsOnce, GivesUp};
+ghost use Rattle.index_engine.specs.Traces.{TellsByLeaf, TellsOfPut, GivesUp};
 
 use crate::engine::{Engine, EnginePass};
-use crate::leaf_call::LeafCall;
+use crate::tree_call::TreeCall;
 use key_tuple::{Key, NoMemory, Value};
 use map_history::{Reply, RowBuf, Told};
 use std::sync::Wait;
@@ -21,22 +21,22 @@ impl Engine {
         key: &Key,
         out: &mut RowBuf,
         wait: &R,
-    ) -> Result<Told, NoMemory>
+    ) -> Told
         requires own { IsOf self.now pass.old }
         requires index { index < indexes_of self.now }
         requires key { FitsKey self.now index key.now.tuple }
         ensures own { IsSame pass.old pass.new × IsOf self.now pass.new }
-        ensures ok { IfOk result (λ told. TellsOnce (known pass.old) (known pass.new) index
-            (asked.Get key.now.tuple) told out.new) }
-        ensures kept { IfOk result (λ told. told.reply ≢ Reply.Found → out.new ≡ out.old) }
-        ensures err { OnErr result (GivesUp (known pass.old) (known pass.new) index) }
+        ensures told { TellsByLeaf (known pass.old) (known pass.new) index key.now.tuple
+            (asked.Get key.now.tuple) result out.new }
+        ensures kept { result.reply ≢ Reply.Found → out.new ≡ out.old }
     {
-        Ok(self.call(index, key, wait).get(&mut pass.world, out))
+        self.call(index, key, wait).get(&mut pass.world, out)
     }
 
-    /// A new row: `Ok`, `Duplicate` where the key is there, or `LogFull` where the index has had
-    /// all the changes that it may. They are tried in the order `Duplicate`, `LogFull`, `Ok`. After
-    /// `NoMemory` nothing has changed.
+    /// A new row: `Ok`, `Duplicate` where the key is there, `LogFull` where the index has had all
+    /// the changes that it may, or `SpaceFull` where its leaf has no room and no page number is
+    /// free. They are tried in the order `Duplicate`, `LogFull`, `SpaceFull`, `Ok`. After
+    /// `NoMemory` no list has changed.
     pub fn put<R: Wait>(
         &self,
         pass: &mut EnginePass,
@@ -49,44 +49,39 @@ impl Engine {
         requires index { index < indexes_of self.now }
         requires key { FitsKey self.now index key.now.tuple }
         ensures own { IsSame pass.old pass.new × IsOf self.now pass.new }
-        ensures ok { IfOk result (λ told. TellsOnce (known pass.old) (known pass.new) index
-            (asked.Make (map.Put key.now.tuple value.now)) told (lent_row None)) }
-        ensures err { OnErr result (GivesUp (known pass.old) (known pass.new) index) }
+        ensures ok { IfOk result (λ told. TellsOfPut (known pass.old) (known pass.new) index
+            key.now.tuple value.now (asked.Make (map.Put key.now.tuple value.now)) told
+            (lent_row None)) }
+        ensures err { OnErr result (GivesUp (known pass.old) (known pass.new) index key.now.tuple
+            value.now) }
     {
         let most = u64::from(pass.sizes.max_changes);
         self.call(index, key, wait)
             .put(&mut pass.world, most, value)
     }
 
-    /// A row taken out: `Ok`, `Absent` where the key isn't there, or `LogFull`. After `NoMemory`
-    /// nothing has changed.
-    pub fn del<R: Wait>(
-        &self,
-        pass: &mut EnginePass,
-        index: u32,
-        key: &Key,
-        wait: &R,
-    ) -> Result<Told, NoMemory>
+    /// A row taken out: `Ok`, `Absent` where the key isn't there, or `LogFull`.
+    pub fn del<R: Wait>(&self, pass: &mut EnginePass, index: u32, key: &Key, wait: &R) -> Told
         requires own { IsOf self.now pass.old }
         requires index { index < indexes_of self.now }
         requires key { FitsKey self.now index key.now.tuple }
         ensures own { IsSame pass.old pass.new × IsOf self.now pass.new }
-        ensures ok { IfOk result (λ told. TellsOnce (known pass.old) (known pass.new) index
-            (asked.Make (map.Del key.now.tuple)) told (lent_row None)) }
-        ensures err { OnErr result (GivesUp (known pass.old) (known pass.new) index) }
+        ensures told { TellsByLeaf (known pass.old) (known pass.new) index key.now.tuple
+            (asked.Make (map.Del key.now.tuple)) result (lent_row None) }
     {
-        Ok(self.call(index, key, wait).del(&mut pass.world))
+        self.call(index, key, wait).del(&mut pass.world)
     }
 
-    /// A call on the leaf of an index.
-    fn call<'a, R>(&'a self, index: u32, key: &'a Key, wait: &'a R) -> LeafCall<'a, R>
+    /// A call about a key of an index.
+    fn call<'a, R>(&'a self, index: u32, key: &'a Key, wait: &'a R) -> TreeCall<'a, R>
         requires index { index < indexes_of self.now }
         requires key { FitsKey self.now index key.now.tuple }
         ensures space { result.space.now ≡ self.now.space }
         ensures about { (result.index ≡ index) × (result.key.now ≡ key.now) }
     {
-        LeafCall {
+        TreeCall {
             space: &self.space,
+            alloc: self.alloc,
             index,
             key,
             wait,

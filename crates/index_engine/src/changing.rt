@@ -1,55 +1,90 @@
 //! The leaf that is held is changed. No step is made here.
-ghost use Rattle.std.specs.Prelude.{◌≡◌, IfOk, OnErr};
-ghost use Rattle.index_engine.specs.Frames.{LacksRow};
-ghost use Rattle.index_engine.specs.Changes.{SamePass, HoldsWith, HoldsAsBefore, PutIn};
+ghost use Rattle.std.specs.Prelude.{◌≤◌, IfOk, IfErr};
+ghost use Rattle.clock_law.specs.ModifyClock.{last_clock};
+ghost use Rattle.latch_space.specs.Passes.{IsSamePass};
+ghost use Rattle.latch_space.specs.Spaces.{IsPassOf};
+ghost use Rattle.index_engine.specs.Changes.{HasSpotIn, FindsRow, HoldsLacking, HoldsNewRow};
+ghost use Rattle.index_engine.specs.Changes.{HoldsRefusing, KnowsSame, HoldsPutRow, TookBack};
 ghost use Rattle.index_engine.specs.Changes.{HoldsRowAt, TookOut};
 
-use crate::framed::{delete_in, insert_in};
-use crate::leaf_call::LeafCall;
-use index_page::{Place, Spot};
-use index_world::{Frame, Object, WorldPass};
-use key_tuple::{NoMemory, Value};
+use crate::tree_call::TreeCall;
+use buffer_pool::{frame_back, frame_out};
+use forest_world::{ForestPass, Frame};
+use index_page::{PageError, Place, Spot};
+use key_tuple::{Key, Value};
+use leaf_rows::{delete_row, find_key, put_row, take_back};
+use tree_descent::Leaf;
 
-impl<R> LeafCall<'_, R> {
-    /// Puts the key's row in at its spot, and tells its place. After `NoMemory` the leaf is as
+impl<R> TreeCall<'_, R> {
+    /// Puts the key's row in at its spot, and tells its place. After an error the leaf is as
     /// before.
     pub(crate) fn insert(
         &self,
-        pass: &mut WorldPass,
-        spot: &Spot,
+        pass: &mut ForestPass,
+        leaf: &Leaf,
         value: &Value,
-    ) -> Result<Place, NoMemory>
-        requires held { HoldsWith pass.old self.now.index
-            (λ f. LacksRow f self.now.key.now.tuple spot.now) }
-        ensures same { SamePass pass.old pass.new }
-        ensures ok { IfOk result (λ place. PutIn pass.old pass.new self.now.index place
+    ) -> Result<Place, PageError>
+        requires own { IsPassOf self.now.space.now pass.old }
+        requires held { HoldsLacking pass.old leaf.now.block self.now.index self.now.key.now.tuple
+            leaf.now.spot }
+        ensures own { IsSamePass pass.old pass.new × IsPassOf self.now.space.now pass.new }
+        ensures same { KnowsSame pass.old pass.new }
+        ensures ok { IfOk result (λ place. HoldsNewRow pass.new leaf.now.block self.now.index place
             self.now.key.now.tuple value.now) }
-        ensures err { OnErr result (HoldsAsBefore pass.old pass.new self.now.index) }
+        ensures err { IfErr result (λ e. HoldsRefusing pass.new leaf.now.block self.now.index
+            self.now.key.now.tuple value.now e) }
     {
-        let leaf = self.leaf();
-        let mut frame = frame_of(pass.take_out(leaf));
-        let result = insert_in(&mut frame, spot, self.key, value);
-        pass.put_back(leaf, Object::Frame(frame));
+        let mut frame = frame_out(self.space, pass, leaf.block);
+        let result = put_row(&mut frame, &leaf.spot, self.key, value);
+        frame_back(self.space, pass, leaf.block, frame);
         result
     }
 
-    /// Deletes the row at a place.
-    pub(crate) fn delete(&self, pass: &mut WorldPass, place: Place)
-        requires held { HoldsRowAt pass.old self.now.index place }
-        ensures same { SamePass pass.old pass.new }
-        ensures out { TookOut pass.old pass.new self.now.index place }
+    /// Takes a row out again that `insert` put in at the place.
+    pub(crate) fn take_back(&self, pass: &mut ForestPass, block: u32, place: Place)
+        requires own { IsPassOf self.now.space.now pass.old }
+        requires held { HoldsPutRow pass.old block place }
+        ensures own { IsSamePass pass.old pass.new × IsPassOf self.now.space.now pass.new }
+        ensures same { KnowsSame pass.old pass.new }
+        ensures back { TookBack pass.old pass.new block place }
     {
-        let leaf = self.leaf();
-        let mut frame = frame_of(pass.take_out(leaf));
-        delete_in(&mut frame, place);
-        pass.put_back(leaf, Object::Frame(frame));
+        let mut frame = frame_out(self.space, pass, block);
+        take_back(&mut frame, place);
+        frame_back(self.space, pass, block, frame);
+    }
+
+    /// Deletes the row at a place.
+    pub(crate) fn delete(&self, pass: &mut ForestPass, block: u32, place: Place)
+        requires own { IsPassOf self.now.space.now pass.old }
+        requires held { HoldsRowAt pass.old block place }
+        ensures own { IsSamePass pass.old pass.new × IsPassOf self.now.space.now pass.new }
+        ensures same { KnowsSame pass.old pass.new }
+        ensures out { TookOut pass.old pass.new block place }
+    {
+        let mut frame = frame_out(self.space, pass, block);
+        delete_row(&mut frame, place);
+        frame_back(self.space, pass, block, frame);
     }
 }
 
-/// The frame that an object is.
-fn frame_of(object: Object) -> Frame
-    ensures { object ≡ Object.Frame result }
+/// The place of the key's row on the frame's leaf.
+pub(crate) fn find_row(frame: &Frame, spot: &Spot, key: &Key) -> Option<Place>
+    requires { HasSpotIn frame.now key.now.tuple spot.now }
+    ensures { FindsRow frame.now key.now.tuple spot.now result }
 {
-    let Object::Frame(frame) = object;
-    frame
+    has_clock(frame);
+    match &frame.page {
+        Some(page) => {
+            page.is_in_order();
+            find_key(page, key, spot)
+        }
+        None => unreachable!(),
+    }
+}
+
+/// The clock is at most at its last value.
+fn has_clock(frame: &Frame)
+    ensures { frame.now.clock ≤ last_clock }
+{
+    let _clock = frame.clock;
 }

@@ -1,35 +1,47 @@
 //! A change is committed while the leaf is held, once it was made or ahead of it.
-ghost use Rattle.std.specs.Prelude.{◌≡◌, None};
+ghost use Rattle.std.specs.Prelude.{◌≡◌, ℕ, None};
 ghost use Rattle.latch_space.specs.Passes.{IsSamePass};
 ghost use Rattle.latch_space.specs.Spaces.{IsPassOf};
 ghost use Rattle.map_history.specs.Report.{dashes};
-ghost use Rattle.index_law.specs.declared.frame.Frame.{Frame};
 ghost use Rattle.index_law.specs.Meanings.{change_lent, change_by};
+ghost use Rattle.forest_law.specs.declared.objects.Frame.{Frame};
+ghost use Rattle.forest_law.specs.Opening.{new_frame};
 ghost use Rattle.index_engine.specs.Commits.{CanCommit, Commits, CanWriteAhead, WritesAhead};
 
-use crate::leaf_call::LeafCall;
-use index_world::{ChangeRef, Deed, WorldPass};
+use crate::tree_call::TreeCall;
+use forest_world::ForestPass;
+use index_law::{ChangeRef, Deed};
 use latch_space::LogFull;
 use map_history::{How, Note};
 use std::marker::Brand;
 use std::sync::Wait;
 
-/// What a leaf is to become, for the proof alone. A call at `Brand` picks it.
+/// The leaf of which block is to become what, for the proof alone. A call at `Brand` picks it.
 pub(crate) trait Becomes {
+    ghost block: { ℕ };
+
     ghost leaf: { Frame };
 }
 
 impl Becomes for Brand {
-    ghost leaf = { record { page = None; low = None; high = None; clock = 0 } };
+    ghost block = { 0 };
+
+    ghost leaf = { new_frame None };
 }
 
-impl<R: Wait> LeafCall<'_, R> {
+impl<R: Wait> TreeCall<'_, R> {
     /// Commits the change that was made on the held leaf. At a full list the caller takes it back.
-    pub(crate) fn commit(&self, pass: &mut WorldPass, change: ChangeRef<'_>) -> Result<u64, LogFull>
+    pub(crate) fn commit(
+        &self,
+        pass: &mut ForestPass,
+        change: ChangeRef<'_>,
+    ) -> Result<u64, LogFull>
         requires own { IsPassOf self.now.space.now pass.old }
-        requires held { CanCommit pass.old self.now.index (change_lent change) }
+        requires held { CanCommit pass.old self.now.index self.now.key.now.tuple
+            (change_lent change) }
         ensures own { IsSamePass pass.old pass.new × IsPassOf self.now.space.now pass.new }
-        ensures did { Commits pass.old self.now.index (change_lent change.entry) result pass.new }
+        ensures did { Commits pass.old self.now.index (change_lent change.entry)
+            result pass.new }
     {
         self.space
             .commit(pass, self.index, &deed(change), self.wait)
@@ -39,14 +51,15 @@ impl<R: Wait> LeafCall<'_, R> {
     /// yet. At a full list it stays what it is.
     pub(crate) fn write_ahead<X: Becomes>(
         &self,
-        pass: &mut WorldPass,
+        pass: &mut ForestPass,
         change: ChangeRef<'_>,
     ) -> Result<u64, LogFull>
         requires own { IsPassOf self.now.space.now pass.old }
-        requires held { CanWriteAhead pass.old self.now.index (change_lent change) X.leaf }
+        requires held { CanWriteAhead pass.old X.block self.now.index self.now.key.now.tuple
+            (change_lent change) X.leaf }
         ensures own { IsSamePass pass.old pass.new × IsPassOf self.now.space.now pass.new }
-        ensures did { WritesAhead pass.old self.now.index (change_lent change.entry) X.leaf
-            result pass.new }
+        ensures did { WritesAhead pass.old X.block self.now.index (change_lent change.entry)
+            X.leaf result pass.new }
     {
         self.space
             .commit_ahead::<Brand, Deed<'_>, R>(pass, self.index, &deed(change), self.wait)

@@ -6,62 +6,70 @@ ghost use Rattle.map_history.specs.Map as map;
 ghost use Rattle.map_history.specs.Operation.{Make};
 ghost use Rattle.index_law.specs.Meanings.{lent_row};
 ghost use Rattle.index_engine.specs.Changes.{HoldsOldRow};
-ghost use Rattle.index_engine.specs.Passes.{HoldsFresh};
-ghost use Rattle.index_engine.specs.Says.{CanSay, AnswersHolding, TellsOnce};
+ghost use Rattle.index_engine.specs.Holds.{HoldsFresh};
+ghost use Rattle.index_engine.specs.Says.{CanSay, SaysOnce, AnswersHolding};
+ghost use Rattle.index_engine.specs.Traces.{TellsByLeaf};
+ghost use Rattle.latch_space.specs.Has.{SameHands};
 
+use crate::changing::find_row;
 use crate::committing::Becomes;
-use crate::leaf::search;
-use crate::leaf_call::LeafCall;
 use crate::saying::made;
+use crate::tree_call::TreeCall;
+use forest_world::ForestPass;
+use index_law::ChangeRef;
 use index_page::Place;
-use index_world::{ChangeRef, WorldPass};
 use latch_space::LogFull;
 use map_history::{OpRef, Reply, Told};
 use std::marker::Brand;
 use std::sync::Wait;
+use tree_descent::Leaf;
 
-impl<R: Wait> LeafCall<'_, R> {
+impl<R: Wait> TreeCall<'_, R> {
     /// Takes the row of the key out, if the index has it and its list has room.
-    pub(crate) fn del(&self, pass: &mut WorldPass) -> Told
+    pub(crate) fn del(&self, pass: &mut ForestPass) -> Told
         requires own { IsPassOf self.now.space.now pass.old }
         requires nothing { count pass.old ≡ 0 }
         ensures own { IsSamePass pass.old pass.new × IsPassOf self.now.space.now pass.new }
         ensures nothing { count pass.new ≡ 0 }
-        ensures once { TellsOnce (view pass.old) (view pass.new) self.now.index
-            (Make (map.Del self.now.key.now.tuple)) result (lent_row None) }
+        ensures told { TellsByLeaf (view pass.old) (view pass.new) self.now.index
+            self.now.key.now.tuple (Make (map.Del self.now.key.now.tuple)) result
+            (lent_row None) }
     {
-        self.hold(pass);
-        let told = self.del_held(pass);
-        self.let_go(pass);
+        let leaf = self.hold(pass);
+        let told = self.del_held(pass, &leaf);
+        self.let_go(pass, leaf.block);
         told
     }
 
     /// The same while the leaf is held.
-    fn del_held(&self, pass: &mut WorldPass) -> Told
+    fn del_held(&self, pass: &mut ForestPass, leaf: &Leaf) -> Told
         requires own { IsPassOf self.now.space.now pass.old }
-        requires held { HoldsFresh pass.old self.now.index }
+        requires held { HoldsFresh pass.old leaf.now.block self.now.index self.now.key.now.tuple
+            leaf.now.spot }
         ensures own { IsSamePass pass.old pass.new × IsPassOf self.now.space.now pass.new }
-        ensures did { AnswersHolding pass.old pass.new self.now.index
+        ensures did { AnswersHolding pass.old pass.new leaf.now.block self.now.index
             (Make (map.Del self.now.key.now.tuple)) result (lent_row None) }
     {
-        match search(self.page(pass), self.key).1 {
-            Some(place) => self.del_row::<Brand>(pass, place),
+        match find_row(self.frame(pass, leaf.block), &leaf.spot, self.key) {
+            Some(place) => self.del_row::<Brand>(pass, leaf.block, place),
             None => self.say_of_del(pass, Reply::Absent),
         }
     }
 
     /// Commits that the row at the place goes, and takes it out then. Nobody else can look at the
     /// leaf in between. At a full list the row stays.
-    fn del_row<X: Becomes>(&self, pass: &mut WorldPass, place: Place) -> Told
+    fn del_row<X: Becomes>(&self, pass: &mut ForestPass, block: u32, place: Place) -> Told
         requires own { IsPassOf self.now.space.now pass.old }
-        requires held { HoldsOldRow pass.old self.now.index place self.now.key.now.tuple X.leaf }
+        requires block { X.block ≡ block }
+        requires held { HoldsOldRow pass.old block self.now.index place self.now.key.now.tuple
+            X.leaf }
         ensures own { IsSamePass pass.old pass.new × IsPassOf self.now.space.now pass.new }
-        ensures did { AnswersHolding pass.old pass.new self.now.index
+        ensures did { AnswersHolding pass.old pass.new block self.now.index
             (Make (map.Del self.now.key.now.tuple)) result (lent_row None) }
     {
         match self.write_ahead::<X>(pass, ChangeRef::Del { key: self.key }) {
             Ok(point) => {
-                self.delete(pass, place);
+                self.delete(pass, block, place);
                 made(point)
             }
             Err(LogFull(count)) => self.say_of_del(pass, Reply::LogFull(count)),
@@ -69,15 +77,16 @@ impl<R: Wait> LeafCall<'_, R> {
     }
 }
 
-impl<R> LeafCall<'_, R> {
+impl<R> TreeCall<'_, R> {
     /// Answers the del without a change.
-    fn say_of_del(&self, pass: &mut WorldPass, reply: Reply) -> Told
+    fn say_of_del(&self, pass: &mut ForestPass, reply: Reply) -> Told
         requires own { IsPassOf self.now.space.now pass.old }
-        requires held { CanSay pass.old self.now.index (Make (map.Del self.now.key.now.tuple)) reply
-            (lent_row None) }
+        requires held { CanSay pass.old self.now.index self.now.key.now.tuple
+            (Make (map.Del self.now.key.now.tuple)) reply (lent_row None) }
         ensures own { IsSamePass pass.old pass.new × IsPassOf self.now.space.now pass.new }
-        ensures did { AnswersHolding pass.old pass.new self.now.index
+        ensures did { SaysOnce (view pass.old) (view pass.new) self.now.index
             (Make (map.Del self.now.key.now.tuple)) result (lent_row None) }
+        ensures kept { SameHands pass.old pass.new }
     {
         let op = OpRef::Del {
             index: self.index,

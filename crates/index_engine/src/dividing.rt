@@ -2,9 +2,9 @@
 ghost use Rattle.std.specs.Prelude.{◌≡◌, ◌+◌, ◌≤◌, IfOk, OnErr};
 ghost use Rattle.latch_law.specs.Fitting.{IsFitted};
 ghost use Rattle.latch_law.specs.Views.{left_part, right_part, both_parts};
-ghost use Rattle.index_law.specs.Law.{IsLawful};
-ghost use Rattle.index_law.specs.References.{IsReference};
+ghost use Rattle.forest_law.specs.Law.{IsLawful};
 ghost use Rattle.index_law.specs.Rightness.{IsRight};
+ghost use Rattle.forest_law.specs.References.{IsReference};
 ghost use Rattle.index_engine.specs.Engines.{known, IsOf, IsSame};
 
 use crate::engine::{Engine, EnginePass};

@@ -1,6 +1,6 @@
 //! Why an engine isn't opened.
-use crate::setting::Setting;
 use key_tuple::NoMemory;
+use settings::Setting;
 
 /// What `Engine::open` refuses.
 #[derive(Debug, Clone, Copy, PartialEq, Eq)]

@@ -1,52 +1,69 @@
 //! The value of a key.
-ghost use Rattle.std.specs.Prelude.{◌≡◌, ◌≢◌, length};
+ghost use Rattle.std.specs.Prelude.{◌≡◌, ◌≢◌, Some};
 ghost use Rattle.latch_space.specs.Passes.{view, count, IsSamePass};
 ghost use Rattle.latch_space.specs.Spaces.{IsPassOf};
 ghost use Rattle.map_history.specs.Operation as asked;
 ghost use Rattle.map_history.specs.Told.{Says};
-ghost use Rattle.index_law.specs.State.{rows_of};
-ghost use Rattle.index_engine.specs.Says.{TellsOnce, HasKeyOf};
+ghost use Rattle.index_page.specs.Page.{PageRows};
+ghost use Rattle.tree_law.specs.Pages.{row_pairs};
+ghost use Rattle.index_engine.specs.Changes.{HasSpotIn};
+ghost use Rattle.index_engine.specs.Tells.{HasKeyOf};
+ghost use Rattle.index_engine.specs.Traces.{TellsByLeaf};
+ghost use Rattle.leaf_rows.specs.Finding.{HasSpot};
 
-use crate::leaf::search;
-use crate::leaf_call::LeafCall;
-use index_page::Page;
-use index_world::WorldPass;
+use crate::tree_call::TreeCall;
+use forest_world::{ForestPass, Frame};
+use index_page::{Page, Spot};
 use key_tuple::Key;
+use leaf_rows::find_key;
 use map_history::{OpRef, Reply, RowBuf, Told};
 use std::sync::Wait;
 
-impl<R: Wait> LeafCall<'_, R> {
-    /// Looks the key up while the leaf of its index is held.
-    pub(crate) fn get(&self, pass: &mut WorldPass, out: &mut RowBuf) -> Told
+impl<R: Wait> TreeCall<'_, R> {
+    /// Looks the key up while its leaf is held.
+    pub(crate) fn get(&self, pass: &mut ForestPass, out: &mut RowBuf) -> Told
         requires own { IsPassOf self.now.space.now pass.old }
         requires nothing { count pass.old ≡ 0 }
         ensures own { IsSamePass pass.old pass.new × IsPassOf self.now.space.now pass.new }
         ensures nothing { count pass.new ≡ 0 }
-        ensures once { TellsOnce (view pass.old) (view pass.new) self.now.index
-            (asked.Get self.now.key.now.tuple) result out.new }
+        ensures told { TellsByLeaf (view pass.old) (view pass.new) self.now.index
+            self.now.key.now.tuple (asked.Get self.now.key.now.tuple) result out.new }
         ensures kept { result.reply ≢ Reply.Found → out.new ≡ out.old }
     {
         let op = OpRef::Get {
             index: self.index,
             key: self.key,
         };
-        self.hold(pass);
-        let reply = look_up(self.page(pass), self.key, out);
+        let leaf = self.hold(pass);
+        let reply = look_up(self.frame(pass, leaf.block), &leaf.spot, self.key, out);
         let told = self.say(pass, op, reply, Some(out));
-        self.let_go(pass);
+        self.let_go(pass, leaf.block);
         told
     }
 }
 
-/// What the leaf has at the key. A found row is put in `out`, which else stays.
-fn look_up(page: &Page, key: &Key, out: &mut RowBuf) -> Reply
-    requires level { page.now.head.level ≡ 0 }
-    requires fields { length key.now.tuple ≡ page.now.head.fields }
-    ensures said { Says (rows_of page.now) (asked.Get key.now.tuple) result out.new }
+/// What the frame's leaf has at the key. A found row is put in `out`, which else stays.
+fn look_up(frame: &Frame, spot: &Spot, key: &Key, out: &mut RowBuf) -> Reply
+    requires { HasSpotIn frame.now key.now.tuple spot.now }
+    ensures said { (page : PageRows) → frame.now.page ≡ Some page
+        → Says (row_pairs page.rows) (asked.Get key.now.tuple) result out.new }
     ensures key { HasKeyOf (asked.Get key.now.tuple) result out.new }
     ensures kept { result ≢ Reply.Found → out.new ≡ out.old }
 {
-    match search(page, key).1 {
+    match &frame.page {
+        Some(page) => look_up_in(page, spot, key, out),
+        None => unreachable!(),
+    }
+}
+
+/// The same of a page.
+fn look_up_in(page: &Page, spot: &Spot, key: &Key, out: &mut RowBuf) -> Reply
+    requires { HasSpot page.now key.now.tuple spot.now }
+    ensures said { Says (row_pairs page.now.rows) (asked.Get key.now.tuple) result out.new }
+    ensures key { HasKeyOf (asked.Get key.now.tuple) result out.new }
+    ensures kept { result ≢ Reply.Found → out.new ≡ out.old }
+{
+    match find_key(page, key, spot) {
         Some(place) => {
             key.tuple().is_within_limits();
             out.fill(key, page.row(place).value());

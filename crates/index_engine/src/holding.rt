@@ -1,50 +1,55 @@
-//! The leaf of an index is taken, looked at and given back.
-ghost use Rattle.std.specs.Prelude.{◌≡◌, Some};
-ghost use Rattle.latch_space.specs.Passes.{view, count, IsSamePass};
+//! The leaf of a key is held, looked at and given back.
+ghost use Rattle.std.specs.Prelude.{◌≡◌};
+ghost use Rattle.key_tuple.specs.declared.mode.Mode.TheVariants as mode;
+ghost use Rattle.latch_space.specs.Passes.{count, IsSamePass};
 ghost use Rattle.latch_space.specs.Spaces.{IsPassOf};
-ghost use Rattle.index_law.specs.declared.frame.Frame.{Frame};
-ghost use Rattle.index_law.specs.Trace.{Takes, GivesBack};
-ghost use Rattle.index_engine.specs.Passes.{HoldsLeaf, HoldsFresh, leaf_of};
+ghost use Rattle.forest_law.specs.declared.objects.Frame.{Frame};
+ghost use Rattle.forest_world.specs.Held.{HasFrame};
+ghost use Rattle.buffer_pool.specs.Frames.{GivesFrame};
+ghost use Rattle.buffer_pool.specs.Hands.{HoldsFrame};
+ghost use Rattle.tree_descent.specs.Descents.{Descends};
+ghost use Rattle.index_engine.specs.Holds.{HoldsFresh, HoldsKnown};
 
-use crate::leaf_call::LeafCall;
-use index_page::Page;
-use index_world::{Object, WorldPass};
+use crate::tree_call::TreeCall;
+use buffer_pool::{frame, give_back};
+use forest_world::{ForestPass, Frame};
+use key_tuple::Mode;
 use std::sync::Wait;
+use tree_descent::{Leaf, descend};
 
-impl<R: Wait> LeafCall<'_, R> {
-    /// Holds the leaf.
-    pub(crate) fn hold(&self, pass: &mut WorldPass)
+impl<R: Wait> TreeCall<'_, R> {
+    /// Goes down from the root, and holds the leaf.
+    pub(crate) fn hold(&self, pass: &mut ForestPass) -> Leaf
         requires own { IsPassOf self.now.space.now pass.old }
         requires nothing { count pass.old ≡ 0 }
         ensures own { IsSamePass pass.old pass.new × IsPassOf self.now.space.now pass.new }
-        ensures held { HoldsFresh pass.new self.now.index }
-        ensures took { Takes (view pass.old) (view pass.new) (leaf_of pass.old self.now.index) }
+        ensures went { Descends pass.old self.now.index mode.Ge self.now.key.now.tuple
+            result pass.new }
+        ensures held { HoldsFresh pass.new result.block self.now.index self.now.key.now.tuple
+            result.spot }
     {
-        self.space.take(pass, self.leaf(), self.wait);
+        descend(self.space, pass, self.index, self.key, Mode::Ge, self.wait)
     }
 }
 
-impl<R> LeafCall<'_, R> {
-    /// Gives the leaf back, which is what it is known to be.
-    pub(crate) fn let_go(&self, pass: &mut WorldPass)
-        requires own { IsPassOf self.now.space.now pass.old }
-        requires held { (f : Frame) × HoldsLeaf pass.old self.now.index f f }
-        ensures own { IsSamePass pass.old pass.new × IsPassOf self.now.space.now pass.new }
-        ensures nothing { count pass.new ≡ 0 }
-        ensures gave { GivesBack (view pass.old) (view pass.new) (leaf_of pass.old self.now.index) }
+impl<R> TreeCall<'_, R> {
+    /// The frame that is held, as it stands now.
+    pub(crate) fn frame<'p>(&self, pass: &'p ForestPass, block: u32) -> &'p Frame
+        requires own { IsPassOf self.now.space.now pass.now }
+        requires held { HoldsFrame pass.now block }
+        ensures { (f g : Frame) → HasFrame pass.now block f g → result.now ≡ g }
     {
-        self.space.release(pass, self.leaf());
+        frame(self.space, pass, block)
     }
 
-    /// The page of the leaf that is held.
-    pub(crate) fn page<'p>(&self, pass: &'p WorldPass) -> &'p Page
-        requires held { (f : Frame) × HoldsLeaf pass.now self.now.index f f }
-        ensures { (f : Frame) → HoldsLeaf pass.now self.now.index f f → f.page ≡ Some result.now }
+    /// Gives the leaf back, which is what it is known to be.
+    pub(crate) fn let_go(&self, pass: &mut ForestPass, block: u32)
+        requires own { IsPassOf self.now.space.now pass.old }
+        requires held { HoldsKnown pass.old block }
+        ensures own { IsSamePass pass.old pass.new × IsPassOf self.now.space.now pass.new }
+        ensures nothing { count pass.new ≡ 0 }
+        ensures gave { GivesFrame pass.old block pass.new }
     {
-        let Object::Frame(frame) = pass.look(self.leaf());
-        match &frame.page {
-            Some(page) => page,
-            None => unreachable!(),
-        }
+        give_back(self.space, pass, block);
     }
 }

@@ -1,5 +1,5 @@
 //! Operations on shared indexes, each answered once.
-//! Nothing here keeps a list of its own: an answer is right by the world's law.
+//! Nothing here keeps a list of its own: an answer is right by the law of the trees.
 #![tactic(auto)]
 
 mod calls;
@@ -9,20 +9,13 @@ mod deleting;
 mod dividing;
 mod engine;
 mod error;
-mod framed;
 mod getting;
+mod growing;
 mod holding;
-mod leaf;
-mod leaf_call;
 mod opening;
 mod putting;
 mod saying;
-mod setting;
-#[cfg(test)]
-mod setting_tests;
-#[cfg(test)]
-mod tests;
+mod tree_call;
 
 pub use engine::{Engine, EnginePass};
 pub use error::EngineError;
-pub use setting::Setting;

@@ -1,30 +1,33 @@
-//! What is said of the leaf that is held.
-ghost use Rattle.std.specs.Prelude.{◌≡◌, ◌↔◌, IsTrue};
+//! What is said of the leaf that is held, or where there is no page for a row.
+ghost use Rattle.std.specs.Prelude.{◌≡◌, ◌↔◌, IsTrue, None};
+ghost use Rattle.latch_space.specs.Has.{SameHands};
 ghost use Rattle.latch_space.specs.Passes.{view, IsSamePass};
 ghost use Rattle.latch_space.specs.Spaces.{IsPassOf};
 ghost use Rattle.map_history.specs.Operation.{operation_by};
 ghost use Rattle.index_law.specs.Meanings.{lent_row};
-ghost use Rattle.index_engine.specs.Changes.{HoldsAsBefore};
-ghost use Rattle.index_engine.specs.Says.{CanSay, SeesFull, OnlyLooks, AnswersHolding, told_made};
+ghost use Rattle.index_engine.specs.Says.{CanSay, SaysOnce, SeesFull, OnlyLooks, told_made};
 
-use crate::leaf_call::LeafCall;
-use index_world::{Say, WorldPass};
+use crate::tree_call::TreeCall;
+use forest_world::ForestPass;
+use index_law::Say;
 use map_history::{How, Note, OpRef, Reply, RowBuf, Told};
 
-impl<R> LeafCall<'_, R> {
+impl<R> TreeCall<'_, R> {
     /// Answers the operation at the end of the list, without a change.
     pub(crate) fn say(
         &self,
-        pass: &mut WorldPass,
+        pass: &mut ForestPass,
         op: OpRef<'_>,
         reply: Reply,
         row: Option<&RowBuf>,
     ) -> Told
         requires own { IsPassOf self.now.space.now pass.old }
-        requires held { CanSay pass.old self.now.index (operation_by op).ask reply (lent_row row) }
+        requires held { CanSay pass.old self.now.index self.now.key.now.tuple (operation_by op).ask
+            reply (lent_row row) }
         ensures own { IsSamePass pass.old pass.new × IsPassOf self.now.space.now pass.new }
-        ensures did { AnswersHolding pass.old pass.new self.now.index
+        ensures did { SaysOnce (view pass.old) (view pass.new) self.now.index
             (operation_by op.entry).ask result (lent_row row.entry) }
+        ensures kept { SameHands pass.old pass.new }
         ensures reply { result.reply ≡ reply }
     {
         let how = How::Dash;
@@ -50,11 +53,11 @@ impl<R> LeafCall<'_, R> {
     }
 
     /// The list of the index has as many changes as it may. It is read while the leaf is held.
-    pub(crate) fn is_full(&self, pass: &mut WorldPass, most: u64) -> bool
+    pub(crate) fn is_full(&self, pass: &mut ForestPass, most: u64) -> bool
         requires own { IsPassOf self.now.space.now pass.old }
         requires most { most ≡ self.now.space.now.terms.max_changes }
         ensures own { IsSamePass pass.old pass.new × IsPassOf self.now.space.now pass.new }
-        ensures held { HoldsAsBefore pass.old pass.new self.now.index }
+        ensures kept { SameHands pass.old pass.new }
         ensures looked { OnlyLooks (view pass.old) (view pass.new) self.now.index }
         ensures full { IsTrue result ↔ SeesFull (view pass.new) self.now.index }
     {

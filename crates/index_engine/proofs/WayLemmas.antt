@@ -1,0 +1,141 @@
+-- What a try of a put leaves behind that went down to a leaf and wasn't answered there.
+use Rattle.std.proofs.Common.{◌≡◌, ◌≢◌, inl, inr, ℕ, ◌+◌, ◌<◌, ◌++◌, List, sym, ap, subst, ◌∙◌, refl, Result, Ok, Err, IfOk, IfErr}
+use Rattle.key_tuple.specs.Order.{FieldList}
+use Rattle.key_tuple.specs.declared.mode.Mode.TheVariants as mode
+use Rattle.latch_law.specs.declared.knows.Holding.{Holding}
+use Rattle.latch_law.specs.declared.knows.Terms.{Terms}
+use Rattle.latch_law.specs.Views.{holding}
+use Rattle.latch_law.specs.Whole.{reference}
+use Rattle.latch_space.specs.Passes.{view}
+use Rattle.map_history.specs.declared.reply.Reply.TheVariants as words
+use Rattle.map_history.specs.declared.reply.Told.{Told}
+use Rattle.map_history.specs.Map.{Pair}
+use Rattle.map_history.specs.Operation.{Ask}
+use Rattle.index_page.specs.declared.error.PageError.{PageError}
+use Rattle.index_page.specs.declared.error.PageError.TheVariants as refused
+use Rattle.index_page.specs.declared.TheConstants.{PAGE_ROOM}
+use Rattle.index_page.specs.Loads.{charge_of, load_of}
+use Rattle.index_page.specs.Rows.{Bytes}
+use Rattle.tree_law.specs.TreeShape.{In}
+use Rattle.tree_law.proofs.ListLemmas.{In-append_right}
+use Rattle.index_law.specs.Shape.{Shape}
+use Rattle.forest_law.specs.declared.objects.Frame.{Frame}
+use Rattle.forest_law.specs.declared.objects.Object.{Object}
+use Rattle.forest_law.specs.declared.objects.Object.TheVariants as object
+use Rattle.forest_law.specs.Numbers.{frame_id}
+use Rattle.forest_law.proofs.ObjectLemmas.{same_frame}
+use Rattle.forest_world.specs.Held.{TreePass, shape_of_pass}
+use Rattle.call_law.specs.Once.{IsQuiet}
+use Rattle.call_law.proofs.TraceLemmas.{quiet_of, quiet_both}
+use Rattle.buffer_pool.specs.Frames.{GivesFrame}
+use Rattle.buffer_pool.proofs.FrameLemmas.{one_held}
+use Rattle.tree_descent.specs.declared.descending.Leaf.{Leaf}
+use Rattle.tree_descent.specs.Descents.{Descends}
+use Rattle.tree_descent.specs.Leaves.{cut_in, IsPageFor}
+use Rattle.index_engine.specs.Changes.{RefusesHolding}
+use Rattle.index_engine.specs.Holds.{HoldsLeaf, HoldsKnown}
+use Rattle.index_engine.specs.Says.{OnlyLooks, AnswersHolding}
+use Rattle.index_engine.specs.Traces.{LackedRoom, TellsByLeaf, TellsOfPut, GivesUp}
+use Rattle.index_engine.proofs.TellLemmas.{way, back, back_adds, spares_all, references_are}
+
+-- an answer by a leaf is one of a put
+pub by_leaf_of_put : (p q : TreePass) (i : ℕ) (key : FieldList) (value : List ℕ) (ask : Ask)
+    (told : Told) (row : Pair) → told.reply ≢ words.SpaceFull
+    → TellsByLeaf (view p) (view q) i key ask told row
+    → TellsOfPut (view p) (view q) i key value ask told row
+by_leaf_of_put p q i key value ask told row placed tells = record {
+  tells = tells.tells;
+  ends = λ here. tells.ends;
+  full = λ none. absurd (placed none);
+  trees = inl tells.spares;
+}
+
+-- however a put ends on the leaf, it is held as it is known to be
+pub known_then : (p q : TreePass) (b i : ℕ) (key : FieldList) (value : List ℕ) (ask : Ask)
+    (row : Pair) (result : Result Told PageError)
+    → IfOk result (λ told. AnswersHolding p q b i ask told row)
+    → IfErr result (λ e. RefusesHolding p q b i key value e) → HoldsKnown q b
+known_then p q b i key value ask row (Ok told) answers refuses = answers.holds
+known_then p q b i key value ask row (Err e) answers refuses = record {
+  frame = refuses.holds.frame;
+  has = refuses.holds.holds.has;
+  one = refuses.holds.holds.one;
+}
+
+-- the page of a frame with the key's position, on which the row has too little room
+abbrev IsFullLeaf : Shape → ℕ → ℕ → FieldList → List ℕ → Frame → Type 0
+IsFullLeaf shape b i key value f =
+    (page : IsPageFor shape b f i 0 (cut_in shape i mode.Ge key))
+    × (PAGE_ROOM < load_of page.is.page.rows + charge_of key (Bytes value))
+
+module _ (p p0 p1 p2 : TreePass) (i : ℕ) (key : FieldList) (value : List ℕ) (leaf : Leaf)
+    (went : Descends p i mode.Ge key leaf p0) (gave : GivesFrame p1 leaf.block p2)
+    (looks : OnlyLooks (view p0) (view p1) i) where
+  pub terms_are : (view p1).terms ≡ (view p).terms
+  terms_are = looks.quiet.adds.numbers.terms ∙ went.silently.does.adds.numbers.terms
+
+  -- nothing was answered
+  unfoldable pub went_quiet : IsQuiet (view p) (view p2) i
+  went_quiet =
+      quiet_both (view p) (view p1) (view p2) i
+      (quiet_both (view p) (view p0) (view p1) i
+      (quiet_of (view p) (view p0) i (way p p0 p1 p2 i key leaf went gave)
+      went.silently.does.adds went.silently.silent) looks.quiet)
+      (quiet_of (view p1) (view p2) i (back p p0 p1 p2 i key leaf went gave)
+      (back_adds p p0 p1 p2 i key leaf went gave) refl)
+
+  -- and no tree was taken
+  unfoldable pub went_up : GivesUp (view p) (view p2) i key value
+  unfolding quiet_of quiet_both went_quiet
+  went_up = record {
+    quiet = went_quiet;
+    trees = inl (spares_all p p0 p1 p2 i key leaf went gave looks.quiet.added looks.only terms_are);
+  }
+
+  module _ (f : Frame) (holds : HoldsLeaf p1 leaf.block i key f f)
+      (full : PAGE_ROOM < load_of holds.leaf.page.is.page.rows + charge_of key (Bytes value)) where
+    -- what was given back is the leaf
+    gave_is : f ≡ gave.frame
+    gave_is = same_frame f gave.frame
+        (ap (λ (h : Holding Object). h.known)
+        (one_held p1 (frame_id (shape_of_pass p1) leaf.block)
+        (holding holds.has.held.0 (object.Frame f))
+        (holding gave.taken (object.Frame gave.frame)) holds.has.held.1 gave.held))
+
+    full_leaf : IsFullLeaf (shape_of_pass p) leaf.block i key value gave.frame
+    full_leaf = subst
+        (λ (t : Terms Shape). IsFullLeaf t.shape leaf.block i key value gave.frame) terms_are
+        (subst (IsFullLeaf (shape_of_pass p1) leaf.block i key value) gave_is
+        (holds.leaf.page, full))
+
+    -- so the way led to a leaf without room
+    pub went_lacked : LackedRoom (shape_of_pass p) i key value went_up.quiet.added.references
+    unfolding quiet_of quiet_both went_quiet went_up
+    went_lacked =
+        record {
+          block = leaf.block;
+          taken = gave.taken;
+          leaf = gave.frame;
+          among = subst
+              (In (reference (frame_id (shape_of_pass p) leaf.block) gave.taken
+              (object.Frame gave.frame)))
+              (sym (references_are p p0 p1 p2 i key leaf went gave looks.quiet.added looks.only
+              terms_are))
+              (In-append_right _ (went.path.vain ++ went.path.path) _ (inl refl));
+          page = full_leaf.0;
+          full = full_leaf.1;
+        }
+
+-- and so it did where no memory lacked
+pub refused_lacks : (p p0 p1 p2 : TreePass) (i : ℕ) (key : FieldList) (value : List ℕ) (leaf : Leaf)
+    (went : Descends p i mode.Ge key leaf p0) (gave : GivesFrame p1 leaf.block p2) (e : PageError)
+    (refuses : RefusesHolding p0 p1 leaf.block i key value e)
+    → (e ≡ refused.NoMemory → ⊥)
+    → LackedRoom (shape_of_pass p) i key value
+    (went_up p p0 p1 p2 i key value leaf went gave refuses.looks).quiet.added.references
+refused_lacks p p0 p1 p2 i key value leaf went gave e refuses other =
+    elim refuses.holds.why [
+      | inl memory ↦ absurd (other memory)
+      | inr full ↦ went_lacked p p0 p1 p2 i key value leaf went gave refuses.looks
+          refuses.holds.frame refuses.holds.holds full
+    ]

@@ -1,0 +1,28 @@
+use Rattle.std.proofs.Common.{ap, arith, refl}
+use Rattle.latch_space.proofs.Pointwise.{sees_each}
+use Rattle.latch_space.specs.Passes.{values}
+use Rattle.index_law.specs.Meanings.{change_lent, change_by}
+use Rattle.index_engine.proofs.CommitLemmas.{commit_ends}
+use Rattle.index_engine.proofs.FollowLemmas.{leaf_whole, leaf_follows}
+use Rattle.index_engine.proofs.tree_call.TreeCall.commit.Goals as goal
+
+pub commit-requires-clause-whole : goal.commit-requires-clause-whole
+commit-requires-clause-whole g c = let can = c.requires.held in let call = c.args.self.now in
+    leaf_whole c.args.pass.now can.block call.index call.key.now.tuple can.known can.made
+    can.holds
+
+pub commit-requires-clause-rule : goal.commit-requires-clause-rule
+commit-requires-clause-rule g c = let can = c.requires.held in let call = c.args.self.now in
+    let p = c.args.pass.now in
+    leaf_follows p can.block call.index call.key.now.tuple can.known can.made can.made
+    (change_lent c.args.change) can.holds can.about can.makes (values p) can.holds.has.value
+    (λ j differs. refl) (change_by c.deed.result) (ap (λ d. d.change) c.deed.ensures)
+
+pub returns-clause-did : goal.returns-clause-did
+returns-clause-did g c = let call = c.args.self.now in let p = c.args.pass.now in
+    let indexes = ap (λ z. z.indexes) c.requires.own.1 in let below = call.there in
+    let lists = call.forest.lists in
+    let room = sees_each p call.index (omega (arith, indexes, lists, below)) in
+    commit_ends p c.commit.new.pass call.index (change_lent c.args.change)
+    (change_by c.deed.result) room c.deed.ensures c.commit.result c.commit.ensures.did
+    c.commit.ensures.hands

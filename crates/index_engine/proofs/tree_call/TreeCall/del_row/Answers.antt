@@ -1,0 +1,86 @@
+use Rattle.std.proofs.Common.{None, ap, subst, ◌∙◌, sym, refl, is_some}
+use Rattle.latch_space.specs.Passes.{view}
+use Rattle.map_history.specs.Map as map
+use Rattle.map_history.specs.Operation.{Make}
+use Rattle.index_law.specs.Meanings.{lent_row}
+use Rattle.forest_world.specs.Held.{shape_of_pass, HasFrame}
+use Rattle.index_engine.specs.Commits.{MakesChange, CanWriteAhead}
+use Rattle.index_engine.proofs.CallLemmas.{can_refuse}
+use Rattle.index_engine.proofs.HoldLemmas.{frame_again, leaf_again}
+use Rattle.index_engine.proofs.RowLemmas.{has_key, del_makes}
+use Rattle.index_engine.proofs.TellLemmas.{says_made, says_same, looks_then_says}
+use Rattle.index_engine.proofs.tree_call.TreeCall.del_row.Goals as goal
+
+pub write_ahead-requires-clause-held : goal.write_ahead-requires-clause-held
+write_ahead-requires-clause-held g c = let held = c.requires.held in let call = c.args.self.now in
+    let p = c.args.pass.now in let key = call.key.now.tuple in
+    subst (λ b. CanWriteAhead p b call.index key (map.Del key) g.X.Becomes.leaf)
+    (sym c.requires.block)
+    (record {
+      known = held.known;
+      holds = held.holds;
+      about = refl;
+      makes = subst (MakesChange (shape_of_pass p) (map.Del key) held.known) (sym held.next_is)
+          (del_makes (shape_of_pass p) c.args.block call.index key held.known held.holds.leaf
+          c.args.place held.row);
+    })
+
+pub delete-requires-clause-held : goal.delete-requires-clause-held
+delete-requires-clause-held g c = let held = c.requires.held in let p = c.args.pass.now in
+    let q = c.write_ahead.new.pass in let next = g.X.Becomes.leaf in record {
+      known = next;
+      now = held.known;
+      has = subst (λ b. HasFrame q b next held.known) c.requires.block
+          (c.in-Ok.ensures.did.frame held.known held.known
+          (subst (λ b. HasFrame p b held.known held.known) (sym c.requires.block)
+          held.holds.has));
+      stands = (c.args.self.now.key.now.tuple, held.row.has);
+    }
+
+pub say_of_del-requires-clause-held : goal.say_of_del-requires-clause-held
+say_of_del-requires-clause-held g c = let held = c.requires.held in let call = c.args.self.now in
+    let full = c.in-Err.ensures.did in let p = c.args.pass.now in let q = c.write_ahead.new.pass in
+    let key = call.key.now.tuple in let b = c.args.block in
+    let terms = full.looks.quiet.adds.numbers.terms in
+    let holds = leaf_again p q b call.index key held.known held.known full.same terms held.holds in
+    let has = has_key (shape_of_pass q) b call.index key held.known holds.leaf c.args.place
+    held.row in
+    can_refuse q b call.index key held.known holds (map.Del key) c.in-Err.field-0.0 (lent_row None)
+    refl (ap is_some has.1) full.full (full.number ∙ ap (λ t. t.max_changes) (sym terms))
+
+pub returns-in-Ok-clause-did : goal.returns-in-Ok-clause-did
+returns-in-Ok-clause-did g c = let held = c.requires.held in let call = c.args.self.now in
+    let did = c.in-Ok.ensures.did in let next = g.X.Becomes.leaf in let p = c.args.pass.now in
+    let q = c.write_ahead.new.pass in let r = c.delete.new.pass in let b = c.args.block in
+    let ask = Make (map.Del call.key.now.tuple) in
+    let has = subst (λ k. HasFrame q k next held.known) c.requires.block
+    (did.frame held.known held.known
+    (subst (λ k. HasFrame p k held.known held.known) (sym c.requires.block) held.holds.has)) in
+    record {
+      says = says_same (view p) (view q) (view r) call.index ask c.made.result (lent_row None)
+          (says_made p q call.index (map.Del call.key.now.tuple) (lent_row None) c.made.result
+          c.in-Ok.point c.made.ensures did.written) c.delete.ensures.same.view;
+      holds = record {
+        frame = next;
+        has = subst (HasFrame r b next) (sym held.next_is)
+            (c.delete.ensures.out next held.known has);
+        one = c.delete.ensures.same.count ∙ (did.count ∙ held.holds.one);
+      };
+    }
+
+pub returns-in-Err-clause-did : goal.returns-in-Err-clause-did
+returns-in-Err-clause-did g c = let held = c.requires.held in let call = c.args.self.now in
+    let full = c.in-Err.ensures.did in let p = c.args.pass.now in let q = c.write_ahead.new.pass in
+    let r = c.say_of_del.new.pass in let b = c.args.block in let key = call.key.now.tuple in
+    let holds = leaf_again p q b call.index key held.known held.known full.same
+    full.looks.quiet.adds.numbers.terms held.holds in
+    record {
+      says = looks_then_says (view p) (view q) (view r) call.index (Make (map.Del key))
+          c.say_of_del.result (lent_row None) full.looks c.say_of_del.ensures.did;
+      holds = record {
+        frame = held.known;
+        has = frame_again q r b held.known held.known c.say_of_del.ensures.kept
+            c.say_of_del.ensures.did.once.adds.numbers.terms holds.has;
+        one = c.say_of_del.ensures.kept.count ∙ holds.one;
+      };
+    }

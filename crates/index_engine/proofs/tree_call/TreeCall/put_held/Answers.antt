@@ -1,0 +1,92 @@
+use Rattle.std.proofs.Common.{None, ap, subst, ◌∙◌, sym, refl, is_none}
+use Rattle.latch_space.specs.Passes.{view}
+use Rattle.map_history.specs.Map as map
+use Rattle.index_law.specs.Meanings.{lent_row}
+use Rattle.forest_world.specs.Held.{shape_of_pass}
+use Rattle.index_engine.specs.Changes.{FindsRow}
+use Rattle.index_engine.specs.Puts.{put_asked}
+use Rattle.index_engine.proofs.CallLemmas.{can_duplicate, can_refuse}
+use Rattle.index_engine.proofs.HoldLemmas.{frame_again, leaf_again}
+use Rattle.index_engine.proofs.RowLemmas.{found_old, found_new, has_key, lacks_key}
+use Rattle.index_engine.proofs.TellLemmas.{looks_same, looks_then_says}
+use Rattle.index_engine.proofs.tree_call.TreeCall.put_held.Goals as goal
+
+pub find_row-found-requires : goal.find_row-found-requires
+find_row-found-requires g c = let held = c.requires.held in
+    let is = held.holds.leaf.page.is in record {
+      page = is.page;
+      paged = ap (λ f. f.page) (c.frame.ensures held.frame held.frame held.holds.has) ∙ is.paged;
+      finds = held.finds;
+    }
+
+pub say-requires-clause-held : goal.say-requires-clause-held
+say-requires-clause-held g c = let held = c.requires.held in let call = c.args.self.now in
+    let key = call.key.now.tuple in let leaf = c.args.leaf.now in let p = c.args.pass.now in
+    let found = subst (λ f. FindsRow f key leaf.spot c.find_row-found.result)
+    (c.frame.ensures held.frame held.frame held.holds.has) c.find_row-found.ensures in
+    let old = found_old held.frame key leaf.spot c.find_row-found.result found
+    (sym c.is_some.ensures ∙ c.if-is_some.true) in
+    let has = has_key (shape_of_pass p) leaf.block call.index key held.frame held.holds.leaf old.0
+    old.1 in
+    can_duplicate p leaf.block call.index key held.frame held.holds c.args.value.now has.0
+    (lent_row None) has.1
+
+pub say-requires-then-is_full-clause-held : goal.say-requires-then-is_full-clause-held
+say-requires-then-is_full-clause-held g c = let held = c.requires.held in
+    let call = c.args.self.now in let key = call.key.now.tuple in let leaf = c.args.leaf.now in
+    let p = c.args.pass.now in let q = c.is_full.new.pass in
+    let terms = c.is_full.ensures.looked.quiet.adds.numbers.terms in
+    let found = subst (λ f. FindsRow f key leaf.spot c.find_row-found.result)
+    (c.frame.ensures held.frame held.frame held.holds.has) c.find_row-found.ensures in
+    let new = found_new held.frame key leaf.spot c.find_row-found.result found
+    (sym c.is_some.ensures ∙ c.if-is_some.false) in
+    let holds = leaf_again p q leaf.block call.index key held.frame held.frame
+    c.is_full.ensures.kept terms held.holds in
+    can_refuse q leaf.block call.index key held.frame holds (map.Put key c.args.value.now)
+    c.args.most (lent_row None) refl
+    (ap is_none (lacks_key (shape_of_pass q) leaf.block call.index key held.frame holds.leaf
+    leaf.spot new))
+    (c.is_full.ensures.full.0 c.if-is_full.true)
+    (c.requires.most ∙ (ap (λ t. t.max_changes) (sym c.requires.own.1)
+    ∙ ap (λ t. t.max_changes) (sym terms)))
+
+pub returns-then-is_full-clause-ok : goal.returns-then-is_full-clause-ok
+returns-then-is_full-clause-ok g c = let held = c.requires.held in let call = c.args.self.now in
+    let key = call.key.now.tuple in let leaf = c.args.leaf.now in let p = c.args.pass.now in
+    let q = c.is_full.new.pass in let r = c.say-then-is_full.new.pass in
+    let holds = leaf_again p q leaf.block call.index key held.frame held.frame
+    c.is_full.ensures.kept c.is_full.ensures.looked.quiet.adds.numbers.terms held.holds in record {
+      says = looks_then_says (view p) (view q) (view r) call.index (put_asked key c.args.value.now)
+          c.say-then-is_full.result (lent_row None) c.is_full.ensures.looked
+          c.say-then-is_full.ensures.did;
+      holds = record {
+        frame = held.frame;
+        has = frame_again q r leaf.block held.frame held.frame c.say-then-is_full.ensures.kept
+            c.say-then-is_full.ensures.did.once.adds.numbers.terms holds.has;
+        one = c.say-then-is_full.ensures.kept.count ∙ holds.one;
+      };
+    }
+
+pub insert-requires-clause-held : goal.insert-requires-clause-held
+insert-requires-clause-held g c = let held = c.requires.held in let call = c.args.self.now in
+    let key = call.key.now.tuple in let leaf = c.args.leaf.now in let p = c.args.pass.now in
+    let q = c.is_full.new.pass in
+    let found = subst (λ f. FindsRow f key leaf.spot c.find_row-found.result)
+    (c.frame.ensures held.frame held.frame held.holds.has) c.find_row-found.ensures in record {
+      frame = held.frame;
+      holds = leaf_again p q leaf.block call.index key held.frame held.frame
+          c.is_full.ensures.kept c.is_full.ensures.looked.quiet.adds.numbers.terms held.holds;
+      lacks = found_new held.frame key leaf.spot c.find_row-found.result found
+          (sym c.is_some.ensures ∙ c.if-is_some.false);
+    }
+
+pub returns-clause-ok : goal.returns-clause-ok
+returns-clause-ok g c = let call = c.args.self.now in let key = call.key.now.tuple in record {
+  says = looks_then_says (view c.args.pass.now) (view c.insert.new.pass)
+      (view c.commit_put.new.pass) call.index (put_asked key c.args.value.now) c.commit_put.result
+      (lent_row None)
+      (looks_same (view c.args.pass.now) (view c.is_full.new.pass) (view c.insert.new.pass)
+      call.index c.is_full.ensures.looked c.in_ok-place.ensures.same.view)
+      c.commit_put.ensures.did.says;
+  holds = c.commit_put.ensures.did.holds;
+}

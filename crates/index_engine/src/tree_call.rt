@@ -1,0 +1,23 @@
+//! What a call is about: a key of an index.
+ghost use Rattle.std.specs.Prelude.{◌≡◌, ◌<◌, ◌≤◌, length};
+ghost use Rattle.forest_law.specs.State.{fields_for};
+ghost use Rattle.buffer_pool.specs.Forests.{IsForest};
+
+use forest_world::ForestSpace;
+use key_tuple::Key;
+use std::alloc::Global;
+
+/// A call about a key of an index. Its methods get the pass each time, and most of them the leaf of
+/// the key in its hand.
+#[derive(Drop)]
+pub(crate) struct TreeCall<'a, R> {
+    pub(crate) space: &'a ForestSpace,
+    pub(crate) alloc: Global,
+    pub(crate) index: u32,
+    pub(crate) key: &'a Key,
+    pub(crate) wait: &'a R,
+    ghost forest: { IsForest space.now },
+    ghost few: { space.now.terms.shape.pages ≤ 65536 },
+    ghost there: { index < space.now.terms.shape.indexes },
+    ghost fits: { length key.now.tuple ≡ fields_for space.now.terms.shape index },
+}
