@@ -5,8 +5,8 @@ use Rattle.map_history.specs.LegalReport.{Line}
 use Rattle.script.specs.Schema.{SchemaText}
 use Rattle.script.specs.Views.{schema_text}
 use Rattle.index_engine.specs.declared.error.EngineError.{EngineError}
-use Rattle.index_engine.specs.declared.setting.Setting.{Setting}
-use Rattle.index_engine.specs.Settings.{first_broken}
+use Rattle.settings.specs.declared.setting.Setting.{Setting}
+use Rattle.settings.specs.Limits.{first_broken}
 use Rattle.lane_threads.specs.Together.{lane_texts}
 use Rattle.ahi_cli.specs.declared.files.Script.{Script}
 use Rattle.ahi_cli.specs.declared.stop.Stop.{Stop}

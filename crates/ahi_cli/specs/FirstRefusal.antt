@@ -4,7 +4,7 @@ use Rattle.std.specs.Option.{option_or, option_map}
 use Rattle.io_port.specs.Shelf.{Files}
 use Rattle.script.specs.declared.error.ScriptError.{ScriptError}
 use Rattle.script.specs.Schema.{SchemaText, schema_of}
-use Rattle.index_engine.specs.Settings.{first_broken}
+use Rattle.settings.specs.Limits.{first_broken}
 use Rattle.ahi_cli.specs.declared.stop.Stop.{Stop}
 use Rattle.ahi_cli.specs.declared.stop.Stop.TheVariants.{Usage, Shelf, Sizes}
 use Rattle.ahi_cli.specs.Stops.{schema_stop, lane_stop}

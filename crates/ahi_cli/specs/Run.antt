@@ -4,8 +4,9 @@ use Rattle.std.specs.Option.{ForSome}
 use Rattle.std.specs.List.{AllByRecursion}
 use Rattle.io_port.specs.Shelf.{Files}
 use Rattle.io_port.specs.declared.shelf.Shelf.{Ghosts}
-use Rattle.map_history.specs.LegalReport.{Line, Run, IsLegalBytes}
+use Rattle.map_history.specs.LegalReport.{Line, Run, IsLegalButRoom}
 use Rattle.map_history.specs.Report.{AnswerLine, IndexPart, Report}
+use Rattle.map_history.specs.Spelling.{spell}
 use Rattle.map_history.specs.Statistics.{counts_of}
 use Rattle.script.specs.Schema.{SchemaText}
 use Rattle.index_engine.specs.declared.engine.EnginePass.{EnginePass}
@@ -42,10 +43,17 @@ pub record IsWithoutHash (report : Report) : Type 0 where
 abbrev pub run_over : SchemaText → List (List Line) → Run
 run_over schema lanes = record { sizes = schema.sizes; names = schema.names; lanes = lanes }
 
--- the bytes are a legal report of these lanes over a schema
+-- the bytes spell a report of the run that is legal, but that `space-full` may be told of a put
+-- however many pages there are
+pub record IsLegalText (run : Run) (bytes : List ℕ) : Type 0 where
+  pub report : Report
+  pub spelled : bytes ≡ spell report
+  pub legal : IsLegalButRoom run report
+
+-- the bytes are a report of these lanes over a schema that is legal but for room
 pub record IsReportOf (schema : SchemaText) (lanes : List (List Line))
     (bytes : List ℕ) : Type 0 where
-  pub legal : IsLegalBytes (run_over schema lanes) bytes
+  pub legal : IsLegalText (run_over schema lanes) bytes
   pub without_hash : IsWithoutHash legal.report
 
 -- they are, and what they tell is what this pass did, in an engine of the schema's sizes
@@ -75,7 +83,7 @@ pub record Tells (IsTold : SchemaText → List (List Line) → List ℕ → Type
   pub unrefused : HasFirst asked None
   pub report : ForSome asked.told (λ files. TellsFiles IsTold files names bytes)
 
--- the bytes are a legal report of what is asked
+-- the bytes are such a report of what is asked
 abbrev pub Reports : Asked → List ℕ → Type 0
 Reports = Tells IsReportOf
 

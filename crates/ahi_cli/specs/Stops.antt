@@ -8,8 +8,7 @@ use Rattle.script.specs.declared.error.Flaw.{Flaw}
 use Rattle.script.specs.declared.error.Flaw.TheVariants as flaw
 use Rattle.script.specs.Schema.{SchemaText, schema_of}
 use Rattle.script.specs.Lane.{lane_of}
-use Rattle.index_engine.specs.declared.setting.Setting.{Setting}
-use Rattle.index_engine.specs.declared.setting.Setting.TheVariants.{Blocks, Pages, Parts, Cells, Nodes, FoldBits, MaxChanges}
+use Rattle.settings.specs.Words.{setting_word}
 use Rattle.ahi_cli.specs.declared.status.Status.{Status}
 use Rattle.ahi_cli.specs.declared.status.Status.TheVariants as status
 use Rattle.ahi_cli.specs.declared.stop.Stop.{Stop}
@@ -23,16 +22,6 @@ status_of (Shelf file) = status.ShelfFault
 status_of (TooLarge file) = status.TooLarge
 status_of (Sizes setting) = status.TooLarge
 status_of NoMemory = status.NoMemory
-
--- the schema's word for a setting
-abbrev pub setting_word : Setting → List ℕ
-setting_word Blocks = codes "blocks"
-setting_word Pages = codes "pages"
-setting_word Parts = codes "parts"
-setting_word Cells = codes "cells"
-setting_word Nodes = codes "nodes"
-setting_word FoldBits = codes "fold_bits"
-setting_word MaxChanges = codes "max_changes"
 
 -- the line that tells a refusal
 abbrev pub stop_text : Stop → List ℕ

@@ -3,7 +3,7 @@ use Rattle.std.specs.Prelude.{ℕ, Bool, false, not, ◌&&◌, ◌==◌, Option,
 use Rattle.std.specs.List.{list_all}
 use Rattle.std.specs.Str.{bytes_eq}
 use Rattle.map_history.specs.declared.TheConstants.{MAX_LANES}
-use Rattle.index_engine.specs.Settings.{is_within}
+use Rattle.settings.specs.Limits.{is_within}
 use Rattle.ahi_cli.specs.declared.words.Command.{Command}
 
 -- a word that can name a file: it isn't empty and doesn't begin with `-`

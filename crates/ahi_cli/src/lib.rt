@@ -1,4 +1,4 @@
-//! The top call: words and files in, a report out, and the theorem that it is legal.
+//! The top call: words and files in, a report out, and the theorem that it is legal but for room.
 #![tactic(auto)]
 
 mod files;

@@ -1,11 +1,11 @@
 //! Why a run isn't done.
 ghost use Rattle.std.specs.Prelude.{◌≡◌, ◌++◌, OnOk, OnErr};
-ghost use Rattle.ahi_cli.specs.Stops.{setting_word, stop_text, status_of};
+ghost use Rattle.ahi_cli.specs.Stops.{stop_text, status_of};
 
 use crate::status::Status;
-use index_engine::Setting;
 use key_tuple::{Blank, NoMemory};
 use report_text::{Word, put_line};
+use settings::Setting;
 use std::alloc::AllocFailed;
 
 /// Why a run isn't done. Files are numbered from 0: the schema, then the lanes.
@@ -65,25 +65,10 @@ impl Stop {
             ),
             Stop::Sizes { setting } => put_line::<Blank>(
                 out,
-                &[Word::Text("sizes"), Word::Text(word(*setting))],
+                &[Word::Text("sizes"), Word::Text(setting.word())],
             ),
             Stop::NoMemory => Ok(()),
         }
-    }
-}
-
-/// The schema's word for a setting.
-fn word(setting: Setting) -> &'static str
-    ensures { result.now ≡ setting_word setting }
-{
-    match setting {
-        Setting::Blocks => "blocks",
-        Setting::Pages => "pages",
-        Setting::Parts => "parts",
-        Setting::Cells => "cells",
-        Setting::Nodes => "nodes",
-        Setting::FoldBits => "fold_bits",
-        Setting::MaxChanges => "max_changes",
     }
 }
 

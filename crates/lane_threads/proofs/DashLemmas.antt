@@ -12,7 +12,7 @@ use Rattle.lane_work.specs.Works.{HasDashes}
 dashes_of : (answer : Answer) → HasDashes answer → AllByRecursion (λ c. c ≡ dashes) (columns_of answer)
 dashes_of (Replied reply point columns) has = (has, tt)
 dashes_of (LogFull n columns) has = (has, tt)
-dashes_of (SpaceFull columns) has = absurd has
+dashes_of (SpaceFull columns) has = (has, tt)
 dashes_of (Scanned pieces) has = absurd has
 
 chosen : (b : Bool) (columns : List Columns) → AllByRecursion (λ c. c ≡ dashes) columns → AllByRecursion (λ c. c ≡ dashes) (cond b columns [])

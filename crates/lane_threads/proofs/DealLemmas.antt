@@ -4,7 +4,7 @@ use Rattle.std.proofs.lemmas.Result.{IfOk-weaker}
 use mathlib.Core.Option.{some, some-injective, some-ne-none}
 use lib.ListN.{get_elem?}
 use Rattle.latch_law.specs.Views.{said_below, said_from, middle, left_part, right_part}
-use Rattle.index_law.specs.Spoken.{View, OwnAnswer}
+use Rattle.call_law.specs.Spoken.{View, OwnAnswer}
 use Rattle.index_engine.specs.declared.engine.Engine.{Engine}
 use Rattle.index_engine.specs.declared.engine.EnginePass.{EnginePass}
 use Rattle.index_engine.specs.Engines.{known, IsOf}

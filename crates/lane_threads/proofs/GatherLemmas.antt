@@ -5,7 +5,7 @@ use mathlib.Core.Option.{some, some-injective, some-ne-none}
 use lib.ListN.{get_elem?}
 use Rattle.latch_law.specs.Views.{both_parts}
 use Rattle.list_facts.specs.Parts.{longer}
-use Rattle.index_law.specs.Spoken.{View, OwnAnswer}
+use Rattle.call_law.specs.Spoken.{View, OwnAnswer}
 use Rattle.index_law.specs.State.{Entries}
 use Rattle.index_engine.specs.declared.engine.Engine.{Engine}
 use Rattle.index_engine.specs.declared.engine.EnginePass.{EnginePass}

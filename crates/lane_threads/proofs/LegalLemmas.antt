@@ -9,15 +9,13 @@ use Rattle.change_log.specs.Merge.{AreMerges}
 use Rattle.change_log.specs.Entries.{printed_entries, ArePrinted, AreCountedUp}
 use Rattle.list_facts.proofs.Places.{same_some, there, get_inside}
 use Rattle.list_facts.proofs.Elements.{map_get_from, zip_from}
-use Rattle.list_facts.proofs.Each.{each_weaker}
 use Rattle.latch_law.specs.declared.knows.Terms.{Terms}
 use Rattle.map_history.specs.declared.op.Op.{Op}
 use Rattle.map_history.specs.declared.op.Op.TheVariants as op
 use Rattle.map_history.specs.declared.sizes.Sizes.{Sizes}
-use Rattle.map_history.specs.LegalReport.{IsLegalReport, is_space_full}
 use Rattle.map_history.specs.LegalReport as legal
 use Rattle.map_history.specs.Operation.{is_scan, operation_of}
-use Rattle.map_history.specs.Report.{Answer, Replied, LogFull, SpaceFull, Scanned, AnswerLine, ChangeLine, IndexPart, Report}
+use Rattle.map_history.specs.Report.{ChangeLine, IndexPart, Report}
 use Rattle.map_history.specs.Statistics.{counts_of}
 use Rattle.map_history.specs.declared.line.Line.{Line}
 use Rattle.map_history.specs.Lines.{line_texts}
@@ -30,11 +28,9 @@ use Rattle.lane_law.proofs.MergedLemmas.{noted_printed, are_entries}
 use Rattle.lane_law.proofs.MergeLemmas.{are_lists}
 use Rattle.lane_law.proofs.TrailLemmas.{trail}
 use Rattle.lane_law.specs.Merged.{IsNumbered, HasMerged}
-use Rattle.map_history.proofs.RoomLemmas.{room-no_space_full}
 use Rattle.lane_law.specs.Reports.{part_with, report_with}
 use Rattle.lane_law.specs.Runs.{RunsAll, AreEntries}
 use Rattle.lane_work.specs.Workable.{IsOpOf, AreLinesOf}
-use Rattle.lane_work.specs.Works.{HasDashes}
 use Rattle.lane_threads.specs.Together.{lane_texts, AllAreLinesOf, RanTogether, AreReported, lanes_run}
 use Rattle.lane_threads.proofs.DashLemmas.{nothing_counted}
 
@@ -79,16 +75,6 @@ part_entries names entries i part at =
     let p = map_get_from part_with (zip names entries) i part at in
     (zip_from names entries i p.0 p.1).1 ∙ ap (λ (z : IndexPart). Some z.entries) p.2
 
--- no answer with dashes is that space is full
-never_full : (answers : List AnswerLine) → AllByRecursion (λ (a : AnswerLine). HasDashes a.answer) answers → AllByRecursion (λ (a : AnswerLine). is_space_full a.answer ≡ false) answers
-never_full answers all = each_weaker (λ (a : AnswerLine). HasDashes a.answer) (λ (a : AnswerLine). is_space_full a.answer ≡ false) (λ a has. pick a.answer has) answers all
-  where
-    pick : (answer : Answer) → HasDashes answer → is_space_full answer ≡ false
-    pick (Replied reply point columns) has = refl
-    pick (LogFull n columns) has = refl
-    pick (SpaceFull columns) has = absurd has
-    pick (Scanned pieces) has = absurd has
-
 module _ (sizes : Sizes) (fields : List ℕ) (names : List (List ℕ)) (lanes : List (Vec Line Global)) (texts : List (List (List ℕ))) (logs : List Log) (pass : EnginePass) (changes : List (List ChangeNote))
     (paired : length names ≡ length fields) (all : AllAreLinesOf fields lanes) (merged : AreMerges (length names) logs changes) (ran : RanTogether sizes fields (lane_texts lanes) texts logs pass) where
   abbrev run : legal.Run
@@ -124,7 +110,7 @@ module _ (sizes : Sizes) (fields : List ℕ) (names : List (List ℕ)) (lanes : 
   numbered : (i : ℕ) (notes : List ChangeNote) (at : slice_get changes i ≡ Some notes) → (xs : Entries) × IsNumbered run report i xs notes
   numbered i notes at =
       let below = get_inside changes i notes at in
-      let lists = runs.lawful.counted.lists in
+      let lists = runs.lawful.objects.counted.lists in
       let indexes = runs.indexes in
       let count = merged.count in
       let xs = there ran.fitted.whole.lists i (omega arith) in
@@ -145,10 +131,7 @@ module _ (sizes : Sizes) (fields : List ℕ) (names : List (List ℕ)) (lanes : 
   -- the changes are reported
   pub reported : AreReported run report pass changes entries
   reported = record {
-    legal = record {
-      but_room = proved.legal run report ran.fitted.whole (known pass) (plain_lanes fields lanes all) runs in_lists;
-      room = room-no_space_full run report (each_weaker (λ (told : List AnswerLine). AllByRecursion (λ (a : AnswerLine). HasDashes a.answer) told) (λ (told : List AnswerLine). AllByRecursion (λ (a : AnswerLine). is_space_full a.answer ≡ false) told) never_full ran.answers ran.dashed);
-    };
+    legal = proved.legal run report ran.fitted.whole (known pass) (plain_lanes fields lanes all) runs in_lists;
     trail = trail run report ran.fitted.whole (known pass) runs in_lists;
     printed = zip_from_each ArePrinted printed_entries changes (all_from (λ notes. ArePrinted notes (printed_entries notes)) changes printed);
     counted = all_from AreCountedUp changes (λ i notes at. (numbered i notes at).1.numbers);

@@ -10,7 +10,7 @@ use Rattle.map_history.specs.LegalReport as legal
 use Rattle.map_history.specs.Report.{AnswerLine}
 use Rattle.map_history.specs.declared.line.Line.{Line}
 use Rattle.map_history.specs.Lines.{line_texts}
-use Rattle.index_law.specs.Spoken.{View, Spoken, OwnAnswer, spoken}
+use Rattle.call_law.specs.Spoken.{View, Spoken, OwnAnswer, spoken}
 use Rattle.index_engine.specs.declared.engine.Engine.{Engine}
 use Rattle.index_engine.specs.declared.engine.EnginePass.{EnginePass}
 use Rattle.index_engine.specs.Engines.{known, IsOf}
@@ -24,7 +24,7 @@ use Rattle.lane_threads.specs.Together.{lane_texts}
 use Rattle.lane_threads.specs.declared.doer.DoneLane.{DoneLane}
 use Rattle.lane_threads.specs.declared.doer.LaneDoer.{LaneDoer}
 use Rattle.lane_threads.specs.declared.doer.ReadyLane.{ReadyLane}
-use Rattle.lane_threads.specs.Doing.{Does, WorkedOnce, IsReadyFor, AreReadyFor}
+use Rattle.lane_threads.specs.Doing.{DoesLane, WorkedOnce, IsReadyFor, AreReadyFor}
 
 -- each pass has these sizes
 abbrev pub HaveSizes : Sizes → List EnginePass → Type 0
@@ -57,7 +57,7 @@ module _ (engine : Engine) (sizes : Sizes) where
       → IsRan engine sizes (n, line_texts lines) done
   ran_one n p lines doer doer' done ready worked is one fresh same =
       let lane = ready.lane in
-      let does : Does lane done = if_some (Does lane) doer'.done done is (if_some (λ (l : ReadyLane). IfSome doer'.done (Does l)) doer.ready lane ready.ready worked) in
+      let does : DoesLane lane done = if_some (DoesLane lane) doer'.done done is (if_some (λ (l : ReadyLane). IfSome doer'.done (DoesLane l)) doer.ready lane ready.ready worked) in
       let pass_is = ready.pass_is in
       let low : (known lane.pass).low ≡ n = ap (λ (q : EnginePass). (known q).low) pass_is ∙ one.low in
       record {

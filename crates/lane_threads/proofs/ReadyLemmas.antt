@@ -17,7 +17,8 @@ use Rattle.map_history.specs.declared.line.Line.{Line}
 use Rattle.index_law.specs.Shape.{Shape}
 use Rattle.index_engine.specs.declared.engine.Engine.{Engine}
 use Rattle.index_engine.specs.declared.engine.EnginePass.{EnginePass}
-use Rattle.index_engine.specs.Engines.{known, IsOf, terms_for}
+use Rattle.forest_world.specs.Opening.{forest_terms}
+use Rattle.index_engine.specs.Engines.{known, IsOf}
 use Rattle.lane_work.specs.Workable.{IsWorkableOp, AreWorkable, IsOpOf, AreLinesOf}
 use Rattle.lane_threads.specs.Ready.{IsReady}
 use Rattle.lane_threads.specs.Together.{AllAreLinesOf}
@@ -62,7 +63,7 @@ module _ (engine : Engine) (lane : ℕ) (pass : EnginePass) (lines : List Line) 
     lines_can = ∥∥₁_elim ready (lines_prop engine lines) (λ r. r.lines_can);
   }
 
-module _ (engine : Engine) (sizes : Sizes) (fields : List ℕ) (lanes : ℕ) (terms : engine.space.terms ≡ terms_for sizes fields lanes) where
+module _ (engine : Engine) (sizes : Sizes) (fields : List ℕ) (lanes : ℕ) (terms : engine.space.terms ≡ forest_terms sizes fields lanes) where
   workable_op : (o : Op) → IsOpOf fields o → IsWorkableOp engine o
   workable_op (op.Get index key) can = let below = inside fields index (length key.tuple) can in let count = ap (λ (t : Terms Shape). t.indexes) terms in (omega (arith, below, count), ap (λ (t : Terms Shape). get_elem? t.shape.fields index) terms ∙ can)
   workable_op (op.Put index key value) can = let below = inside fields index (length key.tuple) can in let count = ap (λ (t : Terms Shape). t.indexes) terms in (omega (arith, below, count), ap (λ (t : Terms Shape). get_elem? t.shape.fields index) terms ∙ can)

@@ -1,9 +1,9 @@
 -- What the passes of lanes say, one behind another.
-use Rattle.std.proofs.Common.{◌≡◌, ℕ, suc, ◌+◌, List, [], ◌∷◌, ◌++◌, refl, ap, sym, ◌∙◌, subst, arith, append_assoc}
+use Rattle.std.proofs.Common.{◌≡◌, ℕ, suc, ◌+◌, List, [], ◌∷◌, ◌++◌, refl, ap, ◌∙◌, subst, arith}
 use Rattle.map_history.specs.Report.{AnswerLine}
 use Rattle.map_history.specs.LegalReport.{Line}
-use Rattle.index_law.specs.Spoken.{spoken}
-use Rattle.index_law.proofs.TraceLemmas.{spoken-append}
+use Rattle.call_law.specs.Spoken.{spoken}
+use Rattle.call_law.proofs.TraceLemmas.{spoken-append}
 use Rattle.index_engine.specs.declared.engine.EnginePass.{EnginePass}
 use Rattle.index_engine.specs.Engines.{known}
 use Rattle.lane_law.specs.Worked.{lane_sayings}
@@ -11,8 +11,6 @@ use Rattle.lane_law.specs.Runs.{all_sayings}
 use Rattle.lane_threads.specs.Dealt.{AreLanes}
 use Rattle.lane_threads.specs.Gathered.{ArePassesOf, AreInRow, all_said, Gathers}
 use Rattle.index_engine.specs.declared.engine.Engine.{Engine}
-use mathlib.Core.Option.{some}
-use lib.ListN.{get_elem?}
 use Rattle.lane_threads.specs.Said.{SayLanes}
 
 -- all but the first said what their lanes were answered

@@ -13,13 +13,14 @@ use Rattle.map_history.specs.declared.sizes.Sizes.{Sizes}
 use Rattle.map_history.specs.LegalReport as legal
 use Rattle.map_history.specs.declared.line.Line.{Line}
 use Rattle.map_history.specs.Lines.{line_texts}
-use Rattle.index_law.specs.Law.{IsLawful}
-use Rattle.index_law.specs.References.{IsReference}
+use Rattle.forest_law.specs.Law.{IsLawful}
+use Rattle.forest_law.specs.References.{IsReference}
 use Rattle.index_law.specs.Rightness.{IsRight}
-use Rattle.index_law.specs.Spoken.{View}
+use Rattle.call_law.specs.Spoken.{View}
 use Rattle.index_engine.specs.declared.engine.Engine.{Engine}
 use Rattle.index_engine.specs.declared.engine.EnginePass.{EnginePass}
-use Rattle.index_engine.specs.Engines.{known, IsOf, terms_for}
+use Rattle.forest_world.specs.Opening.{forest_terms}
+use Rattle.index_engine.specs.Engines.{known, IsOf}
 use Rattle.lane_threads.specs.Dealt.{AreLanes, AreDealt, AreFresh}
 use Rattle.lane_threads.specs.Gathered.{Gathers}
 use Rattle.lane_threads.proofs.SayLemmas.{all_gathered}
@@ -40,7 +41,7 @@ last_place (x ∷ []) some_there = (0, x, refl, refl)
 last_place (x ∷ y ∷ xs) some_there = let rest = last_place (y ∷ xs) (omega arith) in let long = rest.3 in (suc rest.0, rest.1, rest.2, omega (arith, long))
 
 module _ (engine : Engine) (sizes : Sizes) (fields : List ℕ) (lanes : List (List legal.Line)) (done : List DoneLane) (whole : EnginePass)
-    (opened : engine.space.terms ≡ terms_for sizes fields (length lanes)) (some_lanes : 0 < length lanes)
+    (opened : engine.space.terms ≡ forest_terms sizes fields (length lanes)) (some_lanes : 0 < length lanes)
     (ran : AreRan engine sizes 0 lanes done) (gathers : Gathers engine (map (λ (d : DoneLane). d.pass) done) whole) (fitted : IsFitted IsLawful IsRight IsReference (known whole)) where
   all_told : AreTold engine sizes 0 lanes done
   all_told = told engine sizes 0 lanes done ran
@@ -78,9 +79,9 @@ module _ (engine : Engine) (sizes : Sizes) (fields : List ℕ) (lanes : List (Li
 
 -- an engine was opened, its pass dealt, the lanes made ready, worked and taken apart
 module _ (engine : Engine) (sizes : Sizes) (fields : List ℕ) (lanes : List (Vec Line Global)) (first : EnginePass)
-    (opened : IsOf engine first × (first.sizes ≡ sizes) × (known first ≡ first_view (terms_for sizes fields (length lanes)))) where
+    (opened : IsOf engine first × (first.sizes ≡ sizes) × (known first ≡ first_view (forest_terms sizes fields (length lanes)))) where
   -- so these are its terms
-  pub terms_are : engine.space.terms ≡ terms_for sizes fields (length lanes)
+  pub terms_are : engine.space.terms ≡ forest_terms sizes fields (length lanes)
   terms_are = sym opened.0.1 ∙ ap (λ (v : View). v.terms) opened.2
 
   pub first_fresh : (known first).said ≡ []
@@ -127,7 +128,7 @@ module _ (engine : Engine) (sizes : Sizes) (fields : List ℕ) (lanes : List (Ve
       -- and this is known of the joined one
       pub together : (whole : EnginePass) → 0 < length lanes → Gathers engine passes whole → IsFitted IsLawful IsRight IsReference (known whole) → RanTogether sizes fields (lane_texts lanes) texts logs whole
       together whole some_lanes gathers fitted =
-          let terms : engine.space.terms ≡ terms_for sizes fields (length (lane_texts lanes)) = terms_are ∙ ap (λ (n : ℕ). terms_for sizes fields n) (sym texts_long) in
+          let terms : engine.space.terms ≡ forest_terms sizes fields (length (lane_texts lanes)) = terms_are ∙ ap (λ (n : ℕ). forest_terms sizes fields n) (sym texts_long) in
           let those = joined engine sizes fields (lane_texts lanes) parts.done whole terms (omega (arith, some_lanes, texts_long)) ran (subst (λ (ps : List EnginePass). Gathers engine ps whole) parts.passes_are gathers) fitted in
           subst (λ (ts : List (List (List ℕ))). RanTogether sizes fields (lane_texts lanes) ts logs whole) (sym parts.texts_are)
           (subst (λ (ls : List Log). RanTogether sizes fields (lane_texts lanes) (map (λ (d : DoneLane). d.work.answers) parts.done) ls whole) (sym parts.logs_are) those)

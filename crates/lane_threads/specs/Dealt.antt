@@ -2,7 +2,7 @@
 use Rattle.std.specs.Prelude.{ℕ, ◌≡◌, ◌+◌, ◌<◌, ◌≤◌, List, [], ◌∷◌, ◌++◌, length, cond, nat_eq}
 use mathlib.Core.Option.{some}
 use lib.ListN.{get_elem?}
-use Rattle.index_law.specs.Spoken.{OwnAnswer, View}
+use Rattle.call_law.specs.Spoken.{OwnAnswer, View}
 use Rattle.index_engine.specs.declared.engine.Engine.{Engine}
 use Rattle.index_engine.specs.declared.engine.EnginePass.{EnginePass}
 use Rattle.index_engine.specs.Engines.{known, IsOf}

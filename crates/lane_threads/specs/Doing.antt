@@ -14,7 +14,7 @@ use Rattle.lane_threads.specs.declared.doer.LaneDoer.{LaneDoer}
 use Rattle.lane_threads.specs.declared.doer.ReadyLane.{ReadyLane}
 
 -- the lane worked all its lines, by the same pass
-pub record Does (lane : ReadyLane) (done : DoneLane) : Type 0 where
+pub record DoesLane (lane : ReadyLane) (done : DoneLane) : Type 0 where
   pub same : IsSame lane.pass done.pass
   pub own : IsOf lane.engine.now done.pass
   pub works : Works (known lane.pass) (known done.pass)
@@ -22,7 +22,7 @@ pub record Does (lane : ReadyLane) (done : DoneLane) : Type 0 where
 
 -- a lane that could work is done, unless memory lacked
 abbrev pub WorkedOnce : LaneDoer → LaneDoer → Type 0
-WorkedOnce old new = IfSome old.ready (λ lane. IfSome new.done (Does lane))
+WorkedOnce old new = IfSome old.ready (λ lane. IfSome new.done (DoesLane lane))
 
 -- the doer is ready to work these lines by this pass
 pub record IsReadyFor (engine : Engine) (pass : EnginePass) (lines : List Line)

@@ -4,7 +4,7 @@ use mathlib.Core.Option.{some}
 use lib.ListN.{get_elem?}
 use Rattle.map_history.specs.Report.{AnswerLine}
 use Rattle.map_history.specs.LegalReport.{Line}
-use Rattle.index_law.specs.Spoken.{spoken}
+use Rattle.call_law.specs.Spoken.{spoken}
 use Rattle.index_engine.specs.declared.engine.EnginePass.{EnginePass}
 use Rattle.index_engine.specs.Engines.{known}
 use Rattle.lane_law.specs.Worked.{lane_sayings}

@@ -1,23 +1,24 @@
 -- Lanes that work one engine together, and what their report is.
-use Rattle.std.specs.Prelude.{ℕ, ◌≡◌, Vec, List, [], length, map}
-use Rattle.std.specs.List.{AllByRecursion, AllZip, zip}
+use Rattle.std.specs.Prelude.{ℕ, ◌≡◌, Vec, List, length, map}
+use Rattle.std.specs.List.{AllByRecursion, AllZip}
 use Rattle.std.specs.declared.alloc.Global.{Global}
 use Rattle.change_log.specs.Log.{ChangeNote, Log}
 use Rattle.change_log.specs.Merge.{AreMerges}
 use Rattle.change_log.specs.Entries.{printed_entries, ArePrinted, AreCountedUp}
 use Rattle.latch_law.specs.Fitting.{IsFitted}
 use Rattle.map_history.specs.declared.sizes.Sizes.{Sizes}
-use Rattle.map_history.specs.LegalReport.{Run, IsLegalReport}
+use Rattle.map_history.specs.LegalReport.{Run, IsLegalButRoom}
 use Rattle.map_history.specs.LegalReport as legal
-use Rattle.map_history.specs.Report.{AnswerLine, ChangeLine, IndexPart, Report}
+use Rattle.map_history.specs.Report.{AnswerLine, ChangeLine, Report}
 use Rattle.map_history.specs.declared.line.Line.{Line}
 use Rattle.map_history.specs.Lines.{line_texts}
-use Rattle.index_law.specs.Law.{IsLawful}
-use Rattle.index_law.specs.References.{IsReference}
+use Rattle.forest_law.specs.Law.{IsLawful}
+use Rattle.forest_law.specs.References.{IsReference}
 use Rattle.index_law.specs.Rightness.{IsRight}
-use Rattle.index_law.specs.Spoken.{spoken}
+use Rattle.call_law.specs.Spoken.{spoken}
 use Rattle.index_engine.specs.declared.engine.EnginePass.{EnginePass}
-use Rattle.index_engine.specs.Engines.{known, terms_for}
+use Rattle.forest_world.specs.Opening.{forest_terms}
+use Rattle.index_engine.specs.Engines.{known}
 use Rattle.report_text.specs.Texts.{answer_line_text}
 use Rattle.lane_law.specs.Merged.{all_notes}
 use Rattle.lane_law.specs.Reports.{report_with}
@@ -46,7 +47,7 @@ pub record RanTogether (sizes : Sizes) (fields : List ℕ) (lanes : List (List l
   pub said : spoken (known pass).said ≡ all_sayings 0 lanes answers
   pub low : (known pass).low ≡ 0
   pub end : (known pass).end ≡ length lanes
-  pub terms : (known pass).terms ≡ terms_for sizes fields (length lanes)
+  pub terms : (known pass).terms ≡ forest_terms sizes fields (length lanes)
   pub sizes_are : pass.sizes ≡ sizes
   pub fitted : IsFitted IsLawful IsRight IsReference (known pass)
 
@@ -59,11 +60,11 @@ AllAreLinesOf fields lanes =
 abbrev pub lanes_run : Sizes → List (List ℕ) → List (Vec Line Global) → Run
 lanes_run sizes names lanes = record { sizes = sizes; names = names; lanes = lane_texts lanes }
 
--- What is known of the changes that such lanes merged: they are the entries of a legal report, one
--- of each and numbered from 1, and the joined pass did what it tells.
+-- What is known of the changes that such lanes merged: they are the entries of a report that is
+-- legal but for room, one of each and numbered from 1, and the joined pass did what it tells.
 pub record AreReported (run : Run) (report : Report) (pass : EnginePass)
     (changes : List (List ChangeNote)) (entries : List (List ChangeLine)) : Type 0 where
-  pub legal : IsLegalReport run report
+  pub legal : IsLegalButRoom run report
   pub trail : IsTrail run report (known pass)
   pub printed : AllZip ArePrinted changes entries
   pub counted : AllByRecursion AreCountedUp changes

@@ -1,6 +1,6 @@
 //! How a lane works.
 ghost use Rattle.std.specs.Prelude.{IfOk};
-ghost use Rattle.lane_threads.specs.Doing.{Does, WorkedOnce};
+ghost use Rattle.lane_threads.specs.Doing.{DoesLane, WorkedOnce};
 
 use crate::doer::{DoneLane, LaneDoer, ReadyLane};
 use key_tuple::NoMemory;
@@ -12,7 +12,7 @@ use std::thread::Threads;
 impl<'e, 'a> ReadyLane<'e, 'a> {
     /// Works all lines. After `NoMemory` the pass is gone, and its number with it.
     fn work<W: Wait, G: Gate>(self, wait: &W, gate: &G) -> Result<DoneLane<'a>, NoMemory>
-        ensures { IfOk result (Does self.entry) }
+        ensures { IfOk result (DoesLane self.entry) }
     {
         let ReadyLane {
             alloc,

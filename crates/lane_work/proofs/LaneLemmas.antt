@@ -1,5 +1,5 @@
 -- A lane's work, one line more.
-use Rattle.std.proofs.Common.{◌≡◌, ◌≢◌, ℕ, zero, suc, ◌+◌, ◌<◌, ◌≤◌, Option, None, false, IfSome, List, [], ◌∷◌, ◌++◌, length, get_or, take, refl, ap, ◌∙◌, sym, subst, arith, Some}
+use Rattle.std.proofs.Common.{◌≡◌, ℕ, zero, suc, ◌+◌, ◌<◌, ◌≤◌, Option, None, false, IfSome, List, [], ◌∷◌, ◌++◌, length, get_or, take, refl, ap, ◌∙◌, sym, subst, arith, Some}
 use Rattle.std.proofs.lemmas.List.{take_more, map-append}
 use Rattle.std.specs.List.{AllZip, AllByRecursion}
 use Rattle.change_log.specs.Log.{Log}
@@ -11,17 +11,17 @@ use Rattle.map_history.specs.declared.reply.Reply.TheVariants as word
 use Rattle.map_history.specs.declared.reply.Told.{Told}
 use Rattle.map_history.specs.Map.{Pair}
 use Rattle.map_history.specs.Operation.{is_scan, operation_of}
-use Rattle.map_history.specs.Report.{AnswerLine, dashes}
+use Rattle.map_history.specs.Report.{AnswerLine}
 use Rattle.map_history.specs.Spelling.{answer_text}
-use Rattle.map_history.specs.Told.{answer_of, columns_told}
+use Rattle.map_history.specs.Told.{answer_of}
 use Rattle.map_history.specs.LegalReport as legal
 use Rattle.map_history.specs.declared.line.Line.{Line}
 use Rattle.map_history.specs.Lines.{line_text, line_texts}
-use Rattle.index_law.specs.Spoken.{View}
+use Rattle.call_law.specs.Spoken.{View}
 use Rattle.index_engine.specs.declared.engine.Engine.{Engine}
 use Rattle.index_engine.specs.declared.engine.EnginePass.{EnginePass}
 use Rattle.index_engine.specs.Engines.{known, IsOf, IsSame}
-use Rattle.index_engine.specs.Says.{TellsOnce}
+use Rattle.index_engine.specs.Tells.{TellsOnce}
 use Rattle.report_text.specs.Texts.{answer_line_text}
 use Rattle.lane_law.specs.Merged.{notes_of}
 use Rattle.lane_law.specs.Worked.{answered}
@@ -58,7 +58,7 @@ works_more u v w lines texts texts' log log' line told row lane works room plain
       worked = worked_more u v w lines works.answers line answer works.worked room (plain_marks line.op.ask answer plain tells.once.form) tells.once;
       printed = text ∙ (ap (λ xs. xs ++ answer_text line.line answer ∷ []) works.printed ∙ sym (map-append answer_line_text works.answers (answered line answer ∷ [])));
       noted = noted ∙ ((λ i. works.noted i ++ note i) ∙ sym (notes_more u.low lines works.answers line answer (long lines works.answers works.worked.in_order.form)));
-      dashed = all_push (λ (a : AnswerLine). HasDashes a.answer) works.answers (answered line answer) works.dashed (dashes_told line.op.ask told.reply told.point told.how told.note row answer tells.is_told.is tells.is_told.plain.dashed tells.is_told.plain.room);
+      dashed = all_push (λ (a : AnswerLine). HasDashes a.answer) works.answers (answered line answer) works.dashed (dashes_told line.op.ask told.reply told.point told.how told.note row answer tells.is_told.is tells.is_told.dashed);
     }
 
 -- the line at a place can be worked

@@ -72,10 +72,10 @@ reply_dashes (Some r) None columns answer is e = absurd cc
 reply_dashes (Some r) (Some p) columns answer is e = subst HasDashes (same_some (Replied r p columns) answer e) is
 
 -- an answer that is told with dashes, and isn't that space is full, has dashes
-pub dashes_told : (ask : Ask) (reply : Reply) (point : Option ℕ) (how : How) (note : Note) (row : Pair) (answer : Answer) → answer_of ask (record { reply = reply; point = point; how = how; note = note }) row ≡ Some answer → record { how = how; note = note } ≡ dashes → reply ≢ word.SpaceFull → HasDashes answer
-dashes_told ask word.Found point how note row answer e is room = reply_dashes (said ask word.Found row) point (record { how = how; note = note }) answer is e
-dashes_told ask word.Absent point how note row answer e is room = reply_dashes (Some Absent) point (record { how = how; note = note }) answer is e
-dashes_told ask word.Ok point how note row answer e is room = reply_dashes (Some Done) point (record { how = how; note = note }) answer is e
-dashes_told ask word.Duplicate point how note row answer e is room = reply_dashes (Some Duplicate) point (record { how = how; note = note }) answer is e
-dashes_told ask word.SpaceFull point how note row answer e is room = absurd (room refl)
-dashes_told ask (word.LogFull n) point how note row answer e is room = subst HasDashes (same_some (LogFull n (record { how = how; note = note })) answer e) is
+pub dashes_told : (ask : Ask) (reply : Reply) (point : Option ℕ) (how : How) (note : Note) (row : Pair) (answer : Answer) → answer_of ask (record { reply = reply; point = point; how = how; note = note }) row ≡ Some answer → record { how = how; note = note } ≡ dashes → HasDashes answer
+dashes_told ask word.Found point how note row answer e is = reply_dashes (said ask word.Found row) point (record { how = how; note = note }) answer is e
+dashes_told ask word.Absent point how note row answer e is = reply_dashes (Some Absent) point (record { how = how; note = note }) answer is e
+dashes_told ask word.Ok point how note row answer e is = reply_dashes (Some Done) point (record { how = how; note = note }) answer is e
+dashes_told ask word.Duplicate point how note row answer e is = reply_dashes (Some Duplicate) point (record { how = how; note = note }) answer is e
+dashes_told ask word.SpaceFull point how note row answer e is = subst HasDashes (same_some (SpaceFull (record { how = how; note = note })) answer e) is
+dashes_told ask (word.LogFull n) point how note row answer e is = subst HasDashes (same_some (LogFull n (record { how = how; note = note })) answer e) is

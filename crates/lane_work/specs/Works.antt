@@ -9,21 +9,20 @@ use Rattle.std.specs.List.{AllByRecursion}
 use Rattle.change_log.specs.Log.{ChangeNote, Log}
 use Rattle.map_history.specs.LegalReport as legal
 use Rattle.map_history.specs.Report.{Answer, Replied, LogFull, SpaceFull, Scanned, AnswerLine, dashes}
-use Rattle.index_law.specs.Spoken.{View}
+use Rattle.call_law.specs.Spoken.{View}
 use Rattle.report_text.specs.Texts.{answer_line_text}
 use Rattle.lane_law.specs.Worked.{Worked}
 use Rattle.lane_law.specs.Merged.{lane_notes}
 
--- an answer that tells of no hash, and is not `space-full`: its columns are dashes
+-- an answer that tells of no hash: its columns are dashes
 abbrev pub HasDashes : Answer → Type 0
 HasDashes (Replied reply point columns) = columns ≡ dashes
 HasDashes (LogFull n columns) = columns ≡ dashes
-HasDashes (SpaceFull columns) = ⊥
+HasDashes (SpaceFull columns) = columns ≡ dashes
 HasDashes (Scanned pieces) = ⊥
 
 -- The lines were answered one after another by a pass that knew v and knows v': their answers are
--- printed so, the changes among them are noted, no column tells of a hash, and no answer is
--- `space-full`.
+-- printed so, the changes among them are noted, and no column tells of a hash.
 pub record Works (v v' : View) (lines : List legal.Line) (texts : List (List ℕ))
     (log : Log) : Type 0 where
   pub answers : List AnswerLine

@@ -2,7 +2,8 @@
 ghost use Rattle.std.specs.Prelude.{IfOk, OnErr};
 ghost use Rattle.map_history.specs.Lines.{line_text};
 ghost use Rattle.index_engine.specs.Engines.{known, IsOf, IsSame};
-ghost use Rattle.index_engine.specs.Says.{TellsOnce, GivesUp};
+ghost use Rattle.call_law.specs.Once.{IsQuiet};
+ghost use Rattle.index_engine.specs.Tells.{TellsOnce};
 ghost use Rattle.lane_work.specs.Workable.{IsWorkable};
 
 use index_engine::{Engine, EnginePass};
@@ -23,13 +24,13 @@ pub(crate) fn work_line<R: Wait>(
     ensures own { IsSame pass.old pass.new × IsOf engine.now pass.new }
     ensures ok { IfOk result (λ told. TellsOnce (known pass.old) (known pass.new)
         (line_text line.now).op.index (line_text line.now).op.ask told row.new) }
-    ensures err { OnErr result (GivesUp (known pass.old) (known pass.new)
+    ensures err { OnErr result (IsQuiet (known pass.old) (known pass.new)
         (line_text line.now).op.index) }
 {
     match &line.op {
-        Op::Get { index, key } => engine.get(pass, *index, key, row, wait),
+        Op::Get { index, key } => Ok(engine.get(pass, *index, key, row, wait)),
         Op::Put { index, key, value } => engine.put(pass, *index, key, value, wait),
-        Op::Del { index, key } => engine.del(pass, *index, key, wait),
+        Op::Del { index, key } => Ok(engine.del(pass, *index, key, wait)),
         Op::Set { .. } | Op::Seek { .. } | Op::Scan { .. } => unreachable!(),
     }
 }

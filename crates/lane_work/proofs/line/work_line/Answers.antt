@@ -1,23 +1,18 @@
-use Rattle.std.proofs.Common.{◌≡◌, None, IfOk, sym, subst}
+use Rattle.std.proofs.Common.{None, IfOk, sym, subst}
 use Rattle.map_history.specs.Map as map
 use Rattle.map_history.specs.Operation.{operation_of}
 use Rattle.map_history.specs.declared.op.Op.{Op}
 use Rattle.index_law.specs.Meanings.{lent_row}
 use Rattle.index_engine.specs.Engines.{known}
-use Rattle.index_engine.specs.Says.{TellsOnce}
-use Rattle.lane_work.proofs.RowLemmas.{shows_no_row}
+use Rattle.index_engine.specs.Tells.{TellsOnce}
+use Rattle.lane_work.proofs.RowLemmas.{result_shows_no_row}
 use Rattle.lane_work.proofs.line.work_line.Goals as goal
 
 pub returns-in-Put-clause-ok : goal.returns-in-Put-clause-ok
 returns-in-Put-clause-ok g c =
     let v = known c.args.pass.now in
     let w = known c.put.new.pass in
-    subst (λ (o : Op). IfOk c.put.result (λ told. TellsOnce v w (operation_of o).index (operation_of o).ask told c.args.row.now)) (sym c.in-Put.is)
-    (shows_no_row c.put.result v w c.in-Put.index (map.Put c.in-Put.key.tuple c.in-Put.value) (lent_row None) c.args.row.now c.put.ensures.ok)
-
-pub returns-in-Del-clause-ok : goal.returns-in-Del-clause-ok
-returns-in-Del-clause-ok g c =
-    let v = known c.args.pass.now in
-    let w = known c.del.new.pass in
-    subst (λ (o : Op). IfOk c.del.result (λ told. TellsOnce v w (operation_of o).index (operation_of o).ask told c.args.row.now)) (sym c.in-Del.is)
-    (shows_no_row c.del.result v w c.in-Del.index (map.Del c.in-Del.key.tuple) (lent_row None) c.args.row.now c.del.ensures.ok)
+    subst (λ (o : Op). IfOk c.put.result (λ told. TellsOnce v w (operation_of o).index
+    (operation_of o).ask told c.args.row.now)) (sym c.in-Put.is)
+    (result_shows_no_row c.put.result v w c.in-Put.index c.in-Put.key.tuple c.in-Put.value
+    (map.Put c.in-Put.key.tuple c.in-Put.value) (lent_row None) c.args.row.now c.put.ensures.ok)
