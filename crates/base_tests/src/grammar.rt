@@ -48,7 +48,7 @@ const BAD_SCHEMAS: [&[u8]; 11] = [
     b"index t 1 2\n",
     b"index 1t 1\n",
     b"index a_0123456789_0123456789_012345678 1\n",
-    b"blocks 8\nindex t 1\n",
+    b"block 8\nindex t 1\n",
     b"index t 1\r\n",
     b"index T 1\n",
 ];

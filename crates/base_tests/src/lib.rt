@@ -25,6 +25,8 @@ mod order;
 #[cfg(test)]
 mod rows;
 #[cfg(test)]
+mod schema_sizes;
+#[cfg(test)]
 mod script_limits;
 #[cfg(test)]
 mod setup;

@@ -4,12 +4,22 @@
 use crate::asked::{Index, Line, read_lane, read_schema};
 use crate::history::History;
 use crate::told::{Change, Report, read_report};
-use crate::verdict::{Evidence, check_changes};
+use crate::verdict::{Evidence, check_changes, rows_written};
 use std::alloc::{AllocError, AllocFailed, Global};
 use std::str;
 
-/// How many changes an index may have.
-pub const MOST_CHANGES: u64 = 1_000_000;
+/// How many changes an index may have, and how many pages there are for all of them.
+#[derive(Clone, Copy)]
+pub struct Limits {
+    pub changes: u64,
+    pub pages: u64,
+}
+
+/// The limits of a run whose schema names none.
+pub const LIMITS: Limits = Limits {
+    changes: 1_000_000,
+    pages: 4096,
+};
 
 /// Why a report isn't legal. Lines, lanes and changes are counted from 1, indexes from 0.
 #[derive(Clone, Copy, PartialEq, Eq, Debug)]
@@ -26,7 +36,7 @@ pub enum Lie {
     Unasked { index: usize, change: u64 },
     /// The point is lower than an earlier one of the lane and index, or an `ok` doesn't raise it.
     Back { lane: usize, line: u64 },
-    /// The answer isn't that of the map at its point.
+    /// The answer isn't that of the map at its point, or it is `space-full` and may not be.
     Wrong { lane: usize, line: u64 },
 }
 
@@ -42,16 +52,16 @@ impl<T: Drop> From<AllocFailed<T>> for Lie {
     }
 }
 
-/// Whether these bytes are a legal report of the lanes, numbered from 1 in their order. An index may
-/// have 1,000,000 changes.
+/// Whether these bytes are a legal report of the lanes, numbered from 1 in their order, within the
+/// limits of a run whose schema names none.
 pub fn judge(alloc: Global, schema: &str, lanes: &[&str], report: &[u8]) -> Result<(), Lie> {
-    judge_within(alloc, MOST_CHANGES, schema, lanes, report)
+    judge_within(alloc, LIMITS, schema, lanes, report)
 }
 
-/// The same where an index may have this many changes.
+/// The same within these limits.
 pub fn judge_within<'a>(
     alloc: Global,
-    most_changes: u64,
+    limits: Limits,
     schema: &str,
     lanes: &[&'a str],
     report: &'a [u8],
@@ -64,7 +74,7 @@ pub fn judge_within<'a>(
     let told = read_report(alloc, &indexes, &asked, text)?;
     check_changes(&told)?;
     let histories = replay_all(alloc, &told.lists)?;
-    check_lanes(alloc, most_changes, &told, &histories)
+    check_lanes(alloc, limits, &told, &histories)
 }
 
 /// The lines of each lane that say something.
@@ -90,13 +100,15 @@ fn replay_all<'a>(alloc: Global, lists: &[Vec<Change<'a>>]) -> Result<Vec<Histor
 
 fn check_lanes<'r, 'a>(
     alloc: Global,
-    most_changes: u64,
+    limits: Limits,
     report: &'r Report<'a>,
     histories: &'r [History<'a>],
 ) -> Result<(), Lie> {
+    let pages_are_few = limits.pages <= pages_taken(report);
     for (place, answers) in report.lanes.iter().enumerate() {
         let evidence = Evidence {
-            most_changes,
+            most_changes: limits.changes,
+            pages_are_few,
             lane: place.wrapping_add(1),
             lists: &report.lists,
             histories,
@@ -104,4 +116,15 @@ fn check_lanes<'r, 'a>(
         evidence.check_lane(alloc, answers)?;
     }
     Ok(())
+}
+
+/// The most pages that a run takes: two for each index and each row that it writes, and one for
+/// each lane.
+fn pages_taken(report: &Report<'_>) -> u64 {
+    let indexes = report.lists.len() as u64;
+    let lanes = report.lanes.len() as u64;
+    indexes
+        .wrapping_add(rows_written(&report.lists))
+        .wrapping_mul(2)
+        .wrapping_add(lanes)
 }

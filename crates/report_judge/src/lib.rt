@@ -12,5 +12,5 @@ mod words;
 
 pub use asked::{Act, Index, Line, read_schema};
 pub use drawn::{draw, lane_text, lane_texts, schema_text, slices_of};
-pub use judging::{Lie, MOST_CHANGES, judge, judge_within, read_lanes};
+pub use judging::{LIMITS, Lie, Limits, judge, judge_within, read_lanes};
 pub use told::COUNTS;

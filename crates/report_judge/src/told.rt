@@ -16,14 +16,15 @@ pub(crate) enum Said<'a> {
     Absent,
     Duplicate,
     LogFull,
+    SpaceFull,
 }
 
-/// The answer to a line. The point of `log-full` is its count.
+/// The answer to a line. The point of `log-full` is its count, and `space-full` has none.
 #[derive(Clone, Copy)]
 pub(crate) struct Answer<'a> {
     pub(crate) line: Line<'a>,
     pub(crate) said: Said<'a>,
-    pub(crate) point: u64,
+    pub(crate) point: Option<u64>,
 }
 
 /// A change, with the lane and the line that it names.
@@ -88,15 +89,18 @@ fn read_answers<'a>(
 
 fn answer_of<'a>(line: Line<'a>, words: &[&'a str]) -> Option<Answer<'a>> {
     let (number, said, point) = match words {
-        [number, "ok", point, "-", "-"] => (*number, Said::Done, point_of(point)?),
+        [number, "ok", point, "-", "-"] => (*number, Said::Done, Some(point_of(point)?)),
         [number, "found", value, point, "-", "-"] => (
             *number,
             Said::Found(value),
-            point_of(point)?,
+            Some(point_of(point)?),
         ),
-        [number, "absent", point, "-", "-"] => (*number, Said::Absent, point_of(point)?),
-        [number, "duplicate", point, "-", "-"] => (*number, Said::Duplicate, point_of(point)?),
-        [number, "log-full", count, "-", "-"] => (*number, Said::LogFull, number_of(count)?),
+        [number, "absent", point, "-", "-"] => (*number, Said::Absent, Some(point_of(point)?)),
+        [number, "duplicate", point, "-", "-"] => {
+            (*number, Said::Duplicate, Some(point_of(point)?))
+        }
+        [number, "log-full", count, "-", "-"] => (*number, Said::LogFull, Some(number_of(count)?)),
+        [number, "space-full", "-", "-"] => (*number, Said::SpaceFull, None),
         _ => return None,
     };
     if number_of(number)? != line.number {

@@ -9,6 +9,7 @@ use std::alloc::Global;
 #[derive(Clone, Copy)]
 pub(crate) struct Evidence<'r, 'a> {
     pub(crate) most_changes: u64,
+    pub(crate) pages_are_few: bool,
     pub(crate) lane: usize,
     pub(crate) lists: &'r [Vec<Change<'a>>],
     pub(crate) histories: &'r [History<'a>],
@@ -53,7 +54,7 @@ fn answer_to<'a>(report: &Report<'a>, change: &Change<'_>) -> Option<Answer<'a>>
 fn makes(answer: &Answer<'_>, index: usize, number: u64, change: &Change<'_>) -> bool {
     let line = answer.line;
     answer.said == Said::Done
-        && answer.point == number
+        && answer.point == Some(number)
         && line.index == index
         && line.act == change.act
         && line.key == change.key
@@ -75,32 +76,42 @@ impl<'r, 'a> Evidence<'r, 'a> {
         Ok(())
     }
 
-    /// Whether the answer is one to such a line, and that of the map at its point.
+    /// Whether the answer is one to such a line, and that of the map at its point. One without a
+    /// point may come of a put alone, and only where the pages are few.
     fn is_true(&self, answer: &Answer<'_>) -> bool {
+        match (answer.line.act, answer.point) {
+            (_, Some(point)) => self.is_true_at(answer, point),
+            (Act::Put(_), None) => self.pages_are_few,
+            _ => false,
+        }
+    }
+
+    /// The same of an answer with this point.
+    fn is_true_at(&self, answer: &Answer<'_>, point: u64) -> bool {
         let Some(history) = self.histories.get(answer.line.index) else {
             return false;
         };
-        if answer.point > history.length() {
+        if point > history.length() {
             return false;
         }
-        let held = history.value_at(answer.line.key, answer.point);
-        let is_full = answer.point == self.most_changes && answer.point == history.length();
+        let held = history.value_at(answer.line.key, point);
+        let is_full = point == self.most_changes && point == history.length();
         match (answer.line.act, answer.said) {
             (Act::Get, Said::Found(value)) => held == Some(value),
             (Act::Get, Said::Absent) => held.is_none(),
-            (Act::Put(_), Said::Done) => self.is_listed(answer),
+            (Act::Put(_), Said::Done) => self.is_listed(answer, point),
             (Act::Put(_), Said::Duplicate) => held.is_some(),
             (Act::Put(_), Said::LogFull) => is_full && held.is_none(),
-            (Act::Del, Said::Done) => self.is_listed(answer),
+            (Act::Del, Said::Done) => self.is_listed(answer, point),
             (Act::Del, Said::Absent) => held.is_none(),
             (Act::Del, Said::LogFull) => is_full && held.is_some(),
             _ => false,
         }
     }
 
-    /// Whether the change of the answer's number names the lane and the line.
-    fn is_listed(&self, answer: &Answer<'_>) -> bool {
-        match self.change_at(answer.line.index, answer.point) {
+    /// Whether the change of this number names the lane and the line of the answer.
+    fn is_listed(&self, answer: &Answer<'_>, number: u64) -> bool {
+        match self.change_at(answer.line.index, number) {
             Some(change) => { change.lane == self.lane as u64 && change.line == answer.line.number }
             None => false,
         }
@@ -113,14 +124,37 @@ impl<'r, 'a> Evidence<'r, 'a> {
 }
 
 /// Takes the point of an answer, and says whether it may stand after those of the lane before it.
+/// An answer without a point may stand anywhere.
 fn rises(points: &mut Vec<u64>, answer: &Answer<'_>) -> bool {
     let Some(last) = points.get_mut(answer.line.index) else {
         return false;
     };
+    let Some(point) = answer.point else {
+        return true;
+    };
     let before = *last;
-    *last = answer.point;
+    *last = point;
     match answer.said {
-        Said::Done => before < answer.point,
-        _ => before <= answer.point,
+        Said::Done => before < point,
+        _ => before <= point,
     }
+}
+
+/// How many rows the lists write: their puts.
+pub(crate) fn rows_written(lists: &[Vec<Change<'_>>]) -> u64 {
+    let mut rows: u64 = 0;
+    for list in lists {
+        rows = rows.wrapping_add(puts_of(list));
+    }
+    rows
+}
+
+fn puts_of(list: &[Change<'_>]) -> u64 {
+    let mut puts: u64 = 0;
+    for change in list {
+        if let Act::Put(_) = change.act {
+            puts = puts.wrapping_add(1);
+        }
+    }
+    puts
 }

@@ -61,3 +61,15 @@ fn report_of_long_lane<R: AllocGlobal + Threads + Wait + Sync>(rt: &R) -> Option
 fn a_long_lane_is_reported_legally(rt: HostRuntime) {
     assert!(rt; report_of_long_lane(&rt).is_some());
 }
+
+/// The report of eight lanes that split the same pages, where it is legal.
+fn report_of_many_keys<R: AllocGlobal + Threads + Wait + Sync>(rt: &R) -> Option<Vec<u8>> {
+    let schema = schema_text(rt.alloc(), 2).ok()?;
+    let lanes = lane_texts(rt.alloc(), 3, 8, 20_000, 2, 20_000).ok()?;
+    legal_report(rt, schema.as_str(), &lanes)
+}
+
+#[test]
+fn eight_lanes_over_many_keys_are_reported_legally(rt: HostRuntime) {
+    assert!(rt; report_of_many_keys(&rt).is_some());
+}

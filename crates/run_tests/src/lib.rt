@@ -20,10 +20,16 @@ mod refused;
 #[cfg(test)]
 mod reported;
 #[cfg(test)]
+mod rows;
+#[cfg(test)]
+mod schema_sizes;
+#[cfg(test)]
 mod setup;
 #[cfg(test)]
 mod together;
 #[cfg(test)]
 mod trail;
+#[cfg(test)]
+mod trees;
 #[cfg(test)]
 mod turns;

@@ -1,5 +1,6 @@
 //! How long files, keys, values and lanes may be.
 use crate::reported::{is_reported, report_of};
+use crate::rows::bytes_of;
 use crate::setup::{PLAIN, ROOMY, SCHEMA, ends, run};
 use ahi_cli::Status;
 use report_judge::judge;
@@ -9,15 +10,6 @@ use std::thread::Threads;
 
 /// The most bytes of all files: 64 MiB.
 const MOST: usize = 64 * 1024 * 1024;
-
-/// So many of this byte.
-fn bytes_of(alloc: Global, byte: char, count: usize) -> Option<String> {
-    let mut text = String::with_capacity(alloc, count).ok()?;
-    for _ in 0..count {
-        text.push(byte).ok()?;
-    }
-    Some(text)
-}
 
 /// Whether files end so with a comment of so many bytes behind the schema, and this lane after it.
 fn ends_with_comment<R: AllocGlobal + Threads + Wait + Sync>(

@@ -1,0 +1,49 @@
+//! The calls one after another, until the list is full.
+use crate::setup::{Caller, Order, open};
+use map_history::{How, Note, Reply, Told};
+use std::alloc::Global;
+use std::sync::Wait;
+
+/// A key, what is asked of it, and what that is told.
+type Step = (&'static [u8], Order<'static>, Reply, u64);
+
+const STEPS: [Step; 14] = [
+    (b"a", Order::Get, Reply::Absent, 0),
+    (b"a", Order::Del, Reply::Absent, 0),
+    (b"a", Order::Put(b"x"), Reply::Ok, 1),
+    (b"a", Order::Get, Reply::Found, 1),
+    (b"b", Order::Get, Reply::Absent, 1),
+    (b"a", Order::Put(b"y"), Reply::Duplicate, 1),
+    (b"a", Order::Del, Reply::Ok, 2),
+    (b"a", Order::Get, Reply::Absent, 2),
+    (b"a", Order::Put(b"z"), Reply::Ok, 3),
+    (b"b", Order::Put(b"x"), Reply::LogFull(3), 3),
+    (b"a", Order::Del, Reply::LogFull(3), 3),
+    (b"a", Order::Put(b"y"), Reply::Duplicate, 3),
+    (b"b", Order::Del, Reply::Absent, 3),
+    (b"a", Order::Get, Reply::Found, 3),
+];
+
+/// The place of the first step that is told otherwise.
+fn other_step<R: Wait>(alloc: Global, caller: &mut Caller<'_>, wait: &R) -> Option<usize> {
+    for (place, (key, order, reply, point)) in STEPS.iter().enumerate() {
+        let told = Told {
+            reply: *reply,
+            point: Some(*point),
+            how: How::Dash,
+            note: Note::Dash,
+        };
+        if caller.ask(alloc, key, *order, wait) != Some(told) {
+            return Some(place);
+        }
+    }
+    None
+}
+
+#[test]
+fn a_row_comes_and_goes_until_the_list_is_full(rt: HostRuntime) {
+    let (engine, pass) = open(rt.alloc(), 1, 3).expect(&rt, "an engine");
+    let mut caller = Caller::new(rt.alloc(), &engine, pass).expect(&rt, "a row buffer");
+    assert_eq!(rt; other_step(rt.alloc(), &mut caller, &rt), None);
+    assert!(rt; caller.out.value() == b"z".as_slice());
+}

@@ -1,0 +1,13 @@
+//! Tests of the engine: of what no clause of its calls says. Nothing stands on this crate.
+#![tactic(auto)]
+
+#[cfg(test)]
+mod calls;
+#[cfg(test)]
+mod limits;
+#[cfg(test)]
+mod room;
+#[cfg(test)]
+mod setup;
+#[cfg(test)]
+mod threads;

@@ -1,0 +1,144 @@
+//! An engine of one index, whose keys have one field, and what it is told by one caller.
+ghost use Rattle.std.specs.Prelude.{◌≡◌, ◌<◌, [], ◌∷◌, length, IfSome};
+ghost use Rattle.index_engine.specs.Engines.{indexes_of, IsOf, FitsKey};
+
+use index_engine::{Engine, EnginePass};
+use key_tuple::{Fields, Key, Value};
+use map_history::{Reply, RowBuf, Sizes, Told};
+use std::alloc::Global;
+use std::sync::Wait;
+
+/// The smallest sizes for one index and some lanes, but for pages and changes.
+pub(crate) fn smallest(lanes: u32, pages: u32, max_changes: u32) -> Sizes
+    requires { lanes < 64 }
+{
+    Sizes {
+        blocks: 8 * lanes + 8,
+        pages,
+        parts: 1,
+        cells: 1,
+        nodes: 0,
+        fold_bits: 1,
+        max_changes,
+    }
+}
+
+/// An engine with so many pages and changes, and its pass.
+pub(crate) fn open(alloc: Global, pages: u32, max_changes: u32) -> Option<(Engine, EnginePass)>
+    ensures own { IfSome result (λ r. IsOf r.0 r.1) }
+    ensures one { IfSome result (λ r. (0 < indexes_of r.0) × FitsKey r.0 0 ([] ∷ [])) }
+{
+    Engine::open(alloc, &smallest(1, pages, max_changes), &[1], 1).ok()
+}
+
+/// One who calls an engine of one index, whose keys have one field.
+#[derive(Drop)]
+pub(crate) struct Caller<'a> {
+    engine: &'a Engine,
+    pass: EnginePass,
+    pub(crate) out: RowBuf,
+    ghost own: { IsOf engine.now pass },
+    ghost one: { (0 < indexes_of engine.now) × FitsKey engine.now 0 ([] ∷ []) },
+}
+
+/// What a caller asks for.
+#[derive(Clone, Copy)]
+pub(crate) enum Order<'a> {
+    Put(&'a [u8]),
+    Del,
+    Get,
+}
+
+fn bytes_of(alloc: Global, bytes: &[u8]) -> Option<Vec<u8>> {
+    bytes.to_vec(alloc).ok()
+}
+
+fn one_field(alloc: Global, field: Vec<u8>) -> Option<Vec<Vec<u8>>>
+    ensures { IfSome result (λ fields. 0 < length fields.items) }
+{
+    vec![in alloc; field].ok()
+}
+
+fn fields_of(alloc: Global, bytes: &[u8]) -> Option<Vec<Vec<u8>>>
+    ensures { IfSome result (λ fields. 0 < length fields.items) }
+{
+    let field = bytes_of(alloc, bytes)?;
+    one_field(alloc, field)
+}
+
+/// The key of one field.
+pub(crate) fn key_of(alloc: Global, bytes: &[u8]) -> Option<Key>
+    ensures { IfSome result (λ key. length key.tuple ≡ 1) }
+{
+    let fields = fields_of(alloc, bytes)?;
+    match Key::try_new(alloc, fields) {
+        Ok(key) if key.count() == 1 => Some(key),
+        _ => None,
+    }
+}
+
+pub(crate) fn value_of(alloc: Global, bytes: &[u8]) -> Option<Value> {
+    let bytes = bytes_of(alloc, bytes)?;
+    Value::try_new(bytes).ok()
+}
+
+impl<'a> Caller<'a> {
+    pub(crate) fn new(alloc: Global, engine: &'a Engine, pass: EnginePass) -> Option<Caller<'a>>
+        requires own { IsOf engine.now pass }
+        requires one { (0 < indexes_of engine.now) × FitsKey engine.now 0 ([] ∷ []) }
+    {
+        match RowBuf::new(alloc) {
+            Ok(out) => Some(Caller { engine, pass, out }),
+            Err(_) => None,
+        }
+    }
+
+    fn put<R: Wait>(&mut self, alloc: Global, key: &Key, value: &[u8], wait: &R) -> Option<Told>
+        requires { length key.now.tuple ≡ 1 }
+    {
+        let value = value_of(alloc, value)?;
+        self.engine.put(&mut self.pass, 0, key, &value, wait).ok()
+    }
+
+    fn del<R: Wait>(&mut self, key: &Key, wait: &R) -> Told
+        requires { length key.now.tuple ≡ 1 }
+    {
+        self.engine.del(&mut self.pass, 0, key, wait)
+    }
+
+    fn get<R: Wait>(&mut self, key: &Key, wait: &R) -> Told
+        requires { length key.now.tuple ≡ 1 }
+    {
+        self.engine.get(&mut self.pass, 0, key, &mut self.out, wait)
+    }
+
+    /// What an order with this key is told.
+    pub(crate) fn ask<R: Wait>(
+        &mut self,
+        alloc: Global,
+        key: &[u8],
+        order: Order<'_>,
+        wait: &R,
+    ) -> Option<Told> {
+        let key = key_of(alloc, key)?;
+        match order {
+            Order::Put(value) => self.put(alloc, &key, value, wait),
+            Order::Del => Some(self.del(&key, wait)),
+            Order::Get => Some(self.get(&key, wait)),
+        }
+    }
+
+    /// What an order with this key is told, without its point.
+    pub(crate) fn reply<R: Wait>(
+        &mut self,
+        alloc: Global,
+        key: &[u8],
+        order: Order<'_>,
+        wait: &R,
+    ) -> Option<Reply> {
+        match self.ask(alloc, key, order, wait) {
+            Some(told) => Some(told.reply),
+            None => None,
+        }
+    }
+}

@@ -1,0 +1,91 @@
+//! A space of two empty trees, and a pass of it that holds nothing between two calls.
+ghost use Rattle.std.specs.Prelude.{◌≡◌, ◌≤◌, [], ◌∷◌, length, IfSome};
+ghost use Rattle.latch_space.specs.Passes.{view, count};
+ghost use Rattle.latch_space.specs.Spaces.{IsPassOf};
+ghost use Rattle.forest_law.specs.Numbers.{frames_of};
+ghost use Rattle.buffer_pool.specs.Forests.{IsForest};
+
+use buffer_pool::{PoolError, free_page, give_back, new_page, page_if, page_in};
+use forest_world::{ForestPass, ForestSpace, open_forest};
+use index_page::PageHead;
+use map_history::Sizes;
+use std::alloc::Global;
+use std::sync::Wait;
+
+/// Two indexes, whose keys have one field, and so many pages in all.
+#[derive(Drop)]
+pub(crate) struct Grove {
+    space: ForestSpace,
+    pass: ForestPass,
+    pages: u32,
+    ghost own: { IsPassOf space pass },
+    ghost forest: { IsForest space },
+    ghost two: { space.terms.shape.indexes ≡ 2 },
+    ghost fields: { space.terms.shape.fields ≡ 1 ∷ 1 ∷ [] },
+    ghost frames: { frames_of space.terms.shape ≡ pages },
+    ghost nothing: { count pass ≡ 0 },
+}
+
+/// The head of a leaf of the first index.
+const HEAD: PageHead = PageHead {
+    number: 0,
+    index: 0,
+    level: 0,
+    prev: None,
+    next: None,
+    fields: 1,
+};
+
+impl Grove {
+    pub(crate) fn open(alloc: Global, pages: u32) -> Option<Grove>
+        requires { (2 ≤ pages) × (pages ≤ 100) }
+    {
+        let sizes = Sizes {
+            blocks: 8,
+            pages,
+            parts: 1,
+            cells: 1,
+            nodes: 0,
+            fold_bits: 1,
+            max_changes: 1,
+        };
+        match open_forest(alloc, &sizes, &[1, 1], 1) {
+            Ok((space, pass)) => Some(Grove { space, pass, pages }),
+            Err(_) => None,
+        }
+    }
+
+    /// The number of a new page, which is freed again.
+    pub(crate) fn new_number<R: Wait>(
+        &mut self,
+        alloc: Global,
+        wait: &R,
+    ) -> Result<u32, PoolError> {
+        let number = new_page(alloc, &self.space, &mut self.pass, HEAD, wait)?;
+        free_page(&self.space, &mut self.pass, number, wait);
+        Ok(number)
+    }
+
+    /// The block of the first root, which is given back.
+    pub(crate) fn root_block<R: Wait>(&mut self, wait: &R) -> Option<u32> {
+        let block = page_in(&self.space, &mut self.pass, 0, wait).ok()?;
+        give_back(&self.space, &mut self.pass, block);
+        Some(block)
+    }
+
+    /// The block of a page of the trees with this index and level, which is given back.
+    pub(crate) fn block_of<R: Wait>(
+        &mut self,
+        page: u32,
+        index: u32,
+        level: u16,
+        wait: &R,
+    ) -> Option<u32> {
+        if page >= self.pages {
+            return None;
+        }
+        let block = page_if(&self.space, &mut self.pass, page, index, level, wait)?;
+        give_back(&self.space, &mut self.pass, block);
+        Some(block)
+    }
+}
