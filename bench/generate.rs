@@ -11,7 +11,7 @@ use std::process::ExitCode;
 
 const USAGE: &str = "usage: generate gets|puts|random|descending|front|mix LANES LINES SEED FOLDER";
 const SCHEMA: &str =
-    "# rows with even numbers, and rows with odd ones\nindex item 1\nindex price 2\n";
+    "# rows with even numbers, and rows with odd ones\npages 65536\nindex item 1\nindex price 2\n";
 
 #[derive(Clone, Copy)]
 enum Kind {

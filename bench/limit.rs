@@ -23,7 +23,9 @@ fn write_lane(out: &mut impl Write, lane: usize, text: &[u8]) -> io::Result<()> 
 }
 
 fn write_each(out: &mut impl Write, word: &str, schema: &[u8]) -> io::Result<()> {
-    speaking_lines(schema).try_for_each(|(number, _)| writeln!(out, "{word} {number}"))
+    speaking_lines(schema)
+        .filter(|(_, line)| line.starts_with(b"index "))
+        .try_for_each(|(number, _)| writeln!(out, "{word} {number}"))
 }
 
 fn write_changes(out: &mut impl Write, changes: usize, lanes: &[Vec<u8>]) -> io::Result<()> {

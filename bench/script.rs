@@ -1,6 +1,7 @@
 //! The schema and lane files as the peer reads them; the grammar is in docs/FORMATS.md.
 //!
-//! A bad line is refused by its number alone. That two indexes have one name isn't looked for.
+//! A bad line is refused by its number alone. That two indexes have one name isn't looked for, nor
+//! where a setting stands or what it is.
 
 use crate::files::{load, speaking_lines};
 
@@ -54,8 +55,16 @@ fn read_file<T>(file: &str, read: impl FnOnce(&[u8]) -> Result<T, BadLine>) -> R
 
 fn read_schema(text: &[u8]) -> Result<Vec<Shape>, BadLine> {
     speaking_lines(text)
+        .filter(|(_, line)| !is_setting(line))
         .map(|(number, line)| read_shape(line).ok_or(BadLine(number)))
         .collect()
+}
+
+/// A line that sets a size, which a map has no use for.
+fn is_setting(line: &[u8]) -> bool {
+    let words = ["blocks", "pages", "parts", "cells", "nodes", "fold_bits", "max_changes"];
+    let first = line.split(|&byte| byte == b' ').next();
+    words.iter().any(|word| first == Some(word.as_bytes()))
 }
 
 fn read_lane(text: &[u8], shapes: &[Shape]) -> Result<Vec<Line>, BadLine> {
