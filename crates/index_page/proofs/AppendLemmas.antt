@@ -1,18 +1,19 @@
 -- Rows put behind others.
-use Rattle.std.proofs.Common.{◌≡◌, ℕ, zero, suc, ◌+◌, ◌≤◌, true, Some, List, [], ◌∷◌, ◌++◌, refl, sym, ap, ◌∙◌, subst, add-one, arith, length, length-append, append-nil, append_assoc, take}
+use Rattle.std.proofs.Common.{◌≡◌, ℕ, zero, suc, ◌+◌, ◌≤◌, true, Some, List, [], ◌∷◌, ◌++◌, refl, sym, ap, ◌∙◌, subst, add-one, arith, length, length-append, append-nil, append_assoc, take, drop}
+use Rattle.std.proofs.lemmas.List.Sums.{sum_by-append}
 use Rattle.std.proofs.Math.Seq.{take-length, drop-length, take-append_seam}
 use Rattle.std.specs.List.{AllByRecursion, slice_get, insert}
 use Rattle.key_tuple.specs.KeyPlace.{At, before}
 use Rattle.key_tuple.specs.Order.{FieldList}
 use Rattle.key_tuple.specs.Limits.{IsWithinLimits}
-use Rattle.index_page.specs.declared.TheConstants.{MAX_ROWS}
+use Rattle.index_page.specs.declared.TheConstants.{PAGE_ROOM}
 use Rattle.index_page.specs.declared.head.PageHead.{PageHead}
 use Rattle.index_page.specs.Rows.{RowBody, Row, SameRows}
 use Rattle.index_page.specs.Page.{IsNeighbour, FitsLevel, HasShortValue, RowsAscend, PlacesDiffer, IsRowOf, IsPageInOrder}
 use Rattle.index_page.specs.Store.{Appends}
 use Rattle.index_page.specs.Loads.{load_of}
 use Rattle.list_facts.proofs.Each.{each_append}
-use Rattle.index_page.proofs.LoadLemmas.{load_of-cons}
+use Rattle.index_page.proofs.LoadLemmas.{row_charge, load_of-cons}
 use Rattle.index_page.proofs.HalvesLemmas.{some_charge}
 
 pub same-length : (xs ys : List Row) → SameRows xs ys → length xs ≡ length ys
@@ -84,15 +85,34 @@ same_behind : (old xs ys : List Row) → SameRows xs ys → SameRows (old ++ xs)
 same_behind [] xs ys s = s
 same_behind (x ∷ old) xs ys s = (refl, refl, same_behind old xs ys s)
 
+-- the rows behind the first ones, by their numbers
+pub get-drop : (rows : List Row) (k i : ℕ) → slice_get (drop k rows) i ≡ slice_get rows (k + i)
+get-drop rows zero i = let same : 0 + i ≡ i = omega arith in ap (slice_get rows) (sym same)
+get-drop [] (suc k) i = refl
+get-drop (x ∷ rows) (suc k) i = let more : suc k + i ≡ suc (k + i) = omega arith in get-drop rows k i ∙ ap (slice_get (x ∷ rows)) (sym more)
+
+-- the same rows are charged the same
+pub load_same : (xs ys : List Row) → SameRows xs ys → load_of xs ≡ load_of ys
+load_same [] [] s = refl
+load_same [] (y ∷ ys) s = absurd s
+load_same (x ∷ xs) [] s = absurd s
+load_same (x ∷ xs) (y ∷ ys) s =
+    let same : row_charge x ≡ row_charge y = cc (s.0, s.1) in
+    omega (arith, load_of-cons x xs, load_of-cons y ys, same, load_same xs ys s.2)
+
+-- rows behind others add their charges
+pub appended_load : (old new others : List Row) → Appends old new others → load_of new ≡ load_of old + load_of others
+appended_load old new others a = ap load_of a.rows ∙ omega (arith, sum_by-append row_charge old a.moved, load_same others a.moved a.same)
+
 -- a page with rows behind its own is in order where their keys rise and they suit it
-pub appended_order : (head : PageHead) (old new others : List Row) → Appends old new others → AllByRecursion (IsRowOf head) old → AllByRecursion (IsRowOf head) others → RowsAscend (old ++ others) → length old + length others ≤ MAX_ROWS + 1 → IsNeighbour head.prev → IsNeighbour head.next → IsPageInOrder (record { head = head; rows = new })
-appended_order head old new others a each each' ascend few prev next =
+pub appended_order : (head : PageHead) (old new others : List Row) → Appends old new others → AllByRecursion (IsRowOf head) old → AllByRecursion (IsRowOf head) others → RowsAscend (old ++ others) → load_of old + load_of others ≤ PAGE_ROOM → IsNeighbour head.prev → IsNeighbour head.next → IsPageInOrder (record { head = head; rows = new })
+appended_order head old new others a each each' ascend fits prev next =
     let is = sym a.rows in
     record {
       ascend = subst RowsAscend is (ascends_same (old ++ others) (old ++ a.moved) (same_behind old others a.moved a.same) ascend);
       places = a.differ;
       each = subst (AllByRecursion (IsRowOf head)) is (each_append (IsRowOf head) old a.moved each (suits_same head others a.moved a.same each'));
-      few = omega (arith, appends_long old new others a, few);
+      fits = omega (arith, appended_load old new others a, fits);
       prev = prev;
       next = next;
     }

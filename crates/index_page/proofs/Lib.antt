@@ -13,4 +13,5 @@ pub mod AppendLemmas
 pub mod SetLemmas
 pub mod WithoutLemmas
 pub mod RefusalLemmas
+pub mod RewriteLemmas
 pub mod PickLemmas

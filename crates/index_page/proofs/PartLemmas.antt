@@ -1,16 +1,18 @@
 -- Parts of a page in order are pages in order.
-use Rattle.std.proofs.Common.{◌≡◌, ◌≢◌, ℕ, zero, suc, ◌+◌, ◌≤◌, true, Some, List, [], ◌∷◌, ◌++◌, refl, sym, ap, ◌∙◌, subst, arith, length, length-append, take, drop}
+use Rattle.std.proofs.Common.{◌≡◌, ◌≢◌, ℕ, zero, suc, ◌+◌, ◌≤◌, true, Some, List, [], ◌∷◌, ◌++◌, refl, sym, ap, ◌∙◌, subst, arith, take, drop}
 use Rattle.std.proofs.lemmas.List.{take-append-drop}
 use Rattle.std.specs.List.{AllByRecursion, slice_get}
 use Rattle.key_tuple.specs.KeyPlace.{At, before}
-use Rattle.index_page.specs.declared.TheConstants.{MAX_ROWS}
+use Rattle.index_page.specs.declared.TheConstants.{PAGE_ROOM}
 use Rattle.index_page.specs.declared.head.PageHead.{PageHead}
 use Rattle.index_page.specs.Rows.{Row, SameRows}
 use Rattle.index_page.specs.Page.{PageRows, IsNeighbour, FitsLevel, RowsAscend, PlacesDiffer, IsRowOf, IsPageInOrder}
 use Rattle.index_page.specs.Search.{IsPosition}
 use Rattle.index_page.specs.Moves.{MovesTail}
+use Rattle.index_page.specs.Loads.{load_of}
 use Rattle.list_facts.proofs.Each.{each_left, each_right, each_weaker}
 use Rattle.index_page.proofs.RowLemmas.{get_split, ascends_right}
+use Rattle.index_page.proofs.HalvesLemmas.{load_of-parts}
 
 ascends_left : (xs ys : List Row) → RowsAscend (xs ++ ys) → RowsAscend xs
 ascends_left [] ys a = tt
@@ -41,8 +43,8 @@ module _ (page : PageRows) (k : ℕ) (order : IsPageInOrder page) where
   parts : take k page.rows ++ drop k page.rows ≡ page.rows
   parts = take-append-drop k page.rows
 
-  few : length (take k page.rows) + length (drop k page.rows) ≤ MAX_ROWS + 1
-  few = omega (arith, length-append (take k page.rows) (drop k page.rows), ap length parts, order.few)
+  fits : load_of (take k page.rows) + load_of (drop k page.rows) ≤ PAGE_ROOM
+  fits = omega (arith, load_of-parts page.rows k, order.fits)
 
   -- the first rows
   pub first_rows : IsPageInOrder (record { head = page.head; rows = take k page.rows })
@@ -50,7 +52,7 @@ module _ (page : PageRows) (k : ℕ) (order : IsPageInOrder page) where
     ascend = ascends_left (take k page.rows) (drop k page.rows) (subst RowsAscend (sym parts) order.ascend);
     places = differ_left (take k page.rows) (drop k page.rows) (subst PlacesDiffer (sym parts) order.places);
     each = each_left (IsRowOf page.head) (take k page.rows) (drop k page.rows) (subst (AllByRecursion (IsRowOf page.head)) (sym parts) order.each);
-    few = omega (arith, few);
+    fits = omega (arith, fits);
     prev = order.prev;
     next = order.next;
   }
@@ -61,7 +63,7 @@ module _ (page : PageRows) (k : ℕ) (order : IsPageInOrder page) where
     ascend = ascends_right (take k page.rows) (drop k page.rows) (subst RowsAscend (sym parts) order.ascend);
     places = differ_right (take k page.rows) (drop k page.rows) (subst PlacesDiffer (sym parts) order.places);
     each = each_weaker (IsRowOf page.head) (IsRowOf head) (suits_too page.head head level fields) (drop k page.rows) (each_right (IsRowOf page.head) (take k page.rows) (drop k page.rows) (subst (AllByRecursion (IsRowOf page.head)) (sym parts) order.each));
-    few = omega (arith, few);
+    fits = omega (arith, fits);
     prev = prev;
     next = next;
   }
@@ -72,7 +74,7 @@ drop_at (y ∷ rows) zero x e = let is : y ≡ x = cc in ap (λ (z : Row). z ∷
 drop_at (y ∷ rows) (suc i) x e = drop_at rows i x e
 
 -- a page that kept the rows before a number, and one that got the others
-pub moves_tail : (old new to_old to_new : PageRows) (first at : ℕ) → IsPosition old.rows first at → new.head ≡ old.head → new.rows ≡ take at old.rows → to_new.head ≡ to_old.head → to_new.rows ≡ drop at old.rows → MovesTail old new to_old to_new first
+pub moves_tail : (old new to_old to_new : PageRows) (first at : ℕ) → IsPosition old.rows first at → new.head ≡ old.head → new.rows ≡ take at old.rows → to_new.head ≡ to_old.head → SameRows (drop at old.rows) to_new.rows → MovesTail old new to_old to_new first
 moves_tail old new to_old to_new first at position head stay to_head go = record {
   left = take at old.rows;
   row = position.row;
@@ -80,7 +82,7 @@ moves_tail old new to_old to_new first at position head stay to_head go = record
   was = get_split old.rows at position.row position.there;
   place_is = position.place_is;
   stay = stay;
-  go = subst (SameRows (position.row ∷ drop (suc at) old.rows)) (sym (go ∙ drop_at old.rows at position.row position.there)) (same_rows (position.row ∷ drop (suc at) old.rows));
+  go = subst (λ (rows : List Row). SameRows rows to_new.rows) (drop_at old.rows at position.row position.there) go;
   head = head;
   to_head = to_head;
 }

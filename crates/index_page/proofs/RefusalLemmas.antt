@@ -2,7 +2,7 @@
 use Rattle.std.proofs.Common.{◌≡◌, ◌≢◌, ℕ, ◌+◌, ◌-◌, ◌<◌, ◌≤◌, ◌==◌, Bool, true, false, cond, nat_lt, Option, Some, None, option_and_then, List, length, sum_by, refl, sym, ap, ◌∙◌, arith}
 use Rattle.std.proofs.lemmas.Bool.{ne_eqb}
 use Rattle.std.proofs.lemmas.Bool.Decides.{nat_tests}
-use Rattle.index_page.specs.declared.TheConstants.{PAGE_ROOM, MAX_ROWS}
+use Rattle.index_page.specs.declared.TheConstants.{PAGE_ROOM}
 use Rattle.index_page.specs.declared.error.PageError.TheVariants.{PageFull, Scattered}
 use Rattle.key_tuple.specs.Order.{FieldList}
 use Rattle.key_tuple.specs.Sizes.{field_size}
@@ -11,7 +11,6 @@ use Rattle.index_page.specs.Page.{PageRows}
 use Rattle.index_page.specs.Loads.{charge_of, load_of}
 use Rattle.index_page.specs.Changes.{page_without}
 use Rattle.index_page.specs.Refusals.{free_of, ample_gaps, takes, room_refusal, insert_refusal, is_as_long, set_refusal, NoneIsScattered}
-use Rattle.index_page.proofs.AppendLemmas.{rows_within_load}
 
 takes_any : (need : ℕ) → need ≤ PAGE_ROOM → takes ample_gaps (need - 1) ≡ true
 takes_any need most = grind (arith, nat_tests)
@@ -35,9 +34,9 @@ has_room need free none = go (nat_lt free need) refl none
     go true is n = absurd cc
     go false is n = grind (arith, nat_tests)
 
--- so a page with room for a row has few rows
-pub room_few : (rows : List Row) (need free : ℕ) → 0 < need → free ≡ PAGE_ROOM - load_of rows → room_refusal need free ample_gaps ≡ None → length rows ≤ MAX_ROWS
-room_few rows need free some is none = omega (arith, has_room need free none, rows_within_load rows)
+-- so what it needs fits beside the rows
+pub fits_beside : (rows : List Row) (need free : ℕ) → load_of rows ≤ PAGE_ROOM → free ≡ PAGE_ROOM - load_of rows → room_refusal need free ample_gaps ≡ None → load_of rows + need ≤ PAGE_ROOM
+fits_beside rows need free within is none = omega (arith, has_room need free none, is)
 
 -- no row is scattered where any is taken
 not_scattered : (need free n run : ℕ) → free ≤ PAGE_ROOM → room_refusal need free ample_gaps ≢ Some (Scattered n run)

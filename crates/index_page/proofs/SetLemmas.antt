@@ -1,17 +1,20 @@
 -- Rows with another value.
-use Rattle.std.proofs.Common.{◌≡◌, ◌≢◌, ℕ, suc, true, Some, List, [], ◌∷◌, ◌++◌, refl, sym, ap, ◌∙◌, subst, arith, length, length-append, take, drop}
+use Rattle.std.proofs.Common.{◌≡◌, ◌≢◌, ℕ, suc, true, Some, List, [], ◌∷◌, ◌++◌, ◌+◌, ◌≤◌, refl, sym, ap, ◌∙◌, subst, arith, take, drop}
 use Rattle.std.specs.List.{AllByRecursion, slice_get}
 use Rattle.key_tuple.specs.Order.{FieldList}
 use Rattle.key_tuple.specs.KeyPlace.{At, before}
+use Rattle.index_page.specs.declared.TheConstants.{PAGE_ROOM}
 use Rattle.index_page.specs.declared.head.PageHead.{PageHead}
 use Rattle.index_page.specs.Rows.{RowBody, Bytes, Child, Row, placed_row, find_row}
 use Rattle.index_page.specs.Page.{PageRows, FitsLevel, HasShortValue, RowsAscend, PlacesDiffer, IsRowOf, IsPageInOrder}
 use Rattle.index_page.specs.Search.{IsPosition}
 use Rattle.index_page.specs.Changes.{Sets}
+use Rattle.index_page.specs.Loads.{charge_of, load_of}
 use Rattle.index_page.specs.Store.{HasValueAt, Rewrites}
 use Rattle.list_facts.proofs.Places.{same_some}
 use Rattle.list_facts.proofs.Each.{each_left, each_right, each_append, each_get}
 use Rattle.index_page.proofs.RowLemmas.{get_split, find_among, find_get}
+use Rattle.index_page.proofs.LoadLemmas.{load_of-among}
 
 -- a row of the same key at the same place stands for one that was there
 ascends_put : (xs : List Row) (row new : Row) (ys : List Row) → row.key ≡ new.key → RowsAscend (xs ++ row ∷ ys) → RowsAscend (xs ++ new ∷ ys)
@@ -21,7 +24,7 @@ ascends_put (x ∷ xs) row new ys k a =
     let here = each_right rises xs (row ∷ ys) a.0 in
     (each_append rises xs (new ∷ ys) (each_left rises xs (row ∷ ys) a.0) (subst (λ (key : FieldList). before (At x.key) (At key) ≡ true) k here.0, here.1), ascends_put xs row new ys k a.1)
 
-differ_put : (xs : List Row) (row new : Row) (ys : List Row) → row.place ≡ new.place → PlacesDiffer (xs ++ row ∷ ys) → PlacesDiffer (xs ++ new ∷ ys)
+pub differ_put : (xs : List Row) (row new : Row) (ys : List Row) → row.place ≡ new.place → PlacesDiffer (xs ++ row ∷ ys) → PlacesDiffer (xs ++ new ∷ ys)
 differ_put [] row new ys k d = (subst (λ n. AllByRecursion (λ (y : Row). y.place ≢ n) ys) k d.0, d.1)
 differ_put (x ∷ xs) row new ys k d =
     let other = λ (y : Row). y.place ≢ x.place in
@@ -33,20 +36,27 @@ module _ (head : PageHead) (old new : List Row) (at : ℕ) (bytes : List ℕ) (o
   its_split : old ≡ take at old ++ put.row ∷ drop (suc at) old
   its_split = get_split old at put.row put.there
 
-  pub rewritten_order : head.level ≡ 0 → HasShortValue (Bytes bytes) → IsPageInOrder (record { head = head; rows = new })
-  rewritten_order level short =
+  -- the row's charge changes by that of its value
+  pub rewritten_load : load_of new + charge_of put.row.key put.row.body ≡ load_of old + charge_of put.row.key (Bytes bytes)
+  rewritten_load =
+      let low = take at old in
+      let high = drop (suc at) old in
+      let row = placed_row put.row.place put.row.key (Bytes bytes) in
+      omega (arith, ap load_of put.is, ap load_of its_split, load_of-among low row high, load_of-among low put.row high)
+
+  pub rewritten_order : head.level ≡ 0 → HasShortValue (Bytes bytes) → load_of new ≤ PAGE_ROOM → IsPageInOrder (record { head = head; rows = new })
+  rewritten_order level short fits =
       let low = take at old in
       let high = drop (suc at) old in
       let row = placed_row put.row.place put.row.key (Bytes bytes) in
       let each = subst (AllByRecursion (IsRowOf head)) its_split order.each in
       let here = each_right (IsRowOf head) low (put.row ∷ high) each in
       let suits : IsRowOf head row = record { fields = here.0.fields; limits = here.0.limits; body = level; short = short } in
-      let long : length new ≡ length old = ap length put.is ∙ length-append low (row ∷ high) ∙ sym (ap length its_split ∙ length-append low (put.row ∷ high)) in
       record {
         ascend = subst RowsAscend (sym put.is) (ascends_put low put.row row high refl (subst RowsAscend its_split order.ascend));
         places = subst PlacesDiffer (sym put.is) (differ_put low put.row row high refl (subst PlacesDiffer its_split order.places));
         each = subst (AllByRecursion (IsRowOf head)) (sym put.is) (each_append (IsRowOf head) low (row ∷ high) (each_left (IsRowOf head) low (put.row ∷ high) each) (suits, here.1));
-        few = omega (arith, order.few);
+        fits = fits;
         prev = order.prev;
         next = order.next;
       }

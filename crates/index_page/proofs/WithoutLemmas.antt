@@ -1,5 +1,5 @@
 -- Rows and pages without the row at a place.
-use Rattle.std.proofs.Common.{◌≡◌, ◌≢◌, ℕ, ◌+◌, ◌==◌, Bool, true, false, cond, not, Some, None, List, [], ◌∷◌, ◌++◌, refl, sym, ap, ◌∙◌, subst, arith, eq-eqb}
+use Rattle.std.proofs.Common.{◌≡◌, ◌≢◌, ℕ, ◌+◌, ◌≤◌, ◌==◌, Bool, true, false, cond, not, Option, Some, None, IsSome, List, [], ◌∷◌, ◌++◌, refl, sym, ap, ◌∙◌, subst, arith, eq-eqb}
 use Rattle.std.proofs.lemmas.Bool.{both_ways, ne_eqb}
 use Rattle.std.specs.List.{AllByRecursion}
 use Rattle.list_facts.proofs.Each.{filter_each, each_weaker}
@@ -17,7 +17,7 @@ each_middle P [] x ys a = a.0
 each_middle P (z ∷ zs) x ys a = each_middle P zs x ys a.1
 
 -- no row stands there
-abbrev AreElsewhere : ℕ → List Row → Type 0
+abbrev pub AreElsewhere : ℕ → List Row → Type 0
 AreElsewhere place rows = AllByRecursion (λ (x : Row). x.place ≢ place) rows
 
 elsewhere_kept : (place : ℕ) (rows : List Row) → AreElsewhere place rows → rows_without place rows ≡ rows
@@ -28,7 +28,7 @@ without-split : (place : ℕ) (left : List Row) (row : Row) (right : List Row) �
 without-split place [] row right at apart = rw (eq-eqb row.place place at) (elsewhere_kept place right apart)
 without-split place (x ∷ left) row right at apart = rw (ne_eqb x.place place apart.0) (ap (λ rows. x ∷ rows) (without-split place left row right at apart.1))
 
-differ_elsewhere : (left : List Row) (row : Row) (right : List Row) → PlacesDiffer (left ++ row ∷ right) → AreElsewhere row.place (left ++ right)
+pub differ_elsewhere : (left : List Row) (row : Row) (right : List Row) → PlacesDiffer (left ++ row ∷ right) → AreElsewhere row.place (left ++ right)
 differ_elsewhere [] row right differ = differ.0
 differ_elsewhere (x ∷ left) row right differ = let apart = each_middle (λ (y : Row). y.place ≢ x.place) left row right differ.0 in (λ e. apart (sym e), differ_elsewhere left row right differ.1)
 
@@ -80,3 +80,11 @@ load_of-without rows place row differ there =
 -- so with the charge that was counted the load of the others is left
 pub others_load : (rows : List Row) (place : ℕ) (row : Row) (load n : ℕ) → PlacesDiffer rows → find_row place rows ≡ Some row → load ≡ load_of rows → n ≡ row_charge row → load ≡ load_of (rows_without place rows) + n
 others_load rows place row load n differ there counted charged = omega (arith, load_of-without rows place row differ there, counted, charged)
+
+-- a charge that was counted is within the load
+pub charge_within_load : (rows : List Row) (place load n : ℕ) → PlacesDiffer rows → IsSome (find_row place rows) → load ≡ load_of rows → ((row : Row) → find_row place rows ≡ Some row → n ≡ row_charge row) → n ≤ load
+charge_within_load rows place load n differ some counted charged = go (find_row place rows) refl some
+  where
+    go : (o : Option Row) → find_row place rows ≡ o → IsSome o → n ≤ load
+    go None e there = absurd cc
+    go (Some row) e there = omega (arith, others_load rows place row load n differ e counted (charged row e))

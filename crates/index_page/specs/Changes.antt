@@ -1,5 +1,5 @@
 -- What stands beside a row, and what a page is after a row was put in or taken out.
-use Rattle.std.specs.Prelude.{ℕ, ◌≡◌, ◌==◌, not, Option, Some, None, List, ◌∷◌, ◌++◌, length}
+use Rattle.std.specs.Prelude.{ℕ, ◌≡◌, ◌≤◌, ◌==◌, not, Option, Some, None, List, ◌∷◌, ◌++◌, length}
 use Rattle.std.specs.List.{filter}
 use Rattle.index_page.specs.Rows.{Bytes, Row, placed_row, find_row, first_of_rows, last_of_rows, IsAt}
 use Rattle.index_page.specs.Page.{PageRows}
@@ -52,8 +52,8 @@ pub record Deletes (old new : PageRows) (place : ℕ) : Type 0 where
   pub is : new.rows ≡ left ++ right
   pub head : new.head ≡ old.head
 
--- the row that stood at `place` stands at `other` with this value, and where the value before was
--- as long, it stays; all else is as before
+-- the row that stood at `place` stands at `other` with this value, and where that is no longer than
+-- the value before, it stays; all else is as before
 pub record Sets (old new : PageRows) (place other : ℕ) (value : List ℕ) : Type 0 where
   pub left : List Row
   pub row : Row
@@ -62,7 +62,7 @@ pub record Sets (old new : PageRows) (place other : ℕ) (value : List ℕ) : Ty
   pub place_is : row.place ≡ place
   pub is : new.rows ≡ left ++ placed_row other row.key (Bytes value) ∷ right
   pub stands : find_row other new.rows ≡ Some (placed_row other row.key (Bytes value))
-  pub in_place : (before : List ℕ) → row.body ≡ Bytes before → length value ≡ length before
+  pub in_place : (before : List ℕ) → row.body ≡ Bytes before → length value ≤ length before
       → other ≡ place
   pub head : new.head ≡ old.head
 

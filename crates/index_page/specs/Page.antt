@@ -1,12 +1,13 @@
 -- A page as its head and its rows, and what holds of each page.
-use Rattle.std.specs.Prelude.{ℕ, ◌≡◌, ◌≢◌, ◌≤◌, ◌+◌, true, Option, Some, None, List, [], ◌∷◌, length}
+use Rattle.std.specs.Prelude.{ℕ, ◌≡◌, ◌≢◌, ◌≤◌, true, Option, Some, None, List, [], ◌∷◌, length}
 use Rattle.std.specs.List.{AllByRecursion}
 use Rattle.key_tuple.specs.KeyPlace.{At, before}
 use Rattle.key_tuple.specs.Limits.{IsWithinLimits}
 use Rattle.key_tuple.specs.declared.TheConstants.{MAX_VALUE_BYTES}
-use Rattle.index_page.specs.declared.TheConstants.{NO_PAGE, MAX_ROWS}
+use Rattle.index_page.specs.declared.TheConstants.{NO_PAGE, PAGE_ROOM}
 use Rattle.index_page.specs.declared.head.PageHead.{PageHead}
 use Rattle.index_page.specs.Rows.{RowBody, Bytes, Child, Row}
+use Rattle.index_page.specs.Loads.{load_of}
 
 -- a page: its head, and its rows by ascending keys
 pub record PageRows : Type 0 where
@@ -51,13 +52,13 @@ pub record IsRowOf (head : PageHead) (row : Row) : Type 0 where
   pub body : FitsLevel head.level row.body
   pub short : HasShortValue row.body
 
--- what holds of each page: its keys rise, its places differ, its rows suit it and are within the
--- limit, and its neighbours are pages
+-- what holds of each page: its keys rise, its places differ, its rows suit it and are charged no
+-- more than there is room, and its neighbours are pages
 pub record IsPageInOrder (page : PageRows) : Type 0 where
   pub ascend : RowsAscend page.rows
   pub places : PlacesDiffer page.rows
   pub each : AllByRecursion (IsRowOf page.head) page.rows
-  pub few : length page.rows ≤ MAX_ROWS + 1
+  pub fits : load_of page.rows ≤ PAGE_ROOM
   pub prev : IsNeighbour page.head.prev
   pub next : IsNeighbour page.head.next
 

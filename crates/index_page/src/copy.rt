@@ -62,6 +62,7 @@ impl Page {
         Ok(Page {
             head: self.head,
             rows: self.rows.copy()?,
+            load: self.load,
         })
     }
 }

@@ -2,7 +2,7 @@
 ghost use Rattle.std.specs.Prelude.{◌≡◌, ◌+◌, ◌≤◌, ◌<◌, [], ◌∷◌, ◌++◌, length, take, drop, Some, None, IfOk, OnOk, OnErr, IsSome, IsOk, slice_get};
 ghost use Rattle.std.specs.List.{AllByRecursion, insert, remove};
 ghost use Rattle.key_tuple.specs.Limits.{IsWithinLimits};
-ghost use Rattle.index_page.specs.declared.TheConstants.{MAX_ROWS};
+ghost use Rattle.index_page.specs.declared.TheConstants.{PAGE_ROOM};
 ghost use Rattle.index_page.specs.Rows.{Row, placed_row, find_row};
 ghost use Rattle.index_page.specs.Page.{PlacesDiffer};
 ghost use Rattle.index_page.specs.Store.{beside_by, rows_in, IsStore, IsSpare, Appends, HasValueAt, Rewrites};
@@ -89,7 +89,7 @@ impl Heap {
     ) -> Result<Place, AllocError>
         requires at { at ≤ length self.old }
         requires key { IsWithinLimits (A.fields_of key.now) }
-        requires room { length self.old ≤ MAX_ROWS }
+        requires room { length self.old ≤ PAGE_ROOM }
         ensures ok { IfOk result (λ place. self.new ≡ insert self.old at
             (placed_row place (A.fields_of key.now) (beside_by beside.entry))) }
         ensures vacant { IfOk result (λ place. find_row place self.old ≡ None) }
@@ -116,17 +116,18 @@ impl Heap {
         Ok(slot.rewrite(bytes)?)
     }
 
-    /// Puts the same rows as the others behind these.
-    pub(crate) fn append(&mut self, others: &Heap) -> Result<(), AllocError>
+    /// Puts the same rows as the others from a number on behind these.
+    pub(crate) fn append(&mut self, others: &Heap, first: usize) -> Result<(), AllocError>
+        requires first { first ≤ length others.now }
         requires keys { AllByRecursion (λ (x : Row). IsWithinLimits x.key) others.now }
         requires differ { PlacesDiffer self.old }
-        requires room { length self.old + length others.now ≤ MAX_ROWS + 1 }
-        ensures ok { OnOk result (Appends self.old self.new others.now) }
+        requires room { length self.old + length others.now ≤ PAGE_ROOM }
+        ensures ok { OnOk result (Appends self.old self.new (drop first others.now)) }
         ensures err { OnErr result (self.new ≡ self.old) }
     {
         let count = self.len();
-        for i in 0..others.len() {
-            let record = others.stored(i).1;
+        for i in 0..others.len() - first {
+            let record = others.stored(first + i).1;
             if let Err(e) = self.insert_at(self.len(), record, record.beside()) {
                 self.keep_first(count);
                 return Err(e);
@@ -164,16 +165,6 @@ impl Heap {
         }
     }
 
-    /// Takes out the first rows, so many.
-    pub(crate) fn drop_first(&mut self, count: usize)
-        requires { count ≤ length self.old }
-        ensures { self.new ≡ drop count self.old }
-    {
-        for _taken in 0..count {
-            self.remove_at(0);
-        }
-    }
-
     /// The same rows at the same places.
     pub(crate) fn copy(&self) -> Result<Heap, AllocError>
         ensures { IfOk result (λ h. h ≡ self.now) }
@@ -189,7 +180,7 @@ impl Heap {
 /// A vacant place with a slot: one that is there, or a further one.
 fn vacancy(alloc: Global, slots: &mut Vec<Record>, places: &mut Places) -> Result<Place, AllocError>
     requires store { IsStore slots.old.items places.old }
-    requires room { length places.old.live ≤ MAX_ROWS }
+    requires room { length places.old.live ≤ PAGE_ROOM }
     ensures spare { IfOk result (IsSpare places.new) }
     ensures store { IsStore slots.new.items places.new }
     ensures live { places.new.live ≡ places.old.live }

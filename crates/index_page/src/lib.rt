@@ -38,9 +38,6 @@ pub use spot::{Place, Spot};
 /// No page has this number.
 pub const NO_PAGE: u32 = 4_294_967_295;
 
-/// A page with more rows takes no further one.
-pub const MAX_ROWS: u32 = 8_388_608;
-
 /// The bytes of a page that its records are charged against.
 pub const PAGE_ROOM: u16 = 16_252;
 

@@ -24,10 +24,12 @@ impl Page {
         ensures to_err { OnErr result (to.new ≡ to.old) }
     {
         let at = self.position(first);
-        let mut tail = self.rows.copy()?;
-        tail.drop_first(at);
+        let mut tail = self.rows.anew();
+        tail.append(&self.rows, at)?;
+        let load = self.load_of_first(at);
         self.rows.keep_first(at);
         to.rows = tail;
+        (to.load, self.load) = (self.load - load, load);
         Ok(())
     }
 
@@ -41,8 +43,10 @@ impl Page {
         ensures err { OnErr result (self.new ≡ self.old) }
         ensures to_err { OnErr result (to.new ≡ to.old) }
     {
-        to.rows.append(&self.rows)?;
+        to.rows.append(&self.rows, 0)?;
+        to.load += self.load;
         self.rows.clear();
+        self.load = 0;
         Ok(())
     }
 
@@ -55,7 +59,7 @@ impl Page {
     {
         copy.forget();
         let mut rows = self.rows.anew();
-        rows.append(&self.rows)?;
+        rows.append(&self.rows, 0)?;
         self.rows = rows;
         Ok(())
     }

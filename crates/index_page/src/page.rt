@@ -2,6 +2,7 @@
 ghost use Rattle.std.specs.Prelude.{◌≡◌, [], length, Some, IfOk, IsSome};
 ghost use Rattle.index_page.specs.Rows.{find_row};
 ghost use Rattle.index_page.specs.Page.{IsNeighbour, linked, IsRowOf, IsPageInOrder};
+ghost use Rattle.index_page.specs.Loads.{load_of};
 
 use crate::head::PageHead;
 use crate::heap::Heap;
@@ -17,6 +18,9 @@ use std::marker::Model;
 pub struct Page {
     pub(crate) head: PageHead,
     pub(crate) rows: Heap,
+    /// What the rows are charged together.
+    pub(crate) load: u16,
+    ghost charged: { load ≡ load_of rows },
 }
 
 impl Model for Page {
@@ -40,6 +44,7 @@ impl Page {
         Ok(Page {
             head,
             rows: Heap::new(alloc),
+            load: 0,
         })
     }
 
@@ -51,6 +56,7 @@ impl Page {
         ensures rows { self.new.rows ≡ [] }
     {
         self.rows.clear();
+        self.load = 0;
         self.head = head;
     }
 
@@ -73,10 +79,10 @@ impl Page {
     }
 
     /// How many rows there are.
-    pub fn count(&self) -> u32
+    pub fn count(&self) -> u16
         ensures { result ≡ length self.now.rows }
     {
-        self.rows.len() as u32
+        self.rows.len() as u16
     }
 
     /// The page is in order.

@@ -1,13 +1,14 @@
 //! Whether a page takes a row.
-ghost use Rattle.std.specs.Prelude.{◌≡◌, ◌≤◌, ◌<◌, length, None, IsSome};
-ghost use Rattle.index_page.specs.declared.TheConstants.{PAGE_ROOM, MAX_CHARGE, MAX_ROWS};
-ghost use Rattle.index_page.specs.Rows.{find_row};
+ghost use Rattle.std.specs.Prelude.{◌≡◌, ◌≤◌, ◌+◌, Some, None, IsSome};
+ghost use Rattle.index_page.specs.declared.TheConstants.{PAGE_ROOM, MAX_CHARGE};
+ghost use Rattle.index_page.specs.Rows.{Row, Bytes, find_row};
+ghost use Rattle.index_page.specs.Changes.{rows_without};
+ghost use Rattle.index_page.specs.Loads.{charge_of, load_of};
 ghost use Rattle.index_page.specs.Refusals.{free_of, ample_gaps, gaps_of, room_refusal, set_refusal};
 
 use crate::PAGE_ROOM;
 use crate::charges::{record_charge, size_with_length};
 use crate::error::PageError;
-use crate::loads::room_left;
 use crate::page::Page;
 use crate::spot::Place;
 use key_tuple::Value;
@@ -35,16 +36,16 @@ impl Page {
 
     /// Why a row that needs so much isn't put in, if it isn't.
     pub(crate) fn refusal(&self, need: u16) -> Option<PageError>
-        requires some { 0 < need }
-        requires most { need ≤ MAX_CHARGE }
+        requires { need ≤ MAX_CHARGE }
         ensures is { result ≡ room_refusal need (free_of self.now) (gaps_of self.now) }
-        ensures few { result ≡ None → length self.now.rows ≤ MAX_ROWS }
+        ensures room { result ≡ None → load_of self.now.rows + need ≤ PAGE_ROOM }
     {
+        self.is_in_order();
         refusal_by(need, self.free())
     }
 
-    /// Why the row at a place gets no other value, if it doesn't.
-    pub(crate) fn refusal_to_set(&self, place: Place, value: &Value) -> Option<PageError>
+    /// Why the row at a place gets no other value, if it doesn't. It takes no memory.
+    pub fn refusal_to_set(&self, place: Place, value: &Value) -> Option<PageError>
         requires there { IsSome (find_row place self.now.rows) }
         requires level { self.now.head.level ≡ 0 }
         ensures { result ≡ set_refusal self.now place value.now }
@@ -55,11 +56,23 @@ impl Page {
         if new.len() == old.len() {
             return None;
         }
-        let others = self.load() - u64::from(record_charge(&row, size_with_length(old)));
+        let others = self.load - self.charge_at(place);
         refusal_by(
             record_charge(&row, size_with_length(new)),
-            room_left(others),
+            PAGE_ROOM - others,
         )
+    }
+
+    /// What the page is charged once the row at a place has another value.
+    pub(crate) fn load_with(&self, place: Place, value: &Value) -> u16
+        requires there { IsSome (find_row place self.now.rows) }
+        requires level { self.now.head.level ≡ 0 }
+        ensures { (row : Row) → find_row place self.now.rows ≡ Some row → result
+            ≡ load_of (rows_without place self.now.rows) + charge_of row.key (Bytes value.now) }
+    {
+        self.is_in_order();
+        let others = self.load - self.charge_at(place);
+        others + record_charge(&self.row(place), size_with_length(value.as_bytes()))
     }
 }
 

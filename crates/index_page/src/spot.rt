@@ -2,7 +2,7 @@
 use key_tuple::Match;
 
 /// Where a row stands on its page. A row keeps its place until it is deleted.
-pub type Place = u32;
+pub type Place = u16;
 
 /// The rows around a cut: their places, and how far the tuple agrees with each of them, (0, 0)
 /// where there is none.

@@ -1,6 +1,6 @@
 //! From row to row.
 ghost use Rattle.std.specs.Prelude.{◌≤◌, length, take, IsSome, slice_get};
-ghost use Rattle.index_page.specs.declared.TheConstants.{MAX_ROWS};
+ghost use Rattle.index_page.specs.declared.TheConstants.{PAGE_ROOM};
 ghost use Rattle.index_page.specs.Rows.{find_row, first_of_rows, last_of_rows, IsAt};
 ghost use Rattle.index_page.specs.Search.{IsPosition};
 ghost use Rattle.index_page.specs.Changes.{NextIs, PrevIs, IsBeside};
@@ -53,7 +53,7 @@ impl Page {
     pub(crate) fn position(&self, place: Place) -> usize
         requires { IsSome (find_row place self.now.rows) }
         ensures row { IsPosition self.now.rows place result }
-        ensures few { result ≤ MAX_ROWS }
+        ensures few { result ≤ PAGE_ROOM }
     {
         self.cut(self.rows.record(place), Mode::Ge)
     }

@@ -110,7 +110,7 @@ fn the_shortest_1651_rows_fill_a_page(rt: HostRuntime) {
 }
 
 /// After how many rows a split would cut the page.
-fn cut_after(page: &Page) -> Option<u32> {
+fn cut_after(page: &Page) -> Option<u16> {
     if page.count() < 2 {
         return None;
     }
@@ -118,7 +118,7 @@ fn cut_after(page: &Page) -> Option<u32> {
 }
 
 /// The same of a page with these letters, and with a row of 2,000 bytes at c.
-fn cut_of(alloc: Global, letters: &[u8], has_huge: bool) -> Option<u32> {
+fn cut_of(alloc: Global, letters: &[u8], has_huge: bool) -> Option<u16> {
     let mut page = lettered(alloc, letters)?;
     if has_huge && put_bytes(alloc, &mut page, b"c", &[7; 2000]).is_none() {
         return None;

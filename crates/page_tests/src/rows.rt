@@ -135,10 +135,10 @@ fn an_inner_page_has_children(rt: HostRuntime) {
 }
 
 /// The numbers up to 1,000 in an order of their own.
-fn scattered(n: u32) -> [u8; 4]
+fn scattered(n: u16) -> [u8; 4]
     requires { n < 1000 }
 {
-    (n * 389 % 1000).to_be_bytes()
+    (u32::from(n) * 389 % 1000).to_be_bytes()
 }
 
 /// Puts a row in for each number up to 1,000, each at a further place.

@@ -1,12 +1,12 @@
-use Rattle.std.proofs.Common.{◌+◌, ◌≤◌, ◌++◌, length, sym, ap, ◌∙◌, subst, arith}
-use Rattle.index_page.specs.declared.TheConstants.{MAX_ROWS}
+use Rattle.std.proofs.Common.{◌+◌, ◌≤◌, ◌++◌, sym, ap, ◌∙◌, subst, arith}
+use Rattle.index_page.specs.declared.TheConstants.{PAGE_ROOM}
 use Rattle.key_tuple.specs.Limits.{IsWithinLimits}
 use Rattle.index_page.specs.Rows.{Row, SameRows}
 use Rattle.index_page.specs.Page.{PageRows, RowsAscend, IsRowOf}
 use Rattle.index_page.specs.Loads.{load_of}
 use Rattle.list_facts.proofs.Each.{each_weaker}
 use Rattle.index_page.proofs.PartLemmas.{suits_too}
-use Rattle.index_page.proofs.AppendLemmas.{appended_order, rows_within_load}
+use Rattle.index_page.proofs.AppendLemmas.{appended_order, appended_load, rows_within_load}
 use Rattle.index_page.proofs.page.Page.move_all.Goals as goal
 
 pub append-requires-clause-room : goal.append-requires-clause-room
@@ -20,9 +20,8 @@ invariant_of-to-2 c =
     let fields = ap (λ (p : PageRows). p.head.fields) c.to.view_is ∙ c.requires.fields ∙ sym (ap (λ (p : PageRows). p.head.fields) c.self.view_is) in
     let suit = each_weaker (IsRowOf c.self.inside.head) (IsRowOf c.to.inside.head) (suits_too c.self.inside.head c.to.inside.head level fields) c.self.inside.rows c.self.invariant.each in
     let rise = subst (λ (p : PageRows). RowsAscend (p.rows ++ c.self.inside.rows)) (sym c.to.view_is) (subst (λ (p : PageRows). RowsAscend (c.args.to.now.rows ++ p.rows)) (sym c.self.view_is) c.requires.ascend) in
-    let load = λ (p : PageRows). load_of p.rows in
-    let few : length c.to.inside.rows + length c.self.inside.rows ≤ MAX_ROWS + 1 = omega (arith, rows_within_load c.to.inside.rows, rows_within_load c.self.inside.rows, c.requires.fits, ap load c.to.view_is, ap load c.self.view_is) in
-    appended_order c.to.inside.head c.to.inside.rows c.append.new.self c.self.inside.rows c.in_ok-append.ensures.ok c.to.invariant.each suit rise few c.to.invariant.prev c.to.invariant.next
+    let fits : load_of c.to.inside.rows + load_of c.self.inside.rows ≤ PAGE_ROOM = omega (arith, c.requires.fits, ap (λ (p : PageRows). load_of p.rows) c.to.view_is, ap (λ (p : PageRows). load_of p.rows) c.self.view_is) in
+    appended_order c.to.inside.head c.to.inside.rows c.append.new.self c.self.inside.rows c.in_ok-append.ensures.ok c.to.invariant.each suit rise fits c.to.invariant.prev c.to.invariant.next
 
 pub append-requires-clause-keys : goal.append-requires-clause-keys
 append-requires-clause-keys c =
@@ -39,3 +38,6 @@ returns-clause-ok c =
       head = ap (λ (p : PageRows). p.head) c.self.view_is;
       to_head = ap (λ (p : PageRows). p.head) c.to.view_is;
     }
+
+pub invariant_of-to-inside-2 : goal.invariant_of-to-inside-2
+invariant_of-to-inside-2 c = (omega (arith, appended_load c.to.inside.rows c.append.new.self c.self.inside.rows c.in_ok-append.ensures.ok, c.to.inside.charged, c.self.inside.charged), tt)

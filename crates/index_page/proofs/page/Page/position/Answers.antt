@@ -3,6 +3,7 @@ use Rattle.index_page.specs.Page.{PageRows, IsRowOf, IsPageInOrder}
 use Rattle.index_page.specs.Rows.{find_row, placed_row}
 use Rattle.index_page.proofs.RowLemmas.{each_found, get_below}
 use Rattle.index_page.proofs.KeyLemmas.{position_of}
+use Rattle.index_page.proofs.AppendLemmas.{rows_within_load}
 use Rattle.index_page.proofs.page.Page.position.Goals as goal
 
 pub cut-requires : goal.cut-requires
@@ -19,4 +20,4 @@ returns-clause-row c =
 pub returns-clause-few : goal.returns-clause-few
 returns-clause-few c =
     let here = returns-clause-row c in
-    omega (arith, get_below c.args.self.now.rows c.cut.result here.row here.there, c.self.invariant.few, ap (λ (p : PageRows). length p.rows) c.self.view_is)
+    omega (arith, get_below c.args.self.now.rows c.cut.result here.row here.there, rows_within_load c.self.inside.rows, c.self.invariant.fits, ap (λ (p : PageRows). length p.rows) c.self.view_is)

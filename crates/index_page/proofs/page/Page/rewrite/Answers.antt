@@ -1,9 +1,10 @@
 use Rattle.std.proofs.Common.{◌≡◌, ℕ, true, false, Some, List, length, is_ok, sym, ap, ◌∙◌, subst, arith}
 use Rattle.index_page.specs.Rows.{find_row}
-use Rattle.index_page.specs.Page.{PageRows}
+use Rattle.index_page.specs.Page.{PageRows, IsPageInOrder}
 use Rattle.index_page.specs.Search.{IsPosition}
 use Rattle.index_page.specs.Store.{Rewrites}
 use Rattle.index_page.proofs.SetLemmas.{value_at, value_of, rewritten_order, sets}
+use Rattle.index_page.proofs.RewriteLemmas.{new_load-is, new_load-fits}
 use Rattle.index_page.proofs.page.Page.rewrite.Goals as goal
 
 pub rewrite_at-requires : goal.rewrite_at-requires
@@ -11,8 +12,8 @@ rewrite_at-requires c =
     let position = subst (λ (p : PageRows). IsPosition p.rows c.args.place c.position-at.result) (sym c.self.view_is) c.position-at.ensures.row in
     value_at c.self.inside.head c.self.inside.rows c.args.place c.position-at.result c.self.invariant position (ap (λ (p : PageRows). p.head.level) c.self.view_is ∙ c.requires.level)
 
-pub returns-in_err-rewrite_at-clause-in_place : goal.returns-in_err-rewrite_at-clause-in_place
-returns-in_err-rewrite_at-clause-in_place c =
+pub returns-in_err-rewrite_at-clause-no_longer : goal.returns-in_err-rewrite_at-clause-no_longer
+returns-in_err-rewrite_at-clause-no_longer c =
     let position = subst (λ (p : PageRows). IsPosition p.rows c.args.place c.position-at.result) (sym c.self.view_is) c.position-at.ensures.row in
     λ row before found is long.
     let here = subst (λ (p : PageRows). find_row c.args.place p.rows ≡ Some row) (sym c.self.view_is) found in
@@ -24,7 +25,17 @@ returns-in_err-rewrite_at-clause-in_place c =
 pub invariant_of-self-2 : goal.invariant_of-self-2
 invariant_of-self-2 c =
     let put = subst (λ (b : List ℕ). Rewrites c.self.inside.rows c.rewrite_at.new.self c.position-at.result b) c.as_bytes.ensures.bytes c.in_ok-rewrite_at.ensures.ok in
-    rewritten_order c.self.inside.head c.self.inside.rows c.rewrite_at.new.self c.position-at.result c.args.value.now c.self.invariant put (ap (λ (p : PageRows). p.head.level) c.self.view_is ∙ c.requires.level) c.as_bytes.ensures.short
+    let put_here = subst (λ (p : PageRows). Rewrites p.rows c.rewrite_at.new.self c.position-at.result c.args.value.now) c.self.view_is put in
+    let order = subst IsPageInOrder c.self.view_is c.self.invariant in
+    let fits = new_load-fits c.args.self.now c.rewrite_at.new.self c.args.place c.position-at.result c.args.value.now order c.position-at.ensures.row put_here c.requires.level c.requires.room in
+    rewritten_order c.self.inside.head c.self.inside.rows c.rewrite_at.new.self c.position-at.result c.args.value.now c.self.invariant put (ap (λ (p : PageRows). p.head.level) c.self.view_is ∙ c.requires.level) c.as_bytes.ensures.short fits
+
+pub invariant_of-self-inside-2 : goal.invariant_of-self-inside-2
+invariant_of-self-inside-2 c =
+    let put = subst (λ (b : List ℕ). Rewrites c.self.inside.rows c.rewrite_at.new.self c.position-at.result b) c.as_bytes.ensures.bytes c.in_ok-rewrite_at.ensures.ok in
+    let put_here = subst (λ (p : PageRows). Rewrites p.rows c.rewrite_at.new.self c.position-at.result c.args.value.now) c.self.view_is put in
+    let order = subst IsPageInOrder c.self.view_is c.self.invariant in
+    (new_load-is c.args.self.now c.rewrite_at.new.self c.args.place c.position-at.result c.args.value.now order c.position-at.ensures.row put_here c.load_with-load.result c.load_with-load.ensures, tt)
 
 pub returns-clause-ok : goal.returns-clause-ok
 returns-clause-ok c =

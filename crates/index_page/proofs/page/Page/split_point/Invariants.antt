@@ -7,7 +7,6 @@ use Rattle.index_page.proofs.page.Page.split_point.Given as goal
 abbrev pub invariant-loop-i : goal.invariant-loop-i
 invariant-loop-i l = record {
   sum : l.left ≡ load_of (take l.i l.self.rows);
-  load : l.load ≡ load_of l.self.rows;
   within : l.cut ≤ l.i;
   larger : l.least ≡ larger_part l.self.rows l.cut;
   best : IsBest l.self.rows l.i l.cut;
