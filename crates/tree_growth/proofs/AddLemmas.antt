@@ -86,15 +86,6 @@ module _ (p q r : TreePass) where
         room = had.room;
       }
 
-  -- a second way down
-  pub walks_after : (i : ℕ) (key : FieldList) (need : ℕ) (has_room : Bool) → GoesOn p q
-      → WalksDown q i key need has_room r → WalksDown p i key need has_room r
-  walks_after i key need has_room first walks = record {
-    goes = goes_both first walks.goes;
-    way = walks.way;
-    room = λ so. room_second i key need first walks.goes (walks.room so);
-  }
-
   -- it was said in the second call that no number was free
   pub full_after : (i : ℕ) → GoesOn p q → SaysFull q i r → SaysFull p i r
   full_after i first second = record {

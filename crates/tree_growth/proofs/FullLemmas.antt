@@ -47,5 +47,5 @@ module _ (p : TreePass) (i : ℕ) (key : FieldList) (need parent child : ℕ)
           held.knows_low held.above held.below.is) gave held.level held.low held.knows_low
           held.below at (tells held);
       level = λ it. its_level (view p) i key need child it.level at it.low it.below (tells it);
-      room = λ it within. not_full;
+      fits = not_full;
     }

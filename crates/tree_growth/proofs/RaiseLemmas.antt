@@ -24,12 +24,12 @@ use Rattle.tree_descent.specs.Leaves.{cut_in}
 use Rattle.tree_smo.specs.Raising.{RaisesRoot}
 use Rattle.tree_smo.specs.Splitting.{most_for_pointer}
 use Rattle.tree_growth.specs.declared.looking.PageInHand.{PageInHand}
-use Rattle.tree_growth.specs.Pages.{IsWithinRoom, HoldsChild}
-use Rattle.tree_growth.specs.Ways.{IsGoingDown, GoesOn, GrowsRoot, GrowsChild}
+use Rattle.tree_growth.specs.Pages.{HoldsChild}
+use Rattle.tree_growth.specs.Ways.{IsGoingDown, GoesOn, ArrivesWithRoom, GrowsChild}
 use Rattle.tree_growth.proofs.AddLemmas.{goes_silently, reaches_after}
 use Rattle.tree_growth.proofs.HandLemmas.{way_more}
 use Rattle.tree_growth.proofs.PageLemmas.{HasKey}
-use Rattle.tree_growth.proofs.RoomLemmas.{one_row, load_of-same}
+use Rattle.tree_growth.proofs.RoomLemmas.{one_row}
 use Rattle.tree_growth.proofs.RootLemmas.{key_cuts}
 use Rattle.tree_growth.proofs.KnownLemmas.{frame_one, known_tells}
 
@@ -130,28 +130,12 @@ module _ (p q : TreePass) (i : ℕ) (key : FieldList) (under : ℕ) (way : IsGoi
       room = top_room;
     }
 
-    -- whose rows take no more than the room of a page if the root's took no more
-    pub under_within : (f : Frame) (page : PageRows) → KnowsFrame (view p) i f
-        → f.page ≡ Some page → IsWithinRoom page → IsWithinRoom under_held.below.is.page
-    unfolding under_held under_has under_page
-    under_within f page knows paged within =
-        let same : page ≡ raises.raises.page = same_some page raises.raises.page
-        (sym paged
-        ∙ (ap (λ (g : Frame). g.page)
-        (frame_one (view p) i f raises.was.root knows raises.was.knows_root) ∙ raises.raises.had)) in
-        subst (λ n. n ≤ PAGE_ROOM)
-        (ap (λ (r : PageRows). load_of r.rows) same
-        ∙ load_of-same raises.raises.page.rows raises.raises.new.rows raises.raises.raises.go) within
-
 -- what has the key of the page under the root is in hand
-pub grows_raised : (p q r : TreePass) (root : PageInHand) (i : ℕ) (key : FieldList)
-    (need under : ℕ) → root.block ≡ i → (way : IsGoingDown p i key (i ∷ []))
-    (raises : RaisesRoot p i under q) (fitted : IsFittedTree (view q)) (at : PageInHand)
-    → GrowsChild q i under i key need at r → GrowsRoot p root i key need at r
-grows_raised p q r root i key need under is way raises fitted at grows = record {
+pub grows_raised : (p q r : TreePass) (i : ℕ) (key : FieldList) (need under : ℕ)
+    → (way : IsGoingDown p i key (i ∷ [])) (raises : RaisesRoot p i under q) (at : PageInHand)
+    → GrowsChild q i under i key need at r → ArrivesWithRoom p i key need at r
+grows_raised p q r i key need under way raises at grows = record {
   reaches = reaches_after p q r i key need at (goes_raised p q i key under way raises)
       grows.reaches;
-  room = λ held within. grows.room (under_held p q i key under way raises fitted)
-      (under_within p q i key under way raises fitted held.frame held.page.is.page
-      (subst (λ b. KnowsFrame (view p) b held.frame) is held.knows) held.page.is.paged within);
+  fits = grows.fits;
 }

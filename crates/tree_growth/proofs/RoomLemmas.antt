@@ -7,26 +7,17 @@ use Rattle.std.proofs.lemmas.Bool.Decides.{nat_tests}
 use Rattle.index_page.specs.declared.TheConstants.{PAGE_ROOM, MAX_CHARGE}
 use Rattle.list_facts.proofs.Each.{each_weaker}
 use Rattle.key_tuple.specs.Order.{FieldList}
-use Rattle.index_page.specs.Rows.{Row, SameRows}
+use Rattle.index_page.specs.Rows.{Row}
 use Rattle.index_page.specs.Page.{PageRows, IsRowOf, IsPageInOrder}
 use Rattle.index_page.specs.Loads.{charge_of, load_of}
+use Rattle.index_page.proofs.AppendLemmas.{load_same}
 use Rattle.index_page.proofs.HalvesLemmas.{near_half}
 use Rattle.index_page.proofs.LoadLemmas.{load_of-cons}
 use Rattle.index_page.proofs.RoomLemmas.{charge_within}
 use Rattle.tree_restructure.specs.Cuts.{CutsPage}
 use Rattle.tree_smo.specs.Splitting.{most_for_pointer}
 use Rattle.tree_growth.specs.declared.looking.PageInHand.{PageInHand}
-use Rattle.tree_growth.specs.Pages.{needed, TellsRoom, IsWithinRoom, HasRoomForAny}
-
--- the same rows have one load
-pub load_of-same : (xs ys : List Row) → SameRows xs ys → load_of xs ≡ load_of ys
-load_of-same [] [] same = refl
-load_of-same [] (y ∷ ys) same = absurd same
-load_of-same (x ∷ xs) [] same = absurd same
-load_of-same (x ∷ xs) (y ∷ ys) same =
-    let head : charge_of x.key x.body ≡ charge_of y.key y.body =
-    (λ k. charge_of (same.0 k) (same.1 k)) in
-    omega (arith, load_of-cons x xs, load_of-cons y ys, head, load_of-same xs ys same.2)
+use Rattle.tree_growth.specs.Pages.{needed, TellsRoom, HasRoomForAny}
 
 -- what has to be free is a charge at most
 pub needed_small : (level need : ℕ) → need ≤ MAX_CHARGE → needed level need ≤ MAX_CHARGE
@@ -43,11 +34,11 @@ module _ (page : PageRows) (order : IsPageInOrder page) where
       (λ (x : Row). charge_of x.key x.body ≤ MAX_CHARGE) (λ x of. charge_within page.head x of)
       page.rows order.each
 
-  -- the halves of a page whose rows take no more than its room have room for any row
+  -- the halves of a page have room for any row
   pub halves_roomy : (stays fresh new : PageRows) (at : FieldList)
-      → CutsPage page stays fresh new at → IsWithinRoom page
-      → HasRoomForAny stays × HasRoomForAny new
-  halves_roomy stays fresh new at cuts within =
+      → CutsPage page stays fresh new at → HasRoomForAny stays × HasRoomForAny new
+  halves_roomy stays fresh new at cuts =
+      let within = order.fits in
       let near = near_half page.rows (length cuts.lower) MAX_CHARGE cuts.halves charges_small in
       let low : take (length cuts.lower) page.rows ≡ stays.rows =
       ap (take (length cuts.lower)) cuts.was
@@ -55,7 +46,7 @@ module _ (page : PageRows) (order : IsPageInOrder page) where
       let high : drop (length cuts.lower) page.rows ≡ cuts.upper =
       ap (drop (length cuts.lower)) cuts.was ∙ drop-append_seam cuts.lower cuts.upper in
       let left = near.left in let right = near.right in
-      let same = load_of-same cuts.upper new.rows cuts.go in
+      let same = load_same cuts.upper new.rows cuts.go in
       let a = ap load_of low in let b = ap load_of high in
       (omega (arith, left, a, within), omega (arith, right, b, same, within))
 

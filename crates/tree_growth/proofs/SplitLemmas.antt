@@ -20,7 +20,7 @@ use Rattle.buffer_pool.proofs.AddedLemmas.{frame_no_tree, tree_still}
 use Rattle.tree_descent.specs.Leaves.{HasCutWithin, cut_in}
 use Rattle.tree_smo.specs.Splitting.{SplitsChild}
 use Rattle.tree_growth.specs.declared.looking.PageInHand.{PageInHand}
-use Rattle.tree_growth.specs.Pages.{IsOrdered, IsWithinRoom, HasRoomForAny, HoldsChild, HoldsBothHalves}
+use Rattle.tree_growth.specs.Pages.{IsOrdered, HasRoomForAny, HoldsChild, HoldsBothHalves}
 use Rattle.tree_growth.specs.Ways.{IsGoingDown, GoesOn, GrowsChild, KeepsHalf}
 use Rattle.tree_growth.proofs.AddLemmas.{same_shape, goes_silently, goes_both, reaches_after}
 use Rattle.tree_growth.proofs.HandLemmas.{way_more, way_less, goes_gave, still_gave}
@@ -164,18 +164,12 @@ module _ (p q : TreePass) (i : ℕ) (key : FieldList) (parent child right : ℕ)
         its_halves_level = same_level
 
         -- the halves have room for any row
-        pub halves_have_room : IsOrdered (view p) child → IsWithinRoom held.below.is.page
+        pub halves_have_room : IsOrdered (view p) child
             → HasRoomForAny halves_held.is_lower.page × HasRoomForAny halves_held.is_upper.page
         unfolding left_page right_page halves_held
-        halves_have_room ordered within =
-            let same : held.below.is.page ≡ splits.cuts.page =
-            same_some held.below.is.page splits.cuts.page
-            (sym held.below.is.paged
-            ∙ (ap (λ (f : Frame). f.page) same_low ∙ splits.cuts.had)) in
-            halves_roomy splits.cuts.page
+        halves_have_room ordered = halves_roomy splits.cuts.page
             (ordered splits.was.low splits.cuts.page splits.was.knows_low splits.cuts.had)
             splits.cuts.stays splits.cuts.fresh splits.cuts.new splits.at splits.cuts.cuts
-            (subst IsWithinRoom same within)
 
 -- the half that has the key is kept
 pub grows_halved : (p q r s : TreePass) (i : ℕ) (key : FieldList) (need parent child right : ℕ)
@@ -190,8 +184,8 @@ grows_halved p q r s i key need parent child right way splits held fitted gave o
       level = λ it. kept.level
           (halves_held p q i key parent child right way splits it fitted r gave)
           ∙ its_halves_level p q i key parent child right way splits it fitted r gave;
-      room = λ it within. let any =
-          halves_have_room p q i key parent child right way splits it fitted r gave ordered within in
-          kept.room (halves_held p q i key parent child right way splits it fitted r gave) any.0
+      fits = let any =
+          halves_have_room p q i key parent child right way splits held fitted r gave ordered in
+          kept.room (halves_held p q i key parent child right way splits held fitted r gave) any.0
           any.1;
     }

@@ -116,12 +116,12 @@ module _ (p q : TreePass) (i : ℕ) (key : FieldList) (below : i < (shape_of_pas
       silent = all.silent;
     }
 
-    pub makes_room : (need : ℕ) → WalksDown q i key need true r → MakesRoom p i key need s
+    pub makes_room : (need : ℕ) → WalksDown q i key need r → MakesRoom p i key need s
     unfolding all_goes grows_silently
     makes_room need walks = record {
       silently = grows_silently walks.goes;
       room = room_first p r s i key need (goes_both p q r goes_tree walks.goes) goes_back
-          (room_second p q r i key need goes_tree walks.goes (walks.room refl));
+          (room_second p q r i key need goes_tree walks.goes walks.room);
     }
 
     pub finds_no_room : SaysFull q i r → FindsNoRoom p i s
@@ -140,7 +140,7 @@ module _ (p q : TreePass) (i : ℕ) (key : FieldList) (below : i < (shape_of_pas
 
 -- the tree alone is in hand, whatever was answered
 pub way_either : {A : Type 0} (r : Result A PoolError) (q s : TreePass) (i : ℕ) (key : FieldList)
-    (need : ℕ) → OnOk r (WalksDown q i key need true s) → IfErr r (λ e. StopsOnWay q i key e s)
+    (need : ℕ) → OnOk r (WalksDown q i key need s) → IfErr r (λ e. StopsOnWay q i key e s)
     → IsGoingDown s i key []
 way_either (Ok x) q s i key need walks stops = walks.way
 way_either (Err e) q s i key need walks stops = stops.way

@@ -1,5 +1,5 @@
 -- The end of the way down, where the leaf is given back.
-use Rattle.std.proofs.Common.{◌≡◌, ℕ, ◌+◌, ◌≤◌, Bool, true, false, cond, [], ◌∷◌, inl, eq-eqb, sym, ap, subst, ◌∙◌, refl}
+use Rattle.std.proofs.Common.{◌≡◌, ℕ, ◌+◌, ◌≤◌, Bool, false, cond, [], ◌∷◌, inl, eq-eqb, sym, ap, subst, ◌∙◌, refl}
 use Rattle.key_tuple.specs.declared.mode.Mode.TheVariants as mode
 use Rattle.key_tuple.specs.Order.{FieldList}
 use Rattle.latch_law.specs.Whole.{reference}
@@ -65,12 +65,10 @@ module _ (p q r : TreePass) (i : ℕ) (key : FieldList) (need : ℕ) (at : PageI
         (is.tells.room not_full);
   }
 
-  pub walks_down : (has_room : Bool)
-      → (has_room ≡ true → (at.level ≡ 0) × (at.is_full ≡ false))
-      → WalksDown p i key need has_room r
-  walks_down has_room tells = record {
+  pub walks_down : at.level ≡ 0 → at.is_full ≡ false → WalksDown p i key need r
+  walks_down bottom not_full = record {
     goes = goes_end;
     way = way_less q r i key (at.block ∷ []) [] reaches.way at.block gave
         (λ k apart each. (apart, tt)) refl;
-    room = λ so. let t = tells so in had_room t.0 t.1;
+    room = had_room bottom not_full;
   }

@@ -37,10 +37,6 @@ abbrev pub IsOrdered : View → ℕ → Type 0
 IsOrdered v b = (f : Frame) (page : PageRows) → KnowsFrame v b f → f.page ≡ Some page
     → IsPageInOrder page
 
--- the rows of the page take no more than its room
-abbrev pub IsWithinRoom : PageRows → Type 0
-IsWithinRoom page = load_of page.rows ≤ PAGE_ROOM
-
 -- there is room for any row on the page
 abbrev pub HasRoomForAny : PageRows → Type 0
 HasRoomForAny page = load_of page.rows + MAX_CHARGE ≤ PAGE_ROOM

@@ -21,7 +21,7 @@ use Rattle.buffer_pool.specs.declared.error.PoolError.TheVariants.{SpaceFull, No
 use Rattle.buffer_pool.specs.NewPages.{HasNoneFree, HeldPool}
 use Rattle.tree_growth.specs.declared.looking.PageInHand.{PageInHand}
 use Rattle.tree_growth.specs.Growing.{HadRoom}
-use Rattle.tree_growth.specs.Pages.{IsWithinRoom, HasRoomForAny, IsPageInHand, HoldsChild, HoldsBothHalves}
+use Rattle.tree_growth.specs.Pages.{HasRoomForAny, IsPageInHand, HoldsChild, HoldsBothHalves}
 
 -- the pass holds nothing but the index's tree and the frames of these blocks
 abbrev pub HoldsOnly : View → ℕ → List ℕ → Type 0
@@ -77,30 +77,25 @@ pub record ArrivesAt (p : TreePass) (i : ℕ) (key : FieldList) (need : ℕ) (at
   pub way : IsGoingDown q i key (at.block ∷ [])
   pub is : IsPageInHand (view q) i key need at
 
--- the pass went down to the leaf of the key, and gave that back too: where it says so, the leaf had
--- room
-pub record WalksDown (p : TreePass) (i : ℕ) (key : FieldList) (need : ℕ) (has_room : Bool)
+-- the pass has come to this page, which isn't full
+pub record ArrivesWithRoom (p : TreePass) (i : ℕ) (key : FieldList) (need : ℕ) (at : PageInHand)
     (q : TreePass) : Type 0 where
+  pub reaches : ArrivesAt p i key need at q
+  pub fits : at.is_full ≡ false
+
+-- the pass went down to the leaf of the key, which had room, and gave that back too
+pub record WalksDown (p : TreePass) (i : ℕ) (key : FieldList) (need : ℕ) (q : TreePass)
+    : Type 0 where
   pub goes : GoesOn p q
   pub way : IsGoingDown q i key []
-  pub room : has_room ≡ true → HadRoom (shape_of_pass p) i key need goes.added
+  pub room : HadRoom (shape_of_pass p) i key need goes.added
 
--- the root, or what has the key of the page under it, is in hand; and it isn't full where the rows
--- of the root took no more than its room
-pub record GrowsRoot (p : TreePass) (root : PageInHand) (i : ℕ) (key : FieldList) (need : ℕ)
-    (at : PageInHand) (q : TreePass) : Type 0 where
-  pub reaches : ArrivesAt p i key need at q
-  pub room : (held : IsPageInHand (view p) i key need root) → IsWithinRoom held.page.is.page
-      → at.is_full ≡ false
-
--- the child, or the half of it that has the key, is in hand, on the child's level; and it isn't
--- full where the child's rows took no more than its room
+-- the child, or the half of it that has the key, is in hand, on the child's level, and isn't full
 pub record GrowsChild (p : TreePass) (parent child i : ℕ) (key : FieldList) (need : ℕ)
     (at : PageInHand) (q : TreePass) : Type 0 where
   pub reaches : ArrivesAt p i key need at q
   pub level : (held : HoldsChild (view p) parent child i key) → at.level ≡ held.level
-  pub room : (held : HoldsChild (view p) parent child i key) → IsWithinRoom held.below.is.page
-      → at.is_full ≡ false
+  pub fits : at.is_full ≡ false
 
 -- the half that has the key is in hand, and it isn't full where both have room for any row
 pub record KeepsHalf (p : TreePass) (left right i : ℕ) (key : FieldList) (need : ℕ)

@@ -6,7 +6,7 @@ ghost use Rattle.index_page.specs.declared.TheConstants.{MAX_CHARGE};
 ghost use Rattle.buffer_pool.specs.Forests.{IsForest, IsFittedTree};
 ghost use Rattle.tree_smo.specs.Splitting.{CanSplit};
 ghost use Rattle.tree_growth.specs.Pages.{IsOrdered, IsPageInHand, HoldsChild};
-ghost use Rattle.tree_growth.specs.Ways.{IsGoingDown, ArrivesAt, StopsOnWay, GrowsRoot, GrowsChild};
+ghost use Rattle.tree_growth.specs.Ways.{IsGoingDown, ArrivesAt, ArrivesWithRoom, StopsOnWay, GrowsChild};
 
 use crate::halves::keep_half;
 use crate::looking::{PageInHand, page_in_hand};
@@ -18,7 +18,7 @@ use std::sync::Wait;
 use tree_smo::{raise_root, split_child};
 
 /// Takes the root.
-pub(crate) fn take_root<R: Wait>(
+pub fn take_root<R: Wait>(
     space: &ForestSpace,
     pass: &mut ForestPass,
     index: u32,
@@ -57,7 +57,7 @@ pub(crate) fn grow_root<R: Wait>(
     requires held { IsPageInHand (view pass.old) index key.now.tuple need root }
     requires root { root.block ≡ index }
     ensures own { IsSamePass pass.old pass.new × IsPassOf space.now pass.new }
-    ensures ok { IfOk result (λ at. GrowsRoot pass.old root index key.now.tuple need at pass.new) }
+    ensures ok { IfOk result (λ at. ArrivesWithRoom pass.old index key.now.tuple need at pass.new) }
     ensures err { IfErr result (λ e. StopsOnWay pass.old index key.now.tuple e pass.new) }
     ensures fits { IsFittedTree (view pass.new) }
 {

@@ -8,4 +8,6 @@ mod looking;
 mod room;
 mod way;
 
+pub use growing::take_root;
+pub use looking::{PageInHand, page_in_hand};
 pub use room::make_room;

@@ -15,7 +15,7 @@ use key_tuple::MAX_POINTER_SIZE;
 
 /// A page in hand on the way down.
 #[derive(Drop, Clone, Copy)]
-pub(crate) struct PageInHand {
+pub struct PageInHand {
     /// The block whose frame has the page.
     pub block: u32,
     /// The page's level.
@@ -25,12 +25,7 @@ pub(crate) struct PageInHand {
 }
 
 /// What there is to know of the page in the block's frame.
-pub(crate) fn page_in_hand(
-    space: &ForestSpace,
-    pass: &ForestPass,
-    block: u32,
-    need: u16,
-) -> PageInHand
+pub fn page_in_hand(space: &ForestSpace, pass: &ForestPass, block: u32, need: u16) -> PageInHand
     requires own { IsForest space.now × IsPassOf space.now pass.now }
     requires held { HoldsPagedFrame pass.now block }
     requires need { need ≤ MAX_CHARGE }
@@ -53,7 +48,7 @@ fn room_on(page: &Page, block: u32, need: u16) -> PageInHand
     PageInHand {
         block,
         level,
-        is_full: page.load() > u64::from(PAGE_ROOM - room_for(level, need)),
+        is_full: page.load() > PAGE_ROOM - room_for(level, need),
     }
 }
 

@@ -1,5 +1,5 @@
 //! Room is made on the leaf of a key.
-ghost use Rattle.std.specs.Prelude.{◌≡◌, ◌<◌, ◌≤◌, [], Err, OnOk, IfErr, true, length};
+ghost use Rattle.std.specs.Prelude.{◌≡◌, ◌<◌, ◌≤◌, Err, OnOk, length};
 ghost use Rattle.latch_space.specs.Has.{IsKnown};
 ghost use Rattle.latch_space.specs.Passes.{view, count, IsSamePass};
 ghost use Rattle.latch_space.specs.Spaces.{IsPassOf};
@@ -9,7 +9,6 @@ ghost use Rattle.forest_world.specs.Held.{shape_of_pass};
 ghost use Rattle.buffer_pool.specs.declared.error.PoolError.TheVariants as refused;
 ghost use Rattle.buffer_pool.specs.Forests.{IsForest, IsFittedTree};
 ghost use Rattle.tree_growth.specs.Growing.{MakesRoom, FindsNoRoom, GrowsSilently};
-ghost use Rattle.tree_growth.specs.Ways.{IsGoingDown, StopsOnWay, WalksDown};
 
 use crate::way::walk_down;
 use buffer_pool::{PoolError, give_tree_back, take_tree};
@@ -47,34 +46,7 @@ pub fn make_room<R: Wait>(
     ensures fits { IsFittedTree (view pass.new) }
 {
     take_tree(space, pass, index, wait);
-    let made = clear_way(alloc, space, pass, index, key, need, wait);
+    let made = walk_down(alloc, space, pass, index, key, need, wait);
     give_tree_back(space, pass, index);
     made
-}
-
-// Goes down until the leaf has room, with the tree in hand. One way down is enough unless the rows
-// of a page take more than its room, so that a half of it may have too little.
-fn clear_way<R: Wait>(
-    alloc: Global,
-    space: &ForestSpace,
-    pass: &mut ForestPass,
-    index: u32,
-    key: &Key,
-    need: u16,
-    wait: &R,
-) -> Result<(), PoolError>
-    requires own { IsForest space.now × IsPassOf space.now pass.old }
-    requires need { need ≤ MAX_CHARGE }
-    requires way { IsGoingDown pass.old index key.now.tuple [] }
-    ensures own { IsSamePass pass.old pass.new × IsPassOf space.now pass.new }
-    ensures ok { OnOk result (WalksDown pass.old index key.now.tuple need true pass.new) }
-    ensures err { IfErr result (λ e. StopsOnWay pass.old index key.now.tuple e pass.new) }
-    ensures fits { IsFittedTree (view pass.new) }
-{
-    for _ in wait.forever() {
-        if walk_down(alloc, space, pass, index, key, need, wait)? {
-            return Ok(());
-        }
-    }
-    unreachable!()
 }

@@ -2,7 +2,7 @@ use Rattle.std.proofs.Common.{◌≡◌, [], ◌∷◌, true, false, ap, subst, 
 use Rattle.latch_space.specs.Passes.{view}
 use Rattle.call_law.specs.Hands.{KnowsFrame}
 use Rattle.buffer_pool.proofs.CallLemmas.{frame_has}
-use Rattle.tree_growth.specs.Ways.{IsGoingDown, StopsOnWay, GrowsRoot, GrowsChild}
+use Rattle.tree_growth.specs.Ways.{IsGoingDown, ArrivesWithRoom, StopsOnWay, GrowsChild}
 use Rattle.tree_growth.proofs.AddLemmas.{goes_nowhere, stops_after}
 use Rattle.tree_growth.proofs.HandLemmas.{no_frame_but, no_pool}
 use Rattle.tree_growth.proofs.RefusalLemmas.{is_refused, stops_one}
@@ -20,7 +20,7 @@ returns-then-not-root-clause-ok g c =
         way = c.requires.way;
         is = c.requires.held;
       };
-      room = λ held within. not_full;
+      fits = not_full;
     }
 
 pub raise_root-requires-clause-held : goal.raise_root-requires-clause-held
@@ -74,9 +74,9 @@ returns-in-Ok-clause-ok g c =
     let i = c.args.index in let key = c.args.key.now.tuple in let need = c.args.need in
     let way = subst (λ b. IsGoingDown p i key (b ∷ [])) c.requires.root c.requires.way in
     ok_more (λ at. GrowsChild q i c.in-Ok.under i key need at r)
-    (λ at. GrowsRoot p c.args.root i key need at r) c.grow_child.result
-    (λ at. grows_raised p q r c.args.root i key need c.in-Ok.under c.requires.root way
-    c.in-Ok.ensures.ok c.in-Ok.ensures.fits at) c.grow_child.ensures.ok
+    (λ at. ArrivesWithRoom p i key need at r) c.grow_child.result
+    (λ at. grows_raised p q r i key need c.in-Ok.under way c.in-Ok.ensures.ok at)
+    c.grow_child.ensures.ok
 
 pub returns-in-Ok-clause-err : goal.returns-in-Ok-clause-err
 returns-in-Ok-clause-err g c =

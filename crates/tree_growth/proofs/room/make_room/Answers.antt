@@ -1,4 +1,4 @@
-use Rattle.std.proofs.Common.{true, subst, IfErr}
+use Rattle.std.proofs.Common.{subst, IfErr}
 use Rattle.buffer_pool.specs.declared.error.PoolError.TheVariants as refused
 use Rattle.tree_growth.specs.Growing.{MakesRoom}
 use Rattle.tree_growth.specs.Ways.{StopsOnWay, WalksDown}
@@ -11,30 +11,30 @@ take_tree-requires-clause-lacks g c =
     lacks_tree c.args.space.now c.args.pass.now c.requires.own.0 c.requires.own.1 c.args.index
     c.requires.index c.requires.nothing
 
-pub clear_way-made-requires-clause-way : goal.clear_way-made-requires-clause-way
-clear_way-made-requires-clause-way g c =
+pub walk_down-made-requires-clause-way : goal.walk_down-made-requires-clause-way
+walk_down-made-requires-clause-way g c =
     way_tree c.args.pass.now c.take_tree.new.pass c.args.index c.args.key.now.tuple
     c.requires.index c.requires.few c.requires.fields c.requires.nothing c.take_tree.ensures.took
 
 pub returns-clause-ok : goal.returns-clause-ok
 returns-clause-ok g c =
     let p = c.args.pass.now in let q = c.take_tree.new.pass in
-    let r = c.clear_way-made.new.pass in let s = c.give_tree_back.new.pass in
+    let r = c.walk_down-made.new.pass in let s = c.give_tree_back.new.pass in
     let i = c.args.index in let key = c.args.key.now.tuple in
-    let made = c.clear_way-made.ensures in
-    let way = way_either c.clear_way-made.result q r i key c.args.need made.ok made.err in
-    on_ok_more (WalksDown q i key c.args.need true r) (MakesRoom p i key c.args.need s)
-    c.clear_way-made.result
+    let made = c.walk_down-made.ensures in
+    let way = way_either c.walk_down-made.result q r i key c.args.need made.ok made.err in
+    on_ok_more (WalksDown q i key c.args.need r) (MakesRoom p i key c.args.need s)
+    c.walk_down-made.result
     (makes_room p q i key c.requires.index c.requires.few c.requires.fields c.requires.nothing
     c.take_tree.ensures.took r s way c.give_tree_back.ensures.gave c.args.need) made.ok
 
 pub returns-clause-full : goal.returns-clause-full
 returns-clause-full g c = λ e.
     let p = c.args.pass.now in let q = c.take_tree.new.pass in
-    let r = c.clear_way-made.new.pass in let s = c.give_tree_back.new.pass in
+    let r = c.walk_down-made.new.pass in let s = c.give_tree_back.new.pass in
     let i = c.args.index in let key = c.args.key.now.tuple in
-    let made = c.clear_way-made.ensures in
-    let way = way_either c.clear_way-made.result q r i key c.args.need made.ok made.err in
+    let made = c.walk_down-made.ensures in
+    let way = way_either c.walk_down-made.result q r i key c.args.need made.ok made.err in
     let stops : StopsOnWay q i key refused.SpaceFull r =
     subst (λ m. IfErr m (λ e. StopsOnWay q i key e r)) e made.err in
     finds_no_room p q i key c.requires.index c.requires.few c.requires.fields c.requires.nothing
@@ -43,10 +43,10 @@ returns-clause-full g c = λ e.
 pub returns-clause-memory : goal.returns-clause-memory
 returns-clause-memory g c = λ e.
     let p = c.args.pass.now in let q = c.take_tree.new.pass in
-    let r = c.clear_way-made.new.pass in let s = c.give_tree_back.new.pass in
+    let r = c.walk_down-made.new.pass in let s = c.give_tree_back.new.pass in
     let i = c.args.index in let key = c.args.key.now.tuple in
-    let made = c.clear_way-made.ensures in
-    let way = way_either c.clear_way-made.result q r i key c.args.need made.ok made.err in
+    let made = c.walk_down-made.ensures in
+    let way = way_either c.walk_down-made.result q r i key c.args.need made.ok made.err in
     let stops : StopsOnWay q i key refused.NoMemory r =
     subst (λ m. IfErr m (λ e. StopsOnWay q i key e r)) e made.err in
     grows_silently p q i key c.requires.index c.requires.few c.requires.fields c.requires.nothing

@@ -1,7 +1,7 @@
 use Rattle.std.proofs.Common.{◌≡◌, [], ◌∷◌, ◌+◌, arith}
 use Rattle.latch_space.specs.Passes.{view}
 use Rattle.tree_growth.specs.declared.looking.PageInHand.{PageInHand}
-use Rattle.tree_growth.specs.Ways.{ArrivesAt, StopsOnWay, GrowsChild}
+use Rattle.tree_growth.specs.Ways.{ArrivesWithRoom, StopsOnWay, GrowsChild}
 use Rattle.tree_growth.proofs.AddLemmas.{reaches_after, stops_after}
 use Rattle.tree_growth.proofs.ChildLemmas.{holds_inner, goes_child, way_child, holds_child, its_child_level}
 use Rattle.tree_growth.proofs.HandLemmas.{no_frame_but, no_pool}
@@ -41,10 +41,13 @@ returns-clause-ok g c =
     let r = c.grow_child.new.pass in let i = c.args.index in let key = c.args.key.now.tuple in
     let need = c.args.need in let n = c.child_for-child.result in
     ok_more (λ at. GrowsChild q c.args.at.block n i key need at r)
-    (λ at. ArrivesAt p i key need at r) c.grow_child.result
-    (λ at grows. reaches_after p q r i key need at
-    (goes_child p q i key need c.args.at n c.requires.way c.requires.held c.requires.inner
-    c.child_for-child.ensures.took) grows.reaches) c.grow_child.ensures.ok
+    (λ at. ArrivesWithRoom p i key need at r) c.grow_child.result
+    (λ at grows. record {
+      reaches = reaches_after p q r i key need at
+          (goes_child p q i key need c.args.at n c.requires.way c.requires.held c.requires.inner
+          c.child_for-child.ensures.took) grows.reaches;
+      fits = grows.fits;
+    }) c.grow_child.ensures.ok
 
 pub returns-clause-lower : goal.returns-clause-lower
 returns-clause-lower g c =

@@ -1,11 +1,10 @@
-use Rattle.std.proofs.Common.{not, rules, arith}
+use Rattle.std.proofs.Common.{rules, arith}
 use Rattle.buffer_pool.proofs.CallLemmas.{frame_has}
 use Rattle.tree_growth.specs.Ways.{StopsOnWay}
 use Rattle.tree_growth.proofs.AddLemmas.{reaches_after, stops_after}
 use Rattle.tree_growth.proofs.HandLemmas.{same_pass}
 use Rattle.tree_growth.proofs.AnswerLemmas.{err_more}
 use Rattle.tree_growth.proofs.WalkLemmas.{walks_down}
-use Rattle.tree_growth.proofs.way.walk_down.Goals.{then-loop-at-test+else-not-at, else-loop-at-test}
 use Rattle.tree_growth.proofs.way.walk_down.Goals as goal
 
 pub returns-in_err-at-clause-err : goal.returns-in_err-at-clause-err
@@ -23,6 +22,7 @@ loop-at-init g c =
       own = c.grow_root.ensures.own.1;
       reaches = reaches_after p q r c.args.index c.args.key.now.tuple c.args.need c.in_ok-at.at
           c.take_root-root.ensures.took.goes c.in_ok-at.ensures.ok.reaches;
+      fits = c.in_ok-at.ensures.ok.fits;
     }
 
 pub give_back-requires-clause-held : goal.give_back-requires-clause-held
@@ -46,16 +46,13 @@ loop-at-preserved g c =
       same = same_pass p q r c.loop-at.invariant.same c.grow_below.ensures.own.0;
       own = c.grow_below.ensures.own.1;
       reaches = reaches_after p q r c.args.index c.args.key.now.tuple c.args.need c.in_ok-at-2.at
-          c.loop-at.invariant.reaches.goes c.in_ok-at-2.ensures.ok;
+          c.loop-at.invariant.reaches.goes c.in_ok-at-2.ensures.ok.reaches;
+      fits = c.in_ok-at-2.ensures.ok.fits;
     }
 
 pub returns-clause-ok : goal.returns-clause-ok
 returns-clause-ok g c =
-    let at = c.loop-at.at in
+    let bottom = c.loop-at-test.false in
     walks_down c.args.pass.now c.loop-at.pass c.give_back.new.pass c.args.index
-    c.args.key.now.tuple c.args.need at c.loop-at.invariant.reaches c.give_back.ensures.gave
-    (not at.is_full)
-    (λ so. elim c.loop-at-test.branch [
-      | then-loop-at-test+else-not-at w ↦ (let no = w.if-not-at.false in absurd (grind arith))
-      | else-loop-at-test w ↦ (let no = w.loop-at-test.false in (omega (arith, no), grind arith))
-    ])
+    c.args.key.now.tuple c.args.need c.loop-at.at c.loop-at.invariant.reaches c.give_back.ensures.gave
+    (omega (arith, bottom)) c.loop-at.invariant.fits
