@@ -1,3 +1,4 @@
 pub mod ValueLemmas
 pub mod ChangeLemmas
 pub mod FullLemmas
+pub mod SetLemmas

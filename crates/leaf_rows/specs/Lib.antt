@@ -1,3 +1,4 @@
 pub mod Finding
 pub mod Changing
+pub mod Setting
 pub mod Laws

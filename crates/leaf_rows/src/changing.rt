@@ -105,7 +105,7 @@ pub fn delete_row(frame: &mut Frame, place: Place)
 }
 
 /// The clock is at most at its last value.
-fn has_clock(frame: &Frame)
+pub(crate) fn has_clock(frame: &Frame)
     ensures { frame.now.clock ≤ last_clock }
 {
     let _clock = frame.clock;

@@ -1,9 +1,11 @@
 //! A worked leaf: a row is put in, found, taken back and taken out.
-ghost use Rattle.std.specs.Prelude.{◌<◌, length, IfSome};
+ghost use Rattle.std.specs.Prelude.{◌<◌, length, IfSome, IsSome};
 ghost use Rattle.leaf_rows.specs.Changing.{LacksRow, WasPut, HasRowOf};
 ghost use Rattle.leaf_rows.specs.Finding.{HasSpot};
 
-use crate::{delete_row, find_key, put_row, take_back};
+use crate::{
+    LeafBefore, delete_row, find_key, grow_value, put_back, put_row, take_back, value_len,
+};
 use forest_law::Frame;
 use index_page::{Page, PageHead, Place, Spot};
 use key_tuple::{Fields, Key, Mode, Value};
@@ -155,4 +157,64 @@ fn a_row_is_taken_back(rt: HostRuntime) {
 #[test]
 fn a_row_that_is_deleted_raises_the_clock(rt: HostRuntime) {
     assert!(rt; tries(rt.alloc(), false, 6));
+}
+
+/// Gives the row at the place a longer value.
+fn grow(alloc: Global, frame: &mut Frame, key: &Key, longer: &Value) -> Option<LeafBefore>
+    ensures { IfSome result (λ before. IsSome before.page) }
+{
+    let Some(place) = place_of(frame, key) else {
+        return None;
+    };
+    if longer.as_bytes().len() <= value_len(frame, place) {
+        return None;
+    }
+    match grow_value(alloc, frame, place, longer) {
+        Ok(before) => Some(before),
+        Err(_) => None,
+    }
+}
+
+/// How long the key's value is.
+fn length_of(frame: &Frame, key: &Key) -> Option<usize> {
+    match place_of(frame, key) {
+        Some(place) => Some(value_len(frame, place)),
+        None => None,
+    }
+}
+
+/// The leaf is what it was before, clock and all.
+fn is_put_back(frame: &mut Frame, key: &Key, before: LeafBefore) -> bool
+    requires { IsSome before.page }
+{
+    if frame.page.is_none() {
+        return false;
+    }
+    put_back(frame, before);
+    frame.clock == 5 && length_of(frame, key) == Some(4)
+}
+
+/// A row of three letters gets a longer value, and its leaf is put back.
+fn grows_and_shrinks(alloc: Global, key: &Key, value: &Value, longer: &Value) -> bool {
+    let mut frame = leaf_frame(alloc);
+    if put_in(&mut frame, key, value).is_none() {
+        return false;
+    }
+    let Some(before) = grow(alloc, &mut frame, key, longer) else {
+        return false;
+    };
+    let grown = frame.clock == 6 && length_of(&frame, key) == Some(9);
+    grown && is_put_back(&mut frame, key, before)
+}
+
+#[test]
+fn a_grown_value_is_put_back(rt: HostRuntime) {
+    let alloc = rt.alloc();
+    if let (Some(key), Some(value), Some(longer)) = (
+        key_of(alloc, b"oak"),
+        value_of(alloc, b"tree"),
+        value_of(alloc, b"tall tree"),
+    ) {
+        assert!(rt; grows_and_shrinks(alloc, &key, &value, &longer));
+    }
 }
