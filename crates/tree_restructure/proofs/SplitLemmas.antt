@@ -27,11 +27,11 @@ first_fields head at (x ∷ xs) b a = ap length (sym b) ∙ a.0.fields
 
 -- the page behind, where there is one
 module _ (shape : Shape) (before news : List (Option Object)) (right : ℕ) (hand : InHand) where
-  abbrev beyond_page : Page → (o : Option ℕ) → RelinksNext right o hand.old hand.new → Page
+  abbrev pub beyond_page : Page → (o : Option ℕ) → RelinksNext right o hand.old hand.new → Page
   beyond_page none None x = none
   beyond_page none (Some n) x = page_within x.0.page hand.old.low hand.old.high
 
-  abbrev beyond_prev : (o : Option ℕ) → RelinksNext right o hand.old hand.new → Option ℕ
+  abbrev pub beyond_prev : (o : Option ℕ) → RelinksNext right o hand.old hand.new → Option ℕ
   beyond_prev None x = None
   beyond_prev (Some n) x = x.0.page.head.prev
 
@@ -45,11 +45,11 @@ module _ (shape : Shape) (before news : List (Option Object)) (right : ℕ) (han
     ne_eqb right n (λ q. apart (ap Some (same ∙ sym q))),
   )
 
-  beyond_stands : (o : Option ℕ) → RelinksNext right o hand.old hand.new → ClockStands hand
+  pub beyond_stands : (o : Option ℕ) → RelinksNext right o hand.old hand.new → ClockStands hand
   beyond_stands None x = omega (arith, ap (λ (f : Frame). f.clock) x)
   beyond_stands (Some n) x = omega (arith, ap (λ (f : Frame). f.clock) x.0.kept)
 
-  beyond_makes : (none : Page) (o : Option ℕ) (x : RelinksNext right o hand.old hand.new)
+  pub beyond_makes : (none : Page) (o : Option ℕ) (x : RelinksNext right o hand.old hand.new)
       → NextTakesPart shape before news o hand
       → AllByRecursion (MakesFrameStep shape before news)
       (beyond_steps o hand (beyond_page none o x) (beyond_prev o x) (Some right))
@@ -96,7 +96,7 @@ module _ (shape : Shape) (before news : List (Option Object)) (right : ℕ) (han
         tt,
       )
 
-  beyond_apart : (page : Page) (q r : Option ℕ) (k : ℕ) (o : Option ℕ)
+  pub beyond_apart : (page : Page) (q r : Option ℕ) (k : ℕ) (o : Option ℕ)
       → IsNoFrameOf shape k (beyond_steps o hand page q r)
       → AllByRecursion (λ (j : ℕ). k ≢ j) (frame_ids shape (next_hands o hand))
   beyond_apart page q r k None a = tt

@@ -5,7 +5,7 @@ ghost use Rattle.clock_law.specs.ModifyClock.{ClockRises};
 use forest_law::Frame;
 
 /// Raises the clock of a frame that loses rows, or gets them.
-pub(crate) fn rise(frame: &mut Frame)
+pub fn rise(frame: &mut Frame)
     ensures rises { ClockRises frame.old.clock frame.new.clock }
     ensures kept { frame.new ≡ record frame.old { clock = frame.new.clock } }
 {

@@ -12,6 +12,7 @@ mod relink;
 mod split;
 mod walk;
 
+pub use clock::rise;
 pub use cut::{Cut, cut_frame, find_cut};
 pub use laws::{raises_are_in_hand, splits_are_in_hand};
 pub use pointer::put_pointer;

@@ -17,7 +17,7 @@ pub(crate) fn half_place(page: &Page) -> Place
 }
 
 /// The place of the row with that number, from 0, none where there are no more.
-fn place_at(page: &Page, number: u32) -> Option<Place>
+fn place_at(page: &Page, number: u16) -> Option<Place>
     ensures { IsAt page.now.rows result (slice_get page.now.rows number) }
 {
     let mut place = page.first();

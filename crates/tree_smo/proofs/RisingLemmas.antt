@@ -25,7 +25,7 @@ use Rattle.tree_smo.specs.Storeys.{SuitsStoreys, HoldsStoreys}
 use Rattle.tree_smo.proofs.LawfulLemmas.{outside_apart, known_tells}
 
 -- no key bounds where none is seen
-no_bound : (k : Option Key) → bound k ≡ None → k ≡ None
+pub no_bound : (k : Option Key) → bound k ≡ None → k ≡ None
 no_bound None e = refl
 no_bound (Some k) e = absurd cc
 

@@ -44,7 +44,7 @@ module _ (root under : ℕ) (apart : under ≢ root) where
 
       module _ (u v : TreePass) (new newer : Frame) (third : PutsBack r root new u)
           (fourth : PutsBack u under newer v) where
-        came_back : Remakes p v (ids (shape_of_pass p))
+        pub came_back : Remakes p v (ids (shape_of_pass p))
         came_back = remakes_both p r v ids
             (remakes_both p q r ids
             (remakes_among p q (frame_id (shape_of_pass p) root) (ids (shape_of_pass p))
@@ -57,11 +57,11 @@ module _ (root under : ℕ) (apart : under ≢ root) where
             (remakes_among u v (frame_id (shape_of_pass u) under) (ids (shape_of_pass u))
             (λ a. a.1.0 refl) (remakes_back u v under newer fourth)))
 
-        top_in : (t : Frame) → HasFrame p root t t → HasFrame v root t new
+        pub top_in : (t : Frame) → HasFrame p root t t → HasFrame v root t new
         top_in t has = fourth.hand.frames root t new (λ e. apart (sym e))
             (third.has t (top_out t has).0)
 
-        low_in : (f : Frame) → HasFrame p under f f → HasFrame v under f newer
+        pub low_in : (f : Frame) → HasFrame p under f f → HasFrame v under f newer
         low_in f has = fourth.has f (low_back u new third f has)
 
         -- what came back after a raise

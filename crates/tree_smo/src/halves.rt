@@ -16,24 +16,24 @@ use tree_restructure::{Cut, split_frames};
 
 /// The blocks of a parent and of two halves.
 #[derive(Debug, Clone, Copy)]
-pub(crate) struct SplitBlocks {
+pub struct SplitBlocks {
     /// That of the parent.
-    pub(crate) parent: u32,
+    pub parent: u32,
     /// That of the page that is split.
-    pub(crate) child: u32,
+    pub child: u32,
     /// That of the right half.
-    pub(crate) right: u32,
+    pub right: u32,
 }
 
 /// Their frames.
 #[derive(Drop)]
-pub(crate) struct SplitHands {
+pub struct SplitHands {
     /// That of the left half.
-    pub(crate) left: Frame,
+    pub left: Frame,
     /// That of the right half.
-    pub(crate) right: Frame,
+    pub right: Frame,
     /// That of the parent.
-    pub(crate) up: Frame,
+    pub up: Frame,
 }
 
 /// Splits the frames in hand at a cut that `find_cut` told. After `NoMemory` they are as before.
@@ -70,7 +70,7 @@ fn want_of_memory(refusal: PageError) -> NoMemory
 }
 
 /// Takes the three frames out of their places.
-fn halves_out(space: &ForestSpace, pass: &mut ForestPass, at: SplitBlocks) -> SplitHands
+pub fn halves_out(space: &ForestSpace, pass: &mut ForestPass, at: SplitBlocks) -> SplitHands
     requires own { IsForest space.now × IsPassOf space.now pass.old }
     requires held { HoldsHalves pass.old at }
     ensures own { IsSamePass pass.old pass.new × IsPassOf space.now pass.new }
@@ -83,7 +83,7 @@ fn halves_out(space: &ForestSpace, pass: &mut ForestPass, at: SplitBlocks) -> Sp
 }
 
 /// Puts three frames into these places.
-fn halves_back(space: &ForestSpace, pass: &mut ForestPass, at: SplitBlocks, hands: SplitHands)
+pub fn halves_back(space: &ForestSpace, pass: &mut ForestPass, at: SplitBlocks, hands: SplitHands)
     requires own { IsForest space.now × IsPassOf space.now pass.old }
     requires out { LacksHalves pass.old at }
     ensures own { IsSamePass pass.old pass.new × IsPassOf space.now pass.new }

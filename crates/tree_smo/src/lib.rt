@@ -9,5 +9,8 @@ mod settling;
 mod splitting;
 mod storeys;
 
+pub use halves::{SplitBlocks, SplitHands, halves_back, halves_out};
+pub use plans::head_of;
 pub use raising::raise_root;
+pub use relinking::relink_behind;
 pub use splitting::split_child;

@@ -21,7 +21,7 @@ pub(crate) struct SplitPlan {
 }
 
 /// The head of the frame's page.
-pub(crate) fn head_of(frame: &Frame) -> PageHead
+pub fn head_of(frame: &Frame) -> PageHead
     requires { HasAPage frame.now }
     ensures head { (page : PageRows) → frame.now.page ≡ Some page → result ≡ page.head }
     ensures next { IsNeighbour result.next }

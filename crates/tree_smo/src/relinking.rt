@@ -11,12 +11,7 @@ use forest_world::{ForestPass, ForestSpace};
 use tree_restructure::relink_next;
 
 /// Gives the page behind another left neighbour, where there is such a page.
-pub(crate) fn relink_behind(
-    space: &ForestSpace,
-    pass: &mut ForestPass,
-    next: Option<u32>,
-    right: u32,
-)
+pub fn relink_behind(space: &ForestSpace, pass: &mut ForestPass, next: Option<u32>, right: u32)
     requires own { IsForest space.now × IsPassOf space.now pass.old }
     requires held { HasNext pass.old next }
     requires right { right ≢ NO_PAGE }

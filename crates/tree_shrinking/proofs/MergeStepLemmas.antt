@@ -1,0 +1,182 @@
+-- A merge in hand is a merge of the law, and is known once it is settled.
+use Rattle.std.proofs.Common.{◌≡◌, ◌≢◌, ℕ, false, ◌∷◌, sym, ap, subst, ◌∙◌, refl, Option, Some, None}
+use Rattle.std.specs.List.{AllByRecursion}
+use Rattle.latch_law.specs.Views.{without_seen}
+use Rattle.latch_space.specs.Has.{DidSettle}
+use Rattle.latch_space.specs.Passes.{view, values, known_values, IsWhole}
+use Rattle.index_page.specs.Page.{PageRows}
+use Rattle.tree_law.specs.Pages.{is_own}
+use Rattle.index_law.specs.Shape.{Shape}
+use Rattle.forest_law.specs.declared.objects.Object.TheVariants as object
+use Rattle.forest_law.specs.Law.{IsLawful, MayFollow}
+use Rattle.forest_law.specs.State.{ForestState}
+use Rattle.forest_law.proofs.RestructureLemmas.{restructures_follow}
+use Rattle.forest_world.specs.Held.{TreePass, shape_of_pass}
+use Rattle.forest_world.proofs.HandLemmas.{rests_of}
+use Rattle.tree_restructure.specs.Parts.{frame_ids}
+use Rattle.tree_restructure.specs.Splits.{next_hands}
+use Rattle.tree_merging.specs.FrameMerges.{MergesUnder}
+use Rattle.tree_merging.specs.MergeSteps.{MergesFrames}
+use Rattle.tree_merging.proofs.MergeLemmas.{merge_in_hand}
+use Rattle.call_law.specs.Spoken.{View}
+use Rattle.buffer_pool.specs.Forests.{FitsTrees}
+use Rattle.tree_smo.specs.declared.halves.SplitBlocks.{SplitBlocks}
+use Rattle.tree_smo.specs.declared.halves.SplitHands.{SplitHands}
+use Rattle.tree_smo.specs.Plans.{next_ids, RelinksBehind}
+use Rattle.tree_smo.specs.Remakes.{Remakes}
+use Rattle.tree_smo.proofs.LawfulLemmas.{that_page}
+use Rattle.tree_smo.proofs.PartLemmas.{part_of}
+use Rattle.tree_smo.proofs.SettledLemmas.{whole_but, known_beyond, rests_beyond, settled_does, settled_count, settled_frame}
+use Rattle.tree_smo.proofs.BehindLemmas.{Behind, behind, shows_next, knows_next}
+use Rattle.tree_shrinking.specs.MergeHands.{MergesHalves, JoinsHalves}
+use Rattle.tree_shrinking.specs.MergePlans.{HoldsMerge, merge_ids, MakesMerge}
+use Rattle.tree_shrinking.proofs.MergePlanLemmas.{MergeCall, left_number, siblings}
+use Rattle.tree_shrinking.proofs.MergedLemmas.{was, joined, IsRemade, remade}
+
+module _ (p : TreePass) (at : SplitBlocks) (i : ℕ) (next : Option ℕ) (c : MergeCall p at i next)
+    (m0 : TreePass) (joins : JoinsHalves p at m0) (m : TreePass)
+    (relinks : RelinksBehind m0 next at.child m) where
+  abbrev h : HoldsMerge (view p) at i next
+  h = c.held
+
+  abbrev w : ForestState
+  w = c.fitted.whole
+
+  abbrev law : IsLawful w
+  law = c.fitted.is_lawful
+
+  abbrev then : SplitHands
+  then = was p at i next c
+
+  abbrev changed : MergesHalves p at then m0
+  changed = joined p at i next c m0 joins
+
+  abbrev under : MergesUnder then.left changed.now.left then.right changed.now.right then.up
+      changed.now.up
+  under = changed.merges
+
+  all : IsRemade p at i next c m0 joins m next
+  all = remade p at i next c m0 joins m next refl h.behind relinks
+
+  fits_now : FitsTrees w (view m)
+  fits_now = subst (FitsTrees w) (sym all.remakes.same_view) c.fitted.fits
+
+  shapes : shape_of_pass p ≡ shape_of_pass m
+  shapes = ap (λ (v : View). v.terms.shape) (sym all.remakes.same_view)
+
+  now_ids : Remakes p m (merge_ids (shape_of_pass m) at next)
+  now_ids = subst (λ (s : Shape). Remakes p m (merge_ids s at next)) shapes all.remakes
+
+  -- nothing is taken out
+  pub whole : IsWhole m
+  whole = whole_but m (merge_ids (shape_of_pass m) at next)
+      (known_beyond p m (merge_ids (shape_of_pass m) at next) c.known now_ids) (
+        (object.Frame changed.now.up, all.has.up.value),
+        (
+          (object.Frame changed.now.left, all.has.left.value),
+          (
+            (object.Frame changed.now.right, all.has.right.value),
+            shows_next m i h.can.level next at.child all.behind,
+          ),
+        ),
+      )
+
+  left_is : h.can.is_left.page ≡ under.merge.page
+  left_is = that_page h.can.lower h.can.is_left.page under.merge.page h.can.is_left.paged
+      under.merge.had
+
+  right_is : h.can.is_right.page ≡ under.merge.other
+  right_is = that_page h.can.upper h.can.is_right.page under.merge.other h.can.is_right.paged
+      under.merge.had_other
+
+  up_is : h.can.above.page ≡ under.pointer.was.page
+  up_is = that_page h.can.up h.can.above.page under.pointer.was.page h.can.above.paged
+      under.pointer.was.has
+
+  next_is : next ≡ under.merge.other.head.next
+  next_is = sym h.is_next ∙ ap (λ (z : PageRows). z.head.next) right_is
+
+  child_is : at.child ≡ under.merge.page.head.number
+  child_is = sym (left_number (view p) w law c.fitted.fits at.parent at.child at.right i h.can)
+      ∙ ap (λ (z : PageRows). z.head.number) left_is
+
+  after : Behind m under.merge.other.head.next under.merge.page.head.number
+  after = subst (λ o. Behind m o under.merge.page.head.number) next_is
+      (subst (λ n. Behind m next n) child_is
+      (behind m w law fits_now then.left i h.can.level next at.child all.behind))
+
+  no_loop : under.merge.other.head.next ≢ Some under.merge.page.head.number
+  no_loop e = (siblings (view p) w law c.fitted.fits at.parent at.child at.right i h.can).around
+      under.merge.page.head.number (ap (λ (z : PageRows). z.head.next) right_is ∙ e)
+      (ap (λ (z : PageRows). z.head.number) (sym left_is))
+
+  left_ids : (k : ℕ) → AllByRecursion (λ (j : ℕ). k ≢ j)
+      (frame_ids (shape_of_pass m)
+      (record { block = at.child; old = then.left; new = changed.now.left }
+      ∷ record { block = at.right; old = then.right; new = changed.now.right }
+      ∷ record { block = at.parent; old = then.up; new = changed.now.up }
+      ∷ next_hands under.merge.other.head.next after.hand))
+      → AllByRecursion (λ (j : ℕ). k ≢ j) (merge_ids (shape_of_pass m) at next)
+  left_ids k a = (
+    a.1.1.0,
+    (
+      a.0,
+      (
+        a.1.0,
+        subst (λ o. AllByRecursion (λ (j : ℕ). k ≢ j)
+            (next_ids (shape_of_pass m) o)) (sym next_is) (after.ids k a.1.1.1),
+      ),
+    ),
+  )
+
+  -- the frames in hand are a merge of the law
+  merges_frames : MergesFrames (shape_of_pass m) (known_values m) (values m)
+  merges_frames = record {
+    hands = record {
+      left = record { block = at.child; old = then.left; new = changed.now.left };
+      right = record { block = at.right; old = then.right; new = changed.now.right };
+      up = record { block = at.parent; old = then.up; new = changed.now.up };
+      beyond = after.hand;
+    };
+    under = under;
+    links = after.links;
+    left = part_of m w law fits_now at.child then.left changed.now.left all.has.left
+        under.merge.page under.merge.had under.merge.page.head.number refl false
+        (ap (λ (x : PageRows). is_own at.child x.head.prev) (sym left_is) ∙ h.can.is_left.tree);
+    right = part_of m w law fits_now at.right then.right changed.now.right all.has.right
+        under.merge.other under.merge.had_other under.merge.other.head.number refl false
+        (ap (λ (x : PageRows). is_own at.right x.head.prev) (sym right_is)
+        ∙ h.can.is_right.tree);
+    up = part_of m w law fits_now at.parent then.up changed.now.up all.has.up
+        under.pointer.was.page under.pointer.was.has under.pointer.was.page.head.number refl false
+        (ap (λ (x : PageRows). is_own at.parent x.head.prev) (sym up_is) ∙ h.can.above.tree);
+    beyond = after.part;
+    apart = no_loop;
+    others = λ k x y becomes a. rests_of m (merge_ids (shape_of_pass m) at next)
+        (rests_beyond p m (merge_ids (shape_of_pass m) at next) c.known now_ids) k x y becomes
+        (left_ids k a);
+  }
+
+  -- so it may be settled
+  pub follows : MayFollow (without_seen (view m)) (values m) None
+  follows = restructures_follow.merge (shape_of_pass m) (known_values m) (values m)
+      (merge_in_hand (shape_of_pass m) (known_values m) (values m) merges_frames)
+
+  pub makes_merge : (q : TreePass) → DidSettle m q → MakesMerge p at i next q
+  makes_merge q did = record {
+    silently = settled_does p m (merge_ids (shape_of_pass p) at next) c.known all.remakes whole q
+        did;
+    merges = record {
+      was = h;
+      now = changed.now;
+      knows = record {
+        up = settled_frame m q did at.parent then.up changed.now.up all.has.up;
+        left = settled_frame m q did at.child then.left changed.now.left all.has.left;
+        right = settled_frame m q did at.right then.right changed.now.right all.has.right;
+      };
+      merges = under;
+      behind = knows_next m q did i h.can.level next at.child all.behind;
+    };
+    count = settled_count p m (merge_ids (shape_of_pass p) at next) c.known all.remakes whole q
+        did;
+  }

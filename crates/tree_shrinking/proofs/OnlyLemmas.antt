@@ -1,0 +1,137 @@
+-- A root that is left with one child is lifted, on the way up.
+use Rattle.std.proofs.Common.{◌≡◌, ◌≢◌, ℕ, ◌≤◌, false, List, [], ◌∷◌, ◌++◌, length, sym, ap, subst, ◌∙◌, refl, arith}
+use lib.ListN.{get_elem?}
+use Rattle.key_tuple.specs.Order.{FieldList}
+use Rattle.latch_space.specs.Passes.{view}
+use Rattle.index_page.specs.Rows.{Row}
+use Rattle.tree_law.specs.Pages.{is_own}
+use Rattle.index_law.specs.Shape.{Shape}
+use Rattle.forest_law.specs.Numbers.{tree_id, frame_id}
+use Rattle.forest_world.specs.Held.{TreePass, shape_of_pass}
+use Rattle.call_law.specs.Hands.{KnowsFrame, KnowsTree}
+use Rattle.buffer_pool.specs.Calls.{DoesSilently, GetsNothing}
+use Rattle.buffer_pool.specs.Frames.{GivesFrame}
+use Rattle.buffer_pool.proofs.AddedLemmas.{frame_no_tree, frame_still, tree_still}
+use Rattle.buffer_pool.proofs.CallLemmas.{silently_both}
+use Rattle.tree_descent.specs.Descents.{PointsAt}
+use Rattle.tree_smo.proofs.SilentLemmas.{silently_weaker, does_shape}
+use Rattle.tree_growth.specs.Ways.{IsGoingDown}
+use Rattle.tree_growth.proofs.HandLemmas.{frames_apart, still_gave}
+use Rattle.tree_growth.proofs.KnownLemmas.{levels_apart}
+use Rattle.tree_shrinking.specs.Lifting.{PointsAtOnly, CanLift, LiftsRoot}
+use Rattle.tree_shrinking.specs.Pairs.{HoldsJoined, ComesBack}
+use Rattle.tree_shrinking.proofs.WayLemmas.{way_without, way_gave, to_both, still_nothing, way_nothing}
+
+-- a pointer among one row at most is the only one
+points_only : (rows : List Row) (n : ℕ) → PointsAt rows n → length rows ≤ 1 → PointsAtOnly rows n
+points_only rows n p few = go p.fore p.aft p.was
+  where
+    go : (fore aft : List Row) → rows ≡ fore ++ p.this ∷ aft → PointsAtOnly rows n
+    go [] [] was = record { pointer = p.this; is = was; child = p.child }
+    go [] (y ∷ aft) was = absurd (let e = ap length was in omega (arith, e, few))
+    go (x ∷ []) aft was = absurd (let e = ap length was in omega (arith, e, few))
+    go (x ∷ y ∷ fore) aft was = absurd (let e = ap length was in omega (arith, e, few))
+
+module _ (p : TreePass) (parent child i : ℕ) (key : FieldList)
+    (way : IsGoingDown p i key (parent ∷ child ∷ [])) (h : HoldsJoined (view p) parent child i) where
+  -- the page and its parent are two
+  pub joined_apart : child ≢ parent
+  joined_apart = levels_apart (view p) parent child i h.level h.up h.low h.knows_up h.knows_low
+      h.above h.below
+
+  -- the child was given back
+  pub back_given : (q : TreePass) → GivesFrame p child q → ComesBack p parent i key q
+  back_given q gave = record {
+    to = way_gave p q i key (parent ∷ child ∷ []) (parent ∷ []) way child gave
+        (λ k ne each. (each.0, (ne, tt))) refl;
+    up = h.up;
+    knows = still_gave p q child way.known gave parent h.up (λ e. joined_apart (sym e)) h.knows_up;
+  }
+
+  -- so it was after nothing was done
+  pub back_failed : (q r : TreePass) → GetsNothing p q → GivesFrame q child r
+      → ComesBack p parent i key r
+  back_failed q r got gave =
+      let none = way_nothing p q got i key (parent ∷ child ∷ []) way in
+      record {
+        to = to_both p q r i key (parent ∷ child ∷ []) (parent ∷ []) none
+            (way_gave q r i key (parent ∷ child ∷ []) (parent ∷ []) none.way child gave
+            (λ k ne each. (each.0, (ne, tt))) refl);
+        up = h.up;
+        knows = still_gave q r child none.way.known gave parent h.up (λ e. joined_apart (sym e))
+            (still_nothing p q got parent h.up h.knows_up);
+      }
+
+  pub can_lift : parent ≡ i → length h.above.page.rows ≤ 1 → CanLift (view p) i child
+  can_lift e few = record {
+    level = h.level;
+    tree = way.tree;
+    root = h.up;
+    low = h.low;
+    knows_tree = way.knows;
+    knows_root = subst (λ b. KnowsFrame (view p) b h.up) e h.knows_up;
+    knows_low = h.knows_low;
+    above = record {
+      page = h.above.page;
+      paged = h.above.paged;
+      tree = subst (λ b. is_own b h.above.page.head.prev ≡ false) e h.above.tree;
+      index = h.above.index;
+      at_level = h.above.at_level;
+    };
+    below = h.below;
+    only = points_only h.above.page.rows child h.points few;
+    fits = (let fits = h.fits in omega (arith, fits));
+  }
+
+  module _ (e : parent ≡ i) (q : TreePass) (made : LiftsRoot p i child q) where
+    abbrev m : TreePass
+    m = made.settled
+
+    abbrev ids : List ℕ
+    ids = frame_id (shape_of_pass p) i ∷ frame_id (shape_of_pass p) child ∷ tree_id i ∷ []
+
+    shape_is : shape_of_pass m ≡ shape_of_pass p
+    shape_is = does_shape p m ids made.sinks.silently.added made.sinks.silently.does
+
+    freed : DoesSilently m q (frame_id (shape_of_pass p) child ∷ [])
+    freed = subst (λ (s : Shape). DoesSilently m q (frame_id s child ∷ [])) shape_is
+        made.frees.silently
+
+    all : DoesSilently p q ids
+    all = silently_both p m q ids made.sinks.silently
+        (silently_weaker m q (frame_id (shape_of_pass p) child ∷ []) ids
+        (λ k apart. (apart.1.0, tt)) freed)
+
+    shapes : shape_of_pass q ≡ shape_of_pass p
+    shapes = does_shape p q ids all.added all.does
+
+    knows_tree : KnowsTree (view q) i made.sinks.tree
+    knows_tree = tree_still (view m) (view q) (frame_id (shape_of_pass p) child ∷ [])
+        freed.does.rest i
+        ((λ z. frame_no_tree (shape_of_pass p) child i way.index (sym z)), tt)
+        made.sinks.tree made.sinks.knows_tree
+
+    pub back_lifted : ComesBack p parent i key q
+    back_lifted = let had = way.count in let same = made.sinks.count in
+        let less = made.frees.count in
+        record {
+          to = way_without p q i key (parent ∷ child ∷ []) (parent ∷ []) way child ids all.added
+              all.does.adds all.silent all.does.rest all.does.known
+              (ap (λ (s : Shape). get_elem? (view q).held (frame_id s child)) (sym shapes)
+              ∙ made.frees.lacks)
+              (λ k not ne each. (
+                (
+                  λ z. each.0 (z ∙ ap (frame_id (shape_of_pass p)) (sym e)),
+                  (ne, (not, tt)),
+                ),
+                (each.0, (ne, tt)),
+              )) made.sinks.tree knows_tree (omega (arith, had, same, less));
+          up = made.sinks.root;
+          knows = subst (λ b. KnowsFrame (view q) b made.sinks.root) (sym e)
+              (frame_still (view m) (view q) (frame_id (shape_of_pass m) child ∷ [])
+              made.frees.silently.does.adds.numbers made.frees.silently.does.rest i (
+                frames_apart (shape_of_pass m) i child
+                    (λ z. joined_apart (sym (e ∙ z))),
+                tt,
+              ) made.sinks.root made.sinks.knows_root);
+        }

@@ -1,0 +1,87 @@
+-- The frames of a root and of its only child, out of their places and back.
+use Rattle.std.proofs.Common.{◌≡◌, ◌≢◌, ℕ, inl, inr, sym, ap, subst, ◌∙◌}
+use Rattle.std.proofs.lemmas.Bool.{cases_eq}
+use Rattle.latch_space.specs.Has.{IsKnown}
+use Rattle.index_law.specs.Shape.{Shape}
+use Rattle.forest_law.specs.declared.objects.Frame.{Frame}
+use Rattle.forest_law.specs.declared.objects.Object.TheVariants as object
+use Rattle.forest_law.specs.Numbers.{frame_id}
+use Rattle.forest_world.specs.Held.{TreePass, shape_of_pass, HasFrame}
+use Rattle.tree_merging.specs.Lifts.{SuitsLiftFrames, LiftsFrame}
+use Rattle.call_law.specs.Spoken.{View}
+use Rattle.buffer_pool.specs.Frames.{TakesOut, PutsBack}
+use Rattle.tree_smo.specs.Remakes.{Remakes, IsAsBefore}
+use Rattle.tree_smo.specs.Storeys.{storeys_ids}
+use Rattle.tree_smo.proofs.RemakeLemmas.{known_remade, shows_known}
+use Rattle.tree_smo.proofs.StoreyLemmas.{top_out, low_out, top_in, low_in, came_back}
+use Rattle.tree_shrinking.specs.LiftHands.{SuitsSinking, SinksStoreys}
+
+module _ (root child : ℕ) (apart : child ≢ root) (p q r : TreePass) (top low : Frame)
+    (first : TakesOut p root top q) (second : TakesOut q child low r) where
+  -- what came out can be lifted
+  pub suits_sinking : SuitsSinking p root child → SuitsLiftFrames top low
+  suits_sinking s = subst (λ x. SuitsLiftFrames x low)
+      (sym (top_out root child apart p q r top low first second s.top s.has_top).1)
+      (subst (λ x. SuitsLiftFrames s.top x)
+      (sym (low_out root child apart p q r top low first second s.low s.has_low).1) s.suits)
+
+  module _ (u v : TreePass) (new newer : Frame) (third : PutsBack r root new u)
+      (fourth : PutsBack u child newer v) where
+    back : Remakes p v (storeys_ids (shape_of_pass p) root child)
+    back = came_back root child apart p q r top low first second u v new newer third fourth
+
+    -- what came back after a lift
+    pub storeys_sunk : LiftsFrame top new low newer → SinksStoreys p root child v
+    storeys_sunk lifts t b has_top has_low = record {
+      top = new;
+      low = newer;
+      has_top = top_in root child apart p q r top low first second u v new newer third fourth t
+          has_top;
+      has_low = low_in root child apart p q r top low first second u v new newer third fourth b
+          has_low;
+      lifts = subst (λ x. LiftsFrame x new b newer)
+          (top_out root child apart p q r top low first second t has_top).1
+          (subst (λ x. LiftsFrame top new x newer)
+          (low_out root child apart p q r top low first second b has_low).1 lifts);
+      remakes = back;
+    }
+
+    -- or after none
+    pub sinking_kept : IsKnown p → SuitsSinking p root child → new ≡ top → newer ≡ low
+        → IsAsBefore p v
+    sinking_kept known s same same' = record {
+      same_view = back.same_view;
+      known = all_known;
+      same_count = back.same_count;
+    }
+      where
+        has_top : HasFrame v root s.top s.top
+        has_top = subst (HasFrame v root s.top)
+            (same ∙ (top_out root child apart p q r top low first second s.top s.has_top).1)
+            (top_in root child apart p q r top low first second u v new newer third fourth s.top
+            s.has_top)
+
+        has_low : HasFrame v child s.low s.low
+        has_low = subst (HasFrame v child s.low)
+            (same' ∙ (low_out root child apart p q r top low first second s.low s.has_low).1)
+            (low_in root child apart p q r top low first second u v new newer third fourth s.low
+            s.has_low)
+
+        shapes : shape_of_pass v ≡ shape_of_pass p
+        shapes = ap (λ (z : View). z.terms.shape) back.same_view
+
+        all_known : IsKnown v
+        all_known j h held = elim (cases_eq j (frame_id (shape_of_pass v) root)) [
+          | inl e ↦ shows_known v (frame_id (shape_of_pass v) root) (object.Frame s.top)
+              has_top j h e held
+          | inr ne ↦ elim (cases_eq j (frame_id (shape_of_pass v) child)) [
+            | inl e ↦ shows_known v (frame_id (shape_of_pass v) child) (object.Frame s.low)
+                has_low j h e held
+            | inr ne' ↦ known_remade p v (storeys_ids (shape_of_pass p) root child) back known j h
+                (moved root ne, (moved child ne', tt)) held
+          ]
+        ]
+          where
+            moved : (b : ℕ) → j ≢ frame_id (shape_of_pass v) b
+                → j ≢ frame_id (shape_of_pass p) b
+            moved b differ e = differ (e ∙ ap (λ (z : Shape). frame_id z b) (sym shapes))

@@ -1,0 +1,35 @@
+use Rattle.std.proofs.Common.{[], ◌∷◌}
+use Rattle.latch_space.specs.Passes.{view}
+use Rattle.tree_growth.proofs.ChildLemmas.{holds_inner}
+use Rattle.tree_growth.proofs.HandLemmas.{no_frame_but, no_pool}
+use Rattle.tree_shrinking.proofs.StepLemmas.{steps_down, step_lower}
+use Rattle.tree_shrinking.proofs.levels.step_down.Goals as goal
+
+pub child_for-child-requires-clause-held : goal.child_for-child-requires-clause-held
+child_for-child-requires-clause-held g c =
+    holds_inner (view c.args.pass.now) c.args.index c.args.key.now.tuple 0 c.args.at
+    c.requires.held c.requires.inner
+
+pub child_for-child-requires-clause-frames : goal.child_for-child-requires-clause-frames
+child_for-child-requires-clause-frames g c =
+    no_frame_but c.args.space.now c.args.pass.now c.requires.own.0 c.requires.own.1 c.args.index
+    c.args.key.now.tuple (c.args.at.block ∷ []) c.requires.way
+
+pub child_for-child-requires-clause-pool : goal.child_for-child-requires-clause-pool
+child_for-child-requires-clause-pool g c =
+    no_pool c.args.space.now c.args.pass.now c.requires.own.0 c.requires.own.1 c.args.index
+    c.args.key.now.tuple (c.args.at.block ∷ []) c.requires.way
+
+pub returns-clause-reaches : goal.returns-clause-reaches
+returns-clause-reaches g c =
+    steps_down c.args.pass.now c.child_for-child.new.pass c.give_back.new.pass c.args.index
+    c.args.key.now.tuple c.args.at c.child_for-child.result c.requires.way c.requires.held
+    c.requires.inner c.child_for-child.ensures.took c.give_back.ensures.gave c.page_in_hand.result
+    c.page_in_hand.ensures
+
+pub returns-clause-lower : goal.returns-clause-lower
+returns-clause-lower g c =
+    step_lower c.args.pass.now c.child_for-child.new.pass c.give_back.new.pass c.args.index
+    c.args.key.now.tuple c.args.at c.child_for-child.result c.requires.way c.requires.held
+    c.requires.inner c.child_for-child.ensures.took c.give_back.ensures.gave c.page_in_hand.result
+    c.page_in_hand.ensures

@@ -1,0 +1,20 @@
+use Rattle.buffer_pool.proofs.CallLemmas.{frame_has}
+use Rattle.tree_shrinking.proofs.TakenLemmas.{left_held, gives_pair}
+use Rattle.tree_shrinking.proofs.pairs.give_pair_back.Goals as goal
+
+pub give_back-requires-clause-held : goal.give_back-requires-clause-held
+give_back-requires-clause-held c = let h = c.requires.held in (
+  h.upper,
+  frame_has c.args.pass.now c.requires.way.known c.args.pair.right h.upper h.knows_right,
+)
+
+pub give_back-requires-2-clause-held : goal.give_back-requires-2-clause-held
+give_back-requires-2-clause-held c =
+    left_held c.args.pass.now c.give_back.new.pass c.give_back.new.pass c.args.pair c.args.index
+    c.args.key.now.tuple c.requires.way c.requires.held c.fits.ensures c.give_back.ensures.gave
+
+pub returns-clause-gave : goal.returns-clause-gave
+returns-clause-gave c =
+    gives_pair c.args.pass.now c.give_back.new.pass c.give_back-2.new.pass c.args.pair
+    c.args.index c.args.key.now.tuple c.requires.way c.requires.held c.fits.ensures
+    c.give_back.ensures.gave c.give_back-2.ensures.gave

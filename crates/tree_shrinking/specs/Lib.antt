@@ -1,0 +1,9 @@
+pub mod Merging
+pub mod MergeHands
+pub mod MergePlans
+pub mod Lifting
+pub mod LiftHands
+pub mod Families
+pub mod Pairs
+pub mod Shrinking
+pub mod Joins

@@ -1,0 +1,42 @@
+-- A merge that is to be made, with the page behind in hand, and what is made by it.
+use Rattle.std.specs.Prelude.{ℕ, ◌≡◌, Option, List, ◌∷◌}
+use Rattle.latch_space.specs.Passes.{view, count}
+use Rattle.index_law.specs.Shape.{Shape}
+use Rattle.forest_law.specs.Numbers.{frame_id}
+use Rattle.forest_world.specs.Held.{TreePass, shape_of_pass}
+use Rattle.call_law.specs.Spoken.{View}
+use Rattle.buffer_pool.specs.Calls.{DoesSilently}
+use Rattle.tree_merging.specs.FrameMerges.{MergesUnder}
+use Rattle.tree_smo.specs.declared.halves.SplitBlocks.{SplitBlocks}
+use Rattle.tree_smo.specs.declared.halves.SplitHands.{SplitHands}
+use Rattle.tree_smo.specs.Halves.{KnowsHalves}
+use Rattle.tree_smo.specs.Plans.{HoldsNext, next_ids, KnowsNext}
+use Rattle.tree_shrinking.specs.Merging.{CanMerge}
+
+-- the pass holds all that the merge changes: the three pages, and the one behind them, where there
+-- is one
+pub record HoldsMerge (v : View) (at : SplitBlocks) (i : ℕ) (next : Option ℕ) : Type 0 where
+  pub can : CanMerge v at.parent at.child at.right i
+  pub is_next : can.is_right.page.head.next ≡ next
+  pub behind : HoldsNext v i can.level next
+
+-- the numbers of the frames that a merge changes
+abbrev pub merge_ids : Shape → SplitBlocks → Option ℕ → List ℕ
+merge_ids shape at next =
+    frame_id shape at.parent ∷ frame_id shape at.child ∷ frame_id shape at.right
+    ∷ next_ids shape next
+
+-- the three frames, as they were known, were merged
+pub record MergesSo (v v' : View) (at : SplitBlocks) (i : ℕ) (next : Option ℕ) : Type 0 where
+  pub was : HoldsMerge v at i next
+  pub now : SplitHands
+  pub knows : KnowsHalves v' at now
+  pub merges : MergesUnder was.can.lower now.left was.can.upper now.right was.can.up now.up
+  pub behind : KnowsNext v' next
+
+-- the pass has made the merge
+pub record MakesMerge (p : TreePass) (at : SplitBlocks) (i : ℕ) (next : Option ℕ)
+    (q : TreePass) : Type 0 where
+  pub silently : DoesSilently p q (merge_ids (shape_of_pass p) at next)
+  pub merges : MergesSo (view p) (view q) at i next
+  pub count : count q ≡ count p

@@ -1,0 +1,105 @@
+//! Two pages that follow one another are taken, and weighed.
+ghost use Rattle.std.specs.Prelude.{◌≡◌, [], ◌∷◌, Some};
+ghost use Rattle.latch_space.specs.Passes.{view, IsSamePass};
+ghost use Rattle.latch_space.specs.Spaces.{IsPassOf};
+ghost use Rattle.index_page.specs.Loads.{load_of};
+ghost use Rattle.index_page.specs.Page.{PageRows};
+ghost use Rattle.forest_law.specs.declared.objects.Frame.{Frame};
+ghost use Rattle.forest_world.specs.Held.{HasFrame};
+ghost use Rattle.buffer_pool.specs.Forests.{IsForest, IsFittedTree};
+ghost use Rattle.tree_growth.specs.Pages.{HoldsPagedFrame};
+ghost use Rattle.tree_growth.specs.Ways.{IsGoingDown};
+ghost use Rattle.tree_shrinking.specs.Joins.{GivesPair};
+ghost use Rattle.tree_shrinking.specs.Pairs.{HoldsAbovePair, HoldsPair, TellsJoin, TakesPair};
+
+use crate::{LIGHT_LOAD, MERGED_LOAD};
+use buffer_pool::{frame, give_back, take_frame};
+use forest_world::{ForestPass, ForestSpace};
+use key_tuple::Key;
+use std::sync::Wait;
+
+/// Two pages that follow one another under a third.
+#[derive(Drop, Clone, Copy)]
+pub(crate) struct Pair {
+    /// The block of the page above.
+    pub parent: u32,
+    /// The block of the first page.
+    pub left: u32,
+    /// The block of the second page.
+    pub right: u32,
+    /// Whether it is the second page that may be light.
+    pub right_asks: bool,
+}
+
+/// Takes both pages, from left to right.
+pub(crate) fn take_pair<R: Wait>(
+    space: &ForestSpace,
+    pass: &mut ForestPass,
+    pair: Pair,
+    index: u32,
+    key: &Key,
+    wait: &R,
+)
+    requires own { IsForest space.now × IsPassOf space.now pass.old }
+    requires way { IsGoingDown pass.old index key.now.tuple (pair.parent ∷ []) }
+    requires held { HoldsAbovePair (view pass.old) pair index }
+    ensures own { IsSamePass pass.old pass.new × IsPassOf space.now pass.new }
+    ensures took { TakesPair pass.old pair index key.now.tuple pass.new }
+    ensures fits { IsFittedTree (view pass.new) }
+{
+    let _ = index;
+    let _ = key;
+    pass.fits();
+    take_frame(space, pass, pair.left, wait);
+    take_frame(space, pass, pair.right, wait);
+}
+
+/// Gives both pages back.
+pub(crate) fn give_pair_back(
+    space: &ForestSpace,
+    pass: &mut ForestPass,
+    pair: Pair,
+    index: u32,
+    key: &Key,
+)
+    requires own { IsForest space.now × IsPassOf space.now pass.old }
+    requires way { IsGoingDown pass.old index key.now.tuple
+        (pair.parent ∷ pair.left ∷ pair.right ∷ []) }
+    requires held { HoldsPair (view pass.old) pair index }
+    ensures own { IsSamePass pass.old pass.new × IsPassOf space.now pass.new }
+    ensures gave { GivesPair pass.old pair index key.now.tuple pass.new }
+    ensures fits { IsFittedTree (view pass.new) }
+{
+    let _ = index;
+    let _ = key;
+    pass.fits();
+    give_back(space, pass, pair.right);
+    give_back(space, pass, pair.left);
+}
+
+/// Whether the page that may be light is so, and both have room on one page.
+pub(crate) fn are_to_join(space: &ForestSpace, pass: &ForestPass, pair: Pair) -> bool
+    requires own { IsForest space.now × IsPassOf space.now pass.now }
+    requires left { HoldsPagedFrame pass.now pair.left }
+    requires right { HoldsPagedFrame pass.now pair.right }
+    ensures { TellsJoin pass.now pair result }
+{
+    let left = load_in(space, pass, pair.left);
+    let right = load_in(space, pass, pair.right);
+    let most = u64::from(MERGED_LOAD);
+    let asks = if pair.right_asks { right } else { left };
+    asks < u64::from(LIGHT_LOAD) && left <= most && right <= most - left
+}
+
+/// What the rows of a page in hand take.
+fn load_in(space: &ForestSpace, pass: &ForestPass, block: u32) -> u64
+    requires own { IsForest space.now × IsPassOf space.now pass.now }
+    requires held { HoldsPagedFrame pass.now block }
+    ensures { (f : Frame) (page : PageRows) → HasFrame pass.now block f f → f.page ≡ Some page
+        → result ≡ load_of page.rows }
+{
+    match &frame(space, pass, block).page {
+        Some(page) => u64::from(page.load()),
+        None => unreachable!(),
+    }
+}
