@@ -6,7 +6,11 @@ mod calls;
 #[cfg(test)]
 mod limits;
 #[cfg(test)]
+mod merges;
+#[cfg(test)]
 mod room;
+#[cfg(test)]
+mod sets;
 #[cfg(test)]
 mod setup;
 #[cfg(test)]

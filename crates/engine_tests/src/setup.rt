@@ -45,6 +45,7 @@ pub(crate) struct Caller<'a> {
 #[derive(Clone, Copy)]
 pub(crate) enum Order<'a> {
     Put(&'a [u8]),
+    Set(&'a [u8]),
     Del,
     Get,
 }
@@ -100,6 +101,13 @@ impl<'a> Caller<'a> {
         self.engine.put(&mut self.pass, 0, key, &value, wait).ok()
     }
 
+    fn set<R: Wait>(&mut self, alloc: Global, key: &Key, value: &[u8], wait: &R) -> Option<Told>
+        requires { length key.now.tuple ≡ 1 }
+    {
+        let value = value_of(alloc, value)?;
+        self.engine.set(&mut self.pass, 0, key, &value, wait).ok()
+    }
+
     fn del<R: Wait>(&mut self, key: &Key, wait: &R) -> Told
         requires { length key.now.tuple ≡ 1 }
     {
@@ -123,6 +131,7 @@ impl<'a> Caller<'a> {
         let key = key_of(alloc, key)?;
         match order {
             Order::Put(value) => self.put(alloc, &key, value, wait),
+            Order::Set(value) => self.set(alloc, &key, value, wait),
             Order::Del => Some(self.del(&key, wait)),
             Order::Get => Some(self.get(&key, wait)),
         }

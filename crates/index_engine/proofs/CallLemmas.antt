@@ -4,7 +4,7 @@ use Rattle.key_tuple.specs.Order.{FieldList}
 use Rattle.latch_space.specs.Passes.{view}
 use Rattle.map_history.specs.declared.reply.Reply.{Reply}
 use Rattle.map_history.specs.declared.reply.Reply.TheVariants as words
-use Rattle.map_history.specs.Map.{Pair, Map, MapChange, Put, Del, key_of, value_at, is_allowed}
+use Rattle.map_history.specs.Map.{Pair, Map, MapChange, Put, Set, Del, key_of, value_at, is_allowed}
 use Rattle.map_history.specs.Operation.{Ask, Get, Make}
 use Rattle.map_history.specs.Reply.{Done, Absent, Duplicate, value_reply, reply_of}
 use Rattle.map_history.specs.LegalReport.{may_reply}
@@ -101,13 +101,24 @@ module _ (p : TreePass) (b i : ℕ) (key : FieldList) (f : Frame)
       clash : Duplicate ≡ Done → ⊥
       clash e = cc
 
-  -- a del of a key that isn't there is absent
-  pub can_miss : (row : Pair) → value_at key rows ≡ None
-      → CanSay p i key (Make (Del key)) words.Absent row
-  can_miss row lacks = let is : reply_of rows (Make (Del key)) ≡ Absent =
-      ap (λ o. cond (is_some o) Done Absent) lacks in
-      can_reply (Make (Del key)) words.Absent row refl tt (ap Some (sym is))
-      (λ e. clash (sym is ∙ e)) (ap (may_reply (Make (Del key))) is)
+  -- a change that the key's row is wanted for is absent where there is none
+  can_lack : (change : MapChange) (row : Pair) → key_of change ≡ key
+      → reply_of rows (Make change) ≡ Absent → may_reply (Make change) Absent ≡ true
+      → CanSay p i key (Make change) words.Absent row
+  can_lack change row about is form =
+      can_reply (Make change) words.Absent row about tt (ap Some (sym is))
+      (λ e. clash (sym is ∙ e)) (ap (may_reply (Make change)) is ∙ form)
     where
       clash : Absent ≡ Done → ⊥
       clash e = cc
+
+  -- so it is with a del, and with a set
+  pub can_miss : (row : Pair) → value_at key rows ≡ None
+      → CanSay p i key (Make (Del key)) words.Absent row
+  can_miss row lacks =
+      can_lack (Del key) row refl (ap (λ o. cond (is_some o) Done Absent) lacks) refl
+
+  pub can_miss_set : (value : List ℕ) (row : Pair) → value_at key rows ≡ None
+      → CanSay p i key (Make (Set key value)) words.Absent row
+  can_miss_set value row lacks =
+      can_lack (Set key value) row refl (ap (λ o. cond (is_some o) Done Absent) lacks) refl

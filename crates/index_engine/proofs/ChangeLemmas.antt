@@ -63,7 +63,7 @@ module _ (p p1 : TreePass) (b : ℕ) (frame : Frame) (out : TakesOut p b frame p
 module _ (p p1 p2 : TreePass) (b : ℕ) (frame now : Frame) (out : TakesOut p b frame p1)
     (back : PutsBack p1 b now p2) where
   -- it is what was put back
-  swapped_has : (f g : Frame) → HasFrame p b f g → HasFrame p2 b f now
+  pub swapped_has : (f g : Frame) → HasFrame p b f g → HasFrame p2 b f now
   swapped_has f g has = back.has f (out.out f g has).0
 
   same_view : view p2 ≡ view p

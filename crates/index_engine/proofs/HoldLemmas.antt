@@ -6,6 +6,7 @@ use Rattle.key_tuple.specs.KeyPlace.{At, within}
 use Rattle.key_tuple.specs.Position.{IsOfFields}
 use Rattle.key_tuple.specs.declared.mode.Mode.TheVariants as mode
 use Rattle.key_tuple.proofs.PositionLemmas.{has_key}
+use Rattle.latch_law.specs.declared.knows.Holding.{Holding}
 use Rattle.latch_law.specs.declared.knows.Terms.{Terms}
 use Rattle.latch_law.specs.Views.{holding}
 use Rattle.latch_space.specs.Has.{Has, SameHands, IsKnownBut}
@@ -14,16 +15,20 @@ use Rattle.latch_space.proofs.Pointwise.{has_again}
 use Rattle.tree_law.specs.Pages.{low_place, high_place, HasFields}
 use Rattle.index_law.specs.Shape.{Shape}
 use Rattle.forest_law.specs.declared.objects.Frame.{Frame}
+use Rattle.forest_law.specs.declared.objects.Object.{Object}
 use Rattle.forest_law.specs.declared.objects.Object.TheVariants as object
 use Rattle.forest_law.specs.Numbers.{frame_id}
 use Rattle.forest_law.specs.Objects.{IsFrameOf}
 use Rattle.forest_law.specs.State.{ForestState, fields_for}
 use Rattle.forest_law.proofs.FramePageLemmas.{frames_tell_pages}
+use Rattle.forest_law.proofs.ObjectLemmas.{same_frame}
 use Rattle.forest_world.specs.Held.{TreePass, shape_of_pass, HasFrame}
 use Rattle.call_law.specs.Hands.{KnowsFrame}
 use Rattle.call_law.specs.Spoken.{View}
 use Rattle.buffer_pool.specs.Forests.{FitsTrees, IsFittedTree}
+use Rattle.buffer_pool.specs.Frames.{GivesFrame}
 use Rattle.buffer_pool.proofs.CallLemmas.{frame_has}
+use Rattle.buffer_pool.proofs.FrameLemmas.{one_held}
 use Rattle.tree_facts.specs.TreeFrames.{low_of, high_of}
 use Rattle.tree_descent.specs.declared.descending.Leaf.{Leaf}
 use Rattle.tree_descent.specs.Descents.{Descends}
@@ -35,6 +40,15 @@ pub frame_there : (v : View) (b : ℕ) (f : Frame) → KnowsFrame v b f → (w :
     → FitsTrees w v → IsFrameOf w.shape w.objects b f
 frame_there v b f knows w fits = ap (λ s. get_elem? w.objects (frame_id s b)) fits.shape
     ∙ fits.known (frame_id v.terms.shape b) (holding knows.0 (object.Frame f)) knows.1
+
+-- what is given back of a block is the frame that it was known to have
+pub gave_is : (p q : TreePass) (b : ℕ) (f : Frame) → HasFrame p b f f
+    → (gave : GivesFrame p b q) → f ≡ gave.frame
+gave_is p q b f has gave = same_frame f gave.frame
+    (ap (λ (h : Holding Object). h.known)
+    (one_held p (frame_id (shape_of_pass p) b)
+    (holding has.held.0 (object.Frame f)) (holding gave.taken (object.Frame gave.frame))
+    has.held.1 gave.held))
 
 -- a bound of so many fields, as a place
 low_fields : (n m : ℕ) (o : Option FieldList) → n ≡ m → HasFields n o → IsOfFields m (low_place o)

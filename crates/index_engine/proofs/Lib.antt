@@ -7,8 +7,10 @@ pub mod CallLemmas
 pub mod FollowLemmas
 pub mod CommitLemmas
 pub mod ChangeLemmas
+pub mod SettingLemmas
 pub mod RowLemmas
 pub mod TellLemmas
 pub mod WayLemmas
 pub mod RoomLemmas
-pub mod PutLemmas
+pub mod TryLemmas
+pub mod DelLemmas

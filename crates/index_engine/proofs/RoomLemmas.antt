@@ -1,15 +1,18 @@
--- A put is told that there is no page for its row.
-use Rattle.std.proofs.Common.{◌≡◌, ℕ, List, sym, ap, subst, ◌∙◌, refl, None}
+-- A write is told that there is no page for its row.
+use Rattle.std.proofs.Common.{◌≡◌, ℕ, true, List, sym, ap, subst, ◌∙◌, refl, None}
 use Rattle.key_tuple.specs.Order.{FieldList}
 use Rattle.latch_law.specs.Fitting.{DidRead}
 use Rattle.latch_space.specs.Passes.{view}
+use Rattle.map_history.specs.declared.reply.Reply.TheVariants as words
 use Rattle.map_history.specs.declared.reply.Told.{Told}
-use Rattle.map_history.specs.Map.{Put}
+use Rattle.map_history.specs.Map.{Put, Set}
 use Rattle.map_history.specs.Operation.{Ask}
 use Rattle.map_history.specs.Report.{SpaceFull, dashes}
+use Rattle.map_history.specs.LegalReport.{has_form}
 use Rattle.index_law.specs.Answers.{Replies}
 use Rattle.index_law.specs.Answers as answers
-use Rattle.index_law.specs.Rightness.{IsRight}
+use Rattle.index_law.specs.Meanings.{lent_row}
+use Rattle.index_law.specs.Rightness.{IsRight, AsksToWrite}
 use Rattle.forest_law.specs.Law.{IsLawful}
 use Rattle.forest_law.specs.References.{IsReference}
 use Rattle.forest_world.specs.Held.{TreePass}
@@ -19,8 +22,11 @@ use Rattle.call_law.proofs.TraceLemmas.{full_then_word}
 use Rattle.latch_law.specs.Views.{answer_said}
 use Rattle.buffer_pool.proofs.AddedLemmas.{only_said, read_adds}
 use Rattle.tree_growth.specs.Growing.{FindsNoRoom}
-use Rattle.index_engine.specs.Puts.{put_asked, SaysNoRoom, LacksPage}
+use Rattle.index_engine.specs.declared.write.Write.{Write}
+use Rattle.index_engine.specs.declared.write.Write.TheVariants as write
+use Rattle.index_engine.specs.Writes.{write_asked, SaysNoRoom, LacksPage}
 use Rattle.index_engine.specs.Says.{told_space_full}
+use Rattle.index_engine.specs.Tells.{HasKeyOf}
 
 module _ (p q : TreePass) (i point : ℕ) (ask : Ask)
     (did : DidRead IsLawful IsRight IsReference (view p) i
@@ -40,23 +46,42 @@ module _ (p q : TreePass) (i point : ℕ) (ask : Ask)
     fulls = refl;
   }
 
--- no number was free, and the put was told so
-pub room_then_word : (p q r : TreePass) (i : ℕ) (key : FieldList) (value : List ℕ) (told : Told)
-    → FindsNoRoom p i q → SaysNoRoom (view q) (view r) i (put_asked key value)
-    → told ≡ told_space_full → LacksPage (view p) (view r) i key value told
-room_then_word p q r i key value told none word is =
+-- a row is to be written, and it may be told that there is no page for it
+pub record AsksForRoom (ask : Ask) : Type 0 where
+  pub writes : AsksToWrite ask
+  pub form : has_form ask (SpaceFull dashes) ≡ true
+  pub key : HasKeyOf ask words.SpaceFull (lent_row None)
+
+-- no number was free, and the write was told so
+pub room_then_word : (p q r : TreePass) (i : ℕ) (ask : Ask) (told : Told) → AsksForRoom ask
+    → FindsNoRoom p i q → SaysNoRoom (view q) (view r) i ask
+    → told ≡ told_space_full → LacksPage (view p) (view r) i ask told
+room_then_word p q r i ask told asks none word is =
     let low = none.grows.adds.numbers.low in
-    let ask = put_asked key value in
     let once = full_then_word (view p) (view q) (view r) i ask dashes none.places none.added
     word.added none.grows.adds word.adds none.given
     (subst (λ n. AreGivenAt i n word.added.said) low word.given) none.silent none.full
-    (word.said ∙ ap (λ n. sayings i n ask (SpaceFull dashes)) low) word.fulls refl
-    (record { change = Put key value; asked = refl; row = refl }) in
-    subst (LacksPage (view p) (view r) i key value) (sym is) (record {
+    (word.said ∙ ap (λ n. sayings i n ask (SpaceFull dashes)) low) word.fulls asks.form
+    asks.writes in
+    subst (LacksPage (view p) (view r) i ask) (sym is) (record {
       tells = record {
         answer = SpaceFull dashes;
-        is_told = record { is = refl; point = refl; key = tt; dashed = refl };
+        is_told = record { is = refl; point = refl; key = asks.key; dashed = refl };
         once = once;
       };
       full = refl;
     })
+
+-- so a write asks
+pub write_asks : (w : Write) (key : FieldList) (value : List ℕ)
+    → AsksForRoom (write_asked w key value)
+write_asks write.Put key value = record {
+  writes = record { change = Put key value; asked = refl; row = refl };
+  form = refl;
+  key = tt;
+}
+write_asks write.Set key value = record {
+  writes = record { change = Set key value; asked = refl; row = refl };
+  form = refl;
+  key = tt;
+}

@@ -5,7 +5,7 @@ use Rattle.std.specs.Option.{option_map}
 use Rattle.key_tuple.specs.Order.{FieldList}
 use Rattle.list_facts.proofs.Each.{each_left, each_right, each_append, each_weaker}
 use Rattle.list_facts.proofs.Places.{same_some}
-use Rattle.map_history.specs.Map.{Put, Del, value_at}
+use Rattle.map_history.specs.Map.{Put, Set, Del, value_at}
 use Rattle.index_page.specs.declared.head.PageHead.{PageHead}
 use Rattle.index_page.specs.declared.spot.Spot.{Spot}
 use Rattle.index_page.specs.Changes.{page_without}
@@ -18,7 +18,10 @@ use Rattle.forest_law.specs.State.{bound, page_within, fields_for}
 use Rattle.clock_law.specs.ModifyClock.{last_clock}
 use Rattle.leaf_rows.specs.Changing.{PutsRow, LacksRow, HasRowOf, frame_without}
 use Rattle.leaf_rows.specs.Finding.{HasSpot, IsFoundAt}
+use Rattle.leaf_rows.specs.Setting.{SetsValue}
 use Rattle.leaf_rows.proofs.ChangeLemmas.{takes_out}
+use Rattle.leaf_rows.proofs.FullLemmas.{refused_values_lack_room}
+use Rattle.leaf_rows.proofs.SetLemmas.{values_are_set}
 use Rattle.index_engine.specs.Changes.{HasSpotIn, HasOldRow, FindsRow}
 use Rattle.index_engine.specs.Commits.{MakesChange}
 use Rattle.index_engine.specs.Holds.{IsLeafOf}
@@ -28,6 +31,16 @@ each_drop : (P : Row → Type 0) (left : List Row) (row : Row) (right : List Row
     → AllByRecursion P (left ++ row ∷ right) → AllByRecursion P (left ++ right)
 each_drop P left row right all = let rest = each_right P left (row ∷ right) all in
     each_append P left right (each_left P left (row ∷ right) all) rest.1
+
+-- what holds of each row holds of the others, and of the one that came in a row's place
+each_put : (P Q : Row → Type 0) (left : List Row) (row after : Row) (right : List Row)
+    → ((x : Row) → P x → Q x) → (P row → Q after)
+    → AllByRecursion P (left ++ row ∷ right) → AllByRecursion Q (left ++ after ∷ right)
+each_put P Q left row after right others this all =
+    let rest = each_right P left (row ∷ right) all in
+    each_append Q left (after ∷ right)
+    (each_weaker P Q others left (each_left P left (row ∷ right) all))
+    (this rest.0, each_weaker P Q others right rest.1)
 
 differ_drop : (left : List Row) (row : Row) (right : List Row)
     → PlacesDiffer (left ++ row ∷ right) → PlacesDiffer (left ++ right)
@@ -52,7 +65,13 @@ finds_row f page key spot o paged order within spot_in found =
     by_place (Some place) has =
         let row : HasRowOf f place key =
         record { page = page; paged = paged; level = finds.level; has = has } in
-        record { has = row; goes = takes_out f place page paged order within key row }
+        record {
+          has = row;
+          goes = takes_out f place page paged order within key row;
+          sets = λ value less. values_are_set f place key value row order within less;
+          lacks = λ value e refused.
+              refused_values_lack_room f place key value e row order refused;
+        }
 
 -- a row that was found, or none
 pub found_old : (f : Frame) (key : FieldList) (spot : Spot) (o : Option ℕ) → FindsRow f key spot o
@@ -91,6 +110,12 @@ module _ (shape : Shape) (b i : ℕ) (key : FieldList) (f : Frame)
     ap (λ (r : PageRows). value_at key (row_pairs r.rows)) (page_is row.goes.page row.goes.had)
         ∙ row.goes.has,
   )
+
+  pub set_key : (g : Frame) (value : List ℕ) → (sets : SetsValue f g key value)
+      → value_at key (row_pairs leaf.page.is.page.rows) ≡ Some sets.before
+  set_key g value sets =
+      ap (λ (r : PageRows). value_at key (row_pairs r.rows)) (page_is sets.page sets.had)
+      ∙ sets.has
 
   -- a row that was put in is a change
   pub put_makes : (g : Frame) (place : ℕ) (value : List ℕ) → PutsRow f g place key value
@@ -157,5 +182,54 @@ module _ (shape : Shape) (b i : ℕ) (key : FieldList) (f : Frame)
               old.bodies));
           places = subst PlacesDiffer (sym d.is)
               (differ_drop d.left d.row d.right (subst PlacesDiffer d.was old.places));
+        };
+      }
+
+  -- and a row that got another value, or is to get it
+  pub set_makes : (g : Frame) (value : List ℕ) → SetsValue f g key value
+      → MakesChange shape (Set key value) f g
+  set_makes g value sets = let s = sets.sets in
+      let old = subst
+      (λ (r : PageRows). IsOrderly (fields_for shape) (page_within r f.low f.high))
+      (page_is sets.page sets.had) leaf.page.order in
+      let fields : sets.page.head.fields ≡ sets.new.head.fields =
+      ap (λ (h : PageHead). h.fields) (sym sets.head) in
+      let low : g.low ≡ f.low = ap (λ (h : Frame). h.low) sets.kept in
+      let high : g.high ≡ f.high = ap (λ (h : Frame). h.high) sets.kept in
+      let level : 0 ≡ sets.new.head.level =
+      sym (ap (λ (h : PageHead). h.level) sets.head ∙ sets.level) in record {
+        page = sets.page;
+        new = sets.new;
+        had = sets.had;
+        has = ap (λ (h : Frame). h.page) sets.kept;
+        head = sets.head;
+        low = low;
+        high = high;
+        allowed = ap is_some sets.has;
+        changes = inr (inl s);
+        order = record {
+          fields = subst (λ (h : PageHead). h.fields ≡ fields_for shape h.index) (sym sets.head)
+              old.fields;
+          keys = subst (AllByRecursion (λ (x : Row). length x.key ≡ sets.new.head.fields))
+              (sym s.is)
+              (each_put (λ (x : Row). length x.key ≡ sets.page.head.fields)
+              (λ (x : Row). length x.key ≡ sets.new.head.fields) s.left s.row s.after s.right
+              (λ x is. is ∙ fields) (λ is. ap length s.key ∙ (is ∙ fields))
+              (subst (AllByRecursion (λ (x : Row). length x.key ≡ sets.page.head.fields)) s.was
+              old.keys));
+          low = subst (λ o. HasFields sets.new.head.fields (bound o)) (sym low)
+              (subst (λ n. HasFields n (bound f.low)) fields old.low);
+          high = subst (λ o. HasFields sets.new.head.fields (bound o)) (sym high)
+              (subst (λ n. HasFields n (bound f.high)) fields old.high);
+          bodies = subst (AllByRecursion (λ (x : Row). FitsLevel sets.new.head.level x.body))
+              (sym s.is)
+              (each_put (λ (x : Row). FitsLevel sets.page.head.level x.body)
+              (λ (x : Row). FitsLevel sets.new.head.level x.body) s.left s.row s.after s.right
+              (λ x fits. subst (λ (h : PageHead). FitsLevel h.level x.body) (sym sets.head) fits)
+              (λ fits. subst (λ n. FitsLevel n s.after.body) level
+              (subst (FitsLevel 0) (sym s.has) refl))
+              (subst (AllByRecursion (λ (x : Row). FitsLevel sets.page.head.level x.body)) s.was
+              old.bodies));
+          places = sets.places;
         };
       }

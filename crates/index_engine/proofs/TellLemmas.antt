@@ -119,7 +119,7 @@ module _ (p p0 p1 p2 : TreePass) (i : ℕ) (key : FieldList) (leaf : Leaf)
         ∙ ap (λ (t : Terms Shape). (went.path.vain ++ went.path.path)
         ++ reference (frame_id t.shape leaf.block) gave.taken (object.Frame gave.frame) ∷ []) terms
 
-    ends_all : EndsOnLeaf shape i key all_added.references
+    unfoldable pub ends_all : EndsOnLeaf shape i key all_added.references
     ends_all = record {
       vain = went.path.vain;
       path = went.path.path;
@@ -131,7 +131,7 @@ module _ (p p0 p1 p2 : TreePass) (i : ℕ) (key : FieldList) (leaf : Leaf)
     }
 
   -- the answer was told by that leaf
-  pub tells_by_leaf : (ask : Ask) (told : Told) (row : Pair)
+  unfoldable pub tells_by_leaf : (ask : Ask) (told : Told) (row : Pair)
       → SaysOnce (view p0) (view p1) i ask told row
       → TellsByLeaf (view p) (view p2) i key ask told row
   unfolding quiet_of quiet_then_once once_then_silent

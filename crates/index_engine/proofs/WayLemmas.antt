@@ -2,9 +2,7 @@
 use Rattle.std.proofs.Common.{◌≡◌, ◌≢◌, inl, inr, ℕ, ◌+◌, ◌<◌, ◌++◌, List, sym, ap, subst, ◌∙◌, refl, Result, Ok, Err, IfOk, IfErr}
 use Rattle.key_tuple.specs.Order.{FieldList}
 use Rattle.key_tuple.specs.declared.mode.Mode.TheVariants as mode
-use Rattle.latch_law.specs.declared.knows.Holding.{Holding}
 use Rattle.latch_law.specs.declared.knows.Terms.{Terms}
-use Rattle.latch_law.specs.Views.{holding}
 use Rattle.latch_law.specs.Whole.{reference}
 use Rattle.latch_space.specs.Passes.{view}
 use Rattle.map_history.specs.declared.reply.Reply.TheVariants as words
@@ -23,27 +21,26 @@ use Rattle.forest_law.specs.declared.objects.Frame.{Frame}
 use Rattle.forest_law.specs.declared.objects.Object.{Object}
 use Rattle.forest_law.specs.declared.objects.Object.TheVariants as object
 use Rattle.forest_law.specs.Numbers.{frame_id}
-use Rattle.forest_law.proofs.ObjectLemmas.{same_frame}
 use Rattle.forest_world.specs.Held.{TreePass, shape_of_pass}
 use Rattle.call_law.specs.Once.{IsQuiet}
 use Rattle.call_law.proofs.TraceLemmas.{quiet_of, quiet_both}
 use Rattle.buffer_pool.specs.Frames.{GivesFrame}
-use Rattle.buffer_pool.proofs.FrameLemmas.{one_held}
 use Rattle.tree_descent.specs.declared.descending.Leaf.{Leaf}
 use Rattle.tree_descent.specs.Descents.{Descends}
 use Rattle.tree_descent.specs.Leaves.{cut_in, IsPageFor}
 use Rattle.index_engine.specs.Changes.{RefusesHolding}
 use Rattle.index_engine.specs.Holds.{HoldsLeaf, HoldsKnown}
 use Rattle.index_engine.specs.Says.{OnlyLooks, AnswersHolding}
-use Rattle.index_engine.specs.Traces.{LackedRoom, TellsByLeaf, TellsOfPut, GivesUp}
+use Rattle.index_engine.specs.Traces.{LackedRoom, TellsByLeaf, TellsOfWrite, GivesUp}
+use Rattle.index_engine.proofs.HoldLemmas.{gave_is}
 use Rattle.index_engine.proofs.TellLemmas.{way, back, back_adds, spares_all, references_are}
 
 -- an answer by a leaf is one of a put
-pub by_leaf_of_put : (p q : TreePass) (i : ℕ) (key : FieldList) (value : List ℕ) (ask : Ask)
+pub by_leaf_of_write : (p q : TreePass) (i : ℕ) (key : FieldList) (value : List ℕ) (ask : Ask)
     (told : Told) (row : Pair) → told.reply ≢ words.SpaceFull
     → TellsByLeaf (view p) (view q) i key ask told row
-    → TellsOfPut (view p) (view q) i key value ask told row
-by_leaf_of_put p q i key value ask told row placed tells = record {
+    → TellsOfWrite (view p) (view q) i key value ask told row
+by_leaf_of_write p q i key value ask told row placed tells = record {
   tells = tells.tells;
   ends = λ here. tells.ends;
   full = λ none. absurd (placed none);
@@ -94,18 +91,11 @@ module _ (p p0 p1 p2 : TreePass) (i : ℕ) (key : FieldList) (value : List ℕ) 
 
   module _ (f : Frame) (holds : HoldsLeaf p1 leaf.block i key f f)
       (full : PAGE_ROOM < load_of holds.leaf.page.is.page.rows + charge_of key (Bytes value)) where
-    -- what was given back is the leaf
-    gave_is : f ≡ gave.frame
-    gave_is = same_frame f gave.frame
-        (ap (λ (h : Holding Object). h.known)
-        (one_held p1 (frame_id (shape_of_pass p1) leaf.block)
-        (holding holds.has.held.0 (object.Frame f))
-        (holding gave.taken (object.Frame gave.frame)) holds.has.held.1 gave.held))
-
     full_leaf : IsFullLeaf (shape_of_pass p) leaf.block i key value gave.frame
     full_leaf = subst
         (λ (t : Terms Shape). IsFullLeaf t.shape leaf.block i key value gave.frame) terms_are
-        (subst (IsFullLeaf (shape_of_pass p1) leaf.block i key value) gave_is
+        (subst (IsFullLeaf (shape_of_pass p1) leaf.block i key value)
+        (gave_is p1 p2 leaf.block f holds.has gave)
         (holds.leaf.page, full))
 
     -- so the way led to a leaf without room

@@ -1,5 +1,5 @@
 -- Changes of the leaf that a pass holds.
-use Rattle.std.specs.Prelude.{ℕ, ◌≡◌, ◌⊎◌, ◌+◌, ◌<◌, Option, Some, None, List}
+use Rattle.std.specs.Prelude.{ℕ, ◌≡◌, ◌⊎◌, ◌+◌, ◌<◌, ◌≤◌, ◌==◌, Option, Some, None, IsSome, List, length}
 use Rattle.key_tuple.specs.Order.{FieldList}
 use Rattle.latch_space.specs.Passes.{view, count}
 use Rattle.index_page.specs.declared.error.PageError.{PageError}
@@ -13,6 +13,7 @@ use Rattle.forest_law.specs.declared.objects.Frame.{Frame}
 use Rattle.forest_world.specs.Held.{TreePass, HasFrame}
 use Rattle.leaf_rows.specs.Changing.{LacksRow, PutsRow, WasPut, HasRowOf, HasSomeRow, TakesRowOut, frame_without}
 use Rattle.leaf_rows.specs.Finding.{HasSpot}
+use Rattle.leaf_rows.specs.Setting.{frame_with, IsNoLonger, IsLongerValue, SetsValue, PageBefore, frame_before, value_refusal, LacksRoomFor}
 use Rattle.index_engine.specs.Holds.{HoldsLeaf}
 use Rattle.index_engine.specs.Says.{OnlyLooks}
 
@@ -22,10 +23,15 @@ pub record HasSpotIn (f : Frame) (key : FieldList) (spot : Spot) : Type 0 where
   pub paged : f.page ≡ Some page
   pub finds : HasSpot page key spot
 
--- the key's row stands at the place of the frame's leaf, and a del takes it out
+-- the key's row stands at the place of the frame's leaf; a del takes it out, a set gives it a value
+-- that is no longer, and another value is refused only where it has no room
 pub record HasOldRow (f : Frame) (key : FieldList) (place : ℕ) : Type 0 where
   pub has : HasRowOf f place key
   pub goes : TakesRowOut f place key
+  pub sets : (value : List ℕ) → length value ≤ length has.has.value
+      → SetsValue f (frame_with place value (length value == length has.has.value) f) key value
+  pub lacks : (value : List ℕ) (e : PageError) → value_refusal f place value ≡ Some e
+      → LacksRoomFor f key value
 
 -- the place of the key's row; none where the frame's leaf lacks the key
 abbrev pub FindsRow : Frame → FieldList → Spot → Option ℕ → Type 0
@@ -91,6 +97,67 @@ pub record HoldsOldRow (p : TreePass) (b i place : ℕ) (key : FieldList)
   pub holds : HoldsLeaf p b i key known known
   pub row : HasOldRow known key place
   pub next_is : next ≡ frame_without place known
+
+-- the pass holds the leaf, on which the key's row stands at the place
+pub record HoldsRowOf (p : TreePass) (b i place : ℕ) (key : FieldList) : Type 0 where
+  pub known : Frame
+  pub holds : HoldsLeaf p b i key known known
+  pub row : HasOldRow known key place
+
+-- the pass holds the leaf, on which the key's row stands at the place, and which is to become this
+-- one, where the row has this value, which is no longer
+pub record HoldsRowToSet (p : TreePass) (b i place : ℕ) (key : FieldList) (value : List ℕ)
+    (next : Frame) : Type 0 where
+  pub known : Frame
+  pub holds : HoldsLeaf p b i key known known
+  pub row : HasOldRow known key place
+  pub no_longer : IsNoLonger known place value
+  pub next_is : next ≡ frame_with place value (length value == length row.has.has.value) known
+
+-- the pass holds the block's frame, on which some row stands at the place, and the value is no
+-- longer than that row's
+pub record HoldsRowAsLong (p : TreePass) (b place : ℕ) (value : List ℕ) : Type 0 where
+  pub known : Frame
+  pub now : Frame
+  pub has : HasFrame p b known now
+  pub stands : HasSomeRow now place
+  pub no_longer : IsNoLonger now place value
+
+-- that row has the value, and the frame is known to be what it was known to be
+abbrev pub RowIsSet : TreePass → TreePass → (b place : ℕ) → List ℕ → Type 0
+RowIsSet p q b place value = (f g : Frame) (key : FieldList) → (has : HasRowOf g place key)
+    → HasFrame p b f g
+    → HasFrame q b f (frame_with place value (length value == length has.has.value) g)
+
+-- the pass holds the leaf, on which the key's row stands at the place, and the value is longer
+pub record HoldsRowToGrow (p : TreePass) (b i place : ℕ) (key : FieldList)
+    (value : List ℕ) : Type 0 where
+  pub known : Frame
+  pub holds : HoldsLeaf p b i key known known
+  pub row : HasOldRow known key place
+  pub longer : IsLongerValue known place value
+
+-- the pass holds the leaf, of which the key's row got the value, and which was this before
+pub record HoldsGrownRow (p : TreePass) (b i : ℕ) (key : FieldList) (value : List ℕ)
+    (before : PageBefore) : Type 0 where
+  pub known : Frame
+  pub made : Frame
+  pub holds : HoldsLeaf p b i key known made
+  pub sets : SetsValue known made key value
+  pub paged : IsSome before.page
+  pub was : frame_before before made ≡ known
+
+-- the pass holds the block's frame, which has a page
+pub record HoldsSomePage (p : TreePass) (b : ℕ) : Type 0 where
+  pub known : Frame
+  pub now : Frame
+  pub has : HasFrame p b known now
+  pub paged : IsSome now.page
+
+-- where the leaf was this before, it is so again, and what it is known to be
+abbrev pub LeafIsBack : TreePass → TreePass → ℕ → PageBefore → Type 0
+LeafIsBack p q b before = (i : ℕ) (key : FieldList) (f g : Frame) → HoldsLeaf p b i key f g
+    → frame_before before g ≡ f → HoldsLeaf q b i key f f
 
 -- nothing was answered, since the row wasn't taken, and the leaf is held as it is known to be
 pub record RefusesHolding (p q : TreePass) (b i : ℕ) (key : FieldList) (value : List ℕ)

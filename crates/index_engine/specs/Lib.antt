@@ -5,4 +5,4 @@ pub mod Holds
 pub mod Says
 pub mod Commits
 pub mod Changes
-pub mod Puts
+pub mod Writes

@@ -4,10 +4,11 @@ ghost use Rattle.map_history.specs.Map as map;
 ghost use Rattle.map_history.specs.Operation as asked;
 ghost use Rattle.index_law.specs.Meanings.{lent_row};
 ghost use Rattle.index_engine.specs.Engines.{known, IsOf, IsSame, indexes_of, FitsKey};
-ghost use Rattle.index_engine.specs.Traces.{TellsByLeaf, TellsOfPut, GivesUp};
+ghost use Rattle.index_engine.specs.Traces.{TellsByLeaf, TellsOfDel, TellsOfWrite, GivesUp};
 
 use crate::engine::{Engine, EnginePass};
 use crate::tree_call::TreeCall;
+use crate::write::Write;
 use key_tuple::{Key, NoMemory, Value};
 use map_history::{Reply, RowBuf, Told};
 use std::sync::Wait;
@@ -49,7 +50,7 @@ impl Engine {
         requires index { index < indexes_of self.now }
         requires key { FitsKey self.now index key.now.tuple }
         ensures own { IsSame pass.old pass.new × IsOf self.now pass.new }
-        ensures ok { IfOk result (λ told. TellsOfPut (known pass.old) (known pass.new) index
+        ensures ok { IfOk result (λ told. TellsOfWrite (known pass.old) (known pass.new) index
             key.now.tuple value.now (asked.Make (map.Put key.now.tuple value.now)) told
             (lent_row None)) }
         ensures err { OnErr result (GivesUp (known pass.old) (known pass.new) index key.now.tuple
@@ -57,7 +58,34 @@ impl Engine {
     {
         let most = u64::from(pass.sizes.max_changes);
         self.call(index, key, wait)
-            .put(&mut pass.world, most, value)
+            .write(&mut pass.world, most, Write::Put, value)
+    }
+
+    /// Another value for a row: `Ok`, `Absent` where the key isn't there, `LogFull`, or `SpaceFull`
+    /// where a longer value has no room on its row's leaf and no page number is free. They are
+    /// tried in the order `Absent`, `LogFull`, `SpaceFull`, `Ok`. A value that is no longer than
+    /// the one before takes no memory. After `NoMemory` no list has changed.
+    pub fn set<R: Wait>(
+        &self,
+        pass: &mut EnginePass,
+        index: u32,
+        key: &Key,
+        value: &Value,
+        wait: &R,
+    ) -> Result<Told, NoMemory>
+        requires own { IsOf self.now pass.old }
+        requires index { index < indexes_of self.now }
+        requires key { FitsKey self.now index key.now.tuple }
+        ensures own { IsSame pass.old pass.new × IsOf self.now pass.new }
+        ensures ok { IfOk result (λ told. TellsOfWrite (known pass.old) (known pass.new) index
+            key.now.tuple value.now (asked.Make (map.Set key.now.tuple value.now)) told
+            (lent_row None)) }
+        ensures err { OnErr result (GivesUp (known pass.old) (known pass.new) index key.now.tuple
+            value.now) }
+    {
+        let most = u64::from(pass.sizes.max_changes);
+        self.call(index, key, wait)
+            .write(&mut pass.world, most, Write::Set, value)
     }
 
     /// A row taken out: `Ok`, `Absent` where the key isn't there, or `LogFull`.
@@ -66,8 +94,7 @@ impl Engine {
         requires index { index < indexes_of self.now }
         requires key { FitsKey self.now index key.now.tuple }
         ensures own { IsSame pass.old pass.new × IsOf self.now pass.new }
-        ensures told { TellsByLeaf (known pass.old) (known pass.new) index key.now.tuple
-            (asked.Make (map.Del key.now.tuple)) result (lent_row None) }
+        ensures told { TellsOfDel (known pass.old) (known pass.new) index key.now.tuple result }
     {
         self.call(index, key, wait).del(&mut pass.world)
     }

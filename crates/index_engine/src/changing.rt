@@ -1,18 +1,22 @@
 //! The leaf that is held is changed. No step is made here.
-ghost use Rattle.std.specs.Prelude.{◌≤◌, IfOk, IfErr};
+ghost use Rattle.std.specs.Prelude.{◌≤◌, IfOk, IfErr, IsSome};
 ghost use Rattle.clock_law.specs.ModifyClock.{last_clock};
 ghost use Rattle.latch_space.specs.Passes.{IsSamePass};
 ghost use Rattle.latch_space.specs.Spaces.{IsPassOf};
 ghost use Rattle.index_engine.specs.Changes.{HasSpotIn, FindsRow, HoldsLacking, HoldsNewRow};
 ghost use Rattle.index_engine.specs.Changes.{HoldsRefusing, KnowsSame, HoldsPutRow, TookBack};
-ghost use Rattle.index_engine.specs.Changes.{HoldsRowAt, TookOut};
+ghost use Rattle.index_engine.specs.Changes.{HoldsRowAt, TookOut, HoldsRowAsLong, RowIsSet};
+ghost use Rattle.index_engine.specs.Changes.{HoldsRowToGrow, HoldsGrownRow, HoldsSomePage};
+ghost use Rattle.index_engine.specs.Changes.{LeafIsBack};
 
 use crate::tree_call::TreeCall;
 use buffer_pool::{frame_back, frame_out};
 use forest_world::{ForestPass, Frame};
 use index_page::{PageError, Place, Spot};
 use key_tuple::{Key, Value};
-use leaf_rows::{delete_row, find_key, put_row, take_back};
+use leaf_rows::{
+    LeafBefore, delete_row, find_key, grow_value, put_back, put_row, rewrite_row, take_back,
+};
 use tree_descent::Leaf;
 
 impl<R> TreeCall<'_, R> {
@@ -63,6 +67,58 @@ impl<R> TreeCall<'_, R> {
     {
         let mut frame = frame_out(self.space, pass, block);
         delete_row(&mut frame, place);
+        frame_back(self.space, pass, block, frame);
+    }
+
+    /// Gives the row at a place a value that is no longer.
+    pub(crate) fn rewrite(&self, pass: &mut ForestPass, block: u32, place: Place, value: &Value)
+        requires own { IsPassOf self.now.space.now pass.old }
+        requires held { HoldsRowAsLong pass.old block place value.now }
+        ensures own { IsSamePass pass.old pass.new × IsPassOf self.now.space.now pass.new }
+        ensures same { KnowsSame pass.old pass.new }
+        ensures set { RowIsSet pass.old pass.new block place value.now }
+    {
+        let mut frame = frame_out(self.space, pass, block);
+        rewrite_row(&mut frame, place, value);
+        frame_back(self.space, pass, block, frame);
+    }
+
+    /// Gives the key's row at the place a longer value, and tells what the leaf was. After an error
+    /// it is as before.
+    pub(crate) fn lengthen(
+        &self,
+        pass: &mut ForestPass,
+        block: u32,
+        place: Place,
+        value: &Value,
+    ) -> Result<LeafBefore, PageError>
+        requires own { IsPassOf self.now.space.now pass.old }
+        requires held { HoldsRowToGrow pass.old block self.now.index place self.now.key.now.tuple
+            value.now }
+        ensures own { IsSamePass pass.old pass.new × IsPassOf self.now.space.now pass.new }
+        ensures same { KnowsSame pass.old pass.new }
+        ensures ok { IfOk result (λ before. HoldsGrownRow pass.new block self.now.index
+            self.now.key.now.tuple value.now before) }
+        ensures err { IfErr result (λ e. HoldsRefusing pass.new block self.now.index
+            self.now.key.now.tuple value.now e) }
+    {
+        let mut frame = frame_out(self.space, pass, block);
+        let result = grow_value(self.alloc, &mut frame, place, value);
+        frame_back(self.space, pass, block, frame);
+        result
+    }
+
+    /// Makes the leaf what it was before `lengthen`.
+    pub(crate) fn restore(&self, pass: &mut ForestPass, block: u32, before: LeafBefore)
+        requires own { IsPassOf self.now.space.now pass.old }
+        requires held { HoldsSomePage pass.old block }
+        requires before { IsSome before.page }
+        ensures own { IsSamePass pass.old pass.new × IsPassOf self.now.space.now pass.new }
+        ensures same { KnowsSame pass.old pass.new }
+        ensures back { LeafIsBack pass.old pass.new block before }
+    {
+        let mut frame = frame_out(self.space, pass, block);
+        put_back(&mut frame, before);
         frame_back(self.space, pass, block, frame);
     }
 }

@@ -1,5 +1,5 @@
 //! A row taken out.
-ghost use Rattle.std.specs.Prelude.{◌≡◌, None};
+ghost use Rattle.std.specs.Prelude.{◌≡◌, IsTrue, None};
 ghost use Rattle.latch_space.specs.Passes.{view, count, IsSamePass};
 ghost use Rattle.latch_space.specs.Spaces.{IsPassOf};
 ghost use Rattle.map_history.specs.Map as map;
@@ -8,14 +8,16 @@ ghost use Rattle.index_law.specs.Meanings.{lent_row};
 ghost use Rattle.index_engine.specs.Changes.{HoldsOldRow};
 ghost use Rattle.index_engine.specs.Holds.{HoldsFresh};
 ghost use Rattle.index_engine.specs.Says.{CanSay, SaysOnce, AnswersHolding};
-ghost use Rattle.index_engine.specs.Traces.{TellsByLeaf};
+ghost use Rattle.index_engine.specs.Traces.{SeesEach, HasLightPage, TellsOfDel};
 ghost use Rattle.latch_space.specs.Has.{SameHands};
+ghost use Rattle.forest_law.specs.declared.objects.Frame.{Frame};
+ghost use Rattle.tree_growth.specs.Growing.{GrowsSilently};
 
 use crate::changing::find_row;
 use crate::committing::Becomes;
 use crate::saying::made;
 use crate::tree_call::TreeCall;
-use forest_world::ForestPass;
+use forest_world::{ForestPass, Frame};
 use index_law::ChangeRef;
 use index_page::Place;
 use latch_space::LogFull;
@@ -23,6 +25,7 @@ use map_history::{OpRef, Reply, Told};
 use std::marker::Brand;
 use std::sync::Wait;
 use tree_descent::Leaf;
+use tree_shrinking::{LIGHT_LOAD, shrink};
 
 impl<R: Wait> TreeCall<'_, R> {
     /// Takes the row of the key out, if the index has it and its list has room.
@@ -31,14 +34,33 @@ impl<R: Wait> TreeCall<'_, R> {
         requires nothing { count pass.old ≡ 0 }
         ensures own { IsSamePass pass.old pass.new × IsPassOf self.now.space.now pass.new }
         ensures nothing { count pass.new ≡ 0 }
-        ensures told { TellsByLeaf (view pass.old) (view pass.new) self.now.index
-            self.now.key.now.tuple (Make (map.Del self.now.key.now.tuple)) result
-            (lent_row None) }
+        ensures told { TellsOfDel (view pass.old) (view pass.new) self.now.index
+            self.now.key.now.tuple result }
     {
         let leaf = self.hold(pass);
         let told = self.del_held(pass, &leaf);
+        let is_light = is_light(self.frame(pass, leaf.block));
         self.let_go(pass, leaf.block);
+        if is_light && took_out(&told) {
+            self.merge(pass);
+        }
         told
+    }
+
+    /// Merges the leaf of the key, and pages above it, where they are light. A merge for which there
+    /// is no memory is left out.
+    fn merge(&self, pass: &mut ForestPass)
+        requires own { IsPassOf self.now.space.now pass.old }
+        requires nothing { count pass.old ≡ 0 }
+        ensures own { IsSamePass pass.old pass.new × IsPassOf self.now.space.now pass.new }
+        ensures nothing { count pass.new ≡ 0 }
+        ensures silent { GrowsSilently pass.old pass.new }
+        ensures seen { SeesEach (view pass.old) self.now.index }
+    {
+        pass.fits();
+        let _ = shrink(
+            self.alloc, self.space, pass, self.index, self.key, self.wait,
+        );
     }
 
     /// The same while the leaf is held.
@@ -93,5 +115,22 @@ impl<R> TreeCall<'_, R> {
             key: self.key,
         };
         self.say(pass, op, reply, None)
+    }
+}
+
+/// The del took a row out.
+fn took_out(told: &Told) -> bool
+    ensures { IsTrue result → told.now.reply ≡ Reply.Ok }
+{
+    matches!(told.reply, Reply::Ok)
+}
+
+/// The frame's page is light.
+fn is_light(frame: &Frame) -> bool
+    ensures { IsTrue result → HasLightPage frame.now }
+{
+    match &frame.page {
+        Some(page) => page.load() < LIGHT_LOAD,
+        None => false,
     }
 }

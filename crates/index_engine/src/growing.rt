@@ -3,11 +3,13 @@ ghost use Rattle.std.specs.Prelude.{◌≡◌, IfOk, OnErr};
 ghost use Rattle.latch_space.specs.Has.{SameHands};
 ghost use Rattle.latch_space.specs.Passes.{view, count, IsSamePass};
 ghost use Rattle.latch_space.specs.Spaces.{IsPassOf};
+ghost use Rattle.map_history.specs.Operation.{operation_by};
 ghost use Rattle.call_law.specs.Once.{IsQuiet};
-ghost use Rattle.index_engine.specs.Puts.{put_asked, SaysNoRoom, TellsGrowth};
+ghost use Rattle.index_engine.specs.Writes.{write_asked, SaysNoRoom, TellsGrowth};
 ghost use Rattle.index_engine.specs.Says.{told_space_full};
 
 use crate::tree_call::TreeCall;
+use crate::write::Write;
 use buffer_pool::PoolError;
 use forest_world::ForestPass;
 use index_law::Say;
@@ -19,10 +21,11 @@ use tree_growth::make_room;
 
 impl<R: Wait> TreeCall<'_, R> {
     /// Makes room for the key's row on its leaf, and answers nothing then. Where no page number is
-    /// free, that is what the put is told.
+    /// free, that is what the write is told.
     pub(crate) fn grow(
         &self,
         pass: &mut ForestPass,
+        write: Write,
         value: &Value,
     ) -> Result<Option<Told>, NoMemory>
         requires own { IsPassOf self.now.space.now pass.old }
@@ -30,7 +33,7 @@ impl<R: Wait> TreeCall<'_, R> {
         ensures own { IsSamePass pass.old pass.new × IsPassOf self.now.space.now pass.new }
         ensures nothing { count pass.new ≡ 0 }
         ensures ok { IfOk result (λ told. TellsGrowth (view pass.old) (view pass.new) self.now.index
-            self.now.key.now.tuple value.now told) }
+            (write_asked write self.now.key.now.tuple value.now) told) }
         ensures err { OnErr result (IsQuiet (view pass.old) (view pass.new) self.now.index) }
     {
         self.key.tuple().is_within_limits();
@@ -41,7 +44,7 @@ impl<R: Wait> TreeCall<'_, R> {
         match room {
             Ok(()) => Ok(None),
             Err(refusal) => match refusal {
-                PoolError::SpaceFull => Ok(Some(self.say_space_full(pass, value))),
+                PoolError::SpaceFull => Ok(Some(self.say_space_full(pass, write, value))),
                 PoolError::NoMemory => Err(NoMemory),
             },
         }
@@ -49,20 +52,16 @@ impl<R: Wait> TreeCall<'_, R> {
 }
 
 impl<R> TreeCall<'_, R> {
-    /// Answers the put for want of a page.
-    fn say_space_full(&self, pass: &mut ForestPass, value: &Value) -> Told
+    /// Answers the write for want of a page.
+    fn say_space_full(&self, pass: &mut ForestPass, write: Write, value: &Value) -> Told
         requires own { IsPassOf self.now.space.now pass.old }
         ensures own { IsSamePass pass.old pass.new × IsPassOf self.now.space.now pass.new }
         ensures did { SaysNoRoom (view pass.old) (view pass.new) self.now.index
-            (put_asked self.now.key.now.tuple value.now) }
+            (write_asked write self.now.key.now.tuple value.now) }
         ensures kept { SameHands pass.old pass.new }
         ensures told { result ≡ told_space_full }
     {
-        let op = OpRef::Put {
-            index: self.index,
-            key: self.key,
-            value,
-        };
+        let op = self.write_op(write, value);
         let told = Told {
             reply: Reply::SpaceFull,
             point: None,
@@ -79,5 +78,16 @@ impl<R> TreeCall<'_, R> {
         };
         self.space.read_point(pass, self.index, &said);
         told
+    }
+    /// The write of the key's row, as an operation.
+    fn write_op<'a>(&'a self, write: Write, value: &'a Value) -> OpRef<'a>
+        ensures { (operation_by result).ask
+            ≡ write_asked write self.now.key.now.tuple value.now }
+    {
+        let (index, key) = (self.index, self.key);
+        match write {
+            Write::Put => OpRef::Put { index, key, value },
+            Write::Set => OpRef::Set { index, key, value },
+        }
     }
 }

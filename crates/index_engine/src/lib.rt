@@ -15,7 +15,10 @@ mod holding;
 mod opening;
 mod putting;
 mod saying;
+mod setting;
 mod tree_call;
+mod write;
+mod writing;
 
 pub use engine::{Engine, EnginePass};
 pub use error::EngineError;

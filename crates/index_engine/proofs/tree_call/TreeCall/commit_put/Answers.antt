@@ -1,9 +1,9 @@
 use Rattle.std.proofs.Common.{None, ap, subst, ◌∙◌, sym, refl, is_none}
 use Rattle.latch_space.specs.Passes.{view}
 use Rattle.map_history.specs.Map as map
+use Rattle.map_history.specs.Operation.{Make}
 use Rattle.index_law.specs.Meanings.{lent_row}
 use Rattle.forest_world.specs.Held.{shape_of_pass}
-use Rattle.index_engine.specs.Puts.{put_asked}
 use Rattle.index_engine.specs.Says.{SeesFull}
 use Rattle.index_engine.proofs.CallLemmas.{can_refuse}
 use Rattle.index_engine.proofs.HoldLemmas.{frame_again, leaf_again}
@@ -48,7 +48,7 @@ returns-in-Err-clause-did g c = let held = c.requires.held in let call = c.args.
     let holds = c.take_back.ensures.back i key value held.known held.made
     (leaf_again p q b i key held.known held.made full.same full.looks.quiet.adds.numbers.terms
     held.holds) held.puts in record {
-      says = looks_then_says (view p) (view r) (view s) i (put_asked key value) c.say.result
+      says = looks_then_says (view p) (view r) (view s) i (Make (map.Put key value)) c.say.result
           (lent_row None)
           (looks_same (view p) (view q) (view r) i full.looks c.take_back.ensures.same.view)
           c.say.ensures.did;

@@ -1,10 +1,13 @@
 use Rattle.std.proofs.Common.{Err, ap, ◌∙◌}
-use Rattle.index_engine.proofs.RoomLemmas.{room_then_word}
+use Rattle.index_engine.specs.Writes.{write_asked}
+use Rattle.index_engine.proofs.RoomLemmas.{room_then_word, write_asks}
 use Rattle.index_engine.proofs.tree_call.TreeCall.grow.Goals as goal
 
 pub returns-in-SpaceFull-clause-ok : goal.returns-in-SpaceFull-clause-ok
 returns-in-SpaceFull-clause-ok g c = let call = c.args.self.now in
+    let key = call.key.now.tuple in let value = c.args.value.now in
     room_then_word c.args.pass.now c.make_room-room.new.pass c.say_space_full.new.pass call.index
-    call.key.now.tuple c.args.value.now c.say_space_full.result
+    (write_asked c.args.write key value) c.say_space_full.result
+    (write_asks c.args.write key value)
     (c.make_room-room.ensures.full (c.in-Err.is ∙ ap Err c.in-SpaceFull.is))
     c.say_space_full.ensures.did c.say_space_full.ensures.told

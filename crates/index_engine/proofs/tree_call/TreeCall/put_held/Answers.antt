@@ -1,10 +1,10 @@
 use Rattle.std.proofs.Common.{None, ap, subst, ◌∙◌, sym, refl, is_none}
 use Rattle.latch_space.specs.Passes.{view}
 use Rattle.map_history.specs.Map as map
+use Rattle.map_history.specs.Operation.{Make}
 use Rattle.index_law.specs.Meanings.{lent_row}
 use Rattle.forest_world.specs.Held.{shape_of_pass}
 use Rattle.index_engine.specs.Changes.{FindsRow}
-use Rattle.index_engine.specs.Puts.{put_asked}
 use Rattle.index_engine.proofs.CallLemmas.{can_duplicate, can_refuse}
 use Rattle.index_engine.proofs.HoldLemmas.{frame_again, leaf_again}
 use Rattle.index_engine.proofs.RowLemmas.{found_old, found_new, has_key, lacks_key}
@@ -56,8 +56,8 @@ returns-then-is_full-clause-ok g c = let held = c.requires.held in let call = c.
     let q = c.is_full.new.pass in let r = c.say-then-is_full.new.pass in
     let holds = leaf_again p q leaf.block call.index key held.frame held.frame
     c.is_full.ensures.kept c.is_full.ensures.looked.quiet.adds.numbers.terms held.holds in record {
-      says = looks_then_says (view p) (view q) (view r) call.index (put_asked key c.args.value.now)
-          c.say-then-is_full.result (lent_row None) c.is_full.ensures.looked
+      says = looks_then_says (view p) (view q) (view r) call.index
+          (Make (map.Put key c.args.value.now)) c.say-then-is_full.result (lent_row None) c.is_full.ensures.looked
           c.say-then-is_full.ensures.did;
       holds = record {
         frame = held.frame;
@@ -83,8 +83,8 @@ insert-requires-clause-held g c = let held = c.requires.held in let call = c.arg
 pub returns-clause-ok : goal.returns-clause-ok
 returns-clause-ok g c = let call = c.args.self.now in let key = call.key.now.tuple in record {
   says = looks_then_says (view c.args.pass.now) (view c.insert.new.pass)
-      (view c.commit_put.new.pass) call.index (put_asked key c.args.value.now) c.commit_put.result
-      (lent_row None)
+      (view c.commit_put.new.pass) call.index (Make (map.Put key c.args.value.now))
+      c.commit_put.result (lent_row None)
       (looks_same (view c.args.pass.now) (view c.is_full.new.pass) (view c.insert.new.pass)
       call.index c.is_full.ensures.looked c.in_ok-place.ensures.same.view)
       c.commit_put.ensures.did.says;

@@ -2,7 +2,7 @@ use Rattle.std.proofs.Common.{◌≡◌}
 use Rattle.latch_space.specs.Passes.{view, count, IsSamePass}
 use Rattle.latch_space.specs.Spaces.{IsPassOf}
 use Rattle.index_engine.specs.Traces.{GivesUp}
-use Rattle.index_engine.proofs.tree_call.TreeCall.put.Given as goal
+use Rattle.index_engine.proofs.tree_call.TreeCall.write.Given as goal
 
 abbrev pub invariant-loop : goal.invariant-loop
 invariant-loop g l = record {

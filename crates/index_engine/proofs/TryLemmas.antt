@@ -1,4 +1,4 @@
--- What the tries of a put leave behind, one behind the other.
+-- What the tries of a write leave behind, one behind the other.
 use Rattle.std.proofs.Common.{◌≡◌, ◌⊎◌, inl, inr, ℕ, [], ◌∷◌, ◌++◌, append_assoc, List, sym, ap, subst, ◌∙◌, refl, Option, Some, None, Result, Ok, Err, IfOk, OnErr}
 use Rattle.key_tuple.specs.Order.{FieldList}
 use Rattle.key_tuple.specs.declared.error.NoMemory.{NoMemory}
@@ -18,8 +18,8 @@ use Rattle.call_law.specs.Spoken.{View}
 use Rattle.call_law.specs.Trace.{Added, SparesTrees}
 use Rattle.call_law.proofs.TraceLemmas.{both_added, quiet_both, quiet_then_once, quiet_of}
 use Rattle.buffer_pool.proofs.AddedLemmas.{none_added, held_adds, none_spares, spares_both}
-use Rattle.index_engine.specs.Puts.{put_asked, LacksPage, TellsGrowth, TriesPut}
-use Rattle.index_engine.specs.Traces.{EndsOnLeaf, LackedRoom, TellsOfPut, GivesUp}
+use Rattle.index_engine.specs.Writes.{LacksPage, TellsGrowth, TriesWrite}
+use Rattle.index_engine.specs.Traces.{EndsOnLeaf, LackedRoom, TellsOfWrite, GivesUp}
 
 -- nothing was tried yet
 pub nothing_yet : (v : View) (i : ℕ) (key : FieldList) (value : List ℕ) → GivesUp v v i key value
@@ -97,7 +97,7 @@ module _ (v v0 v1 : View) (i : ℕ) (key : FieldList) (value : List ℕ)
 
   -- and this is answered
   pub gives_then_tells : (ask : Ask) (told : Told) (row : Pair)
-      → TellsOfPut v0 v1 i key value ask told row → TellsOfPut v v1 i key value ask told row
+      → TellsOfWrite v0 v1 i key value ask told row → TellsOfWrite v v1 i key value ask told row
   unfolding quiet_then_once
   gives_then_tells ask told row next = let once = next.tells.once in record {
     tells = record {
@@ -128,29 +128,30 @@ module _ (v v0 v1 : View) (i : ℕ) (key : FieldList) (value : List ℕ)
           quiet.added.references lacked);
     }
 
-    -- or there was no page for it
-    pub lacked_then_full : (told : Told) → LacksPage v0 v1 i key value told
-        → TellsOfPut v v1 i key value (put_asked key value) told (lent_row None)
-    unfolding quiet_then_once
-    lacked_then_full told none = let once = none.tells.once in record {
-      tells = record {
-        answer = none.tells.answer;
-        is_told = none.tells.is_told;
-        once = quiet_then_once i (put_asked key value) none.tells.answer v v0 v1 up.quiet once;
-      };
-      ends = λ placed. absurd (placed none.full);
-      full = λ is. lacked_left v.terms.shape i key value up.quiet.added.references
-          once.added.references lacked;
-      trees = inr (lacked_left v.terms.shape i key value up.quiet.added.references
-          once.added.references lacked);
-    }
+    module _ (ask : Ask) where
+      -- or there was no page for it
+      pub lacked_then_full : (told : Told) → LacksPage v0 v1 i ask told
+          → TellsOfWrite v v1 i key value ask told (lent_row None)
+      unfolding quiet_then_once
+      lacked_then_full told none = let once = none.tells.once in record {
+        tells = record {
+          answer = none.tells.answer;
+          is_told = none.tells.is_told;
+          once = quiet_then_once i ask none.tells.answer v v0 v1 up.quiet once;
+        };
+        ends = λ placed. absurd (placed none.full);
+        full = λ is. lacked_left v.terms.shape i key value up.quiet.added.references
+            once.added.references lacked;
+        trees = inr (lacked_left v.terms.shape i key value up.quiet.added.references
+            once.added.references lacked);
+      }
 
-    pub grown_ok : (result : Result (Option Told) NoMemory)
-        → IfOk result (λ told. TellsGrowth v0 v1 i key value told)
-        → IfOk result (λ told. TriesPut v v1 i key value told)
-    grown_ok (Ok None) grows = lacked_then_quiet grows
-    grown_ok (Ok (Some told)) grows = lacked_then_full told grows
-    grown_ok (Err e) grows = tt
+      pub grown_ok : (result : Result (Option Told) NoMemory)
+          → IfOk result (λ told. TellsGrowth v0 v1 i ask told)
+          → IfOk result (λ told. TriesWrite v v1 i key value ask told)
+      grown_ok (Ok None) grows = lacked_then_quiet grows
+      grown_ok (Ok (Some told)) grows = lacked_then_full told grows
+      grown_ok (Err e) grows = tt
 
     pub grown_err : (result : Result (Option Told) NoMemory)
         → OnErr result (IsQuiet v0 v1 i) → OnErr result (GivesUp v v1 i key value)

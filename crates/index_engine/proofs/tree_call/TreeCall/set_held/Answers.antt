@@ -1,0 +1,32 @@
+use Rattle.std.proofs.Common.{ap, subst, ◌∙◌, None}
+use Rattle.index_law.specs.Meanings.{lent_row}
+use Rattle.forest_world.specs.Held.{shape_of_pass}
+use Rattle.leaf_rows.specs.Changing.{LacksRow}
+use Rattle.index_engine.specs.Changes.{HasOldRow}
+use Rattle.index_engine.proofs.CallLemmas.{can_miss_set}
+use Rattle.index_engine.proofs.RowLemmas.{lacks_key}
+use Rattle.index_engine.proofs.tree_call.TreeCall.set_held.Goals as goal
+
+pub find_row-requires : goal.find_row-requires
+find_row-requires g c = let held = c.requires.held in let is = held.holds.leaf.page.is in record {
+  page = is.page;
+  paged = ap (λ f. f.page) (c.frame.ensures held.frame held.frame held.holds.has) ∙ is.paged;
+  finds = held.finds;
+}
+
+pub set_row-requires-clause-held : goal.set_row-requires-clause-held
+set_row-requires-clause-held g c = let held = c.requires.held in
+    let key = c.args.self.now.key.now.tuple in record {
+      known = held.frame;
+      holds = held.holds;
+      row = subst (λ f. HasOldRow f key c.in-Some.place)
+          (c.frame.ensures held.frame held.frame held.holds.has) c.in-Some.ensures;
+    }
+
+pub say_of_set-requires-clause-held : goal.say_of_set-requires-clause-held
+say_of_set-requires-clause-held g c = let held = c.requires.held in let leaf = c.args.leaf.now in
+    let call = c.args.self.now in let key = call.key.now.tuple in let p = c.args.pass.now in
+    can_miss_set p leaf.block call.index key held.frame held.holds c.args.value.now (lent_row None)
+    (lacks_key (shape_of_pass p) leaf.block call.index key held.frame held.holds.leaf leaf.spot
+    (subst (λ f. LacksRow f key leaf.spot)
+    (c.frame.ensures held.frame held.frame held.holds.has) c.in-None.ensures))

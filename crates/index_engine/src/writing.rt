@@ -1,0 +1,107 @@
+//! A write of a row, which is tried until it is answered.
+ghost use Rattle.std.specs.Prelude.{◌≡◌, IfOk, IfErr, OnErr, None};
+ghost use Rattle.latch_space.specs.Passes.{view, count, IsSamePass};
+ghost use Rattle.latch_space.specs.Spaces.{IsPassOf};
+ghost use Rattle.index_law.specs.Meanings.{lent_row};
+ghost use Rattle.index_engine.specs.Changes.{RefusesHolding};
+ghost use Rattle.index_engine.specs.Holds.{HoldsFresh};
+ghost use Rattle.index_engine.specs.Says.{AnswersHolding};
+ghost use Rattle.index_engine.specs.Traces.{TellsOfWrite, GivesUp};
+ghost use Rattle.index_engine.specs.Writes.{write_asked, TriesWrite};
+
+use crate::tree_call::TreeCall;
+use crate::write::Write;
+use forest_world::ForestPass;
+use index_page::PageError;
+use key_tuple::{NoMemory, Value};
+use map_history::Told;
+use std::sync::Wait;
+use tree_descent::Leaf;
+
+impl<R: Wait> TreeCall<'_, R> {
+    /// Writes the row of the key, if the index allows it and its list has room. Where the leaf has
+    /// no room, it is made, and all is tried again: another may have put the key by then or taken
+    /// it out, or taken the room. `most` is how many changes the list may have.
+    pub(crate) fn write(
+        &self,
+        pass: &mut ForestPass,
+        most: u64,
+        write: Write,
+        value: &Value,
+    ) -> Result<Told, NoMemory>
+        requires own { IsPassOf self.now.space.now pass.old }
+        requires most { most ≡ self.now.space.now.terms.max_changes }
+        requires nothing { count pass.old ≡ 0 }
+        ensures own { IsSamePass pass.old pass.new × IsPassOf self.now.space.now pass.new }
+        ensures nothing { count pass.new ≡ 0 }
+        ensures ok { IfOk result (λ told. TellsOfWrite (view pass.old) (view pass.new)
+            self.now.index self.now.key.now.tuple value.now
+            (write_asked write self.now.key.now.tuple value.now) told (lent_row None)) }
+        ensures err { OnErr result (GivesUp (view pass.old) (view pass.new) self.now.index
+            self.now.key.now.tuple value.now) }
+    {
+        for _ in self.wait.forever() {
+            if let Some(told) = self.try_write(pass, most, write, value)? {
+                return Ok(told);
+            }
+        }
+        unreachable!()
+    }
+
+    /// One try of that. It answers `None` where it is to be tried again.
+    fn try_write(
+        &self,
+        pass: &mut ForestPass,
+        most: u64,
+        write: Write,
+        value: &Value,
+    ) -> Result<Option<Told>, NoMemory>
+        requires own { IsPassOf self.now.space.now pass.old }
+        requires most { most ≡ self.now.space.now.terms.max_changes }
+        requires nothing { count pass.old ≡ 0 }
+        ensures own { IsSamePass pass.old pass.new × IsPassOf self.now.space.now pass.new }
+        ensures nothing { count pass.new ≡ 0 }
+        ensures ok { IfOk result (λ told. TriesWrite (view pass.old) (view pass.new) self.now.index
+            self.now.key.now.tuple value.now
+            (write_asked write self.now.key.now.tuple value.now) told) }
+        ensures err { OnErr result (GivesUp (view pass.old) (view pass.new) self.now.index
+            self.now.key.now.tuple value.now) }
+    {
+        let leaf = self.hold(pass);
+        let held = self.write_held(pass, &leaf, most, write, value);
+        self.let_go(pass, leaf.block);
+        match held {
+            Ok(told) => Ok(Some(told)),
+            Err(refusal) => match refusal {
+                PageError::NoMemory => Err(NoMemory),
+                _ => self.grow(pass, write, value),
+            },
+        }
+    }
+
+    /// The same while the leaf is held. Nothing is answered where it takes no row.
+    fn write_held(
+        &self,
+        pass: &mut ForestPass,
+        leaf: &Leaf,
+        most: u64,
+        write: Write,
+        value: &Value,
+    ) -> Result<Told, PageError>
+        requires own { IsPassOf self.now.space.now pass.old }
+        requires most { most ≡ self.now.space.now.terms.max_changes }
+        requires held { HoldsFresh pass.old leaf.now.block self.now.index self.now.key.now.tuple
+            leaf.now.spot }
+        ensures own { IsSamePass pass.old pass.new × IsPassOf self.now.space.now pass.new }
+        ensures ok { IfOk result (λ told. AnswersHolding pass.old pass.new leaf.now.block
+            self.now.index (write_asked write self.now.key.now.tuple value.now) told
+            (lent_row None)) }
+        ensures err { IfErr result (λ e. RefusesHolding pass.old pass.new leaf.now.block
+            self.now.index self.now.key.now.tuple value.now e) }
+    {
+        match write {
+            Write::Put => self.put_held(pass, leaf, most, value),
+            Write::Set => self.set_held(pass, leaf, most, value),
+        }
+    }
+}
