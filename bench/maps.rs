@@ -51,6 +51,14 @@ impl<'a> Index<'a> {
                 }
                 Entry::Vacant(_) => Said::LogFull,
             },
+            Operation::Set(key, value) => match self.rows.get_mut(key) {
+                Some(held) if has_room => {
+                    held.clone_from(value);
+                    Said::Ok
+                }
+                Some(_) => Said::LogFull,
+                None => Said::Absent,
+            },
             Operation::Del(key) if has_room => match self.rows.remove(key) {
                 Some(_) => Said::Ok,
                 None => Said::Absent,

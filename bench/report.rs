@@ -1,7 +1,7 @@
 //! The report, in the form that docs/FORMATS.md gives.
 
 use crate::maps::{Answer, Change, Index, Said};
-use crate::script::{Key, Line, Operation, Script, Shape};
+use crate::script::{Field, Key, Line, Operation, Script, Shape};
 use std::io::{self, Write};
 use std::sync::Mutex;
 
@@ -72,18 +72,21 @@ fn write_answer(out: &mut impl Write, number: usize, answer: &Answer) -> io::Res
 fn write_change(out: &mut impl Write, number: usize, change: &Change) -> io::Result<()> {
     write!(out, "{number} {} {} ", change.lane, change.line.number)?;
     match &change.line.operation {
-        Operation::Put(key, value) => {
-            out.write_all(b"put")?;
-            write_key(out, key)?;
-            out.write_all(b" ")?;
-            write_field(out, value)?;
-        }
+        Operation::Put(key, value) => write_row(out, "put", key, value)?,
+        Operation::Set(key, value) => write_row(out, "set", key, value)?,
         Operation::Get(key) | Operation::Del(key) => {
             out.write_all(b"del")?;
             write_key(out, key)?;
         }
     }
     writeln!(out)
+}
+
+fn write_row(out: &mut impl Write, verb: &str, key: &Key, value: &Field) -> io::Result<()> {
+    out.write_all(verb.as_bytes())?;
+    write_key(out, key)?;
+    out.write_all(b" ")?;
+    write_field(out, value)
 }
 
 fn write_lane(

@@ -17,6 +17,7 @@ pub struct Shape {
 pub enum Operation {
     Get(Key),
     Put(Key, Field),
+    Set(Key, Field),
     Del(Key),
 }
 
@@ -103,6 +104,7 @@ fn read_line(number: usize, line: &[u8], shapes: &[Shape]) -> Option<Line> {
         b"get" => Operation::Get(key),
         b"del" => Operation::Del(key),
         b"put" => Operation::Put(key, read_value(words.next()?)?),
+        b"set" => Operation::Set(key, read_value(words.next()?)?),
         _ => return None,
     };
     words.next().is_none().then_some(Line {

@@ -66,7 +66,7 @@ key_of (f ∷ fields) (suc index) n below e = key_of fields index n (omega arith
 op_of : (fields : List ℕ) (o : Op) (key : FieldList) → HasKey (operation_of o).ask key → (operation_of o).index < length fields → length key ≡ slice_index fields (operation_of o).index → IsOpOf fields o
 op_of fields (op.Get index k) key about below e = key_of fields index (length k.tuple) below (ap length about ∙ e)
 op_of fields (op.Put index k value) key about below e = key_of fields index (length k.tuple) below (ap length about ∙ e)
-op_of fields (op.Set index k value) key about below e = absurd about
+op_of fields (op.Set index k value) key about below e = key_of fields index (length k.tuple) below (ap length about ∙ e)
 op_of fields (op.Del index k) key about below e = key_of fields index (length k.tuple) below (ap length about ∙ e)
 op_of fields (op.Seek index mode tuple) key about below e = absurd about
 op_of fields (op.Scan index from to limit) key about below e = absurd about

@@ -1,7 +1,7 @@
 //! The lines of answers, byte for byte.
 ghost use Rattle.std.specs.Prelude.{ℕ, List, [], IsSome};
 ghost use Rattle.key_tuple.specs.Order.{FieldList};
-ghost use Rattle.map_history.specs.Map.{Put};
+ghost use Rattle.map_history.specs.Map.{Put, Set};
 ghost use Rattle.map_history.specs.Operation.{Make};
 ghost use Rattle.map_history.specs.Told.{answer_of};
 ghost use Rattle.report_text.specs.Printed.{printed_answer};
@@ -101,6 +101,29 @@ fn a_put_into_a_full_list(rt: HostRuntime) {
 fn a_put_without_a_page(rt: HostRuntime) {
     let told = told!(Reply::SpaceFull, None, How::Cold, Note::No);
     assert!(rt; is(put_told(rt.alloc(), &told), b"2 space-full cold no\n"));
+}
+
+/// The answer to a set on line 3.
+fn set_told(alloc: Global, told: &Told) -> Option<Vec<u8>>
+    requires { (k : FieldList) (v : List ℕ)
+        → IsSome (answer_of (Make (Set k v)) told.now (record { key = []; value = [] })) }
+{
+    let key = key_of(alloc, &[b"a"])?;
+    let value = value_of(alloc, b"")?;
+    let index = 0;
+    line_of(alloc, 3, told, b"", &Op::Set { index, key, value })
+}
+
+#[test]
+fn a_set_of_an_unknown_key(rt: HostRuntime) {
+    let told = told!(Reply::Absent, 0);
+    assert!(rt; is(set_told(rt.alloc(), &told), b"3 absent @0 - -\n"));
+}
+
+#[test]
+fn a_set_that_is_made(rt: HostRuntime) {
+    let told = told!(Reply::Ok, Some(7), How::Hit, Note::Dash);
+    assert!(rt; is(set_told(rt.alloc(), &told), b"3 ok @7 hit -\n"));
 }
 
 /// The answer to a seek that found this row.

@@ -3,7 +3,7 @@ use crate::files::{bad, lane_ends, schema_ends, unknown};
 use script::ScriptError;
 use std::alloc::Global;
 
-const BAD_LINES: [&[u8]; 23] = [
+const BAD_LINES: [&[u8]; 29] = [
     b"get t a\r\n",
     b"get t %4\n",
     b"get t %gg\n",
@@ -22,22 +22,35 @@ const BAD_LINES: [&[u8]; 23] = [
     b"get two ,\n",
     b"get T a\n",
     b"get u, a\n",
-    b"set t a x\n",
+    b"set t a\n",
+    b"set t a b c\n",
+    b"set t a b,c\n",
+    b"set t a~ b\n",
+    b"set two a b\n",
+    b"set\n",
+    b"SET t a b\n",
     b"seek t ge a\n",
     b"GET t a\n",
     b"get\n",
     b"get two a\n",
 ];
 
-const LANES: [&[u8]; 5] = [
+const LANES: [&[u8]; 7] = [
     b"get t a",
     b"get t a\n\n",
     b"put t %4A %4a\n",
     b"put t ~ ~\n",
     b"get two a,~\n",
+    b"set t a b",
+    b"set two ~,%2C %00\n",
 ];
 
-const UNKNOWN_INDEXES: [&[u8]; 3] = [b"get u\n", b"put two_ , x x\n", b"get u a\nget t \n"];
+const UNKNOWN_INDEXES: [&[u8]; 4] = [
+    b"get u\n",
+    b"put two_ , x x\n",
+    b"get u a\nget t \n",
+    b"set u\n",
+];
 
 const BAD_SCHEMAS: [&[u8]; 11] = [
     b"",

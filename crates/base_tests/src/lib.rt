@@ -5,11 +5,15 @@
 #[cfg(test)]
 mod answers;
 #[cfg(test)]
+mod drawn;
+#[cfg(test)]
 mod files;
 #[cfg(test)]
 mod folds;
 #[cfg(test)]
 mod grammar;
+#[cfg(test)]
+mod judged;
 #[cfg(test)]
 mod laws;
 #[cfg(test)]

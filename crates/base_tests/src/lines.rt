@@ -86,6 +86,20 @@ fn a_put(rt: HostRuntime) -> Result<(), Fail> {
     Ok(())
 }
 
+fn set_text(alloc: Global) -> Option<Vec<u8>> {
+    let op = Op::Set {
+        index: 0,
+        key: key_of(alloc, &[b"a", b"b"])?,
+        value: value_of(alloc, b"")?,
+    };
+    change_text(alloc, 3, &Line { line: 5, op })
+}
+
+#[test]
+fn a_set(rt: HostRuntime) {
+    assert!(rt; is(set_text(rt.alloc()), b"3 1 5 set a,b ~\n"));
+}
+
 fn del_text(alloc: Global) -> Option<Vec<u8>> {
     let key = key_of(alloc, &[b"a"])?;
     let op = Op::Del { index: 0, key };

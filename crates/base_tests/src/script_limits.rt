@@ -43,38 +43,50 @@ fn add_bytes(line: &mut Vec<u8>, byte: u8, count: usize) -> Option<()> {
     Some(())
 }
 
-/// `put t KEY VALUE` with so many bytes each.
-fn put_of(alloc: Global, key: usize, value: usize) -> Option<Vec<u8>> {
+/// A line of `t` that writes a key and a value with so many bytes.
+fn line_of(alloc: Global, verb: &[u8], key: usize, value: usize) -> Option<Vec<u8>> {
     let mut line = Vec::new(alloc);
-    line.extend_from_slice(b"put t ").ok()?;
+    line.extend_from_slice(verb).ok()?;
+    line.extend_from_slice(b" t ").ok()?;
     add_bytes(&mut line, b'k', key)?;
     line.push(b' ').ok()?;
     add_bytes(&mut line, b'v', value)?;
     Some(line)
 }
 
-/// A put of so many bytes ends so.
-fn put_ends(alloc: Global, key: usize, value: usize, error: Option<ScriptError>) -> bool {
-    match put_of(alloc, key, value) {
+/// A line that writes so many bytes ends so.
+fn line_ends(
+    alloc: Global,
+    verb: &[u8],
+    key: usize,
+    value: usize,
+    error: Option<ScriptError>,
+) -> bool {
+    match line_of(alloc, verb, key, value) {
         None => false,
         Some(line) => lane_ends(alloc, &line, error),
     }
 }
 
+/// So do a put and a set of so many bytes.
+fn both_end(alloc: Global, key: usize, value: usize, error: Option<ScriptError>) -> bool {
+    line_ends(alloc, b"put", key, value, error) && line_ends(alloc, b"set", key, value, error)
+}
+
 #[test]
 fn the_longest_key_and_value_are_read(rt: HostRuntime) {
-    assert!(rt; put_ends(rt.alloc(), MAX_KEY_BYTES, MAX_VALUE_BYTES, None));
+    assert!(rt; both_end(rt.alloc(), MAX_KEY_BYTES, MAX_VALUE_BYTES, None));
 }
 
 #[test]
 fn longer_keys_and_values_are_refused(rt: HostRuntime) {
-    assert!(rt; put_ends(rt.alloc(), 768, 1, long(1)));
-    assert!(rt; put_ends(rt.alloc(), 1, 2049, long(1)));
+    assert!(rt; both_end(rt.alloc(), 768, 1, long(1)));
+    assert!(rt; both_end(rt.alloc(), 1, 2049, long(1)));
 }
 
 #[test]
 fn much_longer_keys_and_values_are_refused(rt: HostRuntime) {
-    assert!(rt; put_ends(rt.alloc(), 100_000, 100_000, long(1)));
+    assert!(rt; both_end(rt.alloc(), 100_000, 100_000, long(1)));
 }
 
 /// The one line of a lane.
@@ -87,9 +99,9 @@ fn only_line(alloc: Global, lane: &[u8]) -> Option<Line>
     if lines.is_empty() { Some(line) } else { None }
 }
 
-/// The line is a put on the second index, of a key of these two fields.
-fn puts(op: &Op, first: &[u8], second: &[u8], bytes: &[u8]) -> bool {
-    let Op::Put { index, key, value } = op else {
+/// The line is a set on the second index, of a key of these two fields.
+fn sets(op: &Op, first: &[u8], second: &[u8], bytes: &[u8]) -> bool {
+    let Op::Set { index, key, value } = op else {
         return false;
     };
     *index == 1
@@ -101,9 +113,9 @@ fn puts(op: &Op, first: &[u8], second: &[u8], bytes: &[u8]) -> bool {
 
 #[test]
 fn escapes_are_read(rt: HostRuntime) {
-    let Some(line) = only_line(rt.alloc(), b"\nput two %4A%2c,~ %00%ff\n") else {
+    let Some(line) = only_line(rt.alloc(), b"\nset two %4A%2c,~ %00%ff\n") else {
         return assert!(rt; false);
     };
     assert_eq!(rt; line.line, 2);
-    assert!(rt; puts(&line.op, b"J,", b"", &[0, 255]));
+    assert!(rt; sets(&line.op, b"J,", b"", &[0, 255]));
 }

@@ -37,7 +37,7 @@ use Rattle.lane_threads.proofs.DashLemmas.{nothing_counted}
 plain_op : (fields : List ℕ) (o : Op) → IsOpOf fields o → is_scan (operation_of o).ask ≡ false
 plain_op fields (op.Get index key) can = refl
 plain_op fields (op.Put index key value) can = refl
-plain_op fields (op.Set index key value) can = absurd can
+plain_op fields (op.Set index key value) can = refl
 plain_op fields (op.Del index key) can = refl
 plain_op fields (op.Seek index mode tuple) can = absurd can
 plain_op fields (op.Scan index from to limit) can = absurd can

@@ -45,7 +45,7 @@ own_prop engine pass = ×_prop (Coded-set table_id_coded pass.world.seat.table_i
 op_prop : (engine : Engine) (o : Op) → IsProp (IsWorkableOp engine o)
 op_prop engine (op.Get index key) = ×_prop le_prop (is_set (Coded-set coded_ℕ) _ _)
 op_prop engine (op.Put index key value) = ×_prop le_prop (is_set (Coded-set coded_ℕ) _ _)
-op_prop engine (op.Set index key value) = λ x. absurd x
+op_prop engine (op.Set index key value) = ×_prop le_prop (is_set (Coded-set coded_ℕ) _ _)
 op_prop engine (op.Del index key) = ×_prop le_prop (is_set (Coded-set coded_ℕ) _ _)
 op_prop engine (op.Seek index mode tuple) = λ x. absurd x
 op_prop engine (op.Scan index from to limit) = λ x. absurd x
@@ -67,7 +67,7 @@ module _ (engine : Engine) (sizes : Sizes) (fields : List ℕ) (lanes : ℕ) (te
   workable_op : (o : Op) → IsOpOf fields o → IsWorkableOp engine o
   workable_op (op.Get index key) can = let below = inside fields index (length key.tuple) can in let count = ap (λ (t : Terms Shape). t.indexes) terms in (omega (arith, below, count), ap (λ (t : Terms Shape). get_elem? t.shape.fields index) terms ∙ can)
   workable_op (op.Put index key value) can = let below = inside fields index (length key.tuple) can in let count = ap (λ (t : Terms Shape). t.indexes) terms in (omega (arith, below, count), ap (λ (t : Terms Shape). get_elem? t.shape.fields index) terms ∙ can)
-  workable_op (op.Set index key value) can = absurd can
+  workable_op (op.Set index key value) can = let below = inside fields index (length key.tuple) can in let count = ap (λ (t : Terms Shape). t.indexes) terms in (omega (arith, below, count), ap (λ (t : Terms Shape). get_elem? t.shape.fields index) terms ∙ can)
   workable_op (op.Del index key) can = let below = inside fields index (length key.tuple) can in let count = ap (λ (t : Terms Shape). t.indexes) terms in (omega (arith, below, count), ap (λ (t : Terms Shape). get_elem? t.shape.fields index) terms ∙ can)
   workable_op (op.Seek index mode tuple) can = absurd can
   workable_op (op.Scan index from to limit) can = absurd can

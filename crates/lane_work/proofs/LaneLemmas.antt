@@ -74,7 +74,7 @@ workable_plain engine line can = pick line.op can
     pick : (o : Op) → IsWorkable engine (record { line = line.line; op = o }) → is_scan (operation_of o).ask ≡ false
     pick (op.Get index key) c = refl
     pick (op.Put index key value) c = refl
-    pick (op.Set index key value) c = absurd c
+    pick (op.Set index key value) c = refl
     pick (op.Del index key) c = refl
     pick (op.Seek index mode tuple) c = absurd c
     pick (op.Scan index from to limit) c = absurd c
@@ -89,7 +89,7 @@ workable_seen engine pass line own can = sees_each pass.world (line_text line).o
     pick : (o : Op) → IsWorkable engine (record { line = line.line; op = o }) → (operation_of o).index < (known pass).terms.indexes
     pick (op.Get index key) c = let b = c.0 in omega (arith, b, terms)
     pick (op.Put index key value) c = let b = c.0 in omega (arith, b, terms)
-    pick (op.Set index key value) c = absurd c
+    pick (op.Set index key value) c = let b = c.0 in omega (arith, b, terms)
     pick (op.Del index key) c = let b = c.0 in omega (arith, b, terms)
     pick (op.Seek index mode tuple) c = absurd c
     pick (op.Scan index from to limit) c = absurd c

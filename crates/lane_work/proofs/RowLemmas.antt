@@ -11,7 +11,7 @@ use Rattle.map_history.specs.Operation.{Make}
 use Rattle.map_history.specs.Report.{Answer}
 use Rattle.call_law.specs.Spoken.{View}
 use Rattle.index_engine.specs.Tells.{IsTold, TellsOnce}
-use Rattle.index_engine.specs.Traces.{TellsOfPut}
+use Rattle.index_engine.specs.Traces.{TellsOfWrite}
 
 any_row : (c : MapChange) (reply : Reply) (point : Option ℕ) (how : How) (note : Note) (row other : Pair) (answer : Answer) → IsTold (Make c) (record { reply = reply; point = point; how = how; note = note }) row answer → IsTold (Make c) (record { reply = reply; point = point; how = how; note = note }) other answer
 any_row c word.Found point how note row other answer t = record { is = t.is; point = t.point; key = t.key; dashed = t.dashed }
@@ -33,7 +33,7 @@ shows_no_row told v v' i c row other t = record {
 -- and of a result, by what else is known of it
 pub result_shows_no_row : {E : Type 0} (result : Result Told E) (v v' : View) (i : ℕ)
     (key : FieldList) (bytes : List ℕ) (c : MapChange) (row other : Pair)
-    → IfOk result (λ told. TellsOfPut v v' i key bytes (Make c) told row)
+    → IfOk result (λ told. TellsOfWrite v v' i key bytes (Make c) told row)
     → IfOk result (λ told. TellsOnce v v' i (Make c) told other)
 result_shows_no_row (Err e) v v' i key bytes c row other t = t
 result_shows_no_row (Ok told) v v' i key bytes c row other t =

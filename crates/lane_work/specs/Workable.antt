@@ -10,13 +10,14 @@ use Rattle.map_history.specs.declared.line.Line.{Line}
 use Rattle.index_engine.specs.declared.engine.Engine.{Engine}
 use Rattle.index_engine.specs.Engines.{indexes_of, FitsKey}
 
--- a get, a put or a del of an index that there is, with as many fields in its key
+-- a get, a put, a set or a del of an index that there is, with as many fields in its key
 abbrev pub IsWorkableOp : Engine → Op → Type 0
 IsWorkableOp engine (op.Get index key) = (index < indexes_of engine)
     × FitsKey engine index key.tuple
 IsWorkableOp engine (op.Put index key value) = (index < indexes_of engine)
     × FitsKey engine index key.tuple
-IsWorkableOp engine (op.Set index key value) = ⊥
+IsWorkableOp engine (op.Set index key value) = (index < indexes_of engine)
+    × FitsKey engine index key.tuple
 IsWorkableOp engine (op.Del index key) = (index < indexes_of engine)
     × FitsKey engine index key.tuple
 IsWorkableOp engine (op.Seek index mode tuple) = ⊥
@@ -34,11 +35,11 @@ AreWorkable engine lines = AllByRecursion (IsWorkable engine) lines
 abbrev pub IsKeyOf : List ℕ → ℕ → FieldList → Type 0
 IsKeyOf fields index key = get_elem? fields index ≡ some (length key)
 
--- a get, a put or a del by such a key
+-- a get, a put, a set or a del by such a key
 abbrev pub IsOpOf : List ℕ → Op → Type 0
 IsOpOf fields (op.Get index key) = IsKeyOf fields index key.tuple
 IsOpOf fields (op.Put index key value) = IsKeyOf fields index key.tuple
-IsOpOf fields (op.Set index key value) = ⊥
+IsOpOf fields (op.Set index key value) = IsKeyOf fields index key.tuple
 IsOpOf fields (op.Del index key) = IsKeyOf fields index key.tuple
 IsOpOf fields (op.Seek index mode tuple) = ⊥
 IsOpOf fields (op.Scan index from to limit) = ⊥

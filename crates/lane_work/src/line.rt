@@ -30,7 +30,8 @@ pub(crate) fn work_line<R: Wait>(
     match &line.op {
         Op::Get { index, key } => Ok(engine.get(pass, *index, key, row, wait)),
         Op::Put { index, key, value } => engine.put(pass, *index, key, value, wait),
+        Op::Set { index, key, value } => engine.set(pass, *index, key, value, wait),
         Op::Del { index, key } => Ok(engine.del(pass, *index, key, wait)),
-        Op::Set { .. } | Op::Seek { .. } | Op::Scan { .. } => unreachable!(),
+        Op::Seek { .. } | Op::Scan { .. } => unreachable!(),
     }
 }

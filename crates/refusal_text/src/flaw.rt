@@ -74,11 +74,13 @@ pub fn flaw_of_lane(line: &[u8]) -> &'static str {
         return flaw;
     }
     match (word_of(line, 0), count_of_words(line)) {
-        (Some(b"get"), 3) | (Some(b"del"), 3) | (Some(b"put"), 4) => flaw_of_operation(line),
+        (Some(b"get"), 3) | (Some(b"del"), 3) => flaw_of_operation(line),
+        (Some(b"put"), 4) | (Some(b"set"), 4) => flaw_of_operation(line),
         (Some(b"get"), _) => "get wants an index and a key",
         (Some(b"del"), _) => "del wants an index and a key",
         (Some(b"put"), _) => "put wants an index, a key and a value",
-        _ => "a line of a lane begins with get, put or del",
+        (Some(b"set"), _) => "set wants an index, a key and a value",
+        _ => "a line of a lane begins with get, put, set or del",
     }
 }
 

@@ -126,7 +126,7 @@ const LINES: &[(&str, &[u8], &str)] = &[
     (
         "script 2 1 1\n",
         b"scan t a",
-        "l2, line 1: a line of a lane begins with get, put or del (scan t a)",
+        "l2, line 1: a line of a lane begins with get, put, set or del (scan t a)",
     ),
     (
         "script 1 2 1\n",
@@ -142,6 +142,11 @@ const LINES: &[(&str, &[u8], &str)] = &[
         "script 1 1 1\n",
         b"put t a\n",
         "l1, line 1: put wants an index, a key and a value (put t a)",
+    ),
+    (
+        "script 1 1 1\n",
+        b"set t a b c\n",
+        "l1, line 1: set wants an index, a key and a value (set t a b c)",
     ),
     (
         "script 1 1 1\n",

@@ -15,6 +15,7 @@ pub struct Index<'a> {
 pub enum Act<'a> {
     Get,
     Put(&'a str),
+    Set(&'a str),
     Del,
 }
 
@@ -79,6 +80,7 @@ fn line_of<'a>(indexes: &[Index<'_>], number: u64, words: &[&'a str]) -> Option<
     let (name, key, act) = match words {
         ["get", name, key] => (*name, *key, Act::Get),
         ["put", name, key, value] if is_plain(value) => (*name, *key, Act::Put(value)),
+        ["set", name, key, value] if is_plain(value) => (*name, *key, Act::Set(value)),
         ["del", name, key] => (*name, *key, Act::Del),
         _ => return None,
     };

@@ -44,8 +44,9 @@ pub fn lane_text(
         let said = match draw_below(&mut state, 40) {
             0 => String::from_str(alloc, "\n")?,
             1 => String::from_str(alloc, "# says nothing\n")?,
-            2..15 => format!(in alloc; "get t{index} {key}\n")?,
-            15..28 => format!(in alloc; "put t{index} {key} v{lane}-{line}\n")?,
+            2..13 => format!(in alloc; "get t{index} {key}\n")?,
+            13..24 => format!(in alloc; "put t{index} {key} v{lane}-{line}\n")?,
+            24..30 => format!(in alloc; "set t{index} {key} w{line}-{lane}-{line}\n")?,
             _ => format!(in alloc; "del t{index} {key}\n")?,
         };
         text.push_str(said.as_str())?;

@@ -4,11 +4,13 @@ use crate::judging::Lie;
 use crate::told::Change;
 use std::alloc::Global;
 
-/// The change of a number: its key, and the value that the key has from then on.
+/// The change of a number: its key, whether that has to be there before it, and the value that the
+/// key has from then on.
 #[derive(Clone, Copy)]
 struct Event<'a> {
     key: &'a str,
     point: u64,
+    wants_row: bool,
     value: Option<&'a str>,
 }
 
@@ -20,7 +22,8 @@ pub(crate) struct History<'a> {
 }
 
 impl<'a> History<'a> {
-    /// Replays the list, in which each put has a key that isn't there, and each del one that is.
+    /// Replays the list, in which each put has a key that isn't there, and each set or del one that
+    /// is.
     pub(crate) fn replay(
         alloc: Global,
         index: usize,
@@ -53,18 +56,20 @@ impl<'a> History<'a> {
 }
 
 fn event_of<'a>(point: u64, change: &Change<'a>) -> Event<'a> {
-    let value = match change.act {
-        Act::Put(value) => Some(value),
-        _ => None,
+    let (wants_row, value) = match change.act {
+        Act::Put(value) => (false, Some(value)),
+        Act::Set(value) => (true, Some(value)),
+        _ => (true, None),
     };
     Event {
         key: change.key,
         point,
+        wants_row,
         value,
     }
 }
 
-/// Each event turns its key from absent to there, or back.
+/// Each event has its key there or absent, as it wants it.
 fn check_law(index: usize, events: &[Event<'_>]) -> Result<(), Lie> {
     let mut before: Option<Event<'_>> = None;
     for event in events {
@@ -72,7 +77,7 @@ fn check_law(index: usize, events: &[Event<'_>]) -> Result<(), Lie> {
             Some(last) => last.key == event.key && last.value.is_some(),
             None => false,
         };
-        if was_there == event.value.is_some() {
+        if was_there != event.wants_row {
             return Err(Lie::Unlawful {
                 index,
                 change: event.point,

@@ -30,7 +30,7 @@ pub enum Lie {
     Asked { file: usize, line: u64 },
     /// The line of the report isn't one that may stand there.
     Form { line: u64 },
-    /// A put of a key that is there, or a del of a key that isn't.
+    /// A put of a key that is there, or a set or a del of a key that isn't.
     Unlawful { index: usize, change: u64 },
     /// The change isn't what its line asks, or that line isn't told `ok` at the change's number.
     Unasked { index: usize, change: u64 },

@@ -151,6 +151,7 @@ fn read_changes<'a>(
 fn change_of<'a>(number: u64, words: &[&'a str]) -> Option<Change<'a>> {
     let (first, lane, line, key, act) = match words {
         [first, lane, line, "put", key, value] => (*first, *lane, *line, *key, Act::Put(value)),
+        [first, lane, line, "set", key, value] => (*first, *lane, *line, *key, Act::Set(value)),
         [first, lane, line, "del", key] => (*first, *lane, *line, *key, Act::Del),
         _ => return None,
     };

@@ -77,11 +77,11 @@ impl<'r, 'a> Evidence<'r, 'a> {
     }
 
     /// Whether the answer is one to such a line, and that of the map at its point. One without a
-    /// point may come of a put alone, and only where the pages are few.
+    /// point may come of a put or a set alone, and only where the pages are few.
     fn is_true(&self, answer: &Answer<'_>) -> bool {
         match (answer.line.act, answer.point) {
             (_, Some(point)) => self.is_true_at(answer, point),
-            (Act::Put(_), None) => self.pages_are_few,
+            (Act::Put(_), None) | (Act::Set(_), None) => self.pages_are_few,
             _ => false,
         }
     }
@@ -102,6 +102,9 @@ impl<'r, 'a> Evidence<'r, 'a> {
             (Act::Put(_), Said::Done) => self.is_listed(answer, point),
             (Act::Put(_), Said::Duplicate) => held.is_some(),
             (Act::Put(_), Said::LogFull) => is_full && held.is_none(),
+            (Act::Set(_), Said::Done) => self.is_listed(answer, point),
+            (Act::Set(_), Said::Absent) => held.is_none(),
+            (Act::Set(_), Said::LogFull) => is_full && held.is_some(),
             (Act::Del, Said::Done) => self.is_listed(answer, point),
             (Act::Del, Said::Absent) => held.is_none(),
             (Act::Del, Said::LogFull) => is_full && held.is_some(),
@@ -140,21 +143,21 @@ fn rises(points: &mut Vec<u64>, answer: &Answer<'_>) -> bool {
     }
 }
 
-/// How many rows the lists write: their puts.
+/// How many rows the lists write: their puts and sets.
 pub(crate) fn rows_written(lists: &[Vec<Change<'_>>]) -> u64 {
     let mut rows: u64 = 0;
     for list in lists {
-        rows = rows.wrapping_add(puts_of(list));
+        rows = rows.wrapping_add(rows_of(list));
     }
     rows
 }
 
-fn puts_of(list: &[Change<'_>]) -> u64 {
-    let mut puts: u64 = 0;
+fn rows_of(list: &[Change<'_>]) -> u64 {
+    let mut rows: u64 = 0;
     for change in list {
-        if let Act::Put(_) = change.act {
-            puts = puts.wrapping_add(1);
+        if let Act::Put(_) | Act::Set(_) = change.act {
+            rows = rows.wrapping_add(1);
         }
     }
-    puts
+    rows
 }

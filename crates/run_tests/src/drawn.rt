@@ -26,12 +26,18 @@ fn lanes_are_drawn_by_their_numbers(rt: HostRuntime) {
     assert_eq!(rt; are_alike(rt.alloc(), (7, 8), (1, 1)), Some(false));
 }
 
-/// Whether a drawn lane has more than 80 lines of each verb.
+/// Verbs, and how many lines of 400 each has at least.
+const VERBS: [(&str, u64); 4] = [("get ", 80), ("put ", 80), ("set ", 40), ("del ", 70)];
+
+/// Whether a drawn lane has so many lines of each verb.
 fn has_each_verb(alloc: Global) -> Option<bool> {
     let text = lane_text(alloc, 7, 1, 400, 3, 6).ok()?;
-    let text = text.as_str();
-    let counts = (count_of_lines(text, "get "), count_of_lines(text, "put "));
-    Some(counts.0 > 80 && counts.1 > 80 && count_of_lines(text, "del ") > 80)
+    for (verb, least) in VERBS.iter() {
+        if count_of_lines(text.as_str(), verb) < *least {
+            return Some(false);
+        }
+    }
+    Some(true)
 }
 
 #[test]

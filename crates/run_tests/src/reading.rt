@@ -17,7 +17,7 @@ const LOWER: &[u8] = b"0123456789abcdef";
 
 const UPPER: &[u8] = b"0123456789ABCDEF";
 
-/// What a line asks: 0 is a get, 1 a put, 2 a del.
+/// What a line asks: 0 is a get, 1 a put, 2 a set, 3 a del.
 #[derive(Clone, Copy)]
 pub(crate) struct Asked {
     act: u64,
@@ -30,7 +30,7 @@ pub(crate) struct Asked {
 /// Draws a line over so many keys an index.
 pub(crate) fn draw_line(state: &mut u64, keys: u64) -> Asked {
     Asked {
-        act: draw(state) % 3,
+        act: draw(state) % 4,
         index: draw(state) % 3,
         key: draw(state).checked_rem(keys).unwrap_or(0),
         value: draw(state) % 16,
@@ -122,6 +122,7 @@ pub(crate) fn line_text(alloc: Global, asked: Asked) -> Result<String, AllocErro
     match asked.act {
         0 => format!(in alloc; "get {name} {key}\n"),
         1 => format!(in alloc; "put {name} {key} {value}\n"),
+        2 => format!(in alloc; "set {name} {key} {value}\n"),
         _ => format!(in alloc; "del {name} {key}\n"),
     }
 }
@@ -158,6 +159,7 @@ impl Table {
         let said = match asked.act {
             0 => self.get(alloc, &key)?,
             1 => self.put(alloc, line, key, value_text(alloc, asked, LOWER)?)?,
+            2 => self.set(alloc, line, key, value_text(alloc, asked, LOWER)?)?,
             _ => self.del(alloc, line, &key)?,
         };
         format!(in alloc; "{line} {said} @{} - -\n", self.count)
@@ -181,6 +183,21 @@ impl Table {
             return String::from_str(alloc, "duplicate");
         }
         self.note(alloc, line, format!(in alloc; "put {key} {value}")?)?;
+        self.rows.insert(key, value)?;
+        String::from_str(alloc, "ok")
+    }
+
+    fn set(
+        &mut self,
+        alloc: Global,
+        line: u64,
+        key: String,
+        value: String,
+    ) -> Result<String, AllocError> {
+        if self.rows.get(&key).is_none() {
+            return String::from_str(alloc, "absent");
+        }
+        self.note(alloc, line, format!(in alloc; "set {key} {value}")?)?;
         self.rows.insert(key, value)?;
         String::from_str(alloc, "ok")
     }

@@ -6,7 +6,7 @@ use std::sync::Wait;
 use std::thread::Threads;
 
 /// A schema, a lane, and its report from the answers up to the statistics.
-const REPORTS: [(&str, &str, &str); 5] = [
+const REPORTS: [(&str, &str, &str); 6] = [
     (SCHEMA, "", "changes t 0\n"),
     (
         SCHEMA,
@@ -19,6 +19,11 @@ const REPORTS: [(&str, &str, &str); 5] = [
         "1 ok @1 - -\n2 duplicate @1 - -\nchanges t 1\n1 1 1 put a x\n",
     ),
     (SCHEMA, "del t a\n", "1 absent @0 - -\nchanges t 0\n"),
+    (
+        SCHEMA,
+        "set t a x\nput t a x\nset t a yz\nget t a\nset t a ~\nget t a\n",
+        "1 absent @0 - -\n2 ok @1 - -\n3 ok @2 - -\n4 found yz @2 - -\n5 ok @3 - -\n6 found ~ @3 - -\nchanges t 3\n1 1 2 put a x\n2 1 3 set a yz\n3 1 5 set a ~\n",
+    ),
     (
         "index t 2\n",
         "put t ab,~ 1\nput t a,%00 2\nput t a,~ 3\nget t ab,~\nget t a,%00\nget t a,~\n",

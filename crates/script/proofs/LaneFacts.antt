@@ -10,7 +10,7 @@ use Rattle.std.proofs.lemmas.Bool.{eqb-true, ltb-false, cases_lt}
 use Rattle.list_facts.proofs.Each.{each_append}
 use Rattle.key_tuple.specs.declared.TheConstants.{MAX_FIELDS, MAX_KEY_BYTES, MAX_VALUE_BYTES}
 use Rattle.key_tuple.specs.Order.{FieldList, byte_count}
-use Rattle.map_history.specs.Map.{Put, Del}
+use Rattle.map_history.specs.Map.{Put, Set, Del}
 use Rattle.map_history.specs.Operation.{Operation, Ask, Get, Make}
 use Rattle.map_history.specs.LegalReport.{Line}
 use Rattle.script.specs.declared.error.Flaw.TheVariants.{BadLine, UnknownIndex, TooLong}
@@ -66,7 +66,7 @@ row_parts_short n parts row h =
     subst (λ (p : FieldList × List ℕ). IsShortKey n p.0 × IsValue p.1) whole
     (key_short n two.0.0 fields.0 key.0 fields.1 key.1, value_short two.0.1 bytes.0 value.0 bytes.1 value.1)
 
--- a get, put or del within the limits, its key of n fields
+-- a get, put, set or del within the limits, its key of n fields
 record IsShortAsk (n : ℕ) (ask : Ask) : Type 0 where
   key : FieldList
   about : HasKey ask key
@@ -81,6 +81,11 @@ ask_short verb.Get n parts ask h =
 ask_short verb.Put n parts ask h =
     let row = bind_ok (row_parts n parts) (λ (r : FieldList × List ℕ). Ok (Make (Put r.0 r.1))) ask h in
     let is : Make (Put row.0.0 row.0.1) ≡ ask = cc in
+    let short = row_parts_short n parts row.0 row.1 in
+    subst (λ (a : Ask). IsShortAsk n a) is (record { key = row.0.0; about = refl; short = short.0; value = short.1 })
+ask_short verb.Set n parts ask h =
+    let row = bind_ok (row_parts n parts) (λ (r : FieldList × List ℕ). Ok (Make (Set r.0 r.1))) ask h in
+    let is : Make (Set row.0.0 row.0.1) ≡ ask = cc in
     let short = row_parts_short n parts row.0 row.1 in
     subst (λ (a : Ask). IsShortAsk n a) is (record { key = row.0.0; about = refl; short = short.0; value = short.1 })
 ask_short verb.Del n parts ask h =

@@ -1,7 +1,6 @@
 -- What the lines of a lane file say.
 use Rattle.std.specs.Prelude.{ℕ, ◌+◌, ◌≡◌, ◌<◌, ◌≤◌, if◌then◌else◌, Option, Some, None, ok_or, List, [], ◌∷◌, ◌++◌, length, codes, slice_index, Result, Ok, Err}
-use Rattle.std.specs.List.{AllByRecursion, AllPairs}
-use Rattle.std.specs.Map.{lookup}
+use Rattle.std.specs.List.{find, AllByRecursion, AllPairs}
 use Rattle.std.specs.Str.{bytes_eq}
 use Rattle.key_tuple.specs.Limits.{IsWithinLimits}
 use Rattle.key_tuple.specs.Order.{FieldList}
@@ -18,13 +17,20 @@ use Rattle.script.specs.Steps.{◌>>=◌, or_bad, numbered}
 use Rattle.script.specs.Grammar.{lines_of, line_words, says_nothing, is_name, only, both, key_spelled, field_of, short_key, short_value}
 use Rattle.script.specs.Schema.{SchemaText, index_by_name}
 
--- the words of the operations
-abbrev pub verbs : List (List ℕ × Verb)
-verbs = (codes "get", verb.Get) ∷ (codes "put", verb.Put) ∷ (codes "del", verb.Del) ∷ []
+-- the word of each verb
+abbrev pub verb_word : Verb → List ℕ
+verb_word verb.Get = codes "get"
+verb_word verb.Put = codes "put"
+verb_word verb.Set = codes "set"
+verb_word verb.Del = codes "del"
 
--- the operation that a word names
+-- all verbs
+abbrev pub verbs : List Verb
+verbs = verb.Get ∷ verb.Put ∷ verb.Set ∷ verb.Del ∷ []
+
+-- the verb that a word names
 abbrev pub verb_named : List ℕ → Option Verb
-verb_named word = lookup (λ (known : List ℕ). bytes_eq word known) verbs
+verb_named word = find (λ (kind : Verb). bytes_eq (verb_word kind) word) verbs
 
 -- the index of a line: a word that isn't a name is bad form, and a name that the schema lacks is
 -- unknown
@@ -54,6 +60,8 @@ abbrev pub ask_of : Verb → ℕ → List (List ℕ) → Result Ask Flaw
 ask_of verb.Get n parts = key_parts n parts >>= λ (key : FieldList). Ok (Get key)
 ask_of verb.Put n parts =
     row_parts n parts >>= λ (row : FieldList × List ℕ). Ok (Make (Put row.0 row.1))
+ask_of verb.Set n parts =
+    row_parts n parts >>= λ (row : FieldList × List ℕ). Ok (Make (Set row.0 row.1))
 ask_of verb.Del n parts = key_parts n parts >>= λ (key : FieldList). Ok (Make (Del key))
 
 -- the operation on the index with this number, whose keys have n fields
@@ -99,10 +107,11 @@ pub record TakesLine (s : SchemaText) (n : ℕ) (line : List ℕ) (old new : Lis
   pub says : line_meaning s line ≡ Ok said
   pub grown : new ≡ old ++ line_said n said
 
--- a get, a put or a del of a key
+-- a get, a put, a set or a del of a key
 abbrev pub HasKey : Ask → FieldList → Type 0
 HasKey (Get k) key = k ≡ key
 HasKey (Make (Put k v)) key = k ≡ key
+HasKey (Make (Set k v)) key = k ≡ key
 HasKey (Make (Del k)) key = k ≡ key
 HasKey ask key = ⊥
 
@@ -115,8 +124,8 @@ HasValue (Make (Del k)) = Unit {0}
 HasValue (Seek mode tuple) = Unit {0}
 HasValue (Scan from to limit) = Unit {0}
 
--- a line of a lane: a get, put or del of an index of the schema, whose key has that index's number
--- of fields, and all within the limits
+-- a line of a lane: a get, put, set or del of an index of the schema, whose key has that index's
+-- number of fields, and all within the limits
 pub record IsLaneLine (s : SchemaText) (line : Line) : Type 0 where
   pub key : FieldList
   pub about : HasKey line.op.ask key

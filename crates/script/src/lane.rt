@@ -64,6 +64,10 @@ fn read_parts(
             let (key, value) = read_row(alloc, count, words)?;
             Ok(Op::Put { index, key, value })
         }
+        Verb::Set => {
+            let (key, value) = read_row(alloc, count, words)?;
+            Ok(Op::Set { index, key, value })
+        }
         Verb::Del => {
             let key = read_key(alloc, count, words)?;
             Ok(Op::Del { index, key })

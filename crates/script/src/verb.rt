@@ -1,6 +1,6 @@
 //! The words that a lane's line begins with.
 ghost use Rattle.std.specs.Prelude.{◌≡◌};
-ghost use Rattle.script.specs.Lane.{verb_named};
+ghost use Rattle.script.specs.Lane.{verb_named, verb_word};
 
 /// What a line of a lane asks for.
 #[derive(Debug, Clone, Copy, PartialEq, Eq)]
@@ -9,21 +9,35 @@ pub enum Verb {
     Get,
     /// A new row.
     Put,
+    /// A new value of a row that is there.
+    Set,
     /// A row to be taken out.
     Del,
+}
+
+/// All verbs.
+const VERBS: [Verb; 4] = [Verb::Get, Verb::Put, Verb::Set, Verb::Del];
+
+impl Verb {
+    /// The word that a line begins with.
+    fn word(self) -> &'static str
+        ensures { result.now ≡ verb_word self }
+    {
+        match self {
+            Verb::Get => "get",
+            Verb::Put => "put",
+            Verb::Set => "set",
+            Verb::Del => "del",
+        }
+    }
 }
 
 /// The verb of a word.
 pub fn find_verb(word: &[u8]) -> Option<Verb>
     ensures { result ≡ verb_named word.now }
 {
-    if word == b"get".as_slice() {
-        Some(Verb::Get)
-    } else if word == b"put".as_slice() {
-        Some(Verb::Put)
-    } else if word == b"del".as_slice() {
-        Some(Verb::Del)
-    } else {
-        None
-    }
+    VERBS
+        .iter()
+        .copied()
+        .find(|verb| verb.word().as_bytes() == word)
 }

@@ -43,6 +43,15 @@ impl<'a> Table<'a> {
                     format!(in alloc; "put {} {value}", line.key)?,
                 )?
             }
+            (Act::Set(value), Some(_)) => {
+                self.rows.insert(line.key, value)?;
+                self.note(
+                    alloc,
+                    lane,
+                    line,
+                    format!(in alloc; "set {} {value}", line.key)?,
+                )?
+            }
             (Act::Del, Some(_)) => {
                 self.rows.remove(line.key);
                 self.note(alloc, lane, line, format!(in alloc; "del {}", line.key)?)?

@@ -16,3 +16,12 @@ returns-in-Put-clause-ok g c =
     (operation_of o).ask told c.args.row.now)) (sym c.in-Put.is)
     (result_shows_no_row c.put.result v w c.in-Put.index c.in-Put.key.tuple c.in-Put.value
     (map.Put c.in-Put.key.tuple c.in-Put.value) (lent_row None) c.args.row.now c.put.ensures.ok)
+
+pub returns-in-Set-clause-ok : goal.returns-in-Set-clause-ok
+returns-in-Set-clause-ok g c =
+    let v = known c.args.pass.now in
+    let w = known c.set.new.pass in
+    subst (λ (o : Op). IfOk c.set.result (λ told. TellsOnce v w (operation_of o).index
+    (operation_of o).ask told c.args.row.now)) (sym c.in-Set.is)
+    (result_shows_no_row c.set.result v w c.in-Set.index c.in-Set.key.tuple c.in-Set.value
+    (map.Set c.in-Set.key.tuple c.in-Set.value) (lent_row None) c.args.row.now c.set.ensures.ok)
