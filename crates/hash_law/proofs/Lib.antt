@@ -1,0 +1,9 @@
+pub mod BagLemmas
+pub mod WeightLemmas
+pub mod RunLemmas
+pub mod ChangeLemmas
+pub mod RowLemmas
+pub mod RowChangeLemmas
+pub mod SumLemmas
+pub mod BlockLemmas
+pub mod ExampleLemmas
