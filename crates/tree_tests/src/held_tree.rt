@@ -1,0 +1,73 @@
+//! A descent goes past a tree that another pass has in hand.
+ghost use Rattle.std.specs.Prelude.{◌≡◌, ◌<◌, ◌≤◌, length, IfSome};
+ghost use Rattle.latch_space.specs.Passes.{count};
+ghost use Rattle.latch_space.specs.Spaces.{IsPassOf};
+ghost use Rattle.forest_law.specs.State.{fields_for};
+ghost use Rattle.buffer_pool.specs.Forests.{IsForest};
+
+use buffer_pool::{give_back, give_tree_back, take_tree};
+use forest_world::{ForestPass, ForestSpace, open_forest};
+use key_tuple::{Fields, Key, Mode};
+use map_history::Sizes;
+use std::alloc::Global;
+use std::sync::Wait;
+use tree_descent::descend;
+
+/// The sizes of one index with two pages.
+const SIZES: Sizes = Sizes {
+    blocks: 8,
+    pages: 2,
+    parts: 1,
+    cells: 1,
+    nodes: 0,
+    fold_bits: 1,
+    max_changes: 1,
+};
+
+/// The block of the key's leaf, which one pass finds while the other one has the tree.
+fn found_meanwhile<R: Wait>(
+    space: &ForestSpace,
+    pass: &mut ForestPass,
+    other: &mut ForestPass,
+    key: &Key,
+    wait: &R,
+) -> u32
+    requires forest { IsForest space.now }
+    requires own { IsPassOf space.now pass.old }
+    requires other { IsPassOf space.now other.old }
+    requires there { 0 < space.now.terms.shape.indexes }
+    requires fields { length key.now.tuple ≤ fields_for space.now.terms.shape 0 }
+    requires nothing { count pass.old ≡ 0 }
+    requires none { count other.old ≡ 0 }
+{
+    take_tree(space, other, 0, wait);
+    let leaf = descend(space, pass, 0, key, Mode::Ge, wait);
+    give_back(space, pass, leaf.block);
+    give_tree_back(space, other, 0);
+    leaf.block
+}
+
+/// A key of one field.
+fn key_of(alloc: Global, bytes: &[u8]) -> Option<Key>
+    ensures { IfSome result (λ key. length key.tuple ≡ 1) }
+{
+    let field = bytes.to_vec(alloc).ok()?;
+    let fields = vec![in alloc; field].ok()?;
+    match Key::try_new(alloc, fields) {
+        Ok(key) if key.count() == 1 => Some(key),
+        _ => None,
+    }
+}
+
+/// The same of an empty tree.
+fn found<R: Wait>(alloc: Global, wait: &R) -> Option<u32> {
+    let key = key_of(alloc, b"oak")?;
+    let (space, mut pass) = open_forest(alloc, &SIZES, &[1], 2).ok()?;
+    let mut other = space.split(alloc, &mut pass).ok()?;
+    Some(found_meanwhile(&space, &mut pass, &mut other, &key, wait))
+}
+
+#[test]
+fn a_descent_waits_for_no_tree(rt: HostRuntime) {
+    assert_eq!(rt; found(rt.alloc(), &rt), Some(0));
+}
