@@ -10,8 +10,8 @@ use std::path::Path;
 use std::process::ExitCode;
 
 const USAGE: &str = "usage: generate gets|puts|random|descending|front|mix LANES LINES SEED FOLDER";
-const SCHEMA: &str =
-    "# rows with even numbers, and rows with odd ones\npages 65536\nindex item 1\nindex price 2\n";
+const INDEXES: &str =
+    "# rows with even numbers, and rows with odd ones\nindex item 1\nindex price 2\n";
 
 #[derive(Clone, Copy)]
 enum Kind {
@@ -45,6 +45,13 @@ impl Plan {
     fn lines_of(&self, lane: u64) -> u64 {
         self.lines / self.lanes + u64::from(lane < self.lines % self.lanes)
     }
+}
+
+/// The schema, with a page for each fifty lines, which are fewer rows than a page has that was split,
+/// and no fewer pages than a run has by default.
+fn schema(lines: u64) -> String {
+    let pages = (lines / 50).clamp(4096, 65_536);
+    format!("pages {pages}\n{INDEXES}")
 }
 
 /// Numbers that look random: a counter with a large odd stride, scattered.
@@ -155,7 +162,7 @@ fn write_lane(plan: &Plan, lane: u64, file: File) -> io::Result<()> {
 
 fn write_all(plan: &Plan, folder: &Path) -> io::Result<()> {
     fs::create_dir_all(folder)?;
-    fs::write(folder.join("bench.schema"), SCHEMA)?;
+    fs::write(folder.join("bench.schema"), schema(plan.lines))?;
     for lane in 0..plan.lanes {
         let name = format!("bench-{}.lane", lane + 1);
         write_lane(plan, lane, File::create(folder.join(name))?)?;
