@@ -1,7 +1,7 @@
 -- The fields of a key, one word's piece after another.
-use Rattle.std.proofs.Common.{◌≡◌, ℕ, ◌+◌, Bool, true, false, cond, eqb, List, [], ◌∷◌, ◌++◌, length, Option, Some, None, Ok, Err, refl, sym, ap, subst, ◌∙◌, append-nil, arith}
+use Rattle.std.proofs.Common.{◌≡◌, ℕ, ◌+◌, ◌≤◌, true, false, eqb, leb, List, [], ◌∷◌, ◌++◌, length, Option, Some, None, Ok, Err, refl, sym, ap, subst, ◌∙◌, append-nil, arith}
 use Rattle.std.proofs.lemmas.List.{length-append}
-use Rattle.std.proofs.lemmas.Bool.{eq-eqb, ne_eqb}
+use Rattle.std.proofs.lemmas.Bool.{eq-eqb, ne_eqb, le-leb, lt-leb}
 use Rattle.key_tuple.specs.Order.{FieldList}
 use Rattle.key_tuple.specs.Parts.{parts, RiseTo}
 use Rattle.key_tuple.proofs.PartsLemmas.{length-parts, parts-push, RiseTo-push}
@@ -9,29 +9,31 @@ use Rattle.script.specs.declared.error.Flaw.{Flaw}
 use Rattle.script.specs.declared.error.Flaw.TheVariants.{BadLine}
 use Rattle.script.specs.declared.error.Refusal.{Refusal}
 use Rattle.script.specs.declared.error.Refusal.TheVariants as refusal
-use Rattle.script.specs.Grammar.{in_front, behind, field_of, fields_in, exactly}
+use Rattle.script.specs.Grammar.{in_front, behind, field_of, fields_in, exactly, at_most}
 use Rattle.script.specs.Steps.{Fails, or_bad}
+use Rattle.script.proofs.Results.{some_of, given}
 use Rattle.script.proofs.Steps.{behind_in_front}
 
-too_long : (n : ℕ) (front : FieldList) (f : Option (List ℕ)) (o : Option FieldList) → length front ≡ n → exactly n (behind front (in_front f o)) ≡ None
+too_long : (n : ℕ) (front : FieldList) (f : Option (List ℕ)) (o : Option FieldList) → length front ≡ n → at_most n (behind front (in_front f o)) ≡ None
 too_long n front None o e = refl
 too_long n front (Some x) None e = refl
 too_long n front (Some x) (Some xs) e =
-    let ne : eqb (length (front ++ x ∷ xs)) n ≡ false = ne_eqb _ _ (λ is. absurd (omega (arith, length-append front (x ∷ xs)))) in
-    rw ne refl
+    let long : length (front ++ x ∷ xs) ≡ length front + length (x ∷ xs) = length-append front (x ∷ xs) in
+    let over : leb (length (front ++ x ∷ xs)) n ≡ false = lt-leb _ _ (omega (arith, long)) in
+    rw over refl
 
 -- one field more than there may be
 pub one_too_many : (n : ℕ) (whole : Option FieldList) (front : FieldList) (left : List (List ℕ)) (text : List ℕ) (texts : List (List ℕ))
-    → whole ≡ behind front (fields_in left) → left ≡ text ∷ texts → length front ≡ n → or_bad (exactly n whole) ≡ Err BadLine
+    → whole ≡ behind front (fields_in left) → left ≡ text ∷ texts → length front ≡ n → or_bad (at_most n whole) ≡ Err BadLine
 one_too_many n whole front left text texts told steps long = rw (told, steps, too_long n front (field_of text) (fields_in texts) long) refl
 
-flawed : (n : ℕ) (front : FieldList) (f : Option (List ℕ)) (o : Option FieldList) (e : Flaw) → or_bad f ≡ Err e → or_bad (exactly n (behind front (in_front f o))) ≡ Err e
+flawed : (n : ℕ) (front : FieldList) (f : Option (List ℕ)) (o : Option FieldList) (e : Flaw) → or_bad f ≡ Err e → or_bad (at_most n (behind front (in_front f o))) ≡ Err e
 flawed n front None o e h = let f : BadLine ≡ e = cc in ap Err f
 flawed n front (Some x) o e h = absurd cc
 
 -- a field that is none
 pub no_field : (n : ℕ) (whole : Option FieldList) (front : FieldList) (left : List (List ℕ)) (text : List ℕ) (texts : List (List ℕ)) (e : Refusal)
-    → whole ≡ behind front (fields_in left) → left ≡ text ∷ texts → Fails e (or_bad (field_of text)) → Fails e (or_bad (exactly n whole))
+    → whole ≡ behind front (fields_in left) → left ≡ text ∷ texts → Fails e (or_bad (field_of text)) → Fails e (or_bad (at_most n whole))
 no_field n whole front left text texts refusal.NoMemory told steps h = tt
 no_field n whole front left text texts (refusal.Flawed f) told steps h = rw (told, steps) (flawed n front (field_of text) (fields_in texts) f h)
 
@@ -79,23 +81,25 @@ field_more whole bytes ends new ends' left text texts old steps h e =
     let joined = subst (λ (ys : List ℕ). AreSoFar whole ys (ends ++ length ys ∷ []) texts) put.joined there in
     subst (λ (es : List ℕ). AreSoFar whole new es texts) (sym e) joined
 
--- where no piece is left, there are as many fields as ends
-ended : (n : ℕ) (whole : Option FieldList) (front : FieldList) (left : List (List ℕ)) → whole ≡ behind front (fields_in left) → left ≡ []
-    → or_bad (exactly n whole) ≡ cond (eqb (length front) n) (Ok front) (Err BadLine)
-ended n whole front left told none = rw (told, none, append-nil front) (by_count (eqb (length front) n))
-  where
-    by_count : (same : Bool) → or_bad (cond same (Some front) None) ≡ cond same (Ok front) (Err BadLine)
-    by_count true = refl
-    by_count false = refl
+-- where no piece is left, these are all fields
+pub all_there : (n : ℕ) (whole : Option FieldList) (bytes ends : List ℕ) (left : List (List ℕ)) → AreSoFar whole bytes ends left → left ≡ [] → length ends ≤ n
+    → or_bad (at_most n whole) ≡ Ok (parts bytes 0 ends)
+all_there n whole bytes ends left so_far none few =
+    let front = parts bytes 0 ends in
+    let fits : leb (length front) n ≡ true = le-leb _ _ (omega (arith, few, length-parts bytes 0 ends)) in
+    rw (so_far.told, none, append-nil front, fits) refl
 
-pub as_many : (n : ℕ) (whole : Option FieldList) (bytes ends : List ℕ) (left : List (List ℕ)) → AreSoFar whole bytes ends left → left ≡ [] → length ends ≡ n
-    → or_bad (exactly n whole) ≡ Ok (parts bytes 0 ends)
-as_many n whole bytes ends left so_far none count =
-    let same : eqb (length (parts bytes 0 ends)) n ≡ true = eq-eqb _ _ (length-parts bytes 0 ends ∙ count) in
-    ended n whole (parts bytes 0 ends) left so_far.told none ∙ rw same refl
+-- where there are at most so many fields, they are a key's if they are as many
+pub as_many : (n : ℕ) (o : Option FieldList) (fields : FieldList) → or_bad (at_most n o) ≡ Ok fields → length fields ≡ n → or_bad (exactly n o) ≡ Ok fields
+as_many n None fields h count = absurd cc
+as_many n (Some xs) fields h count =
+    let kept = given (leb (length xs) n) xs fields (some_of _ _ h) in
+    let same : eqb (length xs) n ≡ true = eq-eqb _ _ (ap length kept.1 ∙ count) in
+    rw same (ap Ok kept.1)
 
-pub too_few : (n : ℕ) (whole : Option FieldList) (bytes ends : List ℕ) (left : List (List ℕ)) → AreSoFar whole bytes ends left → left ≡ [] → (length ends ≡ n → ⊥)
-    → or_bad (exactly n whole) ≡ Err BadLine
-too_few n whole bytes ends left so_far none other =
-    let same : eqb (length (parts bytes 0 ends)) n ≡ false = ne_eqb _ _ (λ e. other (sym (length-parts bytes 0 ends) ∙ e)) in
-    ended n whole (parts bytes 0 ends) left so_far.told none ∙ rw same refl
+pub too_few : (n : ℕ) (o : Option FieldList) (fields : FieldList) → or_bad (at_most n o) ≡ Ok fields → (length fields ≡ n → ⊥) → or_bad (exactly n o) ≡ Err BadLine
+too_few n None fields h other = absurd cc
+too_few n (Some xs) fields h other =
+    let kept = given (leb (length xs) n) xs fields (some_of _ _ h) in
+    let same : eqb (length xs) n ≡ false = ne_eqb _ _ (λ is. other (sym (ap length kept.1) ∙ is)) in
+    rw same refl

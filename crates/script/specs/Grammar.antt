@@ -139,7 +139,16 @@ exactly n (Some fields) = if length fields == n then Some fields else None
 abbrev pub key_spelled : ℕ → List ℕ → Option FieldList
 key_spelled n word = exactly n (tuple_of word)
 
--- a key within its limit
+-- a tuple has at most the index's number of fields
+abbrev pub at_most : ℕ → Option FieldList → Option FieldList
+at_most n None = None
+at_most n (Some fields) = if nat_le (length fields) n then Some fields else None
+
+-- the tuple that a word writes, of an index with so many fields
+abbrev pub tuple_spelled : ℕ → List ℕ → Option FieldList
+tuple_spelled n word = at_most n (tuple_of word)
+
+-- a key or a tuple within its limit
 abbrev pub short_key : FieldList → Result FieldList Flaw
 short_key fields = if nat_lt MAX_KEY_BYTES (byte_count fields) then Err TooLong else Ok fields
 

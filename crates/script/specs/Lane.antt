@@ -4,7 +4,9 @@ use Rattle.std.specs.List.{find, AllByRecursion, AllPairs}
 use Rattle.std.specs.Str.{bytes_eq}
 use Rattle.key_tuple.specs.Limits.{IsWithinLimits}
 use Rattle.key_tuple.specs.Order.{FieldList}
-use Rattle.map_history.specs.Map.{Put, Set, Del}
+use Rattle.key_tuple.specs.declared.mode.Mode.{Mode}
+use Rattle.key_tuple.specs.declared.mode.Mode.TheVariants as mode
+use Rattle.map_history.specs.Map.{Put, Set, Del, key_of}
 use Rattle.map_history.specs.Operation.{Operation, Ask, Get, Make, Seek, Scan}
 use Rattle.map_history.specs.LegalReport.{Line}
 use Rattle.script.specs.declared.verb.Verb.{Verb}
@@ -14,7 +16,7 @@ use Rattle.script.specs.declared.error.Flaw.{Flaw}
 use Rattle.script.specs.declared.error.Flaw.TheVariants.{BadLine, UnknownIndex}
 use Rattle.script.specs.Bytes.{AreFields, IsValue}
 use Rattle.script.specs.Steps.{◌>>=◌, or_bad, numbered}
-use Rattle.script.specs.Grammar.{lines_of, line_words, says_nothing, is_name, only, both, key_spelled, field_of, short_key, short_value}
+use Rattle.script.specs.Grammar.{lines_of, line_words, says_nothing, is_name, only, both, key_spelled, tuple_spelled, field_of, short_key, short_value}
 use Rattle.script.specs.Schema.{SchemaText, index_by_name}
 
 -- the word of each verb
@@ -23,14 +25,30 @@ verb_word verb.Get = codes "get"
 verb_word verb.Put = codes "put"
 verb_word verb.Set = codes "set"
 verb_word verb.Del = codes "del"
+verb_word verb.Seek = codes "seek"
 
 -- all verbs
 abbrev pub verbs : List Verb
-verbs = verb.Get ∷ verb.Put ∷ verb.Set ∷ verb.Del ∷ []
+verbs = verb.Get ∷ verb.Put ∷ verb.Set ∷ verb.Del ∷ verb.Seek ∷ []
 
 -- the verb that a word names
 abbrev pub verb_named : List ℕ → Option Verb
 verb_named word = find (λ (kind : Verb). bytes_eq (verb_word kind) word) verbs
+
+-- the word of each mode of a seek
+abbrev pub mode_word : Mode → List ℕ
+mode_word mode.Ge = codes "ge"
+mode_word mode.G = codes "g"
+mode_word mode.Le = codes "le"
+mode_word mode.L = codes "l"
+
+-- all modes
+abbrev pub modes : List Mode
+modes = mode.Ge ∷ mode.G ∷ mode.Le ∷ mode.L ∷ []
+
+-- the mode that a word names
+abbrev pub mode_named : List ℕ → Option Mode
+mode_named word = find (λ (known : Mode). bytes_eq (mode_word known) word) modes
 
 -- the index of a line: a word that isn't a name is bad form, and a name that the schema lacks is
 -- unknown
@@ -55,6 +73,15 @@ row_parts n parts = do
   value ← short_value bytes
   Ok (key, value)
 
+-- `MODE TUPLE`: the form of both is judged before the tuple's length
+abbrev pub search_parts : ℕ → List (List ℕ) → Result (Mode × FieldList) Flaw
+search_parts n parts = do
+  two ← or_bad (both parts)
+  by ← or_bad (mode_named two.0)
+  fields ← or_bad (tuple_spelled n two.1)
+  tuple ← short_key fields
+  Ok (by, tuple)
+
 -- what an operation's word asks with the words after the index's name
 abbrev pub ask_of : Verb → ℕ → List (List ℕ) → Result Ask Flaw
 ask_of verb.Get n parts = key_parts n parts >>= λ (key : FieldList). Ok (Get key)
@@ -63,6 +90,8 @@ ask_of verb.Put n parts =
 ask_of verb.Set n parts =
     row_parts n parts >>= λ (row : FieldList × List ℕ). Ok (Make (Set row.0 row.1))
 ask_of verb.Del n parts = key_parts n parts >>= λ (key : FieldList). Ok (Make (Del key))
+ask_of verb.Seek n parts =
+    search_parts n parts >>= λ (search : Mode × FieldList). Ok (Seek search.0 search.1)
 
 -- the operation on the index with this number, whose keys have n fields
 abbrev pub operation_for : Verb → ℕ → ℕ → List (List ℕ) → Result Operation Flaw
@@ -107,13 +136,19 @@ pub record TakesLine (s : SchemaText) (n : ℕ) (line : List ℕ) (old new : Lis
   pub says : line_meaning s line ≡ Ok said
   pub grown : new ≡ old ++ line_said n said
 
--- a get, a put, a set or a del of a key
-abbrev pub HasKey : Ask → FieldList → Type 0
-HasKey (Get k) key = k ≡ key
-HasKey (Make (Put k v)) key = k ≡ key
-HasKey (Make (Set k v)) key = k ≡ key
-HasKey (Make (Del k)) key = k ≡ key
-HasKey ask key = ⊥
+-- the key that is asked about; of a seek the tuple, and of a scan where it begins
+abbrev pub fields_asked : Ask → FieldList
+fields_asked (Get k) = k
+fields_asked (Make c) = key_of c
+fields_asked (Seek mode tuple) = tuple
+fields_asked (Scan from to limit) = from
+
+-- a key has so many fields, a seek's tuple at most so many; a scan isn't a line yet
+abbrev pub FitsFields : ℕ → Ask → Type 0
+FitsFields n (Get k) = length k ≡ n
+FitsFields n (Make c) = length (key_of c) ≡ n
+FitsFields n (Seek mode tuple) = length tuple ≤ n
+FitsFields n (Scan from to limit) = ⊥
 
 -- what is to be written is a value
 abbrev pub HasValue : Ask → Type 0
@@ -124,16 +159,14 @@ HasValue (Make (Del k)) = Unit {0}
 HasValue (Seek mode tuple) = Unit {0}
 HasValue (Scan from to limit) = Unit {0}
 
--- a line of a lane: a get, put, set or del of an index of the schema, whose key has that index's
--- number of fields, and all within the limits
+-- a line of a lane: it asks an index of the schema, by a key of that index's number of fields, or
+-- seeks by a tuple of at least one and at most so many, and all is within the limits
 pub record IsLaneLine (s : SchemaText) (line : Line) : Type 0 where
-  pub key : FieldList
-  pub about : HasKey line.op.ask key
   pub known : line.op.index < length s.names
   pub counted : line.op.index < length s.fields
-  pub fields : length key ≡ slice_index s.fields line.op.index
-  pub written : AreFields key
-  pub within : IsWithinLimits key
+  pub fields : FitsFields (slice_index s.fields line.op.index) line.op.ask
+  pub written : AreFields (fields_asked line.op.ask)
+  pub within : IsWithinLimits (fields_asked line.op.ask)
   pub value : HasValue line.op.ask
 
 -- each line is one

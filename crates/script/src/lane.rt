@@ -10,7 +10,7 @@ ghost use Rattle.script.specs.Views.{schema_text};
 use crate::error::{Flaw, Refusal};
 use crate::names::find_name;
 use crate::pieces::Pieces;
-use crate::rows::{read_key, read_row};
+use crate::rows::{read_key, read_row, read_search};
 use crate::schema::Schema;
 use crate::verb::{Verb, find_verb};
 use crate::words::{has_name_form, is_silent};
@@ -71,6 +71,10 @@ fn read_parts(
         Verb::Del => {
             let key = read_key(alloc, count, words)?;
             Ok(Op::Del { index, key })
+        }
+        Verb::Seek => {
+            let (mode, tuple) = read_search(alloc, count, words)?;
+            Ok(Op::Seek { index, mode, tuple })
         }
     }
 }

@@ -7,6 +7,7 @@ mod entry;
 mod error;
 mod field;
 mod lane;
+mod modes;
 mod names;
 mod numbers;
 mod pieces;

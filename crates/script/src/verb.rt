@@ -13,10 +13,12 @@ pub enum Verb {
     Set,
     /// A row to be taken out.
     Del,
+    /// The row that a mode asks for.
+    Seek,
 }
 
 /// All verbs.
-const VERBS: [Verb; 4] = [Verb::Get, Verb::Put, Verb::Set, Verb::Del];
+const VERBS: [Verb; 5] = [Verb::Get, Verb::Put, Verb::Set, Verb::Del, Verb::Seek];
 
 impl Verb {
     /// The word that a line begins with.
@@ -28,6 +30,7 @@ impl Verb {
             Verb::Put => "put",
             Verb::Set => "set",
             Verb::Del => "del",
+            Verb::Seek => "seek",
         }
     }
 }
