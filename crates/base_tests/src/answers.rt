@@ -147,8 +147,21 @@ fn sought(alloc: Global) -> Option<Vec<u8>> {
     sought_row(alloc, &row)
 }
 
+/// The answer to a seek that found nothing.
+fn sought_in_vain(alloc: Global) -> Option<Vec<u8>> {
+    let tuple = tuple_of(alloc, &[b"a"])?;
+    let seek = Op::Seek {
+        index: 0,
+        mode: Mode::L,
+        tuple,
+    };
+    line_of(alloc, 9, &told!(Reply::Absent, 4), b"", &seek)
+}
+
 #[test]
-fn an_answer_to_a_seek(rt: HostRuntime) -> Result<(), Fail> {
-    assert!(rt; is(sought(rt.alloc()), b"205 found a,~ p @4 short no\n"));
+fn answers_to_a_seek(rt: HostRuntime) -> Result<(), Fail> {
+    let alloc = rt.alloc();
+    assert!(rt; is(sought(alloc), b"205 found a,~ p @4 short no\n"));
+    assert!(rt; is(sought_in_vain(alloc), b"9 absent @4 - -\n"));
     Ok(())
 }

@@ -1,5 +1,5 @@
-//! A drawn lane, read by the program's reader and answered by its plain maps. The report is legal by
-//! a naive reading of the same text.
+//! Drawn lanes, read by the program's reader and answered by its plain maps: their reports are legal
+//! by a naive reading of the same text.
 ghost use Rattle.std.specs.Prelude.{◌≡◌, ◌≤◌, length, false};
 ghost use Rattle.map_history.specs.Operation.{operation_of, is_scan};
 ghost use Rattle.script.specs.declared.TheConstants.{MAX_FILE_BYTES};
@@ -25,15 +25,35 @@ fn key_text(alloc: Global, draw: u64) -> Result<String, AllocError> {
     }
 }
 
+/// An index, a mode, and a tuple of one field or two.
+fn seek_text(alloc: Global, draw: u64) -> Result<String, AllocError> {
+    let mode = match draw % 4 {
+        0 => "ge",
+        1 => "g",
+        2 => "le",
+        _ => "l",
+    };
+    let number = draw % 6;
+    match draw % 36 / 12 {
+        0 => format!(in alloc; "t {mode} k{number}"),
+        1 => format!(in alloc; "two {mode} {}", number / 3),
+        _ => format!(in alloc; "two {mode} {},k{number}", number / 3),
+    }
+}
+
 /// The line of this number.
 fn line_text(alloc: Global, state: &mut u64, number: u64) -> Result<String, AllocError> {
     let key = key_text(alloc, draw(state))?;
     let key = key.as_str();
-    match draw(state) % 8 {
+    match draw(state) % 10 {
         0 | 1 => format!(in alloc; "get {key}\n"),
         2 | 3 => format!(in alloc; "put {key} v{number}\n"),
         4 | 5 => format!(in alloc; "set {key} v{number}\n"),
         6 => format!(in alloc; "del {key}\n"),
+        7 | 8 => {
+            let seek = seek_text(alloc, draw(state))?;
+            format!(in alloc; "seek {seek}\n")
+        }
         _ => String::from_str(alloc, "# says nothing\n"),
     }
 }

@@ -3,7 +3,7 @@ use crate::files::{bad, lane_ends, schema_ends, unknown};
 use script::ScriptError;
 use std::alloc::Global;
 
-const BAD_LINES: [&[u8]; 29] = [
+const BAD_LINES: [&[u8]; 39] = [
     b"get t a\r\n",
     b"get t %4\n",
     b"get t %gg\n",
@@ -29,13 +29,23 @@ const BAD_LINES: [&[u8]; 29] = [
     b"set two a b\n",
     b"set\n",
     b"SET t a b\n",
-    b"seek t ge a\n",
+    b"seek t a\n",
+    b"seek t ge\n",
+    b"seek t ge \n",
+    b"seek t ge a b\n",
+    b"seek t a ge\n",
+    b"seek t GE a\n",
+    b"seek t gt a\n",
+    b"seek t gea\n",
+    b"seek t ge a,b\n",
+    b"seek two l a,b,c\n",
+    b"seek two le a,\n",
     b"GET t a\n",
     b"get\n",
     b"get two a\n",
 ];
 
-const LANES: [&[u8]; 7] = [
+const LANES: [&[u8]; 12] = [
     b"get t a",
     b"get t a\n\n",
     b"put t %4A %4a\n",
@@ -43,13 +53,19 @@ const LANES: [&[u8]; 7] = [
     b"get two a,~\n",
     b"set t a b",
     b"set two ~,%2C %00\n",
+    b"seek t ge a",
+    b"seek t g ~\n",
+    b"seek two le a\n",
+    b"seek two l a,b\n",
+    b"seek two ge %2c,~\n",
 ];
 
-const UNKNOWN_INDEXES: [&[u8]; 4] = [
+const UNKNOWN_INDEXES: [&[u8]; 5] = [
     b"get u\n",
     b"put two_ , x x\n",
     b"get u a\nget t \n",
     b"set u\n",
+    b"seek u gt\n",
 ];
 
 const BAD_SCHEMAS: [&[u8]; 11] = [

@@ -37,4 +37,6 @@ mod setup;
 #[cfg(test)]
 mod sizes;
 #[cfg(test)]
+mod sought;
+#[cfg(test)]
 mod uses;

@@ -3,7 +3,7 @@ ghost use Rattle.std.specs.Prelude.{◌≤◌, length};
 ghost use Rattle.script.specs.declared.TheConstants.{MAX_FILE_BYTES};
 
 use crate::files::{SCHEMA, bad, lane_ends, long, schema_ends};
-use key_tuple::{Fields, MAX_KEY_BYTES, MAX_VALUE_BYTES};
+use key_tuple::{Fields, MAX_KEY_BYTES, MAX_VALUE_BYTES, Mode};
 use map_history::Op;
 use script::{Line, MAX_FILE_BYTES, ScriptError, read_lane, read_schema};
 use std::alloc::{AllocError, Global};
@@ -89,6 +89,30 @@ fn much_longer_keys_and_values_are_refused(rt: HostRuntime) {
     assert!(rt; both_end(rt.alloc(), 100_000, 100_000, long(1)));
 }
 
+/// A seek in a mode, by a tuple of so many bytes and an empty field, ends so.
+fn seek_ends(alloc: Global, mode: &[u8], count: usize, error: Option<ScriptError>) -> bool {
+    match seek_of(alloc, mode, count) {
+        None => false,
+        Some(line) => lane_ends(alloc, &line, error),
+    }
+}
+
+fn seek_of(alloc: Global, mode: &[u8], count: usize) -> Option<Vec<u8>> {
+    let mut line = Vec::new(alloc);
+    line.extend_from_slice(b"seek two ").ok()?;
+    line.extend_from_slice(mode).ok()?;
+    line.extend_from_slice(b" ~,").ok()?;
+    add_bytes(&mut line, b'k', count)?;
+    Some(line)
+}
+
+#[test]
+fn the_longest_tuple_is_read(rt: HostRuntime) {
+    assert!(rt; seek_ends(rt.alloc(), b"le", MAX_KEY_BYTES, None));
+    assert!(rt; seek_ends(rt.alloc(), b"le", 768, long(1)));
+    assert!(rt; seek_ends(rt.alloc(), b"lt", 768, bad(1)));
+}
+
 /// The one line of a lane.
 fn only_line(alloc: Global, lane: &[u8]) -> Option<Line>
     requires { length lane.now ≤ MAX_FILE_BYTES }
@@ -109,6 +133,36 @@ fn sets(op: &Op, first: &[u8], second: &[u8], bytes: &[u8]) -> bool {
         && key.field(0) == first
         && key.field(1) == second
         && value.as_bytes() == bytes
+}
+
+/// The line is a seek on the second index in this mode, by a tuple of this one field.
+fn seeks(op: &Op, wanted: Mode, field: &[u8]) -> bool {
+    let Op::Seek { index, mode, tuple } = op else {
+        return false;
+    };
+    *index == 1 && *mode == wanted && tuple.count() == 1 && tuple.field(0) == field
+}
+
+/// The one line of a lane is such a seek.
+fn reads_seek(alloc: Global, lane: &[u8], wanted: Mode, field: &[u8]) -> bool
+    requires { length lane.now ≤ MAX_FILE_BYTES }
+{
+    match only_line(alloc, lane) {
+        Some(line) => seeks(&line.op, wanted, field),
+        None => false,
+    }
+}
+
+#[test]
+fn seeks_ahead_are_read(rt: HostRuntime) {
+    assert!(rt; reads_seek(rt.alloc(), b"seek two ge a", Mode::Ge, b"a"));
+    assert!(rt; reads_seek(rt.alloc(), b"seek two g %2C", Mode::G, b","));
+}
+
+#[test]
+fn seeks_back_are_read(rt: HostRuntime) {
+    assert!(rt; reads_seek(rt.alloc(), b"seek two le ~", Mode::Le, b""));
+    assert!(rt; reads_seek(rt.alloc(), b"seek two l ab", Mode::L, b"ab"));
 }
 
 #[test]

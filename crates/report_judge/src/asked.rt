@@ -1,5 +1,6 @@
 //! What a schema and its lanes ask.
 use crate::judging::Lie;
+use crate::keys::{Reach, reach_of};
 use crate::words::{number_of, words_of};
 use std::alloc::Global;
 
@@ -10,16 +11,17 @@ pub struct Index<'a> {
     pub fields: u64,
 }
 
-/// What is asked of a key.
+/// What is asked of a key, or of the tuple of a seek.
 #[derive(Clone, Copy, PartialEq, Eq)]
 pub enum Act<'a> {
     Get,
     Put(&'a str),
     Set(&'a str),
     Del,
+    Seek(Reach),
 }
 
-/// A line that says something, by its number in its file.
+/// A line that says something, by its number in its file. The key of a seek is its tuple.
 #[derive(Clone, Copy)]
 pub struct Line<'a> {
     pub number: u64,
@@ -82,10 +84,11 @@ fn line_of<'a>(indexes: &[Index<'_>], number: u64, words: &[&'a str]) -> Option<
         ["put", name, key, value] if is_plain(value) => (*name, *key, Act::Put(value)),
         ["set", name, key, value] if is_plain(value) => (*name, *key, Act::Set(value)),
         ["del", name, key] => (*name, *key, Act::Del),
+        ["seek", name, mode, tuple] => (*name, *tuple, Act::Seek(reach_of(mode)?)),
         _ => return None,
     };
     let index = indexes.iter().position(|index| index.name == name)?;
-    if !is_key(key, indexes.get(index)?.fields) {
+    if !fits(act, count_fields(key)?, indexes.get(index)?.fields) {
         return None;
     }
     Some(Line {
@@ -96,16 +99,24 @@ fn line_of<'a>(indexes: &[Index<'_>], number: u64, words: &[&'a str]) -> Option<
     })
 }
 
-/// Whether this is a key of so many plain fields.
-fn is_key(key: &str, fields: u64) -> bool {
+/// Whether so many fields may be asked about, where keys have this many.
+fn fits(act: Act<'_>, count: u64, fields: u64) -> bool {
+    match act {
+        Act::Seek(_) => count <= fields,
+        _ => count == fields,
+    }
+}
+
+/// How many fields a key or a tuple has, if each is plain.
+fn count_fields(key: &str) -> Option<u64> {
     let mut count: u64 = 0;
     for field in key.split(',') {
         count = count.wrapping_add(1);
         if !is_plain(field) {
-            return false;
+            return None;
         }
     }
-    count == fields
+    Some(count)
 }
 
 /// Whether this is a field or a value that is printed as it stands.

@@ -38,20 +38,59 @@ pub fn lane_text(
     let mut text = String::new(alloc);
     for before in 0..lines {
         let index = draw_below(&mut state, indexes);
-        let key = key_text(alloc, index, draw_below(&mut state, keys))?;
+        let number = draw_below(&mut state, keys);
+        let key = key_text(alloc, index, number)?;
         let key = key.as_str();
         let line = before.wrapping_add(1);
         let said = match draw_below(&mut state, 40) {
             0 => String::from_str(alloc, "\n")?,
             1 => String::from_str(alloc, "# says nothing\n")?,
-            2..13 => format!(in alloc; "get t{index} {key}\n")?,
-            13..24 => format!(in alloc; "put t{index} {key} v{lane}-{line}\n")?,
-            24..30 => format!(in alloc; "set t{index} {key} w{line}-{lane}-{line}\n")?,
+            2..10 => format!(in alloc; "get t{index} {key}\n")?,
+            10..16 => seek_line(alloc, &mut state, index, number)?,
+            16..25 => format!(in alloc; "put t{index} {key} v{lane}-{line}\n")?,
+            25..30 => format!(in alloc; "set t{index} {key} w{line}-{lane}-{line}\n")?,
             _ => format!(in alloc; "del t{index} {key}\n")?,
         };
         text.push_str(said.as_str())?;
     }
     Ok(text)
+}
+
+/// A lane of seeks: so many lines over the first four indexes of the schema and the first so many
+/// keys of each. Half of them seek, and the others put rows with this value or take them out.
+pub fn seek_lane_text(
+    alloc: Global,
+    seed: u64,
+    lines: u64,
+    keys: u64,
+    value: &str,
+) -> Result<String, AllocError> {
+    let mut state = seed;
+    let mut text = String::new(alloc);
+    for _ in 0..lines {
+        let index = draw_below(&mut state, 4);
+        let number = draw_below(&mut state, keys);
+        let line = seek_or_change(alloc, &mut state, index, number, value)?;
+        text.push_str(line.as_str())?;
+    }
+    Ok(text)
+}
+
+/// A line of such a lane.
+fn seek_or_change(
+    alloc: Global,
+    state: &mut u64,
+    index: u64,
+    number: u64,
+    value: &str,
+) -> Result<String, AllocError> {
+    let key = key_text(alloc, index, number)?;
+    let key = key.as_str();
+    match draw_below(state, 4) {
+        0 => format!(in alloc; "put t{index} {key} {value}\n"),
+        1 => format!(in alloc; "del t{index} {key}\n"),
+        _ => seek_line(alloc, state, index, number),
+    }
 }
 
 /// Lanes 1 to this number.
@@ -87,5 +126,36 @@ fn key_text(alloc: Global, index: u64, key: u64) -> Result<String, AllocError> {
         text.push_str(format!(in alloc; "{},", key / 4)?.as_str())?;
     }
     text.push_str(format!(in alloc; "k{key}")?.as_str())?;
+    Ok(text)
+}
+
+/// A seek by the key of this number, or by its first fields.
+fn seek_line(alloc: Global, state: &mut u64, index: u64, key: u64) -> Result<String, AllocError> {
+    let mode = mode_word(draw_below(state, 4));
+    let shared = draw_below(state, index % 4 + 1);
+    let tuple = if shared == 0 {
+        key_text(alloc, index, key)?
+    } else {
+        beginning_text(alloc, key, shared)?
+    };
+    format!(in alloc; "seek t{index} {mode} {}\n", tuple.as_str())
+}
+
+/// The word of the mode with this number.
+fn mode_word(number: u64) -> &'static str {
+    match number {
+        0 => "ge",
+        1 => "g",
+        2 => "le",
+        _ => "l",
+    }
+}
+
+/// So many of the fields that a key shares with others, one at least.
+fn beginning_text(alloc: Global, key: u64, fields: u64) -> Result<String, AllocError> {
+    let mut text = format!(in alloc; "{}", key / 4)?;
+    for _ in 1..fields {
+        text.push_str(format!(in alloc; ",{}", key / 4)?.as_str())?;
+    }
     Ok(text)
 }

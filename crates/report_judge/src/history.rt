@@ -1,6 +1,7 @@
 //! The list of an index, replayed from the empty map.
 use crate::asked::Act;
 use crate::judging::Lie;
+use crate::keys::{Reach, compare_fields};
 use crate::told::Change;
 use std::alloc::Global;
 
@@ -14,7 +15,7 @@ struct Event<'a> {
     value: Option<&'a str>,
 }
 
-/// The events of an index, key by key, those of one key in the order of the list.
+/// The events of an index, key by key as keys rise, those of one key in the order of the list.
 #[derive(Drop)]
 pub(crate) struct History<'a> {
     events: Vec<Event<'a>>,
@@ -35,7 +36,7 @@ impl<'a> History<'a> {
             length = length.wrapping_add(1);
             events.push(event_of(length, change))?;
         }
-        events.sort_by_key(|event| event.key)?;
+        events.sort_by(|one, other| compare_fields(one.key, other.key))?;
         check_law(index, &events)?;
         Ok(History { events, length })
     }
@@ -48,10 +49,67 @@ impl<'a> History<'a> {
     /// The value of the key after so many changes of the list, if the key is there.
     pub(crate) fn value_at(&self, key: &str, point: u64) -> Option<&'a str> {
         let after = self.events.partition_point(|event| {
-            event.key < key || (event.key == key && event.point <= point)
+            let order = compare_fields(event.key, key);
+            order.is_lt() || (order.is_eq() && event.point <= point)
         });
         let last = self.events.get(after.checked_sub(1)?)?;
         if last.key == key { last.value } else { None }
+    }
+
+    /// The row that a seek finds after so many changes of the list, if it finds one.
+    pub(crate) fn row_at(
+        &self,
+        reach: Reach,
+        tuple: &str,
+        point: u64,
+    ) -> Option<(&'a str, &'a str)> {
+        let cut = self
+            .events
+            .partition_point(|event| reach.cuts_off(tuple, event.key));
+        match reach {
+            Reach::From | Reach::Past => self.first_row(cut, point),
+            Reach::UpTo | Reach::Before => self.last_row(cut, point),
+        }
+    }
+
+    /// The first row whose key has its events from this place on.
+    fn first_row(&self, start: usize, point: u64) -> Option<(&'a str, &'a str)> {
+        for place in start..self.events.len() {
+            if let Some(row) = self.row_from(place, point) {
+                return Some(row);
+            }
+        }
+        None
+    }
+
+    /// The last row whose key has its events before this place.
+    fn last_row(&self, end: usize, point: u64) -> Option<(&'a str, &'a str)> {
+        for place in (0..end).rev() {
+            if let Some(row) = self.row_from(place, point) {
+                return Some(row);
+            }
+        }
+        None
+    }
+
+    /// The row of the key whose first event has this place, if it does and the key is there.
+    fn row_from(&self, place: usize, point: u64) -> Option<(&'a str, &'a str)> {
+        let event = self.events.get(place)?;
+        if event.key == self.key_before(place) {
+            return None;
+        }
+        Some((event.key, self.value_at(event.key, point)?))
+    }
+
+    /// The key of the event before this place; no key is empty.
+    fn key_before(&self, place: usize) -> &'a str {
+        if place == 0 {
+            return "";
+        }
+        match self.events.get(place - 1) {
+            Some(event) => event.key,
+            None => "",
+        }
     }
 }
 

@@ -6,11 +6,13 @@ mod asked;
 mod drawn;
 mod history;
 mod judging;
+mod keys;
 mod told;
 mod verdict;
 mod words;
 
 pub use asked::{Act, Index, Line, read_schema};
-pub use drawn::{draw, lane_text, lane_texts, schema_text, slices_of};
+pub use drawn::{draw, lane_text, lane_texts, schema_text, seek_lane_text, slices_of};
 pub use judging::{LIMITS, Lie, Limits, judge, judge_within, read_lanes};
+pub use keys::Reach;
 pub use told::COUNTS;

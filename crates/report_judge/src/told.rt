@@ -13,6 +13,7 @@ pub const COUNTS: &str =
 pub(crate) enum Said<'a> {
     Done,
     Found(&'a str),
+    Row(&'a str, &'a str),
     Absent,
     Duplicate,
     LogFull,
@@ -93,6 +94,11 @@ fn answer_of<'a>(line: Line<'a>, words: &[&'a str]) -> Option<Answer<'a>> {
         [number, "found", value, point, "-", "-"] => (
             *number,
             Said::Found(value),
+            Some(point_of(point)?),
+        ),
+        [number, "found", key, value, point, "-", "-"] => (
+            *number,
+            Said::Row(key, value),
             Some(point_of(point)?),
         ),
         [number, "absent", point, "-", "-"] => (*number, Said::Absent, Some(point_of(point)?)),

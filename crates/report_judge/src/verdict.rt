@@ -108,6 +108,12 @@ impl<'r, 'a> Evidence<'r, 'a> {
             (Act::Del, Said::Done) => self.is_listed(answer, point),
             (Act::Del, Said::Absent) => held.is_none(),
             (Act::Del, Said::LogFull) => is_full && held.is_some(),
+            (Act::Seek(reach), Said::Row(key, value)) => {
+                history.row_at(reach, answer.line.key, point) == Some((key, value))
+            }
+            (Act::Seek(reach), Said::Absent) => {
+                history.row_at(reach, answer.line.key, point).is_none()
+            }
             _ => false,
         }
     }
