@@ -1,5 +1,6 @@
 -- What the frame of a leaf tells of its index's map.
 use Rattle.std.proofs.Common.{◌≡◌, ℕ, true, refl, sym, ap, subst, ◌∙◌}
+use lib.ListN.{get_elem?}
 use Rattle.key_tuple.specs.Order.{FieldList}
 use Rattle.key_tuple.specs.KeyPlace.{At, within}
 use Rattle.map_history.specs.Map.{Ascends, slice, value_at, key_of, map_after}
@@ -8,13 +9,14 @@ use Rattle.map_history.proofs.WriteLemmas.{ascends-filter}
 use Rattle.index_page.specs.Page.{PageRows}
 use Rattle.tree_law.specs.GuessCheck.{IsLeaf}
 use Rattle.tree_law.specs.Pages.{row_pairs}
-use Rattle.tree_law.proofs.SearchLemmas.{leaf_rows, has_value}
+use Rattle.tree_law.specs.SearchLaws.{WalksFrom}
+use Rattle.tree_law.proofs.SearchLemmas.{leaf_rows, has_value, walks_find}
 use Rattle.index_law.specs.State.{changes}
 use Rattle.forest_law.specs.declared.objects.Frame.{Frame}
 use Rattle.forest_law.specs.State.{ForestState, page_within, pages_of, heights_of, maps_of, list_of, fields_for}
 use Rattle.forest_law.specs.Law.{IsLawful}
 use Rattle.tree_facts.specs.TreeFrames.{IsTreeFrame, low_of, high_of}
-use Rattle.tree_facts.specs.Leaves.{LeavesTellMaps}
+use Rattle.tree_facts.specs.Leaves.{LeavesTellMaps, LeavesLeadWalks}
 use Rattle.tree_facts.proofs.FrameLemmas.{tells_page}
 
 module _ (w : ForestState) (law : IsLawful w) (b : ℕ) (f : Frame) (page : PageRows)
@@ -55,3 +57,12 @@ leaves_tell_maps w law b f page is leaf xs list =
       ascend = subst Ascends (sym rows)
           (ascends-filter _ (map_after (changes xs)) (map_after-ascends (changes xs)));
     }
+
+pub leaves_lead_walks : LeavesLeadWalks
+leaves_lead_walks w law b f page is leaf xs list = subst
+    (λ m. WalksFrom (fields_for w.shape page.head.index) m (page_within page f.low f.high))
+    (ap (λ o. map_after (changes (list_of o))) list)
+    (walks_find w.shape.indexes (fields_for w.shape) (heights_of w.objects) (maps_of w.lists)
+    (pages_of w.shape w.objects) law.objects.pages page.head.index b
+    (page_within page f.low f.high) (is_leaf w law b f page is leaf)
+    (λ i. map_after-ascends (changes (list_of (get_elem? w.lists i)))))

@@ -1,13 +1,13 @@
--- The page after another.
+-- The pages beside another.
 use Rattle.std.proofs.Common.{sym, ap, subst, ◌∙◌}
 use Rattle.list_facts.proofs.Places.{same_some}
-use Rattle.tree_law.specs.TreeShape.{Tag, tag_of, map_tag, tag_at, NextFits}
+use Rattle.tree_law.specs.TreeShape.{Tag, tag_of, map_tag, tag_at, NextFits, PrevFits}
 use Rattle.tree_law.specs.Pages.{outline, forest}
 use Rattle.tree_law.proofs.NeighbourLemmas.{fore_link}
 use Rattle.tree_law.proofs.PlacingLemmas.{low_not_high}
 use Rattle.forest_law.specs.State.{page_within, pages_of, heights_of, fields_for}
 use Rattle.tree_facts.specs.TreeFrames.{low_of, high_of}
-use Rattle.tree_facts.specs.Neighbours.{NeighboursHaveFrames}
+use Rattle.tree_facts.specs.Neighbours.{NeighboursHaveFrames, PreviousHaveFrames}
 use Rattle.tree_facts.proofs.FrameLemmas.{tells_page, tree_outline, tagged_page}
 
 pub neighbours_have_frames : NeighboursHaveFrames
@@ -33,4 +33,23 @@ neighbours_have_frames w law b f page is m next = let trees = forest (pages_of w
       meets = has.low ∙ fits.2.meets;
       back = fore_link w.shape.indexes (heights_of w.objects) trees shape m b this
           (outline (page_within has.page has.frame.low has.frame.high)) there after next;
+    }
+
+pub previous_have_frames : PreviousHaveFrames
+previous_have_frames w law b f page is m prev = let trees = forest (pages_of w.shape w.objects) in
+    let shape = law.objects.pages.shape in
+    let this = outline (page_within page f.low f.high) in
+    let there = tree_outline w law b f page is in
+    let fits = subst (PrevFits trees (tag_of this)) prev (shape.prevs b this there) in
+    let has = tagged_page w law m fits.0 fits.1 in
+    record {
+      frame = has.frame;
+      former = has.page;
+      is = has.is;
+      index = has.index ∙ sym fits.2.index;
+      level = has.at_level ∙ sym fits.2.level;
+      other = λ e. low_not_high (low_of f) (high_of f) (shape.pages b this there).bounds
+          (fits.2.meets ∙ sym (ap (λ (t : Tag). t.high) (same_some (tag_of this) fits.0
+          (sym (ap map_tag there) ∙ (ap (tag_at trees) (sym e) ∙ fits.1)))));
+      meets = has.high ∙ sym fits.2.meets;
     }

@@ -7,9 +7,10 @@ use Rattle.key_tuple.specs.KeyPlace.{At, within}
 use Rattle.map_history.specs.Map.{MapChange, Ascends, slice, value_at, key_of, is_allowed, map_after}
 use Rattle.index_page.specs.Page.{PageRows}
 use Rattle.tree_law.specs.Pages.{row_pairs}
+use Rattle.tree_law.specs.SearchLaws.{WalksFrom}
 use Rattle.index_law.specs.State.{Entries, changes}
 use Rattle.forest_law.specs.declared.objects.Frame.{Frame}
-use Rattle.forest_law.specs.State.{ForestState}
+use Rattle.forest_law.specs.State.{ForestState, fields_for, page_within}
 use Rattle.forest_law.specs.Law.{IsLawful}
 use Rattle.tree_facts.specs.TreeFrames.{IsTreeFrame, low_of, high_of}
 
@@ -29,3 +30,11 @@ LeavesTellMaps =
     (w : ForestState) → IsLawful w → (b : ℕ) (f : Frame) (page : PageRows) → IsTreeFrame w b f page
     → page.head.level ≡ 0 → (xs : Entries) → get_elem? w.lists page.head.index ≡ some xs
     → TellsMap f page xs
+
+-- and a walk from a leaf of the trees, over leaves without a row that counts, finds what the map has
+abbrev pub LeavesLeadWalks : Type 0
+LeavesLeadWalks =
+    (w : ForestState) → IsLawful w → (b : ℕ) (f : Frame) (page : PageRows) → IsTreeFrame w b f page
+    → page.head.level ≡ 0 → (xs : Entries) → get_elem? w.lists page.head.index ≡ some xs
+    → WalksFrom (fields_for w.shape page.head.index) (map_after (changes xs))
+    (page_within page f.low f.high)

@@ -1,4 +1,4 @@
--- What a frame tells of the page after its own.
+-- What a frame tells of the pages beside its own.
 use Rattle.std.specs.Prelude.{ℕ, ◌≡◌, ◌≢◌, Some}
 use Rattle.index_page.specs.Page.{PageRows}
 use Rattle.forest_law.specs.declared.objects.Frame.{Frame}
@@ -25,3 +25,21 @@ abbrev pub NeighboursHaveFrames : Type 0
 NeighboursHaveFrames =
     (w : ForestState) → IsLawful w → (b : ℕ) (f : Frame) (page : PageRows) → IsTreeFrame w b f page
     → (m : ℕ) → page.head.next ≡ Some m → HasNextPage w b f page m
+
+-- the frame of the block m, which is another, has the page before that of the frame f: one of the
+-- trees, of the same index and level, that ends where that one begins
+pub record HasPreviousPage (w : ForestState) (b : ℕ) (f : Frame) (page : PageRows)
+    (m : ℕ) : Type 0 where
+  pub frame : Frame
+  pub former : PageRows
+  pub is : IsTreeFrame w m frame former
+  pub index : former.head.index ≡ page.head.index
+  pub level : former.head.level ≡ page.head.level
+  pub other : m ≢ b
+  pub meets : high_of frame ≡ low_of f
+
+-- the page before one of the trees is in the frame of its number
+abbrev pub PreviousHaveFrames : Type 0
+PreviousHaveFrames =
+    (w : ForestState) → IsLawful w → (b : ℕ) (f : Frame) (page : PageRows) → IsTreeFrame w b f page
+    → (m : ℕ) → page.head.prev ≡ Some m → HasPreviousPage w b f page m
