@@ -1,0 +1,2 @@
+pub mod NeighbourLemmas
+pub mod PairLemmas
