@@ -19,7 +19,7 @@ use Rattle.index_engine.specs.Says.{SeesFull, TellsMost, AsksOf, CanSay}
 use Rattle.index_engine.specs.Tells.{HasKeyOf}
 
 -- a word that says what the map replies
-says_word : (m : Map) (ask : Ask) (reply : Reply) (row : Pair) → Says m ask reply row
+pub says_word : (m : Map) (ask : Ask) (reply : Reply) (row : Pair) → Says m ask reply row
     → reply_word ask reply row ≡ Some (Gives (reply_of m ask))
 says_word m ask words.Found row says = ap gives says
 says_word m ask words.Absent row says = ap gives says

@@ -14,3 +14,11 @@ pub mod WayLemmas
 pub mod RoomLemmas
 pub mod TryLemmas
 pub mod DelLemmas
+pub mod SpotLemmas
+pub mod PassingLemmas
+pub mod SawLemmas
+pub mod TellingLemmas
+pub mod SeekTraceLemmas
+pub mod SeekHandLemmas
+pub mod StandLemmas
+pub mod StepLemmas

@@ -74,7 +74,7 @@ says_made p q i change row told point is written =
     })
 
 -- what was only said spares the trees
-said_spares : (shape : Shape) (s : Added) → IsOnlySaid s → SparesTrees shape s
+pub said_spares : (shape : Shape) (s : Added) → IsOnlySaid s → SparesTrees shape s
 said_spares shape s only = record {
   refused = subst (AllByRecursion (λ (f : Refusal Object). IsNoTree shape f.object))
       (sym only.refused) tt;

@@ -1,10 +1,11 @@
 -- What a clause says of an engine and its passes.
-use Rattle.std.specs.Prelude.{ℕ, ◌≡◌, length}
+use Rattle.std.specs.Prelude.{ℕ, ◌≡◌, ◌≤◌, length}
 use mathlib.Core.Option.{some}
 use lib.ListN.{get_elem?}
 use Rattle.key_tuple.specs.Order.{FieldList}
 use Rattle.latch_space.specs.Passes.{view, IsSamePass}
 use Rattle.latch_space.specs.Spaces.{IsPassOf}
+use Rattle.forest_law.specs.State.{fields_for}
 use Rattle.call_law.specs.Spoken.{View}
 use Rattle.index_engine.specs.declared.engine.Engine.{Engine}
 use Rattle.index_engine.specs.declared.engine.EnginePass.{EnginePass}
@@ -29,3 +30,7 @@ indexes_of engine = engine.space.terms.indexes
 -- the key has as many fields as those of the index
 abbrev pub FitsKey : Engine → ℕ → FieldList → Type 0
 FitsKey engine i key = get_elem? engine.space.terms.shape.fields i ≡ some (length key)
+
+-- the tuple has at most as many fields as the keys of the index
+abbrev pub FitsTuple : Engine → ℕ → FieldList → Type 0
+FitsTuple engine i tuple = length tuple ≤ fields_for engine.space.terms.shape i

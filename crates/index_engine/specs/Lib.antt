@@ -6,3 +6,7 @@ pub mod Says
 pub mod Commits
 pub mod Changes
 pub mod Writes
+pub mod SeekTraces
+pub mod Seeks
+pub mod SeekHands
+pub mod SeekSteps

@@ -4,12 +4,15 @@ ghost use Rattle.map_history.specs.Map as map;
 ghost use Rattle.map_history.specs.Operation as asked;
 ghost use Rattle.index_law.specs.Meanings.{lent_row};
 ghost use Rattle.index_engine.specs.Engines.{known, IsOf, IsSame, indexes_of, FitsKey};
+ghost use Rattle.index_engine.specs.Engines.{FitsTuple};
+ghost use Rattle.index_engine.specs.SeekTraces.{TellsOfSeek};
 ghost use Rattle.index_engine.specs.Traces.{TellsByLeaf, TellsOfDel, TellsOfWrite, GivesUp};
 
 use crate::engine::{Engine, EnginePass};
+use crate::seek_call::SeekCall;
 use crate::tree_call::TreeCall;
 use crate::write::Write;
-use key_tuple::{Key, NoMemory, Value};
+use key_tuple::{Key, Mode, NoMemory, Tuple, Value};
 use map_history::{Reply, RowBuf, Told};
 use std::sync::Wait;
 
@@ -32,6 +35,34 @@ impl Engine {
         ensures kept { result.reply ≢ Reply.Found → out.new ≡ out.old }
     {
         self.call(index, key, wait).get(&mut pass.world, out)
+    }
+
+    /// The row that the mode asks for: `Found`, with the row in `out`, or `Absent`. One that isn't
+    /// on the leaf of the tuple's position is looked for on the leaves beside it.
+    pub fn seek<R: Wait>(
+        &self,
+        pass: &mut EnginePass,
+        index: u32,
+        mode: Mode,
+        tuple: &Tuple,
+        out: &mut RowBuf,
+        wait: &R,
+    ) -> Told
+        requires own { IsOf self.now pass.old }
+        requires index { index < indexes_of self.now }
+        requires tuple { FitsTuple self.now index tuple.now }
+        ensures own { IsSame pass.old pass.new × IsOf self.now pass.new }
+        ensures told { TellsOfSeek (known pass.old) (known pass.new) index mode tuple.now result
+            out.new }
+    {
+        let call = SeekCall {
+            space: &self.space,
+            index,
+            mode,
+            tuple,
+            wait,
+        };
+        call.seek(&mut pass.world, out)
     }
 
     /// A new row: `Ok`, `Duplicate` where the key is there, `LogFull` where the index has had all

@@ -12,11 +12,15 @@ mod error;
 mod getting;
 mod growing;
 mod holding;
+mod looking;
 mod opening;
 mod putting;
 mod saying;
+mod seek_call;
+mod seeking;
 mod setting;
 mod tree_call;
+mod walking;
 mod write;
 mod writing;
 

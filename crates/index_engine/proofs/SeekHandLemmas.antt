@@ -1,0 +1,159 @@
+-- What a seek has in hand along its way.
+use Rattle.std.proofs.Common.{◌≡◌, ◌≢◌, inl, inr, ℕ, ◌+◌, ◌<◌, List, [], ◌∷◌, length, sym, ap, subst, ◌∙◌, arith, refl, Option, Some, None}
+use Rattle.std.specs.List.{AllByRecursion}
+use Rattle.std.proofs.lemmas.Bool.{cases_eq}
+use mathlib.Core.Option.{some, some-injective}
+use lib.ListN.{get_elem?}
+use Rattle.list_facts.proofs.Places.{same_some}
+use Rattle.key_tuple.specs.Order.{FieldList}
+use Rattle.key_tuple.specs.declared.mode.Mode.{Mode}
+use Rattle.latch_law.specs.declared.knows.Holding.{Holding}
+use Rattle.latch_law.specs.declared.knows.Terms.{Terms}
+use Rattle.latch_law.specs.Views.{holding}
+use Rattle.latch_space.specs.Has.{SameHands, IsKnown}
+use Rattle.latch_space.specs.Passes.{view, count}
+use Rattle.index_page.specs.Page.{PageRows}
+use Rattle.index_law.specs.Shape.{Shape}
+use Rattle.forest_law.specs.declared.objects.Frame.{Frame}
+use Rattle.forest_law.specs.declared.objects.Object.{Object}
+use Rattle.forest_law.specs.declared.objects.Object.TheVariants as object
+use Rattle.forest_law.specs.Numbers.{pool_id, frame_id, frames_of}
+use Rattle.forest_law.proofs.ObjectLemmas.{same_frame}
+use Rattle.forest_world.specs.Held.{TreePass, shape_of_pass}
+use Rattle.call_law.specs.Hands.{KnowsFrame, HoldsNoFrameBut, HoldsNoPool, HoldsTheRest}
+use Rattle.call_law.specs.Spoken.{View}
+use Rattle.buffer_pool.specs.Calls.{DoesSilently}
+use Rattle.buffer_pool.specs.Frames.{GivesFrame}
+use Rattle.buffer_pool.specs.Hands.{HoldsKnownFrame}
+use Rattle.buffer_pool.specs.Pages.{HasTreePage}
+use Rattle.tree_law.specs.Pages.{IsOrderly}
+use Rattle.forest_law.specs.State.{page_within, fields_for}
+use Rattle.tree_descent.specs.Ways.{HoldsPage}
+use Rattle.buffer_pool.proofs.AddedLemmas.{rest_but_one}
+use Rattle.buffer_pool.proofs.CallLemmas.{frame_has, gave_frame}
+use Rattle.index_engine.specs.SeekHands.{HoldsLeavesAlone}
+
+-- one frame is known of a block
+pub one_frame : (v : View) (b : ℕ) (f g : Frame) → KnowsFrame v b f → KnowsFrame v b g → f ≡ g
+one_frame v b f g first second = same_frame f g
+    (ap (λ (h : Holding Object). h.known)
+    (same_some (holding first.0 (object.Frame f)) (holding second.0 (object.Frame g))
+    (some-injective (Some (holding first.0 (object.Frame f)))
+    (Some (holding second.0 (object.Frame g))) (sym first.1 ∙ second.1))))
+
+-- what is given back of a block is the frame that it was known to have
+pub gave_known : (p q : TreePass) (b : ℕ) (f : Frame) → KnowsFrame (view p) b f
+    → (gave : GivesFrame p b q) → f ≡ gave.frame
+gave_known p q b f knows gave =
+    one_frame (view p) b f gave.frame knows (gave.taken, gave.held)
+
+-- so it has the same page
+pub gave_page : (p q : TreePass) (b i : ℕ) (f : Frame) → KnowsFrame (view p) b f
+    → HasTreePage b f i 0 → (gave : GivesFrame p b q) → HasTreePage b gave.frame i 0
+gave_page p q b i f knows is gave =
+    subst (λ g. HasTreePage b g i 0) (gave_known p q b f knows gave) is
+
+module _ (p q : TreePass) where
+  -- what is held after a call that takes frames
+  pub only_then : (bs cs ks : List ℕ) → HoldsLeavesAlone p bs → DoesSilently p q ks
+      → ((c : ℕ) → AllByRecursion (λ (b : ℕ). c ≢ b) cs
+      → AllByRecursion (λ (b : ℕ). c ≢ b) bs
+      × AllByRecursion (λ (k : ℕ). frame_id (shape_of_pass p) c ≢ k) ks)
+      → AllByRecursion (λ (k : ℕ). pool_id ≢ k) ks → count q ≡ length cs → HoldsLeavesAlone q cs
+  only_then bs cs ks only silently apart pool counted =
+      let same = silently.does.adds.numbers.terms in record {
+        known = silently.does.known;
+        frames = subst
+            (λ (t : Terms Shape). (c : ℕ) → c < frames_of t.shape
+            → AllByRecursion (λ (b : ℕ). c ≢ b) cs
+            → get_elem? (view q).held (frame_id t.shape c) ≡ some None) (sym same)
+            (λ c below other. silently.does.rest (frame_id (shape_of_pass p) c)
+            (apart c other).1 ∙ only.frames c below (apart c other).0);
+        pool = silently.does.rest pool_id pool ∙ only.pool;
+        count = counted;
+      }
+
+  -- a frame was given back
+  pub only_gave : (b : ℕ) (cs : List ℕ) → HoldsLeavesAlone p (b ∷ cs) → GivesFrame p b q
+      → HoldsLeavesAlone q cs
+  only_gave b cs only gave = record {
+    known = (gave_frame p q only.known b gave).known;
+    frames = λ c below other. elim (cases_eq c b) [
+      | inl is ↦ subst (λ n. get_elem? (view q).held (frame_id (shape_of_pass q) n) ≡ some None)
+          (sym is) gave.lacks
+      | inr ne ↦ gave.hand.lacks c ne (only.frames c
+          (subst (λ (t : Terms Shape). c < frames_of t.shape) gave.hand.terms below) (ne, other))
+    ];
+    pool = (gave.hand.others pool_id (λ e. omega (arith, e))).0 ∙ only.pool;
+    count = (let was = only.count in let now = gave.count in omega (arith, was, now));
+  }
+
+  -- or nothing but a step on a list was made
+  pub only_same : (bs : List ℕ) → HoldsLeavesAlone p bs → SameHands p q
+      → (view q).terms ≡ (view p).terms → HoldsLeavesAlone q bs
+  only_same bs only same terms = record {
+    known = λ j h held. ap (λ vs. get_elem? vs j) same.values
+        ∙ only.known j h (ap (λ hs. get_elem? hs j) (sym same.held) ∙ held);
+    frames = subst
+        (λ (t : Terms Shape). (c : ℕ) → c < frames_of t.shape
+        → AllByRecursion (λ (b : ℕ). c ≢ b) bs
+        → get_elem? (view q).held (frame_id t.shape c) ≡ some None) (sym terms)
+        (λ c below other. ap (λ hs. get_elem? hs (frame_id (shape_of_pass p) c)) same.held
+        ∙ only.frames c below other);
+    pool = ap (λ hs. get_elem? hs pool_id) same.held ∙ only.pool;
+    count = same.count ∙ only.count;
+  }
+
+  -- a frame is known still
+  pub knows_same : (b : ℕ) (f : Frame) → (view q).held ≡ (view p).held
+      → (view q).terms ≡ (view p).terms → KnowsFrame (view p) b f → KnowsFrame (view q) b f
+  knows_same b f held terms knows = (
+    knows.0,
+    ap (λ (t : Terms Shape). get_elem? (view q).held (frame_id t.shape b)) terms
+        ∙ (ap (λ hs. get_elem? hs (frame_id (shape_of_pass p) b)) held ∙ knows.1),
+  )
+
+  -- and so it is where another one is given back
+  pub knows_gave : (b c : ℕ) (f : Frame) → c ≢ b → GivesFrame p b q → KnowsFrame (view p) c f
+      → KnowsFrame (view q) c f
+  knows_gave b c f ne gave knows = (
+    knows.0,
+    ap (λ (t : Terms Shape). get_elem? (view q).held (frame_id t.shape c)) gave.hand.terms
+        ∙ ((gave.hand.others (frame_id (shape_of_pass p) c) (λ e. ne (omega (arith, e)))).0
+        ∙ knows.1),
+  )
+
+-- no block is held twice
+pub frames_apart : (shape : Shape) (b c : ℕ) → c ≢ b → frame_id shape c ≢ frame_id shape b
+frames_apart shape b c ne e = ne (omega (arith, e))
+
+module _ (p q : TreePass) (i : ℕ) where
+  -- a leaf that is held is held still after a step on a list
+  pub page_same : (b : ℕ) → SameHands p q → (view q).terms ≡ (view p).terms
+      → HoldsPage (view p) b i 0 → HoldsPage (view q) b i 0
+  page_same b same terms holds = record {
+    frame = holds.frame;
+    knows = knows_same p q b holds.frame same.held terms holds.knows;
+    is = holds.is;
+    order = subst
+        (λ (t : Terms Shape). IsOrderly (fields_for t.shape)
+        (page_within holds.is.page holds.frame.low holds.frame.high)) (sym terms) holds.order;
+  }
+
+  -- and after another one is given back
+  unfoldable pub page_gave : (b c : ℕ) → c ≢ b → GivesFrame p b q → HoldsPage (view p) c i 0
+      → HoldsPage (view q) c i 0
+  page_gave b c ne gave holds = record {
+    frame = holds.frame;
+    knows = knows_gave p q b c holds.frame ne gave holds.knows;
+    is = holds.is;
+    order = subst
+        (λ (t : Terms Shape). IsOrderly (fields_for t.shape)
+        (page_within holds.is.page holds.frame.low holds.frame.high)) (sym gave.hand.terms)
+        holds.order;
+  }
+
+-- a frame that is known may be given back
+pub may_leave : (p : TreePass) (bs : List ℕ) (b : ℕ) (f : Frame) → HoldsLeavesAlone p bs
+    → KnowsFrame (view p) b f → HoldsKnownFrame p b
+may_leave p bs b f only knows = (f, frame_has p only.known b f knows)

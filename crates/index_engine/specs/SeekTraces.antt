@@ -1,0 +1,56 @@
+-- What a seek leaves behind: the way that it went, and the leaves beside.
+use Rattle.std.specs.Prelude.{ℕ, ◌≡◌, List, ◌∷◌, ◌++◌}
+use Rattle.std.specs.List.{AllByRecursion}
+use Rattle.key_tuple.specs.Order.{FieldList}
+use Rattle.key_tuple.specs.declared.mode.Mode.{Mode}
+use Rattle.latch_law.specs.declared.knows.Reference.{Reference}
+use Rattle.latch_law.specs.Whole.{reference}
+use Rattle.map_history.specs.declared.reply.Told.{Told}
+use Rattle.map_history.specs.Map.{Pair}
+use Rattle.map_history.specs.Operation.{Seek}
+use Rattle.index_law.specs.Shape.{Shape}
+use Rattle.forest_law.specs.declared.objects.Frame.{Frame}
+use Rattle.forest_law.specs.declared.objects.Object.{Object}
+use Rattle.forest_law.specs.declared.objects.Object.TheVariants as object
+use Rattle.forest_law.specs.Numbers.{frame_id}
+use Rattle.call_law.specs.Spoken.{View}
+use Rattle.call_law.specs.Trace.{SparesTrees}
+use Rattle.buffer_pool.specs.Pages.{HasTreePage}
+use Rattle.tree_descent.specs.Leaves.{cut_in}
+use Rattle.tree_descent.specs.Paths.{LeadFromRoot}
+use Rattle.index_engine.specs.Tells.{TellsOnce}
+
+-- the reference is of a frame that had a leaf of the index when it was given back
+pub record IsLeafReference (shape : Shape) (i : ℕ) (q : Reference Object) : Type 0 where
+  pub block : ℕ
+  pub taken : Object
+  pub frame : Frame
+  pub is : q ≡ reference (frame_id shape block) taken (object.Frame frame)
+  pub page : HasTreePage block frame i 0
+
+-- the references of the leaf in the block, and then of leaves beside it
+pub record BeginOnLeaf (shape : Shape) (i block : ℕ) (qs : List (Reference Object)) : Type 0 where
+  pub taken : Object
+  pub released : Object
+  pub beside : List (Reference Object)
+  pub is : qs ≡ reference (frame_id shape block) taken released ∷ beside
+  pub each : AllByRecursion (IsLeafReference shape i) beside
+
+-- the last references lead from the root to the leaf with the tuple's position, and go on over
+-- leaves beside it; those before are of ways that were left
+pub record EndsOnLeaves (shape : Shape) (i : ℕ) (mode : Mode) (tuple : FieldList)
+    (qs : List (Reference Object)) : Type 0 where
+  pub vain : List (Reference Object)
+  pub path : List (Reference Object)
+  pub leaves : List (Reference Object)
+  pub block : ℕ
+  pub is : qs ≡ vain ++ path ++ leaves
+  pub leads : LeadFromRoot shape (cut_in shape i mode tuple) i 0 block path
+  pub begin : BeginOnLeaf shape i block leaves
+
+-- the answer was told by leaves to which a way led, and no tree was taken
+pub record TellsOfSeek (v v' : View) (i : ℕ) (mode : Mode) (tuple : FieldList) (told : Told)
+    (row : Pair) : Type 0 where
+  pub tells : TellsOnce v v' i (Seek mode tuple) told row
+  pub ends : EndsOnLeaves v.terms.shape i mode tuple tells.once.added.references
+  pub spares : SparesTrees v.terms.shape tells.once.added
