@@ -7,7 +7,6 @@ use Rattle.std.specs.Option.{ForSome, IsSomeAnd}
 use Rattle.std.specs.Prelude.{slice_index}
 use mathlib.Core.Option.{some}
 use lib.ListN.{get_elem?}
-use Rattle.key_tuple.specs.Order.{FieldList}
 use Rattle.io_port.specs.Faults.{ShowsFault}
 use Rattle.io_port.specs.Shelf.{Files}
 use Rattle.map_history.specs.declared.op.Op.{Op}
@@ -17,7 +16,7 @@ use Rattle.map_history.specs.LegalReport.{Line}
 use Rattle.script.specs.declared.TheConstants.{MAX_FILE_BYTES}
 use Rattle.map_history.specs.declared.line.Line as script
 use Rattle.script.specs.Schema.{SchemaText, schema_of}
-use Rattle.script.specs.Lane.{lane_of, AreLaneLines, HasKey}
+use Rattle.script.specs.Lane.{lane_of, AreLaneLines, FitsFields}
 use Rattle.map_history.specs.Lines.{line_texts}
 use Rattle.lane_work.specs.Workable.{IsOpOf, AreLinesOf}
 use Rattle.ahi_cli.specs.declared.stop.Stop.{Stop}
@@ -57,24 +56,24 @@ long_lane file before schema bytes fits long =
     let e : ltb MAX_FILE_BYTES (before + length bytes) ≡ true = grind (arith, nat_tests) in
     ap (λ b. cond b (Some (TooLarge file)) (stop_in file (lane_of schema bytes))) e
 
--- the key of an operation has as many fields as its index
+-- the key of an operation has as many fields as its index, and a tuple no more
 key_of : (fields : List ℕ) (index n : ℕ) → index < length fields → n ≡ slice_index fields index → get_elem? fields index ≡ some n
 key_of [] index n below e = absurd (omega arith)
 key_of (f ∷ fields) zero n below e = ap some (sym e)
 key_of (f ∷ fields) (suc index) n below e = key_of fields index n (omega arith) e
 
-op_of : (fields : List ℕ) (o : Op) (key : FieldList) → HasKey (operation_of o).ask key → (operation_of o).index < length fields → length key ≡ slice_index fields (operation_of o).index → IsOpOf fields o
-op_of fields (op.Get index k) key about below e = key_of fields index (length k.tuple) below (ap length about ∙ e)
-op_of fields (op.Put index k value) key about below e = key_of fields index (length k.tuple) below (ap length about ∙ e)
-op_of fields (op.Set index k value) key about below e = key_of fields index (length k.tuple) below (ap length about ∙ e)
-op_of fields (op.Del index k) key about below e = key_of fields index (length k.tuple) below (ap length about ∙ e)
-op_of fields (op.Seek index mode tuple) key about below e = absurd about
-op_of fields (op.Scan index from to limit) key about below e = absurd about
+op_of : (fields : List ℕ) (o : Op) → (operation_of o).index < length fields → FitsFields (slice_index fields (operation_of o).index) (operation_of o).ask → IsOpOf fields o
+op_of fields (op.Get index k) below e = key_of fields index (length k.tuple) below e
+op_of fields (op.Put index k value) below e = key_of fields index (length k.tuple) below e
+op_of fields (op.Set index k value) below e = key_of fields index (length k.tuple) below e
+op_of fields (op.Del index k) below e = key_of fields index (length k.tuple) below e
+op_of fields (op.Seek index mode tuple) below e = (slice_index fields index, key_of fields index (slice_index fields index) below refl, e)
+op_of fields (op.Scan index from to limit) below e = absurd e
 
 -- the lines of a lane ask what its schema's indexes can be asked
 pub lines_ask : (schema : SchemaText) (lines : List script.Line) → length schema.fields ≡ length schema.names → AreLaneLines schema (line_texts lines) → AreLinesOf schema.fields lines
 lines_ask schema [] paired all = tt
-lines_ask schema (line ∷ lines) paired all = (op_of schema.fields line.op all.0.key all.0.about (omega (arith, all.0.known, paired)) all.0.fields, lines_ask schema lines paired all.1)
+lines_ask schema (line ∷ lines) paired all = (op_of schema.fields line.op (omega (arith, all.0.known, paired)) all.0.fields, lines_ask schema lines paired all.1)
 
 -- what stops the schema stops the reading
 pub unread_schema : (told : Option Files) (failures : Failures) (names : List ℕ × List (List ℕ)) (stop : Stop) → StopsFile told failures 0 names.0 schema_stop stop → StopsReading told failures (file_names names) stop

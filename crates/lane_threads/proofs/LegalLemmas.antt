@@ -39,7 +39,7 @@ plain_op fields (op.Get index key) can = refl
 plain_op fields (op.Put index key value) can = refl
 plain_op fields (op.Set index key value) can = refl
 plain_op fields (op.Del index key) can = refl
-plain_op fields (op.Seek index mode tuple) can = absurd can
+plain_op fields (op.Seek index mode tuple) can = refl
 plain_op fields (op.Scan index from to limit) can = absurd can
 
 plain_lines : (fields : List ℕ) (lines : List Line) → AreLinesOf fields lines → AllByRecursion (λ (line : legal.Line). is_scan line.op.ask ≡ false) (line_texts lines)

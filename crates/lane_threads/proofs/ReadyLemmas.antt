@@ -15,6 +15,7 @@ use Rattle.map_history.specs.declared.op.Op.TheVariants as op
 use Rattle.map_history.specs.declared.sizes.Sizes.{Sizes}
 use Rattle.map_history.specs.declared.line.Line.{Line}
 use Rattle.index_law.specs.Shape.{Shape}
+use Rattle.forest_law.specs.State.{or_zero, fields_for}
 use Rattle.index_engine.specs.declared.engine.Engine.{Engine}
 use Rattle.index_engine.specs.declared.engine.EnginePass.{EnginePass}
 use Rattle.forest_world.specs.Opening.{forest_terms}
@@ -47,7 +48,7 @@ op_prop engine (op.Get index key) = ×_prop le_prop (is_set (Coded-set coded_ℕ
 op_prop engine (op.Put index key value) = ×_prop le_prop (is_set (Coded-set coded_ℕ) _ _)
 op_prop engine (op.Set index key value) = ×_prop le_prop (is_set (Coded-set coded_ℕ) _ _)
 op_prop engine (op.Del index key) = ×_prop le_prop (is_set (Coded-set coded_ℕ) _ _)
-op_prop engine (op.Seek index mode tuple) = λ x. absurd x
+op_prop engine (op.Seek index mode tuple) = ×_prop le_prop le_prop
 op_prop engine (op.Scan index from to limit) = λ x. absurd x
 
 lines_prop : (engine : Engine) (lines : List Line) → IsProp (AreWorkable engine lines)
@@ -69,7 +70,13 @@ module _ (engine : Engine) (sizes : Sizes) (fields : List ℕ) (lanes : ℕ) (te
   workable_op (op.Put index key value) can = let below = inside fields index (length key.tuple) can in let count = ap (λ (t : Terms Shape). t.indexes) terms in (omega (arith, below, count), ap (λ (t : Terms Shape). get_elem? t.shape.fields index) terms ∙ can)
   workable_op (op.Set index key value) can = let below = inside fields index (length key.tuple) can in let count = ap (λ (t : Terms Shape). t.indexes) terms in (omega (arith, below, count), ap (λ (t : Terms Shape). get_elem? t.shape.fields index) terms ∙ can)
   workable_op (op.Del index key) can = let below = inside fields index (length key.tuple) can in let count = ap (λ (t : Terms Shape). t.indexes) terms in (omega (arith, below, count), ap (λ (t : Terms Shape). get_elem? t.shape.fields index) terms ∙ can)
-  workable_op (op.Seek index mode tuple) can = absurd can
+  workable_op (op.Seek index mode tuple) can =
+      let below = inside fields index can.0 can.1 in
+      let count = ap (λ (t : Terms Shape). t.indexes) terms in
+      let as_many : fields_for engine.space.terms.shape index ≡ can.0 =
+      ap (λ (t : Terms Shape). fields_for t.shape index) terms ∙ ap or_zero can.1 in
+      let fits = can.2 in
+      (omega (arith, below, count), omega (arith, as_many, fits))
   workable_op (op.Scan index from to limit) can = absurd can
 
   -- the lines of a schema can be worked by an engine for it

@@ -76,7 +76,7 @@ workable_plain engine line can = pick line.op can
     pick (op.Put index key value) c = refl
     pick (op.Set index key value) c = refl
     pick (op.Del index key) c = refl
-    pick (op.Seek index mode tuple) c = absurd c
+    pick (op.Seek index mode tuple) c = refl
     pick (op.Scan index from to limit) c = absurd c
 
 -- and its index is one that the pass knows
@@ -91,7 +91,7 @@ workable_seen engine pass line own can = sees_each pass.world (line_text line).o
     pick (op.Put index key value) c = let b = c.0 in omega (arith, b, terms)
     pick (op.Set index key value) c = let b = c.0 in omega (arith, b, terms)
     pick (op.Del index key) c = let b = c.0 in omega (arith, b, terms)
-    pick (op.Seek index mode tuple) c = absurd c
+    pick (op.Seek index mode tuple) c = let b = c.0 in omega (arith, b, terms)
     pick (op.Scan index from to limit) c = absurd c
 
 -- the lines up to and with the one at a place

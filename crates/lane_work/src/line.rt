@@ -32,6 +32,7 @@ pub(crate) fn work_line<R: Wait>(
         Op::Put { index, key, value } => engine.put(pass, *index, key, value, wait),
         Op::Set { index, key, value } => engine.set(pass, *index, key, value, wait),
         Op::Del { index, key } => Ok(engine.del(pass, *index, key, wait)),
-        Op::Seek { .. } | Op::Scan { .. } => unreachable!(),
+        Op::Seek { index, mode, tuple } => Ok(engine.seek(pass, *index, *mode, tuple, row, wait)),
+        Op::Scan { .. } => unreachable!(),
     }
 }
