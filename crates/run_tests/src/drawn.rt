@@ -27,7 +27,13 @@ fn lanes_are_drawn_by_their_numbers(rt: HostRuntime) {
 }
 
 /// Verbs, and how many lines of 400 each has at least.
-const VERBS: [(&str, u64); 4] = [("get ", 80), ("put ", 80), ("set ", 40), ("del ", 70)];
+const VERBS: [(&str, u64); 5] = [
+    ("get ", 60),
+    ("seek ", 40),
+    ("put ", 60),
+    ("set ", 30),
+    ("del ", 70),
+];
 
 /// Whether a drawn lane has so many lines of each verb.
 fn has_each_verb(alloc: Global) -> Option<bool> {

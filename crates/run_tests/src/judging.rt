@@ -4,3 +4,4 @@ mod dealt;
 mod forms;
 mod full;
 mod lies;
+mod sought;

@@ -24,6 +24,8 @@ mod rows;
 #[cfg(test)]
 mod schema_sizes;
 #[cfg(test)]
+mod seeks;
+#[cfg(test)]
 mod setup;
 #[cfg(test)]
 mod together;

@@ -6,7 +6,7 @@ use std::sync::Wait;
 use std::thread::Threads;
 
 /// A schema, a lane, and its report from the answers up to the statistics.
-const REPORTS: [(&str, &str, &str); 6] = [
+const REPORTS: [(&str, &str, &str); 7] = [
     (SCHEMA, "", "changes t 0\n"),
     (
         SCHEMA,
@@ -28,6 +28,11 @@ const REPORTS: [(&str, &str, &str); 6] = [
         "index t 2\n",
         "put t ab,~ 1\nput t a,%00 2\nput t a,~ 3\nget t ab,~\nget t a,%00\nget t a,~\n",
         "1 ok @1 - -\n2 ok @2 - -\n3 ok @3 - -\n4 found 1 @3 - -\n5 found 2 @3 - -\n6 found 3 @3 - -\nchanges t 3\n1 1 1 put ab,~ 1\n2 1 2 put a,%00 2\n3 1 3 put a,~ 3\n",
+    ),
+    (
+        "index t 3\n",
+        "put t a,x,1 p\nput t a,x,2 q\nput t a,y,1 r\nput t a,y,2 s\nseek t ge a,y\nseek t g a,x\nseek t le a,x\nseek t l a,y,1\nseek t ge a\nseek t l a\n",
+        "1 ok @1 - -\n2 ok @2 - -\n3 ok @3 - -\n4 ok @4 - -\n5 found a,y,1 r @4 - -\n6 found a,y,1 r @4 - -\n7 found a,x,2 q @4 - -\n8 found a,x,2 q @4 - -\n9 found a,x,1 p @4 - -\n10 absent @4 - -\nchanges t 4\n1 1 1 put a,x,1 p\n2 1 2 put a,x,2 q\n3 1 3 put a,y,1 r\n4 1 4 put a,y,2 s\n",
     ),
 ];
 

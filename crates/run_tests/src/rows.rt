@@ -83,6 +83,19 @@ pub(crate) fn add_asks(
     add_lines(alloc, lane, numbers, before.as_str(), "")
 }
 
+/// Adds a seek with this mode by the key of each row.
+pub(crate) fn add_seeks(
+    alloc: Global,
+    lane: &mut String,
+    numbers: Numbers,
+    look: Look,
+    mode: &str,
+) -> Option<()> {
+    let key = bytes_of(alloc, 'k', look.before)?;
+    let before = format!(in alloc; "seek t {mode} {key}").ok()?;
+    add_lines(alloc, lane, numbers, before.as_str(), "")
+}
+
 /// A put of each row, and then a get of each.
 pub(crate) fn puts_and_gets(alloc: Global, numbers: Numbers, look: Look) -> Option<String> {
     let mut lane = String::new(alloc);

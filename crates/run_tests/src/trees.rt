@@ -21,7 +21,10 @@ fn counted(report: &[u8]) -> Option<u64> {
 }
 
 /// How many changes these lanes make, where they are done and their report is legal.
-fn changes_of<R: AllocGlobal + Threads + Wait + Sync>(rt: &R, lanes: &[&str]) -> Option<u64> {
+pub(crate) fn changes_of<R: AllocGlobal + Threads + Wait + Sync>(
+    rt: &R,
+    lanes: &[&str],
+) -> Option<u64> {
     let (status, sink) = run(rt, SCHEMA, lanes, ROOMY)?;
     if status != Status::Done || judge(rt.alloc(), SCHEMA, lanes, sink.written()) != Ok(()) {
         return None;

@@ -1,9 +1,10 @@
 //! Lanes dealt by chance to plain maps, a line at a time: such a run's report is legal.
+use crate::judging::sought::sought;
 use report_judge::{
     Act, COUNTS, Index, Lie, Line, draw, judge, lane_texts, read_lanes, read_schema, schema_text,
     slices_of,
 };
-use std::alloc::Global;
+use std::alloc::{AllocError, Global};
 use std::collections::BTreeMap;
 
 /// An index: its rows, and its changes as they are printed.
@@ -27,12 +28,21 @@ struct Deal<'a> {
     lanes: Vec<Lane>,
 }
 
+/// What a seek is told of the row that it asks for.
+fn told_of_seek(alloc: Global, row: Option<(&str, &str)>) -> Result<String, AllocError> {
+    match row {
+        Some((key, value)) => format!(in alloc; "found {key} {value}"),
+        None => String::from_str(alloc, "absent"),
+    }
+}
+
 impl<'a> Table<'a> {
     /// Does what the line of a lane asks, and gives its answer line.
     fn answer(&mut self, alloc: Global, lane: usize, line: &Line<'a>) -> Result<String, Lie> {
         let held = self.rows.get(line.key).copied();
         let said = match (line.act, held) {
             (Act::Get, Some(value)) => format!(in alloc; "found {value}")?,
+            (Act::Seek(reach), _) => told_of_seek(alloc, sought(&self.rows, reach, line.key))?,
             (Act::Put(_), Some(_)) => String::from_str(alloc, "duplicate")?,
             (Act::Put(value), None) => {
                 self.rows.insert(line.key, value)?;
