@@ -2,9 +2,10 @@
 #![tactic(auto)]
 
 use ahi_cli::{Status, run_words};
+use first_line::FirstLine;
 use io_port::{FileShelf, OutSink, Shelf};
 use lanes::NoGate;
-use refusal_text::{FirstLine, explain, refused_file};
+use refusal_text::{explain, refused_file};
 use script::MAX_FILE_BYTES;
 use std::io::{self, ErrorKind};
 use std::process::ExitCode;

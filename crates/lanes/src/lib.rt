@@ -5,8 +5,6 @@
 mod doer;
 mod gate;
 mod run;
-#[cfg(test)]
-mod tests;
 
 pub use doer::Doer;
 pub use gate::{Gate, NoGate};

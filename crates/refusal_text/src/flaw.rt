@@ -80,7 +80,9 @@ pub fn flaw_of_lane(line: &[u8]) -> &'static str {
         (Some(b"del"), _) => "del wants an index and a key",
         (Some(b"put"), _) => "put wants an index, a key and a value",
         (Some(b"set"), _) => "set wants an index, a key and a value",
-        _ => "a line of a lane begins with get, put, set or del",
+        (Some(b"seek"), 4) => flaw_of_seek(line),
+        (Some(b"seek"), _) => "seek wants an index, a mode and a tuple",
+        _ => "a line of a lane begins with get, put, set, del or seek",
     }
 }
 
@@ -89,6 +91,18 @@ fn flaw_of_operation(line: &[u8]) -> &'static str {
         return NAME;
     }
     "the key or the value isn't spelled as one, or the key has too many or too few fields"
+}
+
+fn flaw_of_seek(line: &[u8]) -> &'static str {
+    if !is_name(word_of(line, 1).unwrap_or(b"")) {
+        return NAME;
+    }
+    match word_of(line, 2) {
+        Some(b"ge") | Some(b"g") | Some(b"le") | Some(b"l") => {
+            "the tuple isn't spelled as one, or has more fields than the keys of its index"
+        }
+        _ => "the mode of a seek is ge, g, le or l",
+    }
 }
 
 /// What is wrong with the words of a line, whatever they mean.
@@ -116,7 +130,9 @@ fn is_in_names(byte: u8) -> bool {
 
 /// Which part of a line of a lane has too many bytes.
 pub fn long_part(line: &[u8]) -> &'static str {
-    if spelled_bytes(word_of(line, 2).unwrap_or(b""), true) > MAX_KEY_BYTES as u64 {
+    if word_of(line, 0) == Some(b"seek") {
+        "its tuple has more than 767 bytes"
+    } else if spelled_bytes(word_of(line, 2).unwrap_or(b""), true) > MAX_KEY_BYTES as u64 {
         "its key has more than 767 bytes"
     } else if spelled_bytes(word_of(line, 3).unwrap_or(b""), false) > MAX_VALUE_BYTES as u64 {
         "its value has more than 2,048 bytes"

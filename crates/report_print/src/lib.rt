@@ -9,8 +9,6 @@ mod laws;
 mod line;
 mod report;
 mod statistics;
-#[cfg(test)]
-mod tests;
 
 pub use halt::Halt;
 pub use laws::reports_are_spelled;

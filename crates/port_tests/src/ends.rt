@@ -1,6 +1,6 @@
 //! The ends in memory: what they are asked for, what they refuse, and a caller of both.
-use crate::tests::copying::{Copied, copy_two};
-use crate::{MemoryShelf, MemorySink, Shelf, ShelfError, Sink};
+use crate::copying::{Copied, copy_two};
+use io_port::{MemoryShelf, MemorySink, Shelf, ShelfError, Sink};
 use std::alloc::Global;
 
 #[test]

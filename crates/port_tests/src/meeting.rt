@@ -1,5 +1,5 @@
 //! A gate at which two lanes meet before each line.
-use crate::Gate;
+use lanes::Gate;
 use std::hint;
 use std::sync::atomic::{AtomicBool, AtomicU64, Ordering};
 

@@ -1,12 +1,11 @@
 //! A worked report, byte for byte.
-use crate::{Halt, put_report};
 use change_log::LaneChange;
 use io_port::MemorySink;
 use key_tuple::{Key, Value};
 use map_history::{How, Line, Note, Op, Reply, RowBuf, Told};
+use report_print::{Halt, put_report};
 use report_text::Texts;
 use std::alloc::Global;
-use std::test::Fail;
 
 fn key(alloc: Global, field: &[u8]) -> Option<Key> {
     let field = Vec::from_slice(alloc, field).ok()?;
@@ -106,36 +105,45 @@ fn put_two_lanes(alloc: Global, sink: &mut MemorySink) -> Option<Result<(), Halt
     Some(put_report(alloc, sink, &names, &answers, &changes))
 }
 
+/// How putting it ends, over a sink whose puts with these numbers fail, and the sink.
+fn put_over(alloc: Global, fail: &[u64]) -> Option<(Result<(), Halt>, MemorySink)> {
+    let mut sink = MemorySink::with_room(alloc, 1000, fail.to_vec(alloc).ok()?).ok()?;
+    let end = put_two_lanes(alloc, &mut sink)?;
+    Some((end, sink))
+}
+
+/// Whether putting it ends so, with these bytes in the sink.
+fn puts(alloc: Global, fail: &[u64], end: Result<(), Halt>, written: &[u8]) -> bool {
+    match put_over(alloc, fail) {
+        Some((found, sink)) => found == end && sink.written() == written,
+        None => false,
+    }
+}
+
+const REPORT: &[u8] = b"ahi run\n\
+    lane 1\n\
+    2 ok @2 - -\n\
+    3 ok @1 - -\n\
+    lane 2\n\
+    1 ok @1 - -\n\
+    changes t 2\n\
+    1 2 1 put a x\n\
+    2 1 2 del a\n\
+    changes u 1\n\
+    1 1 3 put b y\n\
+    stats t hit 0 off 0 cold 0 short 0 part-busy 0 no-entry 0 block-busy 0 clock 0 unequal 0 \
+    by-clock 0 by-busy 0 by-moved 0 by-last 0 built 0 same 0 arena 0 raced 0 worn 0\n\
+    stats u hit 0 off 0 cold 0 short 0 part-busy 0 no-entry 0 block-busy 0 clock 0 unequal 0 \
+    by-clock 0 by-busy 0 by-moved 0 by-last 0 built 0 same 0 arena 0 raced 0 worn 0\n\
+    end\n";
+
 #[test]
-fn a_report_of_two_lanes_over_two_indexes(rt: HostRuntime) -> Result<(), Fail> {
-    let alloc = rt.alloc();
-    let mut sink = MemorySink::with_room(alloc, 1000, Vec::new(alloc))?;
-    assert_eq!(rt; put_two_lanes(alloc, &mut sink), Some(Ok(())));
-    let expected = b"ahi run\n\
-        lane 1\n\
-        2 ok @2 - -\n\
-        3 ok @1 - -\n\
-        lane 2\n\
-        1 ok @1 - -\n\
-        changes t 2\n\
-        1 2 1 put a x\n\
-        2 1 2 del a\n\
-        changes u 1\n\
-        1 1 3 put b y\n\
-        stats t hit 0 off 0 cold 0 short 0 part-busy 0 no-entry 0 block-busy 0 clock 0 unequal 0 \
-        by-clock 0 by-busy 0 by-moved 0 by-last 0 built 0 same 0 arena 0 raced 0 worn 0\n\
-        stats u hit 0 off 0 cold 0 short 0 part-busy 0 no-entry 0 block-busy 0 clock 0 unequal 0 \
-        by-clock 0 by-busy 0 by-moved 0 by-last 0 built 0 same 0 arena 0 raced 0 worn 0\n\
-        end\n";
-    assert!(rt; sink.written() == expected.as_slice());
-    Ok(())
+fn a_report_of_two_lanes_over_two_indexes(rt: HostRuntime) {
+    assert!(rt; puts(rt.alloc(), &[], Ok(()), REPORT));
 }
 
 #[test]
-fn a_put_is_one_line(rt: HostRuntime) -> Result<(), Fail> {
-    let alloc = rt.alloc();
-    let mut sink = MemorySink::with_room(alloc, 1000, [3].to_vec(alloc)?)?;
-    assert_eq!(rt; put_two_lanes(alloc, &mut sink), Some(Err(Halt::SinkFault)));
-    assert!(rt; sink.written() == b"ahi run\nlane 1\n2 ok @2 - -\n".as_slice());
-    Ok(())
+fn a_put_is_one_line(rt: HostRuntime) {
+    let first = b"ahi run\nlane 1\n2 ok @2 - -\n".as_slice();
+    assert!(rt; puts(rt.alloc(), &[3], Err(Halt::SinkFault), first));
 }

@@ -1,10 +1,10 @@
 //! Real files and the standard output.
-use crate::tests::ends::{loads, refuses};
-use crate::{FileShelf, OutSink, ShelfError, Sink};
+use crate::ends::{loads, refuses};
+use io_port::{FileShelf, OutSink, ShelfError, Sink};
 use std::test::Fail;
 use std::{fs, io};
 
-const PATH: &str = "io_port_test_file";
+const PATH: &str = "port_test_file";
 
 #[test]
 fn a_real_file_is_loaded_whole_or_refused(rt: HostRuntime) -> Result<(), Fail> {
@@ -15,14 +15,14 @@ fn a_real_file_is_loaded_whole_or_refused(rt: HostRuntime) -> Result<(), Fail> {
     assert!(rt; is_loaded);
     assert!(rt; is_too_long(&rt, 9_999) && is_too_long(&rt, 0));
     // The file is no folder, so nothing lies below it.
-    assert!(rt; cannot_load(&rt, "io_port_test_file/below"));
+    assert!(rt; cannot_load(&rt, "port_test_file/below"));
     Ok(())
 }
 
 #[test]
 fn what_cannot_be_read_is_a_fault(rt: HostRuntime) {
     // A folder is opened, and its first read fails. No path is empty or has a byte 0.
-    for name in [".", "io_port_no_such_file", "", "io_port\0file"] {
+    for name in [".", "no_such_file", "", "port\0file"] {
         assert!(rt; cannot_load(&rt, name), "{name}");
     }
 }

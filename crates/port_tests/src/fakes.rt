@@ -1,30 +1,26 @@
 //! A reader and a writer that move three bytes a call, are interrupted before each, and stop short.
-use crate::NoMemory;
+use io_port::NoMemory;
 use std::alloc::Global;
-use std::io;
-use std::io::{ErrorKind, Read, Write};
+use std::io::{self, ErrorKind, Read, Write};
+use std::sync::atomic::{AtomicU32, Ordering};
 
-/// Gives its text, but fails from this read on.
+/// Gives its text, counts its reads, and fails from so many on.
 #[derive(Drop)]
 pub(crate) struct Drip<'a> {
     text: &'a [u8],
-    reads: u32,
+    reads: &'a AtomicU32,
     fail_from: u32,
     is_ready: bool,
 }
 
 impl<'a> Drip<'a> {
-    pub(crate) fn new(text: &'a [u8], fail_from: u32) -> Self {
+    pub(crate) fn new(text: &'a [u8], reads: &'a AtomicU32, fail_from: u32) -> Self {
         Drip {
             text,
-            reads: 0,
+            reads,
             fail_from,
             is_ready: false,
         }
-    }
-
-    pub(crate) fn reads(&self) -> u32 {
-        self.reads
     }
 }
 
@@ -34,10 +30,10 @@ impl Read for Drip<'_> {
         if self.is_ready {
             return Err(ErrorKind::Interrupted.into());
         }
-        if self.reads >= self.fail_from {
+        if self.reads.load(Ordering::SeqCst) >= self.fail_from {
             return Err(ErrorKind::Other.into());
         }
-        self.reads += 1;
+        self.reads.fetch_add(1, Ordering::SeqCst);
         let count = buf.len().min(3).min(self.text.len());
         let (front, rest) = self.text.split_at(count);
         buf[..count].copy_from_slice(front);

@@ -1,10 +1,15 @@
 //! Streams that fail midway, and an output that is written in blocks.
-use crate::streams::{read_within, write_whole};
-use crate::tests::fakes::{Drip, Narrow};
-use crate::{OutSink, ShelfError, Sink};
+use crate::ends::{loads, refuses};
+use crate::fake_files::Drips;
+use crate::fakes::Narrow;
+use io_port::{FileShelf, OutSink, ShelfError, Sink};
 use std::alloc::Global;
+use std::sync::atomic::{AtomicU32, Ordering};
 
 const TEXT: &[u8] = b"0123456789";
+
+/// A put of so many bytes goes past the block, to the writer itself, until less than a block is left.
+const LONG: usize = 65_546;
 
 #[test]
 fn a_reader_is_read_to_its_end_or_fails(rt: HostRuntime) {
@@ -24,8 +29,8 @@ fn a_reader_is_read_to_its_end_or_fails(rt: HostRuntime) {
 
 #[test]
 fn a_writer_takes_all_or_fails(rt: HostRuntime) {
-    assert!(rt; takes(rt.alloc(), 10, true, TEXT));
-    assert!(rt; takes(rt.alloc(), 7, false, b"0123456"));
+    assert!(rt; takes(rt.alloc(), LONG, true, LONG));
+    assert!(rt; takes(rt.alloc(), 7, false, 7));
 }
 
 #[test]
@@ -50,21 +55,45 @@ fn reads_as(
     end: Result<(), ShelfError>,
     reads: u32,
 ) -> bool {
-    let mut reader = Drip::new(TEXT, fail_from);
-    let is_end = match read_within(alloc, &mut reader, limit) {
-        Ok(bytes) => end.is_ok() && bytes.as_slice() == TEXT,
-        Err(error) => end == Err(error),
+    let count = AtomicU32::new(0);
+    let files = Drips {
+        text: TEXT,
+        reads: &count,
+        fail_from,
+    };
+    let mut shelf = FileShelf::new(&files);
+    let is_end = match end {
+        Ok(()) => loads(&mut shelf, alloc, "a", limit, TEXT),
+        Err(error) => refuses(&mut shelf, alloc, "a", limit, error),
     };
     // after a failure nothing more is asked of the reader
-    is_end && reader.reads() == reads
+    is_end && count.load(Ordering::SeqCst) == reads
 }
 
-fn takes(alloc: Global, room: usize, is_whole: bool, taken: &[u8]) -> bool {
-    match Narrow::with_room(alloc, room) {
-        Ok(mut writer) => {
-            write_whole(&mut writer, TEXT).is_ok() == is_whole && writer.taken() == taken
+fn long_text(alloc: Global) -> Option<Vec<u8>> {
+    let mut text = TEXT.to_vec(alloc).ok()?;
+    text.resize(LONG, b'x').ok()?;
+    Some(text)
+}
+
+// Whether these bytes are taken at once, and what the writer has after the end.
+fn put_once(alloc: Global, room: usize, bytes: &[u8]) -> Option<(bool, Narrow)> {
+    let writer = Narrow::with_room(alloc, room).ok()?;
+    let mut sink = OutSink::new(alloc, writer).ok()?;
+    let is_put = sink.put(bytes).is_ok();
+    Some((is_put, sink.finish().ok()?))
+}
+
+// Whether a long put is taken whole, or of it so many bytes.
+fn takes(alloc: Global, room: usize, is_whole: bool, count: usize) -> bool {
+    let Some(text) = long_text(alloc) else {
+        return false;
+    };
+    match put_once(alloc, room, &text) {
+        Some((is_put, writer)) => {
+            is_put == is_whole && text.get(..count) == Some(writer.taken())
         }
-        Err(_) => false,
+        None => false,
     }
 }
 

@@ -1,5 +1,5 @@
 //! A doer that counts its lines.
-use crate::{Doer, Gate};
+use lanes::{Doer, Gate};
 use std::sync::Wait;
 use std::thread::Threads;
 

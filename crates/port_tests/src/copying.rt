@@ -4,7 +4,7 @@ ghost use Rattle.std.specs.Option.{ForSome};
 ghost use Rattle.io_port.specs.Faults.{ShowsFault};
 ghost use Rattle.io_port.specs.Sink.{Puts};
 
-use crate::{Shelf, ShelfError, Sink};
+use io_port::{Shelf, ShelfError, Sink};
 use std::alloc::Global;
 
 #[derive(Clone, Copy, Debug, PartialEq, Eq)]

@@ -1,5 +1,0 @@
-mod copying;
-mod ends;
-mod fakes;
-mod real;
-mod streams;
