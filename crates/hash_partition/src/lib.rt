@@ -3,7 +3,5 @@
 #![tactic(auto)]
 
 mod partition;
-#[cfg(test)]
-mod tests;
 
 pub use partition::Partition;

@@ -1,6 +1,6 @@
-//! What no clause says: that calls succeed.
-use crate::partition::Partition;
+//! The partition, of which no clause says that calls succeed.
 use chain_arena::Node;
+use hash_partition::Partition;
 use std::alloc::Global;
 
 #[test]
