@@ -1,0 +1,5 @@
+pub mod BytesLemmas
+pub mod PartLemmas
+pub mod WritingLemmas
+pub mod ReadingLemmas
+pub mod LawLemmas

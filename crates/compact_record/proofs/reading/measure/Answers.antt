@@ -1,0 +1,42 @@
+use Rattle.std.proofs.Common.{ℕ, length, sym, ap, ◌∙◌, arith}
+use Rattle.compact_record.specs.Record.{length_bytes}
+use Rattle.compact_record.specs.Reading.{record_at}
+use Rattle.compact_record.proofs.ReadingLemmas.{kind_is, RowEnd, row_end}
+use Rattle.compact_record.proofs.reading.measure.Goals as goal
+use Rattle.compact_record.proofs.reading.measure.Goals.{In-Row}
+
+row : (c : In-Row) → RowEnd c.args.page.now (record_at c.args.page.now c.args.place c.args.fields) c.part_at-tail.result
+row c = row_end c.part_at-tail.result c.requires.there c.part_at-tail.ensures (kind_is c.args.page.now c.args.place c.args.fields ∙ sym c.kind_at.ensures ∙ c.in-Row.is)
+
+pub get_length-len-requires-clause-there : goal.get_length-len-requires-clause-there
+get_length-len-requires-clause-there c = (length (record_at c.args.page.now c.args.place c.args.fields).tail, (row c).there)
+
+pub overflow_sub-result : goal.overflow_sub-result
+overflow_sub-result c =
+    let e = row (goal.at.overflow_sub-result c).In-Row in
+    let len = c.get_length-len.ensures _ e.there in
+    omega (arith, c.length_size.ensures, ap (λ (n : ℕ). length (length_bytes n)) len)
+
+pub overflow_add-result : goal.overflow_add-result
+overflow_add-result c =
+    let e = row (goal.at.overflow_add-result c).In-Row in
+    let len = c.get_length-len.ensures _ e.there in
+    omega arith
+
+pub overflow_cast-result-in-Row : goal.overflow_cast-result-in-Row
+overflow_cast-result-in-Row c =
+    let e = row (goal.at.overflow_cast-result-in-Row c).In-Row in
+    let len = c.get_length-len.ensures _ e.there in
+    omega arith
+
+pub returns-in-Row-clause-start : goal.returns-in-Row-clause-start
+returns-in-Row-clause-start c =
+    let e = row (goal.at.returns-in-Row-clause-start c).In-Row in
+    let len = c.get_length-len.ensures _ e.there in
+    omega (arith, c.length_size.ensures, ap (λ (n : ℕ). length (length_bytes n)) len)
+
+pub returns-in-Row-clause-end : goal.returns-in-Row-clause-end
+returns-in-Row-clause-end c =
+    let e = row (goal.at.returns-in-Row-clause-end c).In-Row in
+    let len = c.get_length-len.ensures _ e.there in
+    omega arith

@@ -1,0 +1,48 @@
+//! The bytes of records against a page's dump.
+ghost use Rattle.std.specs.Prelude.{◌∷◌, [], ◌<◌, length};
+
+use crate::{CHILD_BYTES, RecordHead, RecordKind, write};
+use key_tuple::{Blank, Fields};
+
+/// A key of one byte.
+#[derive(Drop)]
+struct OneByte {
+    bytes: [u8; 1],
+}
+
+impl Fields for OneByte {
+    ghost fields_of = { λ k. k.bytes ∷ [] };
+
+    fn count(&self) -> u8 {
+        1
+    }
+
+    fn field(&self, _i: u8) -> &[u8] {
+        &self.bytes
+    }
+}
+
+#[test]
+fn a_row_has_the_bytes_of_the_dump(rt: HostRuntime) {
+    let mut page = [0xee; 130];
+    let head = RecordHead {
+        kind: RecordKind::Row,
+        heap_number: 2,
+    };
+    let place = write(&mut page, 120, head, &OneByte { bytes: *b"a" }, b"x");
+    assert!(rt; place == 127);
+    assert!(rt; page[119..] == [0xee, 1, 1, 0, 0, 0x10, 0, 0, 0x61, 0x78, 0xee]);
+}
+
+#[test]
+fn a_leftmost_pointer_has_its_flag(rt: HostRuntime) {
+    let mut page = [0xee; 12];
+    let head = RecordHead {
+        kind: RecordKind::LeftmostPointer,
+        heap_number: 3,
+    };
+    let tail: [u8; CHILD_BYTES] = [0, 0, 0, 5];
+    let place = write(&mut page, 1, head, &Blank { count: 1 }, &tail);
+    assert!(rt; place == 7);
+    assert!(rt; page == [0xee, 0, 0x10, 0, 0x19, 0, 0, 0, 0, 0, 5, 0xee]);
+}
