@@ -1,0 +1,4 @@
+pub mod KeptLemmas
+pub mod HeadLemmas
+pub mod SlotLemmas
+pub mod EmptyLemmas

@@ -1,0 +1,6 @@
+pub mod Words
+pub mod Cells
+pub mod Mirror
+pub mod Steps
+pub mod Empty
+pub mod Slots
