@@ -1,0 +1,14 @@
+use Rattle.std.proofs.Common.{sym}
+use Rattle.page_directory.specs.Sizes.{group_sizes}
+use Rattle.page_directory.proofs.BalanceLemmas.{balanced_few, balanced_many}
+use Rattle.page_directory.proofs.balancing.balance.Goals as goal
+
+pub returns-then-count-gt4 : goal.returns-then-count-gt4
+returns-then-count-gt4 c = λ m gs free r.
+    let size = sym (c.owned-count.ensures m gs free r.page r.inner) in
+    balanced_many c.args.slot (group_sizes gs) size c.if-count-gt4.true (c.move_one.ensures m gs free r size)
+
+pub returns-else-count-gt4 : goal.returns-else-count-gt4
+returns-else-count-gt4 c = λ m gs free r.
+    let size = sym (c.owned-count.ensures m gs free r.page r.inner) in
+    balanced_few c.args.slot (group_sizes gs) size c.if-count-gt4.false (c.join_next.ensures m gs free r size)

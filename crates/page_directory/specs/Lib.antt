@@ -1,0 +1,4 @@
+pub mod Groups
+pub mod Sizes
+pub mod Owners
+pub mod Calls
