@@ -1,0 +1,25 @@
+-- Rows as they are read from the bytes of a page.
+use Rattle.std.specs.Prelude.{ℕ, zero, suc, List, [], ◌∷◌, map}
+use Rattle.compact_record.specs.Bytes.{u16_at}
+use Rattle.compact_record.specs.Record.{PlacedRecord}
+use Rattle.compact_record.specs.Reading.{record_at}
+use Rattle.page_mirror.specs.Words.{next_origin}
+use Rattle.index_page.specs.Rows.{Row, Bytes, placed_row}
+
+-- so many places, each of which the one before it leads to
+unfoldable pub places_from : List ℕ → ℕ → ℕ → List ℕ
+places_from bytes at zero = []
+places_from bytes at (suc n) = at ∷ places_from bytes (next_origin bytes at) n
+
+-- a record's row: its key, and its tail as the value
+abbrev pub row_of_record : ℕ → PlacedRecord → Row
+row_of_record place r = placed_row place r.key (Bytes r.tail)
+
+-- the row at a place
+abbrev pub row_in_bytes : List ℕ → ℕ → ℕ → Row
+row_in_bytes bytes fields place = row_of_record place (record_at bytes place fields)
+
+-- as many rows as the head says, from the one that infimum leads to
+abbrev pub rows_in_bytes : List ℕ → ℕ → List Row
+rows_in_bytes bytes fields =
+    map (row_in_bytes bytes fields) (places_from bytes (next_origin bytes 99) (u16_at bytes 54))
