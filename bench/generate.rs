@@ -9,7 +9,7 @@ use std::io::{self, BufWriter, Write};
 use std::path::Path;
 use std::process::ExitCode;
 
-const USAGE: &str = "usage: generate gets|puts|random|descending|front|mix LANES LINES SEED FOLDER";
+const USAGE: &str = "usage: generate gets|seeks|puts|random|descending|front|mix LANES LINES SEED FOLDER";
 const INDEXES: &str =
     "# rows with even numbers, and rows with odd ones\nindex item 1\nindex price 2\n";
 
@@ -18,6 +18,9 @@ enum Kind {
     /// A fifth of the lines put keys in no order, the others get these with skew. Each lane has
     /// keys of its own.
     Gets,
+    /// A fifth of the lines put keys in no order, the others seek, in all modes alike, the row next to
+    /// a key that hardly any row has. Each lane has keys of its own.
+    Seeks,
     /// Each key is above those that the lane put before.
     Puts,
     /// Puts of keys in no order. Each lane has keys of its own.
@@ -100,6 +103,14 @@ fn value(draw: u64) -> String {
     format!("row%20{draw:0digits$x}")
 }
 
+/// A seek in a drawn mode by the key of a drawn number.
+fn seek(numbers: &mut Numbers) -> String {
+    let mode = ["ge", "g", "le", "l"][numbers.below(4) as usize];
+    let key = key(numbers.next());
+    let (index, tuple) = key.split_once(' ').expect("a key stands behind its index");
+    format!("seek {index} {mode} {tuple}")
+}
+
 /// The number of the row that a lane comes to after so many: rows of all lanes rise together.
 fn rising(plan: &Plan, lane: u64, row: u64) -> u64 {
     2 * (row / 2 * plan.lanes + lane) + row % 2
@@ -131,6 +142,13 @@ fn text_of(plan: &Plan, lane: u64, line: u64, numbers: &mut Numbers) -> String {
                 put(own(line), numbers.next())
             } else {
                 format!("get {}", key(own(numbers.skewed(rows))))
+            }
+        }
+        Kind::Seeks => {
+            if line < plan.lines_of(lane).div_ceil(5) {
+                put(scatter(lane << 40 | line), numbers.next())
+            } else {
+                seek(numbers)
             }
         }
         Kind::Mix => {
@@ -176,6 +194,7 @@ fn read_words(words: &[String]) -> Option<(Plan, &Path)> {
     };
     let kind = match kind.as_str() {
         "gets" => Kind::Gets,
+        "seeks" => Kind::Seeks,
         "puts" => Kind::Puts,
         "random" => Kind::Random,
         "descending" => Kind::Descending,

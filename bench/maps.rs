@@ -1,6 +1,6 @@
 //! The maps of some indexes, and what they are asked.
 
-use crate::script::{Field, Key, Line, Operation, Script};
+use crate::script::{Field, Key, Line, Mode, Operation, Script};
 use std::collections::BTreeMap;
 use std::collections::btree_map::Entry;
 use std::sync::Mutex;
@@ -13,6 +13,7 @@ pub enum Said {
     Duplicate,
     Absent,
     Found(Field),
+    Row(Key, Field),
     LogFull,
 }
 
@@ -65,6 +66,10 @@ impl<'a> Index<'a> {
             },
             Operation::Del(key) if self.rows.contains_key(key) => Said::LogFull,
             Operation::Del(_) => Said::Absent,
+            Operation::Seek(mode, tuple) => match seek(&self.rows, *mode, tuple) {
+                Some((key, value)) => Said::Row(key.clone(), value.clone()),
+                None => Said::Absent,
+            },
         };
         if matches!(said, Said::Ok) {
             self.changes.push(Change { lane, line });
@@ -73,6 +78,27 @@ impl<'a> Index<'a> {
             said,
             point: self.changes.len(),
         }
+    }
+}
+
+/// The row that a seek asks for. A tuple equals each key that it begins, and comes before them as a
+/// list of fields.
+fn seek<'a>(
+    rows: &'a BTreeMap<Key, Field>,
+    mode: Mode,
+    tuple: &Key,
+) -> Option<(&'a Key, &'a Field)> {
+    let below = || rows.range::<Key, _>(..tuple);
+    let mut others = rows.range(tuple.clone()..);
+    let is_equal = |row: &(&Key, &Field)| row.0.starts_with(tuple);
+    match mode {
+        Mode::Ge => others.next(),
+        Mode::G => others.find(|row| !is_equal(row)),
+        Mode::Le => others
+            .take_while(is_equal)
+            .last()
+            .or_else(|| below().next_back()),
+        Mode::L => below().next_back(),
     }
 }
 

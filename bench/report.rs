@@ -61,6 +61,13 @@ fn write_answer(out: &mut impl Write, number: usize, answer: &Answer) -> io::Res
         Said::Duplicate => writeln!(out, "{number} duplicate @{point} - -"),
         Said::Absent => writeln!(out, "{number} absent @{point} - -"),
         Said::LogFull => writeln!(out, "{number} log-full {point} - -"),
+        Said::Row(key, value) => {
+            write!(out, "{number} found")?;
+            write_key(out, key)?;
+            out.write_all(b" ")?;
+            write_field(out, value)?;
+            writeln!(out, " @{point} - -")
+        }
         Said::Found(value) => {
             write!(out, "{number} found ")?;
             write_field(out, value)?;
@@ -74,7 +81,7 @@ fn write_change(out: &mut impl Write, number: usize, change: &Change) -> io::Res
     match &change.line.operation {
         Operation::Put(key, value) => write_row(out, "put", key, value)?,
         Operation::Set(key, value) => write_row(out, "set", key, value)?,
-        Operation::Get(key) | Operation::Del(key) => {
+        Operation::Get(key) | Operation::Del(key) | Operation::Seek(_, key) => {
             out.write_all(b"del")?;
             write_key(out, key)?;
         }

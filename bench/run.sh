@@ -1,7 +1,7 @@
 #!/usr/bin/env bash
 # Measures `ahi run` beside the peer and the limit, and prints a table: docs/BENCH.md says how.
 # Settings: AHI, the program's file (else ./ahi builds it, and the first build proves everything and
-# takes minutes), KINDS="gets puts random descending front mix", LANES="1 2 4 8", LINES=200000 of all
+# takes minutes), KINDS="gets seeks puts random descending front mix", LANES="1 2 4 8", LINES=200000 of all
 # lanes together, or several numbers, SEED=7, ROUNDS=5.
 set -euo pipefail
 export LC_ALL=C
@@ -126,7 +126,7 @@ print_rows() {
 
 build
 print_head
-for kind in ${KINDS:-gets puts random descending front mix}; do
+for kind in ${KINDS:-gets seeks puts random descending front mix}; do
     for lanes in ${LANES:-1 2 4 8}; do
         for lines in ${LINES:-200000}; do
             generate "$kind" "$lanes"

@@ -14,11 +14,22 @@ pub struct Shape {
     fields: usize,
 }
 
+/// Which row a seek asks for: the first that isn't below its tuple, or is above it, or the last that
+/// isn't above it, or is below it.
+#[derive(Clone, Copy)]
+pub enum Mode {
+    Ge,
+    G,
+    Le,
+    L,
+}
+
 pub enum Operation {
     Get(Key),
     Put(Key, Field),
     Set(Key, Field),
     Del(Key),
+    Seek(Mode, Key),
 }
 
 /// A line that asks. `index` is the place of its index in the schema.
@@ -97,14 +108,19 @@ fn is_name(word: &[u8]) -> bool {
 
 fn read_line(number: usize, line: &[u8], shapes: &[Shape]) -> Option<Line> {
     let mut words = line.split(|&byte| byte == b' ');
-    let (verb, name, key) = (words.next()?, words.next()?, words.next()?);
+    let (verb, name, third) = (words.next()?, words.next()?, words.next()?);
     let index = shapes.iter().position(|shape| shape.name == name)?;
-    let key = read_key(key, shapes[index].fields)?;
+    let fields = shapes[index].fields;
+    let key = |word| read_tuple(word).filter(|key| key.len() == fields);
     let operation = match verb {
-        b"get" => Operation::Get(key),
-        b"del" => Operation::Del(key),
-        b"put" => Operation::Put(key, read_value(words.next()?)?),
-        b"set" => Operation::Set(key, read_value(words.next()?)?),
+        b"get" => Operation::Get(key(third)?),
+        b"del" => Operation::Del(key(third)?),
+        b"put" => Operation::Put(key(third)?, read_value(words.next()?)?),
+        b"set" => Operation::Set(key(third)?, read_value(words.next()?)?),
+        b"seek" => {
+            let tuple = read_tuple(words.next()?).filter(|tuple| tuple.len() <= fields)?;
+            Operation::Seek(read_mode(third)?, tuple)
+        }
         _ => return None,
     };
     words.next().is_none().then_some(Line {
@@ -114,13 +130,23 @@ fn read_line(number: usize, line: &[u8], shapes: &[Shape]) -> Option<Line> {
     })
 }
 
-fn read_key(word: &[u8], fields: usize) -> Option<Key> {
-    let key: Key = word
+fn read_mode(word: &[u8]) -> Option<Mode> {
+    match word {
+        b"ge" => Some(Mode::Ge),
+        b"g" => Some(Mode::G),
+        b"le" => Some(Mode::Le),
+        b"l" => Some(Mode::L),
+        _ => None,
+    }
+}
+
+fn read_tuple(word: &[u8]) -> Option<Key> {
+    let tuple: Key = word
         .split(|&byte| byte == b',')
         .map(read_field)
         .collect::<Option<_>>()?;
-    let bytes: usize = key.iter().map(Vec::len).sum();
-    (key.len() == fields && bytes <= KEY_BYTES).then_some(key)
+    let bytes: usize = tuple.iter().map(Vec::len).sum();
+    (bytes <= KEY_BYTES).then_some(tuple)
 }
 
 fn read_value(word: &[u8]) -> Option<Field> {
