@@ -1,4 +1,4 @@
--- The worked rows compute.
+-- The examples of single rows compute.
 use Rattle.std.proofs.Common.{refl}
 use Rattle.hash_law.specs.Examples.{WorkedRows, MirroredRows}
 

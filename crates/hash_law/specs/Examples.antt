@@ -1,4 +1,4 @@
--- Worked rows: what single rows change among the entries of short leaves.
+-- Examples: what single rows change among the entries of short leaves.
 use Rattle.std.specs.Prelude.{ℕ, ◌≡◌, ◌+◌, ◌%◌, Bool, true, false, List, [], ◌∷◌, ◌++◌, map, slice_index_or}
 use Rattle.key_tuple.specs.Order.{FieldList}
 use Rattle.index_page.specs.Rows.{Row, Bytes}

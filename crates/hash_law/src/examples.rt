@@ -1,4 +1,4 @@
-//! Worked rows.
+//! Examples of single rows.
 ghost use Rattle.hash_law.specs.Examples.{WorkedRows, MirroredRows};
 
 /// What five rows that come or go change among the entries of short leaves, with left.
