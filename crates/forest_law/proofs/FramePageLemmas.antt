@@ -1,5 +1,7 @@
 -- What a lawful state tells of the page in a frame.
-use Rattle.std.proofs.Common.{◌≡◌, ℕ, ◌<◌, Bool, sym, ap, subst, ◌∙◌, arith, refl, Option, Some, None}
+use Rattle.std.proofs.Common.{◌≡◌, ℕ, ◌<◌, Bool, sym, ap, ◌∙◌, arith, refl, Option, Some, None}
+use mathlib.Core.Option as maybe
+use lib.ListN.{get_elem?}
 use Rattle.key_tuple.specs.KeyPlace.{KeyPlace, IsCut}
 use Rattle.list_facts.proofs.Places.{same_some, inside}
 use Rattle.index_page.specs.Page.{PageRows}
@@ -9,14 +11,25 @@ use Rattle.tree_law.proofs.PageRowLemmas.{tree_is}
 use Rattle.tree_law.proofs.WholeLemmas.{in_tree}
 use Rattle.forest_law.specs.declared.objects.Frame.{Frame}
 use Rattle.forest_law.specs.declared.objects.Where.{Where}
-use Rattle.forest_law.specs.declared.objects.Where.TheVariants.{Free, InFrame, Image}
-use Rattle.forest_law.specs.declared.objects.Object.TheVariants as object
-use Rattle.forest_law.specs.Numbers.{frame_id}
-use Rattle.forest_law.specs.State.{ForestState, page_within, page_if, page_of, where_at, places, page_where, pages_of, heights_of}
+use Rattle.forest_law.specs.State.{ForestState, page_within, page_if, page_of, where_at, where_of, places, page_where, pages_of, heights_of}
 use Rattle.forest_law.specs.Objects.{IsFrameOf}
-use Rattle.forest_law.specs.Placed.{IsPageIn}
 use Rattle.forest_law.specs.Law.{IsLawful}
-use Rattle.forest_law.specs.FramePages.{TellsPage, FramesTellPages, HasCutPage, CutsHaveFrames, RootsHaveCuts}
+use Rattle.forest_law.specs.FramePages.{TellsPage, FramesTellPages, FramesHaveOnePage, HasCutPage, CutsHavePages, RootsHaveCuts}
+use Rattle.forest_law.proofs.ObjectLemmas.{same_block}
+
+-- each page has a number below the shape's
+pub number_below : (w : ForestState) → IsLawful w → (n : ℕ) (page : Page)
+    → pages_of w.shape w.objects n ≡ Some page → n < w.shape.pages
+number_below w law n page is = pick (get_elem? (places w.objects) n) refl
+  where
+    none_is_not : None ≡ Some page → ⊥
+    none_is_not e = absurd cc
+
+    pick : (o : maybe.Option Where) → get_elem? (places w.objects) n ≡ o → n < w.shape.pages
+    pick maybe.none e = absurd
+        (none_is_not (sym (ap (λ o. page_where w.shape w.objects n (where_of o)) e) ∙ is))
+    pick (maybe.some at) e = let room = inside (places w.objects) n at e in
+        let counted = law.objects.counted.places in omega (arith, room, counted)
 
 module _ (w : ForestState) (law : IsLawful w) where
   -- the page in a frame is a page of the state
@@ -24,47 +37,28 @@ module _ (w : ForestState) (law : IsLawful w) where
       → f.page ≡ Some rows
       → pages_of w.shape w.objects rows.head.number ≡ Some (page_within rows f.low f.high)
   page_at b f rows at is =
-      ap (page_where w.shape w.objects) (law.objects.placed.named b f rows at is)
+      ap (page_where w.shape w.objects rows.head.number) (law.objects.placed.named b f rows at is)
       ∙ (ap page_of at ∙ ap (λ p. page_if p f.low f.high) is)
 
   pub frame_tells : (b : ℕ) (f : Frame) (rows : PageRows) → IsFrameOf w.shape w.objects b f
-      → f.page ≡ Some rows → TellsPage w b f rows
+      → f.page ≡ Some rows → TellsPage w f rows
   frame_tells b f rows at paged = record {
-    number = number;
-    below = (let room = inside w.objects (frame_id w.shape b) (object.Frame f) at in
-        let all = law.objects.counted.objects in omega (arith, room, all));
+    below = number_below w law rows.head.number page is;
     is = is;
-    order = law.objects.pages.orderly b page is;
-    sound = λ tree. law.objects.pages.shape.pages b (outline page)
-        (tree_is (pages_of w.shape w.objects) b page is tree);
-    outside = law.objects.pages.outside b page is;
+    order = law.objects.pages.orderly rows.head.number page is;
+    sound = λ tree. law.objects.pages.shape.pages rows.head.number (outline page)
+        (tree_is (pages_of w.shape w.objects) rows.head.number page is tree);
+    outside = law.objects.pages.outside rows.head.number page is;
   }
     where
       page : Page
       page = page_within rows f.low f.high
 
-      number : rows.head.number ≡ b
-      number = sym (law.objects.home rows.head.number b (law.objects.placed.named b f rows at paged))
-
-      is : pages_of w.shape w.objects b ≡ Some page
-      is = ap (pages_of w.shape w.objects) (sym number) ∙ page_at b f rows at paged
-
-  -- a page that is there is in the frame of its number
-  in_frame : (n : ℕ) (page : Page) → pages_of w.shape w.objects n ≡ Some page
-      → IsPageIn w.shape w.objects n n
-  in_frame n page is = pick (where_at (places w.objects) n) refl
-    where
-      none_is_not : None ≡ Some page → ⊥
-      none_is_not e = absurd cc
-
-      pick : (o : Where) → where_at (places w.objects) n ≡ o → IsPageIn w.shape w.objects n n
-      pick Free e = absurd (none_is_not (sym (ap (page_where w.shape w.objects) e) ∙ is))
-      pick Image e = absurd (none_is_not (sym (ap (page_where w.shape w.objects) e) ∙ is))
-      pick (InFrame b) e = subst (IsPageIn w.shape w.objects n) (law.objects.home n b e)
-          (law.objects.placed.there n b e)
+      is : pages_of w.shape w.objects rows.head.number ≡ Some page
+      is = page_at b f rows at paged
 
   module _ (p : KeyPlace → Bool) where
-    -- the page that has the cut, by its frame
+    -- the page that has the cut
     pub cut_page : (i level n : ℕ) → HasCut (forest (pages_of w.shape w.objects)) p i level n
         → HasCutPage w p i level n
     cut_page i level n has = with_page (pages_of w.shape w.objects n) refl
@@ -74,16 +68,11 @@ module _ (w : ForestState) (law : IsLawful w) where
 
         with_page : (o : Option Page) → pages_of w.shape w.objects n ≡ o → HasCutPage w p i level n
         with_page None e = absurd (none_is_not (sym (ap (tree_page n) e) ∙ has.is))
-        with_page (Some page) e = let here = in_frame n page e in
-            let tells = frame_tells n here.frame here.page here.at here.paged in
-            let found = page_within here.page here.frame.low here.frame.high in
-            let t = in_tree n found (tag_of has.page)
-            (ap map_tag (sym (ap (tree_page n) tells.is) ∙ has.is)) in
+        with_page (Some page) e = let t = in_tree n page (tag_of has.page)
+            (ap map_tag (sym (ap (tree_page n) e) ∙ has.is)) in
             record {
-              frame = here.frame;
-              rows = here.page;
-              at = here.at;
-              paged = here.paged;
+              page = page;
+              at = e;
               tree = t.1;
               index = sym (ap (λ z. z.index) t.0) ∙ has.index;
               at_level = sym (ap (λ z. z.level) t.0) ∙ has.at_level;
@@ -117,8 +106,13 @@ module _ (w : ForestState) (law : IsLawful w) where
 pub frames_tell_pages : FramesTellPages
 frames_tell_pages = frame_tells
 
-pub cuts_have_frames : CutsHaveFrames
-cuts_have_frames = cut_page
+pub frames_have_one_page : FramesHaveOnePage
+frames_have_one_page w law b c f g p q at that is other same = same_block b c
+    (sym (law.objects.placed.named b f p at is)
+    ∙ (ap (where_at (places w.objects)) same ∙ law.objects.placed.named c g q that other))
+
+pub cuts_have_pages : CutsHavePages
+cuts_have_pages = cut_page
 
 pub roots_have_cuts : RootsHaveCuts
 roots_have_cuts w law p cut i below =

@@ -24,7 +24,7 @@ use Rattle.forest_law.specs.State.{object_mark, fields_for}
 use Rattle.forest_law.specs.Objects.{Becomes}
 use Rattle.forest_law.specs.Kinds.{KeepsKind}
 use Rattle.forest_law.specs.Turns.{Turn, HasPage, IsTurn, page_changes}
-use Rattle.forest_law.specs.Placed.{KeepsPage, TurnsPage}
+use Rattle.forest_law.specs.Placed.{KeepsPage, TurnsPage, PoolRests}
 use Rattle.forest_law.specs.Trees.{HeightsLead, MapsLead, IsStep}
 use Rattle.forest_law.specs.Lists.{MayChange}
 use Rattle.forest_law.specs.Clocked.{IsLaterObject}
@@ -130,7 +130,6 @@ module _ (sh : Shape) (before news : List (Option Object)) (steps : List FrameSt
     record {
       was = (s.was, refl, record { frame = s.hand.old; at = a.0.becomes.0; has = a.0.had });
       is = (s.is, refl, record { frame = s.hand.new; at = a.0.becomes.1; has = a.0.has });
-      home = λ b e. sym (same_block s.hand.block b e) ∙ a.0.home;
     },
     each_turn ss a.1,
   )
@@ -214,9 +213,9 @@ module _ (sh : Shape) (before news : List (Option Object)) (steps : List FrameSt
   ]
 
   same_pools : (x y : Pool) → Becomes before news pool_id (object.Pool x) (object.Pool y)
-      → y.place.items ≡ x.place.items
-  same_pools x y b = ap (λ p. p.place.items)
-      (make.others pool_id (object.Pool x) (object.Pool y) b (no_frame steps) (no_tree trees))
+      → PoolRests x y
+  same_pools x y b =
+      make.others pool_id (object.Pool x) (object.Pool y) b (no_frame steps) (no_tree trees)
     where
       no_frame : (ss : List FrameStep) → IsNoFrameOf sh pool_id ss
       no_frame [] = tt

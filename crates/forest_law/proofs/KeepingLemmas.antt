@@ -23,7 +23,8 @@ use Rattle.forest_law.specs.Law.{AreLawfulObjects, Follows}
 use Rattle.forest_law.proofs.ObjectLemmas.{Leads}
 use Rattle.forest_law.proofs.KindsLemmas.{kinds_stay}
 use Rattle.forest_law.proofs.TreesLemmas.{heights_lead}
-use Rattle.forest_law.proofs.PlacedLemmas.{places_counted, pages_lead, placed_stay, home_stays}
+use Rattle.forest_law.proofs.PlacesLemmas.{CountsLead}
+use Rattle.forest_law.proofs.PlacedLemmas.{places_counted, pages_lead, placed_stay}
 
 module _ (sh : Shape) (xs ys : List Object) (before news : List (Option Object))
     (leads : Leads xs ys before news) (lists : List Entries)
@@ -38,7 +39,7 @@ module _ (sh : Shape) (xs ys : List Object) (before news : List (Option Object))
   map_allows i c on = let s = on.hand in let leaf = on.allows in
       let at = leads.was (frame_id sh on.block) (object.Frame s.frame) s.at in
       let is : pages_of sh xs on.number ≡ Some on.page =
-      ap (page_where sh xs) (ap (where_at (places xs)) (sym s.has.number)
+      ap (page_where sh xs on.number) (ap (where_at (places xs)) (sym s.has.number)
       ∙ law.placed.named on.block s.frame s.has.rows at s.has.paged)
       ∙ (ap page_of at ∙ s.has.is) in
       sym (allowed-by_value (row_pairs on.page.rows) (maps_of lists i) c
@@ -86,16 +87,19 @@ module _ (sh : Shape) (xs ys : List Object) (before news : List (Option Object))
     objects_stay same longer lawful = record {
       counted = record {
         objects = same ∙ law.counted.objects;
-        places = places_counted sh xs ys before news leads law.kinds f.kinds f.turns law.placed
-            f.each f.frames f.pool ∙ law.counted.places;
+        places = many.named ∙ law.counted.places;
+        images = many.stored ∙ law.counted.images;
+        ages = many.aged ∙ law.counted.ages;
         fields = law.counted.fields;
         lists = longer ∙ law.counted.lists;
       };
       kinds = kinds_stay sh xs ys before news leads law.kinds f.kinds;
       placed = placed_stay sh xs ys before news leads law.kinds f.kinds f.turns law.placed f.each
           f.frames f.pool;
-      home = home_stays sh xs ys before news leads law.kinds f.kinds f.turns law.placed f.each
-          f.frames f.pool law.home;
       lists = lawful;
       pages = pages_stay;
     }
+      where
+        many : CountsLead sh xs ys before news leads law.kinds f.kinds f.turns law.placed f.each
+        many = places_counted sh xs ys before news leads law.kinds f.kinds f.turns law.placed f.each
+            f.frames f.pool

@@ -19,4 +19,5 @@ pub mod RestructureLemmas
 pub mod RowStepLemmas
 pub mod PoolStepLemmas
 pub mod FramePageLemmas
+pub mod ImageLemmas
 pub mod OnePutLemmas

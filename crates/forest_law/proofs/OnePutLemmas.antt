@@ -1,5 +1,5 @@
--- A put on the root of a space that was just opened follows, and leads to a lawful state.
-use Rattle.std.proofs.Common.{◌≡◌, ◌≢◌, ◌⊎◌, inl, inr, ℕ, zero, suc, ◌+◌, ◌<◌, [], ◌∷◌, List, length, true, refl, sym, ap, subst, arith, Option, Some}
+-- The root of a space that was just opened is restored, and a put on it leads to a lawful state.
+use Rattle.std.proofs.Common.{◌≡◌, ◌≢◌, ◌⊎◌, inl, inr, ℕ, zero, suc, ◌+◌, ◌<◌, [], ◌∷◌, List, length, true, refl, sym, ap, subst, arith, Option, Some, None}
 use mathlib.Core.Option.{some, some-injective, some-ne-none}
 use lib.ListN.{get_elem?}
 use Rattle.key_tuple.specs.Order.{FieldList}
@@ -16,20 +16,159 @@ use Rattle.forest_law.specs.Lists.{AreLawfulLists}
 use Rattle.forest_law.specs.OnePut.{list_with}
 use Rattle.index_law.specs.Shape.{Shape}
 use Rattle.index_law.specs.State.{Entries, changes}
+use Rattle.std.proofs.lemmas.List.{length-set}
+use Rattle.atomic_table.proofs.Lists.{set_here, set_else}
+use Rattle.forest_law.specs.declared.objects.Frame.{Frame}
 use Rattle.forest_law.specs.declared.objects.Pool.{Pool}
+use Rattle.forest_law.specs.declared.objects.Where.TheVariants.{InFrame}
 use Rattle.forest_law.specs.declared.objects.Object.{Object}
 use Rattle.forest_law.specs.declared.objects.Object.TheVariants as object
-use Rattle.forest_law.specs.State.{fields_for, maps_of}
+use Rattle.forest_law.specs.State.{where_of, image_of, fields_for, maps_of}
 use Rattle.forest_law.specs.Objects.{Becomes, IsFrameOf}
 use Rattle.forest_law.specs.Law.{AreLawfulObjects, Follows}
-use Rattle.forest_law.specs.Opening.{first_frame, first_tree, IsFirstPool, AreFirstObjects}
+use Rattle.forest_law.specs.Opening.{empty_image, first_frame, first_tree, IsFirstPool, AreFirstObjects}
 use Rattle.forest_law.specs.Steps.{InHand, frame_step, Rests, MakeSteps}
 use Rattle.forest_law.specs.RowSteps.{ChangesLeaf}
-use Rattle.forest_law.specs.OnePut.{one_index, put_of, root_before, root_after, frame_in_hand, objects_with, OnePutIsLawful}
+use Rattle.forest_law.specs.PoolSteps.{RestoresPage}
+use Rattle.forest_law.specs.OnePut.{one_index, put_of, pool_after, root_before, root_after, pool_in_hand, frame_in_hand, objects_with, OnePutIsLawful}
 use Rattle.forest_law.proofs.ObjectLemmas.{Stays, Changes, Leads}
 use Rattle.forest_law.proofs.KeepingLemmas.{objects_stay}
 use Rattle.forest_law.proofs.OpeningLemmas.{first_lawful}
 use Rattle.forest_law.proofs.RowStepLemmas.{row_follows}
+use Rattle.forest_law.proofs.PoolStepLemmas.{restores_follows}
+
+module _ (key : FieldList) (pool : Pool) (first : IsFirstPool (one_index (length key)) pool) where
+  abbrev shape : Shape
+  shape = one_index (length key)
+
+  abbrev root_page : Page
+  root_page = first_page (fields_for shape) 0
+
+  abbrev known : List (Option Object)
+  known = pool_in_hand pool first_frame
+
+  abbrev restored : List (Option Object)
+  restored = pool_in_hand (pool_after pool) (root_before key)
+
+  -- there is one place, and one image
+  one_place : 0 < length pool.place.items
+  one_place = let count = first.counted in omega (arith, count)
+
+  one_image : 0 < length pool.images.items
+  one_image = let count = first.stored in omega (arith, count)
+
+  -- nothing else is in hand
+  no_other : (k : ℕ) (x y : Object) → Becomes known restored k x y → k ≢ 0 → k ≢ 2 → Rests x y
+  no_other zero x y b isnt away = absurd (isnt refl)
+  no_other (suc zero) x y b isnt away = absurd (none_is_not x b.0)
+  no_other (suc (suc zero)) x y b isnt away = absurd (away refl)
+  no_other (suc (suc (suc k))) x y b isnt away = absurd (some-ne-none (Some x) (sym b.0))
+
+  restores : RestoresPage shape known restored
+  restores = record {
+    number = 0;
+    hand = record { block = 0; old = first_frame; new = root_before key };
+    old = pool;
+    new = pool_after pool;
+    step = record {
+      pool = (refl, refl);
+      frame = (refl, refl);
+      counted = record {
+        places = length-set pool.place.items 0 (InFrame 0);
+        images = length-set pool.images.items 0 None;
+        ages = refl;
+      };
+      elsewhere = λ n isnt. record {
+        place = ap where_of (set_else pool.place.items 0 n (InFrame 0) isnt);
+        image = ap image_of (set_else pool.images.items 0 n None isnt);
+      };
+      others = no_other;
+    };
+    page = root_page;
+    image = empty_image 0 (length key);
+    was = first.places 0;
+    is = ap where_of (set_here pool.place.items 0 (InFrame 0) one_place);
+    stored = first.images 0;
+    unstored = ap image_of (set_here pool.images.items 0 None one_image);
+    had = record { number = refl; is = refl };
+    empty = refl;
+    has = record { rows = _; paged = refl; number = refl; is = refl };
+    order = record { fields = refl; keys = tt; low = tt; high = tt; bodies = tt; places = tt };
+    clock = omega arith;
+  }
+
+  pub restore_follows : Follows shape known restored None
+  restore_follows = restores_follows shape known restored restores
+
+  -- the objects of the opening, and those after the root is restored
+  abbrev opening : List Object
+  opening = objects_with pool first_frame
+
+  abbrev after : List Object
+  after = objects_with (pool_after pool) (root_before key)
+
+  fate_then : (k : ℕ)
+      → Stays opening after known restored k ⊎ Changes opening after known restored k
+  fate_then zero = inr (record {
+    old = object.Pool pool;
+    new = object.Pool (pool_after pool);
+    becomes = (refl, refl);
+    was = refl;
+    is = refl;
+  })
+  fate_then (suc zero) = inl (record { same = refl; free = λ x e. none_is_not x e })
+  fate_then (suc (suc zero)) = inr (record {
+    old = object.Frame first_frame;
+    new = object.Frame (root_before key);
+    becomes = (refl, refl);
+    was = refl;
+    is = refl;
+  })
+  fate_then (suc (suc (suc k))) =
+      inl (record { same = refl; free = λ x e. some-ne-none (Some x) (sym e) })
+
+  -- what is in hand is so among the objects
+  in_objects : (p : Pool) (f : Frame) (k : ℕ) (x : Object)
+      → get_elem? (pool_in_hand p f) k ≡ some (Some x) → get_elem? (objects_with p f) k ≡ some x
+  in_objects p f zero x e = ap some (same_some (object.Pool p) x
+      (some-injective (Some (object.Pool p)) (Some x) e))
+  in_objects p f (suc zero) x e = absurd (none_is_not x e)
+  in_objects p f (suc (suc zero)) x e = ap some (same_some (object.Frame f) x
+      (some-injective (Some (object.Frame f)) (Some x) e))
+  in_objects p f (suc (suc (suc k))) x e = absurd (some-ne-none (Some x) (sym e))
+
+  leads_then : Leads opening after known restored
+  leads_then = record {
+    fate = fate_then;
+    was = in_objects pool first_frame;
+    is = in_objects (pool_after pool) (root_before key);
+  }
+
+  tree_at : (i : ℕ) → i < 1 → get_elem? opening (1 + i) ≡ some (object.Tree (first_tree i))
+  tree_at zero low = refl
+  tree_at (suc i) low = absurd (omega (arith, low))
+
+  frame_at : (b : ℕ) → b < 1 → IsFrameOf shape opening b first_frame
+  frame_at zero low = refl
+  frame_at (suc b) low = absurd (omega (arith, low))
+
+  firsts : AreFirstObjects shape opening
+  firsts = record {
+    counted = refl;
+    pool = pool;
+    pool_at = refl;
+    pool_is = first;
+    trees = tree_at;
+    frames = frame_at;
+  }
+
+  opening_lawful : AreLawfulObjects shape opening ([] ∷ [])
+  opening_lawful = first_lawful shape opening firsts refl
+
+  -- the state in which the root is restored is lawful
+  pub restored_lawful : AreLawfulObjects shape after ([] ∷ [])
+  restored_lawful = objects_stay shape opening after known restored leads_then ([] ∷ [])
+      opening_lawful ([] ∷ []) None restore_follows refl refl refl opening_lawful.lists
 
 module _ (key : FieldList) (value : List ℕ) where
   abbrev sh : Shape
@@ -65,7 +204,6 @@ module _ (key : FieldList) (value : List ℕ) where
         becomes = (refl, refl);
         had = record { rows = _; paged = refl; number = refl; is = refl };
         has = record { rows = _; paged = refl; number = refl; is = refl };
-        home = refl;
         order = record {
           fields = refl;
           keys = (refl, tt);
@@ -115,10 +253,10 @@ module _ (key : FieldList) (value : List ℕ) where
 
     module _ (pool : Pool) (first : IsFirstPool sh pool) where
       abbrev xs : List Object
-      xs = objects_with pool (root_before key)
+      xs = objects_with (pool_after pool) (root_before key)
 
       abbrev ys : List Object
-      ys = objects_with pool (root_after key value)
+      ys = objects_with (pool_after pool) (root_after key value)
 
       fate : (k : ℕ) → Stays xs ys before news k ⊎ Changes xs ys before news k
       fate zero = inl (record { same = refl; free = λ x e. none_is_not x e })
@@ -150,24 +288,6 @@ module _ (key : FieldList) (value : List ℕ) where
       leads : Leads xs ys before news
       leads = record { fate = fate; was = was; is = is }
 
-      tree_at : (i : ℕ) → i < 1 → get_elem? xs (1 + i) ≡ some (object.Tree (first_tree i))
-      tree_at zero low = refl
-      tree_at (suc i) low = absurd (omega (arith, low))
-
-      frame_at : (b : ℕ) → b < 1 → IsFrameOf sh xs b (first_frame sh b)
-      frame_at zero low = refl
-      frame_at (suc b) low = absurd (omega (arith, low))
-
-      firsts : AreFirstObjects sh xs
-      firsts = record {
-        counted = refl;
-        pool = pool;
-        pool_at = refl;
-        pool_is = first;
-        trees = tree_at;
-        frames = frame_at;
-      }
-
       abbrev old_lists : List Entries
       old_lists = [] ∷ []
 
@@ -186,11 +306,12 @@ module _ (key : FieldList) (value : List ℕ) where
 
       objects_lawful : AreLawfulObjects sh ys new_lists
       objects_lawful = objects_stay sh xs ys before news leads old_lists
-          (first_lawful sh xs (omega arith) firsts refl) new_lists (Some change) put_follows
+          (restored_lawful key pool first) new_lists (Some change) put_follows
           (refl, maps_else) refl refl lists_lawful
 
 pub one_put_is_lawful : OnePutIsLawful
 one_put_is_lawful = record {
+  restores = λ pool key first. restore_follows key pool first;
   follows = λ key value columns. put_follows key value columns;
   lawful = λ pool key value columns latches most passes first.
       record { objects = objects_lawful key value columns pool first };

@@ -15,17 +15,19 @@ use Rattle.tree_law.proofs.OpeningLemmas.{opening_lawful}
 use Rattle.index_law.specs.Shape.{Shape}
 use Rattle.index_law.specs.State.{Entries, changes}
 use Rattle.forest_law.specs.declared.objects.Frame.{Frame}
+use Rattle.forest_law.specs.declared.objects.Stored.{Stored}
 use Rattle.forest_law.specs.declared.objects.Where.TheVariants.{Free, InFrame, Image}
 use Rattle.forest_law.specs.declared.objects.Object.{Object}
 use Rattle.forest_law.specs.declared.objects.Object.TheVariants as object
 use Rattle.forest_law.specs.Numbers.{tree_id, frame_id, frames_of}
-use Rattle.forest_law.specs.State.{page_if, page_of, places_of, height_of, where_at, places, page_where, pages_of, heights_of, list_of, maps_of, fields_for}
+use Rattle.forest_law.specs.State.{page_stored, places_of, images_of, ages_of, image_at, images, height_of, where_at, places, page_where, pages_of, heights_of, list_of, maps_of, fields_for}
 use Rattle.forest_law.specs.Objects.{IsFrameOf}
+use Rattle.forest_law.specs.Placed.{IsImaged}
 use Rattle.forest_law.specs.Law.{AreLawfulObjects}
-use Rattle.forest_law.specs.Opening.{empty_page, first_page_in, first_frame, first_tree, AreFirstObjects, ForestsOpenLawfully}
-use Rattle.forest_law.proofs.ObjectLemmas.{same_frame, same_block}
+use Rattle.forest_law.specs.Opening.{empty_image, first_image, first_frame, first_tree, AreFirstObjects, ForestsOpenLawfully}
+use Rattle.forest_law.proofs.ObjectLemmas.{same_frame}
 
-module _ (sh : Shape) (objects : List Object) (room : sh.indexes ≤ sh.pages)
+module _ (sh : Shape) (objects : List Object)
     (first : AreFirstObjects sh objects) where
   -- a test that is true, and one that is false
   is_below : (n : ℕ) → n < sh.indexes → nat_lt n sh.indexes ≡ true
@@ -34,35 +36,36 @@ module _ (sh : Shape) (objects : List Object) (room : sh.indexes ≤ sh.pages)
   is_beyond : (n : ℕ) → sh.indexes ≤ n → nat_lt n sh.indexes ≡ false
   is_beyond n most = grind (arith, nat_tests)
 
-  where_is : (n : ℕ) → where_at (places objects) n ≡ cond (nat_lt n sh.indexes) (InFrame n) Free
+  where_is : (n : ℕ) → where_at (places objects) n ≡ cond (nat_lt n sh.indexes) Image Free
   where_is n = ap (λ z. where_at (places_of z) n) first.pool_at ∙ first.pool_is.places n
 
-  where_low : (n : ℕ) → n < sh.indexes → where_at (places objects) n ≡ InFrame n
-  where_low n low = where_is n ∙ ap (λ b. cond b (InFrame n) Free) (is_below n low)
+  where_low : (n : ℕ) → n < sh.indexes → where_at (places objects) n ≡ Image
+  where_low n low = where_is n ∙ ap (λ b. cond b Image Free) (is_below n low)
 
   where_high : (n : ℕ) → sh.indexes ≤ n → where_at (places objects) n ≡ Free
-  where_high n most = where_is n ∙ ap (λ b. cond b (InFrame n) Free) (is_beyond n most)
+  where_high n most = where_is n ∙ ap (λ b. cond b Image Free) (is_beyond n most)
 
-  root_in : (n : ℕ) → n < sh.indexes → first_page_in sh n ≡ Some (empty_page n (fields_for sh n))
-  root_in n low = ap (λ b. cond b (Some (empty_page n (fields_for sh n))) None) (is_below n low)
+  image_is : (n : ℕ) → image_at (images objects) n ≡ first_image sh n
+  image_is n = ap (λ z. image_at (images_of z) n) first.pool_at ∙ first.pool_is.images n
 
-  none_in : (n : ℕ) → sh.indexes ≤ n → first_page_in sh n ≡ None
-  none_in n most = ap (λ b. cond b (Some (empty_page n (fields_for sh n))) None) (is_beyond n most)
+  image_low : (n : ℕ) → n < sh.indexes
+      → image_at (images objects) n ≡ Some (empty_image n (fields_for sh n))
+  image_low n low = image_is n
+      ∙ ap (λ b. cond b (Some (empty_image n (fields_for sh n))) None) (is_below n low)
 
-  page_here : (n : ℕ) → n < sh.indexes
-      → page_of (get_elem? objects (frame_id sh n)) ≡ Some (first_page (fields_for sh) n)
-  page_here n low = ap page_of (first.frames n (omega (arith, low, room)))
-      ∙ ap (λ p. page_if p None None) (root_in n low)
+  image_high : (n : ℕ) → sh.indexes ≤ n → image_at (images objects) n ≡ None
+  image_high n most = image_is n
+      ∙ ap (λ b. cond b (Some (empty_image n (fields_for sh n))) None) (is_beyond n most)
 
   pages_are : (n : ℕ) → pages_of sh objects n ≡ first_pages (fields_for sh) sh.indexes n
   pages_are n = pick (cases_lt n sh.indexes)
     where
       pick : (n < sh.indexes) ⊎ (sh.indexes ≤ n)
           → pages_of sh objects n ≡ first_pages (fields_for sh) sh.indexes n
-      pick (inl low) = ap (page_where sh objects) (where_low n low)
-          ∙ (page_here n low
+      pick (inl low) = ap (page_where sh objects n) (where_low n low)
+          ∙ (ap page_stored (image_low n low)
           ∙ sym (ap (λ b. cond b (Some (first_page (fields_for sh) n)) None) (is_below n low)))
-      pick (inr most) = ap (page_where sh objects) (where_high n most)
+      pick (inr most) = ap (page_where sh objects n) (where_high n most)
           ∙ sym (ap (λ b. cond b (Some (first_page (fields_for sh) n)) None) (is_beyond n most))
 
   heights_are : (i : ℕ) → heights_of objects i ≡ 0
@@ -81,52 +84,60 @@ module _ (sh : Shape) (objects : List Object) (room : sh.indexes ≤ sh.pages)
       pick (inl low) = ap height_of (first.trees i low)
       pick (inr most) = high most (get_elem? objects (tree_id i)) refl
 
-  not_free : (b : ℕ) → Free ≡ InFrame b → ⊥
-  not_free b e = absurd cc
-
-  in_block : (n b : ℕ) → where_at (places objects) n ≡ InFrame b → (n < sh.indexes) × (b ≡ n)
-  in_block n b e = pick (cases_lt n sh.indexes)
+  -- no page is in a frame
+  not_framed : (n b : ℕ) → where_at (places objects) n ≡ InFrame b → ⊥
+  not_framed n b e = pick (cases_lt n sh.indexes)
     where
-      pick : (n < sh.indexes) ⊎ (sh.indexes ≤ n) → (n < sh.indexes) × (b ≡ n)
-      pick (inl low) = (low, sym (same_block n b (sym (where_low n low) ∙ e)))
-      pick (inr most) = absurd (not_free b (sym (where_high n most) ∙ e))
+      not_here : Image ≡ InFrame b → ⊥
+      not_here q = absurd cc
 
-  no_image : (n : ℕ) → where_at (places objects) n ≡ Image → ⊥
-  no_image n e = pick (cases_lt n sh.indexes)
-    where
-      not_here : (b : ℕ) → InFrame b ≡ Image → ⊥
-      not_here b e = absurd cc
-
-      not_free : Free ≡ Image → ⊥
-      not_free e = absurd cc
+      not_free : Free ≡ InFrame b → ⊥
+      not_free q = absurd cc
 
       pick : (n < sh.indexes) ⊎ (sh.indexes ≤ n) → ⊥
-      pick (inl low) = not_here n (sym (where_low n low) ∙ e)
+      pick (inl low) = not_here (sym (where_low n low) ∙ e)
       pick (inr most) = not_free (sym (where_high n most) ∙ e)
+
+  -- and each page whose place says so has an image
+  stored : (n : ℕ) → where_at (places objects) n ≡ Image
+      → (s : Stored) × (image_at (images objects) n ≡ Some s)
+  stored n e = pick (cases_lt n sh.indexes)
+    where
+      not_free : Free ≡ Image → ⊥
+      not_free q = absurd cc
+
+      pick : (n < sh.indexes) ⊎ (sh.indexes ≤ n)
+          → (s : Stored) × (image_at (images objects) n ≡ Some s)
+      pick (inl low) = (empty_image n (fields_for sh n), image_low n low)
+      pick (inr most) = absurd (not_free (sym (where_high n most) ∙ e))
+
+  imaged : (n : ℕ) (s : Stored) → image_at (images objects) n ≡ Some s → IsImaged objects n s
+  imaged n s e = pick (cases_lt n sh.indexes)
+    where
+      none_is : None ≡ Some s → ⊥
+      none_is q = absurd cc
+
+      pick : (n < sh.indexes) ⊎ (sh.indexes ≤ n) → IsImaged objects n s
+      pick (inl low) = record {
+        number = ap (λ (z : Stored). z.page.head.number)
+            (sym (same_some (empty_image n (fields_for sh n)) s (sym (image_low n low) ∙ e)));
+        place = where_low n low;
+      }
+      pick (inr most) = absurd (none_is (sym (image_high n most) ∙ e))
 
   none_is : (p : PageRows) → None ≡ Some p → ⊥
   none_is p e = absurd cc
 
-  named : (b : ℕ) (f : Frame) (p : PageRows) → IsFrameOf sh objects b f → f.page ≡ Some p
-      → where_at (places objects) p.head.number ≡ InFrame b
-  named b f p at paged = pick (cases_lt b sh.indexes)
+  -- no frame has a page
+  no_page : (b : ℕ) (f : Frame) (p : PageRows) → IsFrameOf sh objects b f → f.page ≡ Some p → ⊥
+  no_page b f p at paged = none_is p (ap (λ (z : Frame). z.page)
+      (same_frame first_frame f
+      (some-injective (object.Frame first_frame) (object.Frame f)
+      (sym (first.frames b within) ∙ at))) ∙ paged)
     where
       within : b < frames_of sh
       within = let low = inside objects (frame_id sh b) (object.Frame f) at in
           let all = first.counted in omega (arith, low, all)
-
-      is : first_page_in sh b ≡ Some p
-      is = ap (λ (z : Frame). z.page)
-          (same_frame (first_frame sh b) f
-          (some-injective (object.Frame (first_frame sh b)) (object.Frame f)
-          (sym (first.frames b within) ∙ at))) ∙ paged
-
-      pick : (b < sh.indexes) ⊎ (sh.indexes ≤ b)
-          → where_at (places objects) p.head.number ≡ InFrame b
-      pick (inl low) = ap (λ (z : PageRows). where_at (places objects) z.head.number)
-          (sym (same_some (empty_page b (fields_for sh b)) p (sym (root_in b low) ∙ is)))
-          ∙ where_low b low
-      pick (inr most) = absurd (none_is p (sym (none_in b most) ∙ is))
 
   lists_are : (i : ℕ) → maps_of (replicate sh.indexes []) i ≡ []
   lists_are i = pick (get_elem? (replicate sh.indexes []) i) refl
@@ -143,6 +154,9 @@ module _ (sh : Shape) (objects : List Object) (room : sh.indexes ≤ sh.pages)
     counted = record {
       objects = first.counted;
       places = ap (λ z. length (places_of z)) first.pool_at ∙ first.pool_is.counted;
+      images = ap (λ z. length (images_of z)) first.pool_at ∙ first.pool_is.stored;
+      ages = ap (λ z. length (ages_of z)) first.pool_at
+          ∙ (ap length first.pool_is.ages ∙ length-replicate sh.blocks 0);
       fields = fields;
       lists = length-replicate sh.indexes [];
     };
@@ -154,21 +168,14 @@ module _ (sh : Shape) (objects : List Object) (room : sh.indexes ≤ sh.pages)
         index = refl;
         root = refl;
       };
-      frames = λ b low. (first_frame sh b, first.frames b low);
+      frames = λ b low. (first_frame, first.frames b low);
     };
     placed = record {
-      named = named;
-      there = λ n b e. (let here = in_block n b e in let low = here.0 in record {
-        frame = first_frame sh n;
-        page = empty_page n (fields_for sh n);
-        at = subst (λ c. IsFrameOf sh objects c (first_frame sh n)) (sym here.1)
-            (first.frames n (omega (arith, room, low)));
-        paged = root_in n low;
-        number = refl;
-      });
-      images = no_image;
+      named = λ b f p at paged. absurd (no_page b f p at paged);
+      there = λ n b e. absurd (not_framed n b e);
+      imaged = imaged;
+      stored = stored;
     };
-    home = λ n b e. (in_block n b e).1;
     lists = λ i xs e. subst (λ z. AreLawful (changes z))
         (replicate_is sh.indexes i [] xs e) lawful-none;
     pages = subst
@@ -182,4 +189,4 @@ module _ (sh : Shape) (objects : List Object) (room : sh.indexes ≤ sh.pages)
 
 pub opens_lawfully : ForestsOpenLawfully
 opens_lawfully sh objects most passes fields room first =
-    record { objects = first_lawful sh objects room first fields }
+    record { objects = first_lawful sh objects first fields }

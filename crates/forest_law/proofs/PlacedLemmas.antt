@@ -1,27 +1,29 @@
--- Places stay right, and pages are led to.
-use Rattle.std.proofs.Common.{◌≡◌, ◌≢◌, ◌⊎◌, inl, inr, ℕ, List, [], ◌∷◌, Option, Some, length, refl, sym, ap, subst, ◌∙◌}
+-- Places and images stay right, and pages are led to.
+use Rattle.std.proofs.Common.{◌≡◌, ◌≢◌, ◌⊎◌, inl, inr, ℕ, List, [], ◌∷◌, Option, Some, None, refl, sym, ap, subst, ◌∙◌}
 use Rattle.std.specs.List.{AllByRecursion}
 use mathlib.Core.Option.{some, some-injective}
 use lib.ListN.{get_elem?}
 use Rattle.index_page.specs.Page.{PageRows}
+use Rattle.list_facts.proofs.Places.{same_some}
 use Rattle.tree_law.specs.PageChanges.{PageChange, LeadTo}
 use Rattle.tree_law.proofs.LeafLemmas.{each_in}
 use Rattle.index_law.specs.Shape.{Shape}
 use Rattle.forest_law.specs.declared.objects.Frame.{Frame}
+use Rattle.forest_law.specs.declared.objects.Stored.{Stored}
 use Rattle.forest_law.specs.declared.objects.Where.{Where}
 use Rattle.forest_law.specs.declared.objects.Where.TheVariants.{Free, InFrame, Image}
 use Rattle.forest_law.specs.declared.objects.Object.{Object}
 use Rattle.forest_law.specs.declared.objects.Object.TheVariants as object
-use Rattle.forest_law.specs.Numbers.{frame_id}
-use Rattle.forest_law.specs.State.{page_if, page_of, where_at, places, page_where, pages_of}
+use Rattle.forest_law.specs.Numbers.{pool_id, frame_id}
+use Rattle.forest_law.specs.State.{page_if, page_of, page_stored, images_of, where_at, places, image_at, images, page_where, pages_of}
 use Rattle.forest_law.specs.Objects.{IsFrameOf, Becomes}
 use Rattle.forest_law.specs.Kinds.{AreKinds, KeepsKind}
-use Rattle.forest_law.specs.Placed.{IsPageIn, ArePlaced, AreAtHome, KeepsPage, TurnsPage, PlacesStay, PlacesTurn}
+use Rattle.forest_law.specs.Placed.{IsPageIn, IsImaged, ArePlaced, KeepsPage, TurnsPage, PlacesStay, PlacesTurn}
 use Rattle.forest_law.specs.Turns.{Turn, IsSeen, IsApart, page_changes, IsTurn, IsTurned}
 use Rattle.forest_law.proofs.TurnLemmas.{each_both, takes_part, not_apart, seen_where}
 use Rattle.forest_law.proofs.ObjectLemmas.{Stays, Changes, Leads, was_frame}
 use Rattle.forest_law.proofs.KindsLemmas.{FrameBecomes, frame_fate}
-use Rattle.forest_law.proofs.PlacesLemmas.{PlacesLead, IsPlacedBy, places_lead}
+use Rattle.forest_law.proofs.PlacesLemmas.{PlacesLead, CountsLead, IsPlacedBy, IsGone, places_lead}
 
 module _ (sh : Shape) (xs ys : List Object) (before news : List (Option Object))
     (leads : Leads xs ys before news) (kinds : AreKinds sh xs)
@@ -39,7 +41,7 @@ module _ (sh : Shape) (xs ys : List Object) (before news : List (Option Object))
   lead : PlacesLead sh xs ys before news leads kinds keeps turns placed each
   lead = places_lead sh xs ys before news leads kinds keeps turns placed each pool
 
-  pub places_counted : length (places ys) ≡ length (places xs)
+  pub places_counted : CountsLead sh xs ys before news leads kinds keeps turns placed each
   places_counted = lead.counted
 
   -- the turn of a page, as it is seen and placed
@@ -100,9 +102,9 @@ module _ (sh : Shape) (xs ys : List Object) (before news : List (Option Object))
       changes [] a = tt
       changes (t ∷ ts) a = (
         (
-          ap (page_where sh xs) a.0.1.0
+          ap (page_where sh xs t.number) a.0.1.0
               ∙ seen_where sh xs before leads.was t.number t.from t.old a.0.0.was,
-          ap (page_where sh ys) a.0.1.1
+          ap (page_where sh ys t.number) a.0.1.1
               ∙ seen_where sh ys news leads.is t.number t.to t.new a.0.0.is,
         ),
         changes ts a.1,
@@ -114,16 +116,17 @@ module _ (sh : Shape) (xs ys : List Object) (before news : List (Option Object))
       back n (t ∷ ts) a = (a.0, back n ts a.1)
 
       same_place : (n : ℕ) (w : Where) → where_at (places xs) n ≡ w
-          → page_where sh ys w ≡ page_where sh xs w → IsApart n turns
+          → page_where sh ys n w ≡ page_where sh xs n w → IsApart n turns
           → pages_of sh ys n ≡ pages_of sh xs n
       same_place n w e same apart =
-          ap (page_where sh ys) (lead.others n apart ∙ e)
-          ∙ (same ∙ sym (ap (page_where sh xs) e))
+          ap (page_where sh ys n) (lead.others n apart ∙ e)
+          ∙ (same ∙ sym (ap (page_where sh xs n) e))
 
       other : (n : ℕ) → IsApart n turns → (w : Where) → where_at (places xs) n ≡ w
           → pages_of sh ys n ≡ pages_of sh xs n
       other n apart Free e = same_place n Free e refl apart
-      other n apart Image e = same_place n Image e refl apart
+      other n apart Image e =
+          same_place n Image e (ap page_stored (lead.stored n apart)) apart
       other n apart (InFrame b) e =
           same_place n (InFrame b) e (stays_apart n b apart (placed.there n b e)).0 apart
 
@@ -189,25 +192,73 @@ module _ (sh : Shape) (xs ys : List Object) (before news : List (Option Object))
             (frames b f.0 g
             (c.becomes.0 ∙ ap (λ x. some (Some x)) f.1, c.becomes.1 ∙ ap (λ x. some (Some x)) new))
 
-  -- no page is an image still
-  no_image : (n : ℕ) → where_at (places ys) n ≡ Image → IsApart n turns ⊎ IsTurned turns n → ⊥
-  no_image n e (inl apart) = placed.images n (sym (lead.others n apart) ∙ e)
-  no_image n e (inr t) = let here = turn_at n t in
-      let to : t.turn.to ≡ Image = sym here.1.1 ∙ (ap (where_at (places ys)) t.number ∙ e) in
-      subst (λ w. IsSeen sh news t.turn.number w t.turn.new) to here.0.is
+  -- a page that came to its image
+  record Came (t : Turn) : Type 0 where
+    image : Stored
+    at : image_at (images ys) t.number ≡ Some image
+    number : image.page.head.number ≡ t.number
+
+  came : (t : Turn) → IsTurn sh before news t → t.to ≡ Image → Came t
+  came t turn to = let s = (subst (λ w. IsSeen sh news t.number w t.new) to turn.is).2 in record {
+    image = s.image;
+    at = ap (λ o. image_at (images_of o) t.number)
+        (leads.is pool_id (object.Pool s.pool) s.at) ∙ s.stored;
+    number = s.has.number;
+  }
+
+  -- a page that has an image after it took part came to it
+  came_there : (t : Turn) → IsTurn sh before news t
+      → IsGone sh xs ys before news leads kinds keeps turns placed each t → (s : Stored)
+      → image_at (images ys) t.number ≡ Some s → t.to ≡ Image
+  came_there t turn gone s e = pick t.to refl
+    where
+      none_is_not : None ≡ Some s → ⊥
+      none_is_not q = absurd cc
+
+      not_free : Free ≡ Image → ⊥
+      not_free q = absurd cc
+
+      not_in : (b : ℕ) → InFrame b ≡ Image → ⊥
+      not_in b q = absurd cc
+
+      pick : (w : Where) → t.to ≡ w → t.to ≡ Image
+      pick Image to = to
+      pick Free to = absurd (none_is_not (sym (gone (λ q. not_free (sym to ∙ q))) ∙ e))
+      pick (InFrame b) to = absurd (none_is_not (sym (gone (λ q. not_in b (sym to ∙ q))) ∙ e))
+
+  -- each image is that of its page still
+  imaged : (n : ℕ) (s : Stored) → image_at (images ys) n ≡ Some s
+      → IsApart n turns ⊎ IsTurned turns n → IsImaged ys n s
+  imaged n s e (inl apart) = let was = placed.imaged n s (sym (lead.stored n apart) ∙ e) in
+      record { number = was.number; place = lead.others n apart ∙ was.place }
+  imaged n s e (inr t) = let here = turn_at n t in
+      let at : image_at (images ys) t.turn.number ≡ Some s =
+      ap (image_at (images ys)) t.number ∙ e in
+      let to = came_there t.turn here.0
+      (each_in (IsGone sh xs ys before news leads kinds keeps turns placed each) turns lead.gone
+      t.turn t.among) s at in
+      let new = came t.turn here.0 to in
+      record {
+        number = ap (λ (z : Stored). z.page.head.number)
+            (sym (same_some new.image s (sym new.at ∙ at))) ∙ (new.number ∙ t.number);
+        place = ap (where_at (places ys)) (sym t.number) ∙ (here.1.1 ∙ to);
+      }
+
+  -- each page whose place says so has an image still
+  stored : (n : ℕ) → where_at (places ys) n ≡ Image → IsApart n turns ⊎ IsTurned turns n
+      → (s : Stored) × (image_at (images ys) n ≡ Some s)
+  stored n e (inl apart) = let was = placed.stored n (sym (lead.others n apart) ∙ e) in
+      (was.0, lead.stored n apart ∙ was.1)
+  stored n e (inr t) = let here = turn_at n t in
+      let new = came t.turn here.0
+      (sym here.1.1 ∙ (ap (where_at (places ys)) t.number ∙ e)) in
+      (new.image, ap (image_at (images ys)) (sym t.number) ∙ new.at)
 
   -- the places are right still
   pub placed_stay : ArePlaced sh ys
   placed_stay = record {
     named = named;
     there = λ n b e. there n b e (takes_part n turns);
-    images = λ n e. no_image n e (takes_part n turns);
+    imaged = λ n s e. imaged n s e (takes_part n turns);
+    stored = λ n e. stored n e (takes_part n turns);
   }
-
-  -- and each page is at home still
-  pub home_stays : AreAtHome xs → AreAtHome ys
-  home_stays home n b e = elim (takes_part n turns) [
-    | inl apart ↦ home n b (sym (lead.others n apart) ∙ e)
-    | inr t ↦ (let here = turn_at n t in
-        here.0.home b (sym here.1.1 ∙ (ap (where_at (places ys)) t.number ∙ e)) ∙ t.number)
-  ]

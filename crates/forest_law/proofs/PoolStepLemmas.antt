@@ -1,31 +1,33 @@
--- A page outside the trees comes and goes.
+-- A page comes to a frame and goes from it: one outside the trees, and one to and from its image.
 use Rattle.std.proofs.Common.{◌≡◌, ◌≢◌, ◌⊎◌, inl, inr, ℕ, [], ◌∷◌, List, sym, ap, subst, ◌∙◌, arith, refl, Option, Some, None}
 use Rattle.std.proofs.lemmas.Bool.{cases_eq}
 use Rattle.list_facts.proofs.Places.{same_some}
 use Rattle.map_history.specs.Map.{Map}
 use Rattle.index_page.specs.Page.{PageRows}
+use Rattle.index_page.proofs.PartLemmas.{same_rows}
 use Rattle.tree_law.specs.Pages.{Page, IsOrderly}
-use Rattle.tree_law.specs.PageMoves.{IsOutside, Outside}
+use Rattle.tree_law.specs.PageMoves.{IsMove, Outside, Rearrange}
 use Rattle.clock_law.specs.ModifyClock.{GuardStays, IsLater}
 use Rattle.clock_law.proofs.LaterLemmas.{later_itself, rises_later, stays_later}
 use Rattle.index_law.specs.Shape.{Shape}
 use Rattle.forest_law.specs.declared.objects.Frame.{Frame}
 use Rattle.forest_law.specs.declared.objects.Pool.{Pool}
 use Rattle.forest_law.specs.declared.objects.Tree.{Tree}
-use Rattle.forest_law.specs.declared.objects.Where.TheVariants.{Free, InFrame}
+use Rattle.forest_law.specs.declared.objects.Where.{Where}
+use Rattle.forest_law.specs.declared.objects.Where.TheVariants.{Free, InFrame, Image}
 use Rattle.forest_law.specs.declared.objects.Object.{Object}
 use Rattle.forest_law.specs.declared.objects.Object.TheVariants as object
 use Rattle.forest_law.specs.Numbers.{pool_id, tree_id, frame_id}
-use Rattle.forest_law.specs.State.{fields_for, numbered_if, mark_of, object_mark}
+use Rattle.forest_law.specs.State.{where_at, image_at, fields_for, numbered_if, mark_of, object_mark}
 use Rattle.forest_law.specs.Objects.{Becomes}
 use Rattle.forest_law.specs.Kinds.{KeepsKind}
-use Rattle.forest_law.specs.Turns.{Turn, HasPage}
+use Rattle.forest_law.specs.Turns.{Turn, HasPage, IsSeen, IsTurn, page_changes}
 use Rattle.forest_law.specs.Placed.{KeepsPage, TurnsPage}
-use Rattle.forest_law.specs.Trees.{HeightsLead, TreeTurns, TreeRests, MapsLead, IsStep}
+use Rattle.forest_law.specs.Trees.{HeightsLead, TreeTurns, TreeRests}
 use Rattle.forest_law.specs.Clocked.{IsLaterObject}
 use Rattle.forest_law.specs.Law.{Follows}
-use Rattle.forest_law.specs.Steps.{Rests, InHand}
-use Rattle.forest_law.specs.PoolSteps.{PoolStep, BringsPage, TakesPage}
+use Rattle.forest_law.specs.Steps.{Rests, InHand, ClockStands}
+use Rattle.forest_law.specs.PoolSteps.{PoolStep, BringsPage, TakesPage, EvictsPage, RestoresPage}
 use Rattle.forest_law.specs.StepLaws.{PagesComeAndGo}
 use Rattle.forest_law.proofs.ObjectLemmas.{same_frame, same_block, not_tree_frame}
 use Rattle.forest_law.proofs.RestLemmas.{rests_kind, rests_later}
@@ -34,6 +36,9 @@ use mathlib.Core.Path.{fun_ext}
 
 not_in : (b : ℕ) → Free ≡ InFrame b → ⊥
 not_in b e = absurd cc
+
+from_image : (b : ℕ) → Image ≡ InFrame b → ⊥
+from_image b e = absurd cc
 
 none_is : {A : Type 0} (x : A) → None ≡ Some x → ⊥
 none_is x e = absurd cc
@@ -107,115 +112,216 @@ module _ (sh : Shape) (before news : List (Option Object)) (number : ℕ)
           (subst (λ z. TurnsPage (t ∷ []) hand.block z y) was
           (subst (λ z. TurnsPage (t ∷ []) hand.block hand.old z) is turns))
 
-  moves : (n : ℕ) (a b : Option Page) → IsOutside n a → IsOutside n b → (h h' : ℕ → ℕ)
-      → HeightsLead before news h h' → (maps maps' : ℕ → Map) → MapsLead None maps maps'
-      → IsStep h h' maps maps' (record { number = n; old = a; new = b } ∷ [])
-  moves n a b out out' h h' lead maps maps' same =
-      inr (Outside n (record { old = a; new = b; was = out; is = out' }) (heights_stay h h' lead) same)
+  -- the page's turn
+  abbrev turn : (from to : Where) → (was is : Option Page) → Turn
+  turn from to was is = record { number = number; from = from; to = to; old = was; new = is }
+
+  -- what is known of the page's turn, between the frame and another place
+  record TurnsAlone (from to : Where) (was is : Option Page) : Type 0 where
+    seen : IsTurn sh before news (turn from to was is)
+    away : (c : ℕ) → c ≢ hand.block → from ≢ InFrame c
+    frame : TurnsPage (turn from to was is ∷ []) hand.block hand.old hand.new
+    was_at : where_at old.place.items number ≡ from
+    is_at : where_at new.place.items number ≡ to
+    gone : to ≢ Image → image_at new.images.items number ≡ None
+    move : (h h' : ℕ → ℕ) → h' ≡ h → (maps maps' : ℕ → Map) → maps' ≡ maps
+        → IsMove h h' maps maps' (page_changes (turn from to was is ∷ []))
+    order : (page : Page) → is ≡ Some page → IsOrderly (fields_for sh) page
+    later : IsLater (mark_of hand.old) (mark_of hand.new)
+
+  -- such a step follows
+  turn_follows : (from to : Where) (was is : Option Page) → TurnsAlone from to was is
+      → Follows sh before news None
+  turn_follows from to was is t = record {
+    kinds = kinds;
+    turns = turn from to was is ∷ [];
+    each = (t.seen, tt);
+    frames = frames_beside (turn from to was is) t.away t.frame;
+    pool = inr (record {
+      old = old;
+      new = new;
+      becomes = s.pool;
+      counted = s.counted;
+      each = ((t.was_at, t.is_at), tt);
+      gone = (t.gone, tt);
+      others = λ n apart. s.elsewhere n apart.0;
+    });
+    pages = λ h h' lead maps maps' same. inr (t.move h h' (heights_stay h h' lead) maps maps' same);
+    order = (t.order, tt);
+    allowed = tt;
+    clocks = clocks t.later;
+  }
 
   -- the page of a frame has the turn's number
-  number_of : (f : Frame) (n : ℕ) (page : Page) → HasPage f n page → (p : PageRows)
-      → f.page ≡ Some p → n ≡ p.head.number
-  number_of f n page has p e = sym has.number
+  number_of : (f : Frame) (page : Page) → HasPage f number page → (p : PageRows) → f.page ≡ Some p
+      → number ≡ p.head.number
+  number_of f page has p e = sym has.number
       ∙ ap (λ (z : PageRows). z.head.number) (same_some has.rows p (sym has.paged ∙ e))
+
+  -- a page is seen in the frame before, and after
+  seen_before : (page : Page) → HasPage hand.old number page
+      → IsSeen sh before number (InFrame hand.block) (Some page)
+  seen_before page had = (page, refl, record { frame = hand.old; at = s.frame.0; has = had })
+
+  seen_after : (page : Page) → HasPage hand.new number page
+      → IsSeen sh news number (InFrame hand.block) (Some page)
+  seen_after page has = (page, refl, record { frame = hand.new; at = s.frame.1; has = has })
+
+  -- a page that comes to the empty frame takes part, and no other does
+  comes : (from : Where) (was : Option Page) (page : Page) → hand.old.page ≡ None
+      → HasPage hand.new number page
+      → TurnsPage (turn from (InFrame hand.block) was (Some page) ∷ []) hand.block hand.old hand.new
+  comes from was page empty has = record {
+    was = λ p e. absurd (none_is p (sym empty ∙ e));
+    is = λ q e. (
+      record {
+        turn = turn from (InFrame hand.block) was (Some page);
+        among = inl refl;
+        number = number_of hand.new page has q e;
+      },
+      refl,
+    );
+  }
+
+  -- and so does one that goes from the frame
+  goes : (to : Where) (is : Option Page) (page : Page) → HasPage hand.old number page
+      → hand.new.page ≡ None
+      → TurnsPage (turn (InFrame hand.block) to (Some page) is ∷ []) hand.block hand.old hand.new
+  goes to is page had empty = record {
+    was = λ p e. record {
+      turn = turn (InFrame hand.block) to (Some page) is;
+      among = inl refl;
+      number = number_of hand.old page had p e;
+    };
+    is = λ q e. absurd (none_is q (sym empty ∙ e));
+  }
+
+  -- a frame that had no page is a later one where its clock stands
+  comes_later : ClockStands hand → hand.old.page ≡ None
+      → IsLater (mark_of hand.old) (mark_of hand.new)
+  comes_later clock empty = stays_later (mark_of hand.old) (mark_of hand.new) clock
+      (subst (λ p. GuardStays (numbered_if p hand.old.low hand.old.high)
+      (mark_of hand.new).guards) (sym empty) tt)
+
+  from_block : (c : ℕ) → c ≢ hand.block → InFrame hand.block ≢ InFrame c
+  from_block c ne e = ne (sym (same_block hand.block c e))
+
+  -- a page that keeps its rows
+  rearranged : (page : Page) (h h' : ℕ → ℕ) → h' ≡ h → (maps maps' : ℕ → Map) → maps' ≡ maps
+      → IsMove h h' maps maps'
+      (record { number = number; old = Some page; new = Some page } ∷ [])
+  rearranged page h h' heights maps maps' same = Rearrange number
+      (record { page = page; rows = page.rows; same = same_rows page.rows }) heights same
 
 -- a page that comes follows
 pub brings_follows : (sh : Shape) (before news : List (Option Object)) → BringsPage sh before news
     → Follows sh before news None
-brings_follows sh before news br = let s = br.step in record {
-  kinds = kinds sh before news br.number br.hand br.old br.new s;
-  turns = turn ∷ [];
-  each = (
-    record {
-      was = refl;
-      is = (br.page, refl, record { frame = br.hand.new; at = s.frame.1; has = br.has });
-      home = λ b e. sym (same_block br.hand.block b e) ∙ s.home;
-    },
-    tt,
-  );
-  frames = frames_beside sh before news br.number br.hand br.old br.new s turn (λ c ne e. not_in c e) (record {
-    was = λ p e. absurd (none_is p (sym br.empty ∙ e));
-    is = λ q e. (
-      record {
-        turn = turn;
-        among = inl refl;
-        number = number_of sh before news br.number br.hand br.old br.new s br.hand.new br.number br.page br.has q e;
-      },
-      refl,
-    );
-  });
-  pool = inr (record {
-    old = br.old;
-    new = br.new;
-    becomes = s.pool;
-    counted = s.counted;
-    each = ((br.was, br.is), tt);
-    others = λ n apart. s.named n apart.0;
-  });
-  pages = moves sh before news br.number br.hand br.old br.new s br.number None (Some br.page) tt br.outside;
-  order = ((λ page e. subst (IsOrderly (fields_for sh)) (same_some br.page page e) br.order), tt);
-  allowed = tt;
-  clocks = clocks sh before news br.number br.hand br.old br.new s
-      (stays_later (mark_of br.hand.old) (mark_of br.hand.new) br.clock
-      (subst (λ p. GuardStays (numbered_if p br.hand.old.low br.hand.old.high)
-      (mark_of br.hand.new).guards) (sym br.empty) tt));
-}
-  where
-    turn : Turn
-    turn = record {
-      number = br.number;
-      from = Free;
-      to = InFrame br.hand.block;
-      old = None;
-      new = Some br.page;
-    }
+brings_follows sh before news br = turn_follows sh before news br.number br.hand br.old br.new
+    br.step
+    Free (InFrame br.hand.block) None (Some br.page) (record {
+      seen = record {
+        was = refl;
+        is = seen_after sh before news br.number br.hand br.old br.new br.step br.page br.has;
+      };
+      away = λ c ne e. not_in c e;
+      frame = comes sh before news br.number br.hand br.old br.new br.step Free None br.page
+          br.empty br.has;
+      was_at = br.was;
+      is_at = br.is;
+      gone = λ isnt. br.unstored;
+      move = λ h h' heights maps maps' same. Outside br.number
+          (record { old = None; new = Some br.page; was = tt; is = br.outside }) heights same;
+      order = λ page e. subst (IsOrderly (fields_for sh)) (same_some br.page page e) br.order;
+      later = comes_later sh before news br.number br.hand br.old br.new br.step br.clock br.empty;
+    })
 
 -- a page that goes follows
 pub takes_follows : (sh : Shape) (before news : List (Option Object)) → TakesPage sh before news
     → Follows sh before news None
-takes_follows sh before news tk = let s = tk.step in record {
-  kinds = kinds sh before news tk.number tk.hand tk.old tk.new s;
-  turns = turn ∷ [];
-  each = (
-    record {
-      was = (tk.page, refl, record { frame = tk.hand.old; at = s.frame.0; has = tk.had });
-      is = refl;
-      home = λ b e. absurd (not_in b e);
-    },
-    tt,
-  );
-  frames = frames_beside sh before news tk.number tk.hand tk.old tk.new s turn
-      (λ c ne e. ne (sym (same_block tk.hand.block c e))) (record {
-        was = λ p e. record {
-          turn = turn;
-          among = inl refl;
-          number = number_of sh before news tk.number tk.hand tk.old tk.new s tk.hand.old tk.number tk.page tk.had p e;
-        };
-        is = λ q e. absurd (none_is q (sym tk.empty ∙ e));
-      });
-  pool = inr (record {
-    old = tk.old;
-    new = tk.new;
-    becomes = s.pool;
-    counted = s.counted;
-    each = ((tk.was, tk.is), tt);
-    others = λ n apart. s.named n apart.0;
-  });
-  pages = moves sh before news tk.number tk.hand tk.old tk.new s tk.number (Some tk.page) None tk.outside tt;
-  order = ((λ page e. absurd (none_is page e)), tt);
-  allowed = tt;
-  clocks = clocks sh before news tk.number tk.hand tk.old tk.new s
-      (rises_later (mark_of tk.hand.old) (mark_of tk.hand.new) tk.clock);
-}
-  where
-    turn : Turn
-    turn = record {
-      number = tk.number;
-      from = InFrame tk.hand.block;
-      to = Free;
-      old = Some tk.page;
-      new = None;
-    }
+takes_follows sh before news tk = turn_follows sh before news tk.number tk.hand tk.old tk.new
+    tk.step
+    (InFrame tk.hand.block) Free (Some tk.page) None (record {
+      seen = record {
+        was = seen_before sh before news tk.number tk.hand tk.old tk.new tk.step tk.page tk.had;
+        is = refl;
+      };
+      away = from_block sh before news tk.number tk.hand tk.old tk.new tk.step;
+      frame = goes sh before news tk.number tk.hand tk.old tk.new tk.step Free None tk.page tk.had
+          tk.empty;
+      was_at = tk.was;
+      is_at = tk.is;
+      gone = λ isnt. tk.unstored;
+      move = λ h h' heights maps maps' same. Outside tk.number
+          (record { old = Some tk.page; new = None; was = tk.outside; is = tt }) heights same;
+      order = λ page e. absurd (none_is page e);
+      later = rises_later (mark_of tk.hand.old) (mark_of tk.hand.new) tk.clock;
+    })
+
+-- a page that goes to its image follows
+pub evicts_follows : (sh : Shape) (before news : List (Option Object)) → EvictsPage sh before news
+    → Follows sh before news None
+evicts_follows sh before news ev = turn_follows sh before news ev.number ev.hand ev.old ev.new
+    ev.step
+    (InFrame ev.hand.block) Image (Some ev.page) (Some ev.page) (record {
+      seen = record {
+        was = seen_before sh before news ev.number ev.hand ev.old ev.new ev.step ev.page ev.had;
+        is = (
+          ev.page,
+          refl,
+          record {
+            pool = ev.new;
+            at = ev.step.pool.1;
+            image = ev.image;
+            stored = ev.stored;
+            has = ev.has;
+          },
+        );
+      };
+      away = from_block sh before news ev.number ev.hand ev.old ev.new ev.step;
+      frame = goes sh before news ev.number ev.hand ev.old ev.new ev.step Image (Some ev.page)
+          ev.page ev.had ev.empty;
+      was_at = ev.was;
+      is_at = ev.is;
+      gone = λ isnt. absurd (isnt refl);
+      move = rearranged sh before news ev.number ev.hand ev.old ev.new ev.step ev.page;
+      order = λ page e. subst (IsOrderly (fields_for sh)) (same_some ev.page page e) ev.order;
+      later = rises_later (mark_of ev.hand.old) (mark_of ev.hand.new) ev.clock;
+    })
+
+-- a page that comes from its image follows
+pub restores_follows : (sh : Shape) (before news : List (Option Object))
+    → RestoresPage sh before news → Follows sh before news None
+restores_follows sh before news re = turn_follows sh before news re.number re.hand re.old re.new
+    re.step Image (InFrame re.hand.block) (Some re.page) (Some re.page) (record {
+      seen = record {
+        was = (
+          re.page,
+          refl,
+          record {
+            pool = re.old;
+            at = re.step.pool.0;
+            image = re.image;
+            stored = re.stored;
+            has = re.had;
+          },
+        );
+        is = seen_after sh before news re.number re.hand re.old re.new re.step re.page re.has;
+      };
+      away = λ c ne e. from_image c e;
+      frame = comes sh before news re.number re.hand re.old re.new re.step Image (Some re.page)
+          re.page re.empty re.has;
+      was_at = re.was;
+      is_at = re.is;
+      gone = λ isnt. re.unstored;
+      move = rearranged sh before news re.number re.hand re.old re.new re.step re.page;
+      order = λ page e. subst (IsOrderly (fields_for sh)) (same_some re.page page e) re.order;
+      later = comes_later sh before news re.number re.hand re.old re.new re.step re.clock re.empty;
+    })
 
 pub pages_come_and_go : PagesComeAndGo
-pages_come_and_go = record { brings = brings_follows; takes = takes_follows }
+pages_come_and_go = record {
+  brings = brings_follows;
+  takes = takes_follows;
+  evicts = evicts_follows;
+  restores = restores_follows;
+}

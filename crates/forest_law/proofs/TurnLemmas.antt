@@ -11,8 +11,8 @@ use Rattle.forest_law.specs.declared.objects.Where.{Where}
 use Rattle.forest_law.specs.declared.objects.Where.TheVariants.{Free, InFrame, Image}
 use Rattle.forest_law.specs.declared.objects.Object.{Object}
 use Rattle.forest_law.specs.declared.objects.Object.TheVariants as object
-use Rattle.forest_law.specs.Numbers.{frame_id}
-use Rattle.forest_law.specs.State.{page_of, page_where}
+use Rattle.forest_law.specs.Numbers.{pool_id, frame_id}
+use Rattle.forest_law.specs.State.{page_of, page_stored, images_of, image_at, page_where}
 use Rattle.forest_law.specs.Turns.{Turn, IsSeen, IsApart, IsTurned}
 
 -- what holds of each in two ways
@@ -47,8 +47,11 @@ not_apart n m turns e apart turned =
 -- what is seen in hand is so in the state
 pub seen_where : (sh : Shape) (xs : List Object) (held : List (Option Object))
     → ((k : ℕ) (x : Object) → get_elem? held k ≡ some (Some x) → get_elem? xs k ≡ some x)
-    → (n : ℕ) (w : Where) (page : Option Page) → IsSeen sh held n w page → page_where sh xs w ≡ page
+    → (n : ℕ) (w : Where) (page : Option Page) → IsSeen sh held n w page
+    → page_where sh xs n w ≡ page
 seen_where sh xs held at n Free page s = sym s
 seen_where sh xs held at n (InFrame b) page s =
     ap page_of (at (frame_id sh b) (object.Frame s.2.frame) s.2.at) ∙ (s.2.has.is ∙ sym s.1)
-seen_where sh xs held at n Image page s = absurd s
+seen_where sh xs held at n Image page s =
+    ap (λ o. page_stored (image_at (images_of o) n)) (at pool_id (object.Pool s.2.pool) s.2.at)
+    ∙ (ap page_stored s.2.stored ∙ (ap Some s.2.has.is ∙ sym s.1))

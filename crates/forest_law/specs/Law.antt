@@ -19,19 +19,18 @@ use Rattle.forest_law.specs.Objects.{Becomes}
 use Rattle.forest_law.specs.Counted.{AreCounted}
 use Rattle.forest_law.specs.Kinds.{AreKinds, KeepsKind}
 use Rattle.forest_law.specs.Turns.{Turn, page_changes, IsTurn}
-use Rattle.forest_law.specs.Placed.{ArePlaced, AreAtHome, KeepsPage, TurnsPage, PlacesStay, PlacesTurn}
+use Rattle.forest_law.specs.Placed.{ArePlaced, KeepsPage, TurnsPage, PlacesStay, PlacesTurn}
 use Rattle.forest_law.specs.Trees.{HeightsLead, MapsLead, IsStep}
 use Rattle.forest_law.specs.Lists.{MayChange}
 use Rattle.forest_law.specs.Clocked.{IsLaterObject}
 
--- lawful objects and lists: all is counted and of its kind, each page has one place, that of its
--- number, each list is lawful, and the pages form the trees that hold the lists' maps
+-- lawful objects and lists: all is counted and of its kind, each page has one place, in a frame or
+-- as an image, each list is lawful, and the pages form the trees that hold the lists' maps
 pub record AreLawfulObjects (shape : Shape) (objects : List Object)
     (entries : List Entries) : Type 0 where
   pub counted : AreCounted shape objects entries
   pub kinds : AreKinds shape objects
   pub placed : ArePlaced shape objects
-  pub home : AreAtHome objects
   pub lists : AreLawfulLists entries
   pub pages : AreLawfulPages shape.indexes (fields_for shape) (heights_of objects)
       (maps_of entries) (pages_of shape objects)
@@ -42,8 +41,8 @@ pub record IsLawful (w : ForestState) : Type 0 where
 
 -- what may follow: each held object stays of its kind and becomes a later one; the pages that take
 -- part are seen in hand and make one move, whatever the trees and maps of others are; each other
--- held frame keeps its page; the pool names the places; the pages that are left are in order; and
--- the change is allowed
+-- held frame keeps its page; the pool names the places and has the images; the pages that are left
+-- are in order; and the change is allowed
 pub record Follows (shape : Shape) (before news : List (Option Object))
     (change : Option (ℕ × MadeChange)) : Type 0 where
   pub kinds : (k : ℕ) (x y : Object) → Becomes before news k x y → KeepsKind x y

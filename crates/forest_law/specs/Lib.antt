@@ -18,4 +18,5 @@ pub mod RowSteps
 pub mod PoolSteps
 pub mod StepLaws
 pub mod FramePages
+pub mod Images
 pub mod OnePut

@@ -27,6 +27,6 @@ tree_id index = 1 + index
 abbrev pub frame_id : Shape → ℕ → ℕ
 frame_id shape block = 1 + shape.indexes + block
 
--- how many frames there are: one for each page number
+-- how many frames there are: one for each block
 abbrev pub frames_of : Shape → ℕ
-frames_of shape = shape.pages
+frames_of shape = shape.blocks

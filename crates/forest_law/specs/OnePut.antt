@@ -1,5 +1,10 @@
--- A put on the root of a space that was just opened, and the state that it leads to.
-use Rattle.std.specs.Prelude.{ℕ, Option, Some, None, List, [], ◌∷◌, length}
+-- A put on the root of a space that was just opened, once it is in a frame, and the state that it
+-- leads to.
+use Rattle.std.specs.Prelude.{ℕ, Option, Some, None, List, [], ◌∷◌, length, set}
+use Rattle.std.proofs.Common.{sym, ◌∙◌}
+use Rattle.std.specs.declared.alloc.Global.{Global}
+use Rattle.std.specs.declared.vec.Vec.{Vec}
+use Rattle.std.proofs.lemmas.List.{length-set}
 use Rattle.key_tuple.specs.Order.{FieldList}
 use Rattle.map_history.specs.Map.{Put}
 use Rattle.map_history.specs.Report.{Columns}
@@ -10,11 +15,12 @@ use Rattle.index_law.specs.Shape.{Shape}
 use Rattle.index_law.specs.State.{Entries}
 use Rattle.forest_law.specs.declared.objects.Frame.{Frame}
 use Rattle.forest_law.specs.declared.objects.Pool.{Pool}
+use Rattle.forest_law.specs.declared.objects.Where.TheVariants.{InFrame}
 use Rattle.forest_law.specs.declared.objects.Object.{Object}
 use Rattle.forest_law.specs.declared.objects.Object.TheVariants as object
 use Rattle.forest_law.specs.State.{ForestState}
 use Rattle.forest_law.specs.Law.{IsLawful, Follows}
-use Rattle.forest_law.specs.Opening.{root_head, new_frame, first_frame, first_tree, IsFirstPool}
+use Rattle.forest_law.specs.Opening.{root_head, empty_page, new_frame, first_frame, first_tree, IsFirstPool}
 
 -- the page of index 0 with the one row, at place 0
 abbrev pub leaf_with : FieldList → List ℕ → PageRows
@@ -45,13 +51,31 @@ one_index fields = record {
 abbrev pub put_of : FieldList → List ℕ → Columns → MadeChange
 put_of key value columns = record { change = Put key value; columns = columns }
 
+-- the same items but for one, which is another
+abbrev pub with_item : {X : Type 0} → Vec X Global → ℕ → X → Vec X Global
+with_item xs n x = record xs {
+  items = set xs.items n x;
+  ok = (xs.ok.0 ∙ sym (length-set xs.items n x), xs.ok.1);
+}
+
+-- the pool after the root was restored to the frame of block 0
+abbrev pub pool_after : Pool → Pool
+pool_after pool = record pool {
+  place = with_item pool.place 0 (InFrame 0);
+  images = with_item pool.images 0 None;
+}
+
 -- the frame of the root before the put
 abbrev pub root_before : FieldList → Frame
-root_before key = first_frame (one_index (length key)) 0
+root_before key = new_frame (Some (empty_page 0 (length key)))
 
 -- the frame of the root after the put: it has the row, and all else is as before
 abbrev pub root_after : FieldList → List ℕ → Frame
 root_after key value = new_frame (Some (leaf_with key value))
+
+-- of three objects the first and the last are in hand, the pool and a frame
+abbrev pub pool_in_hand : Pool → Frame → List (Option Object)
+pool_in_hand pool f = Some (object.Pool pool) ∷ None ∷ Some (object.Frame f) ∷ []
 
 -- of three objects the last is in hand, a frame
 abbrev pub frame_in_hand : Frame → List (Option Object)
@@ -61,20 +85,23 @@ frame_in_hand f = None ∷ None ∷ Some (object.Frame f) ∷ []
 abbrev pub objects_with : Pool → Frame → List Object
 objects_with pool f = object.Pool pool ∷ object.Tree (first_tree 0) ∷ object.Frame f ∷ []
 
--- the state after the put
+-- the state after the root was restored and the put was made
 abbrev pub state_after : Pool → FieldList → List ℕ → Columns → List ℕ → (most passes : ℕ)
     → ForestState
 state_after pool key value columns latches most passes = record {
   shape = one_index (length key);
-  objects = objects_with pool (root_after key value);
+  objects = objects_with (pool_after pool) (root_after key value);
   latches = latches;
   lists = list_with key value columns ∷ [];
   max_changes = most;
   passes = passes;
 }
 
--- the put follows, and the state after it is lawful
+-- a restore of the root follows, and so does the put on it, and the state after both is lawful
 pub record OnePutIsLawful : Type 0 where
+  pub restores : (pool : Pool) (key : FieldList) → IsFirstPool (one_index (length key)) pool
+      → Follows (one_index (length key)) (pool_in_hand pool first_frame)
+      (pool_in_hand (pool_after pool) (root_before key)) None
   pub follows : (key : FieldList) (value : List ℕ) (columns : Columns)
       → Follows (one_index (length key)) (frame_in_hand (root_before key))
       (frame_in_hand (root_after key value)) (Some (0, put_of key value columns))

@@ -1,5 +1,5 @@
 -- What a space begins with.
-use Rattle.std.specs.Prelude.{ℕ, ◌≡◌, ◌+◌, ◌<◌, ◌≤◌, nat_lt, if◌then◌else◌, Option, None, Some, List, [], length}
+use Rattle.std.specs.Prelude.{ℕ, ◌≡◌, ◌+◌, ◌<◌, ◌≤◌, nat_lt, if◌then◌else◌, Option, None, Some, List, [], length, replicate}
 use mathlib.Core.Option.{some}
 use lib.ListN.{get_elem?}
 use Rattle.latch_law.specs.Opening.{opened}
@@ -8,14 +8,15 @@ use Rattle.index_page.specs.declared.head.PageHead.{PageHead}
 use Rattle.index_law.specs.Shape.{Shape}
 use Rattle.learning.specs.Opening.{opening_block}
 use Rattle.forest_law.specs.declared.objects.Frame.{Frame}
+use Rattle.forest_law.specs.declared.objects.Stored.{Stored}
 use Rattle.forest_law.specs.declared.objects.Pool.{Pool}
 use Rattle.forest_law.specs.declared.objects.Tree.{Tree}
 use Rattle.forest_law.specs.declared.objects.Where.{Where}
-use Rattle.forest_law.specs.declared.objects.Where.TheVariants.{Free, InFrame}
+use Rattle.forest_law.specs.declared.objects.Where.TheVariants.{Free, Image}
 use Rattle.forest_law.specs.declared.objects.Object.{Object}
 use Rattle.forest_law.specs.declared.objects.Object.TheVariants as object
 use Rattle.forest_law.specs.Numbers.{pool_id, tree_id, frame_id, frames_of}
-use Rattle.forest_law.specs.State.{where_at, fields_for}
+use Rattle.forest_law.specs.State.{where_at, image_at, fields_for}
 use Rattle.forest_law.specs.Objects.{IsFrameOf}
 use Rattle.forest_law.specs.Law.{IsLawful}
 
@@ -35,10 +36,15 @@ root_head index fields =
 abbrev pub empty_page : ℕ → ℕ → PageRows
 empty_page index fields = record { head = root_head index fields; rows = [] }
 
--- the page that a block begins with: the empty root of the index of its number, if there is one
-abbrev pub first_page_in : Shape → ℕ → Option PageRows
-first_page_in shape b =
-    if nat_lt b shape.indexes then Some (empty_page b (fields_for shape b)) else None
+-- the image of an index's empty first page, which has no bounds
+abbrev pub empty_image : ℕ → ℕ → Stored
+empty_image index fields = record { page = empty_page index fields; low = None; high = None }
+
+-- the image that a page number begins with: the empty root of the index of that number, if there is
+-- one
+abbrev pub first_image : Shape → ℕ → Option Stored
+first_image shape n =
+    if nat_lt n shape.indexes then Some (empty_image n (fields_for shape n)) else None
 
 -- a frame of which nothing is known, with this page, if there is one
 abbrev pub new_frame : Option PageRows → Frame
@@ -51,22 +57,26 @@ new_frame page = record {
   hashed = None;
 }
 
--- the frame that a block begins with
-abbrev pub first_frame : Shape → ℕ → Frame
-first_frame shape b = new_frame (first_page_in shape b)
+-- the frame that each block begins with: it has no page
+abbrev pub first_frame : Frame
+first_frame = new_frame None
 
 -- the tree that an index begins with: its root is a leaf, of the index's number
 abbrev pub first_tree : ℕ → Tree
 first_tree i = record { index = i; root = i; height = 0 }
 
--- where the page of a number is at the opening: each root in the frame of its number
+-- where the page of a number is at the opening: each root is an image
 abbrev pub first_where : ℕ → ℕ → Where
-first_where indexes n = if nat_lt n indexes then InFrame n else Free
+first_where indexes n = if nat_lt n indexes then Image else Free
 
--- the pool as it begins: it has a place for each page
+-- the pool as it begins: a place and an image for each page, and no block was ever accessed
 pub record IsFirstPool (shape : Shape) (pool : Pool) : Type 0 where
   pub counted : length pool.place.items ≡ shape.pages
   pub places : (n : ℕ) → where_at pool.place.items n ≡ first_where shape.indexes n
+  pub stored : length pool.images.items ≡ shape.pages
+  pub images : (n : ℕ) → image_at pool.images.items n ≡ first_image shape n
+  pub ages : pool.ages.items ≡ replicate shape.blocks 0
+  pub tick : pool.tick ≡ 0
 
 -- the objects are the pool, the trees and the frames as they begin
 pub record AreFirstObjects (shape : Shape) (objects : List Object) : Type 0 where
@@ -76,7 +86,7 @@ pub record AreFirstObjects (shape : Shape) (objects : List Object) : Type 0 wher
   pub pool_is : IsFirstPool shape pool
   pub trees : (i : ℕ) → i < shape.indexes
       → get_elem? objects (tree_id i) ≡ some (object.Tree (first_tree i))
-  pub frames : (b : ℕ) → b < frames_of shape → IsFrameOf shape objects b (first_frame shape b)
+  pub frames : (b : ℕ) → b < frames_of shape → IsFrameOf shape objects b first_frame
 
 -- a space that begins with these objects, whatever its other numbers are, begins lawfully, where
 -- there is a page for each index

@@ -14,6 +14,7 @@ use Rattle.index_law.specs.Answers.{MadeChange}
 use Rattle.index_law.specs.Shape.{Shape}
 use Rattle.index_law.specs.State.{Entries, changes}
 use Rattle.forest_law.specs.declared.objects.Frame.{Frame}
+use Rattle.forest_law.specs.declared.objects.Stored.{Stored}
 use Rattle.forest_law.specs.declared.objects.Where.{Where}
 use Rattle.forest_law.specs.declared.objects.Where.TheVariants.{Free, InFrame, Image}
 use Rattle.forest_law.specs.declared.objects.Object.{Object}
@@ -51,6 +52,11 @@ page_if (Some p) low high = Some (page_within p low high)
 abbrev pub page_in : Frame → Option Page
 page_in f = page_if f.page f.low f.high
 
+-- the page of an image, if there is one
+abbrev pub page_stored : Option Stored → Option Page
+page_stored None = None
+page_stored (Some s) = Some (page_within s.page s.low s.high)
+
 -- a page within its bounds with its number, if there is one
 abbrev pub numbered_if : Option PageRows → Option Key → Option Key → Option NumberedPage
 numbered_if None low high = None
@@ -81,6 +87,20 @@ places_of (some (object.Frame f)) = []
 places_of (some (object.Tree t)) = []
 places_of maybe.none = []
 
+-- the images of the pages, by the pool; none where the object is no pool
+abbrev pub images_of : maybe.Option Object → List (Option Stored)
+images_of (some (object.Pool p)) = p.images.items
+images_of (some (object.Frame f)) = []
+images_of (some (object.Tree t)) = []
+images_of maybe.none = []
+
+-- the ages of the blocks, by the pool; none where the object is no pool
+abbrev pub ages_of : maybe.Option Object → List ℕ
+ages_of (some (object.Pool p)) = p.ages.items
+ages_of (some (object.Frame f)) = []
+ages_of (some (object.Tree t)) = []
+ages_of maybe.none = []
+
 -- a tree's height, 0 where the object is no tree
 abbrev pub height_of : maybe.Option Object → ℕ
 height_of (some (object.Tree t)) = t.height
@@ -101,15 +121,32 @@ where_at places n = where_of (get_elem? places n)
 abbrev pub places : List Object → List Where
 places objects = places_of (get_elem? objects pool_id)
 
--- the page that is at such a place
-abbrev pub page_where : Shape → List Object → Where → Option Page
-page_where shape objects Free = None
-page_where shape objects (InFrame b) = page_of (get_elem? objects (frame_id shape b))
-page_where shape objects Image = None
+-- an entry of the images, none where there is no entry
+abbrev pub image_of : maybe.Option (Option Stored) → Option Stored
+image_of (some x) = x
+image_of maybe.none = None
+
+-- the image of the page of this number, if it has one
+abbrev pub image_at : List (Option Stored) → ℕ → Option Stored
+image_at images n = image_of (get_elem? images n)
+
+-- the images of the pages, by the pool among all objects
+abbrev pub images : List Object → List (Option Stored)
+images objects = images_of (get_elem? objects pool_id)
+
+-- the ages of the blocks, by the pool among all objects
+abbrev pub ages : List Object → List ℕ
+ages objects = ages_of (get_elem? objects pool_id)
+
+-- the page of this number, at such a place
+abbrev pub page_where : Shape → List Object → ℕ → Where → Option Page
+page_where shape objects n Free = None
+page_where shape objects n (InFrame b) = page_of (get_elem? objects (frame_id shape b))
+page_where shape objects n Image = page_stored (image_at (images objects) n)
 
 -- the pages by their numbers, each found through the pool's places
 abbrev pub pages_of : Shape → List Object → Pages
-pages_of shape objects n = page_where shape objects (where_at (places objects) n)
+pages_of shape objects n = page_where shape objects n (where_at (places objects) n)
 
 -- the heights of the trees, by their indexes
 abbrev pub heights_of : List Object → ℕ → ℕ

@@ -7,7 +7,7 @@ use Rattle.forest_law.specs.Law.{Follows}
 use Rattle.forest_law.specs.Steps.{MakeSteps}
 use Rattle.forest_law.specs.Restructures.{SplitsInHand, MergesInHand, RaisesInHand, LiftsInHand, RearrangesInHand}
 use Rattle.forest_law.specs.RowSteps.{ChangesLeaf}
-use Rattle.forest_law.specs.PoolSteps.{BringsPage, TakesPage}
+use Rattle.forest_law.specs.PoolSteps.{BringsPage, TakesPage, EvictsPage, RestoresPage}
 
 -- a change of a leaf's row follows, and so does a step in which all is at rest
 pub record RowChangesFollow : Type 0 where
@@ -29,9 +29,14 @@ pub record RestructuresFollow : Type 0 where
   pub rearrange : (shape : Shape) (before news : List (Option Object))
       → RearrangesInHand shape before news → Follows shape before news None
 
--- a page outside the trees that comes or goes follows
+-- a page outside the trees that comes or goes follows, and so does a page that goes to its image or
+-- comes from it
 pub record PagesComeAndGo : Type 0 where
   pub brings : (shape : Shape) (before news : List (Option Object))
       → BringsPage shape before news → Follows shape before news None
   pub takes : (shape : Shape) (before news : List (Option Object))
       → TakesPage shape before news → Follows shape before news None
+  pub evicts : (shape : Shape) (before news : List (Option Object))
+      → EvictsPage shape before news → Follows shape before news None
+  pub restores : (shape : Shape) (before news : List (Option Object))
+      → RestoresPage shape before news → Follows shape before news None

@@ -12,6 +12,7 @@ use Rattle.forest_law.specs.Numbers.{tree_id, frame_id}
 use Rattle.forest_law.specs.State.{fields_for}
 use Rattle.forest_law.specs.Objects.{Becomes}
 use Rattle.forest_law.specs.Turns.{HasPage}
+use Rattle.forest_law.specs.Placed.{PoolRests}
 
 -- a frame at rest: it has the page that it had, in the same bounds, and its clock doesn't fall;
 -- what is kept for the hash may change
@@ -21,10 +22,10 @@ pub record FrameRests (x y : Frame) : Type 0 where
   pub high : y.high ≡ x.high
   pub clock : x.clock ≤ y.clock
 
--- an object that plays no part: a frame at rest, or the pool or a tree as it was
+-- an object that plays no part: a frame or the pool at rest, or a tree as it was
 abbrev pub Rests : Object → Object → Type 0
 Rests (object.Frame x) (object.Frame y) = FrameRests x y
-Rests (object.Pool x) (object.Pool y) = y ≡ x
+Rests (object.Pool x) (object.Pool y) = PoolRests x y
 Rests (object.Tree x) (object.Tree y) = y ≡ x
 Rests x y = ⊥
 
@@ -73,7 +74,6 @@ pub record MakesFrameStep (shape : Shape) (before news : List (Option Object))
       (object.Frame s.hand.new)
   pub had : HasPage s.hand.old s.number s.was
   pub has : HasPage s.hand.new s.number s.is
-  pub home : s.hand.block ≡ s.number
   pub order : IsOrderly (fields_for shape) s.is
 
 -- the tree is held, makes this step, and stays that of its index

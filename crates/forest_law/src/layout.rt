@@ -8,8 +8,8 @@ use map_history::Sizes;
 use std::alloc::Global;
 use std::marker::Model;
 
-/// How many indexes, pages, blocks and partitions there are. It is fixed for good, and it alone knows
-/// which number an object has: the pool first, then the trees, then the frames.
+/// How many indexes, pages, blocks and partitions there are. It is fixed for good, and it alone
+/// knows which number an object has: the pool first, then the trees, then the frames.
 #[derive(Debug, Drop)]
 pub struct ForestLayout {
     pub(crate) indexes: u32,
@@ -49,6 +49,13 @@ impl ForestLayout {
             nodes: sizes.nodes,
             fold_bits: sizes.fold_bits as u8,
         })
+    }
+
+    /// How many page numbers there are.
+    pub fn pages(&self) -> u32
+        ensures { result ≡ self.now.pages }
+    {
+        self.pages
     }
 
     /// The number of the pool.

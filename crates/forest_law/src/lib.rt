@@ -1,5 +1,5 @@
-//! The law of indexes that are trees of pages in one pool: the objects of their space, which states are
-//! lawful, and which steps may be made. Nothing here searches, and nothing waits.
+//! The law of indexes that are trees of pages in one pool: the objects of their space, which states
+//! are lawful, and which steps may be made. Nothing here searches, and nothing waits.
 #![tactic(auto)]
 
 mod law;
@@ -14,7 +14,9 @@ pub use law::{
     steps_stay_lawful, takes_stay_lawful,
 };
 pub use layout::ForestLayout;
-pub use objects::{Frame, Object, Pool, Tree, Where};
+pub use objects::{Frame, Object, Pool, Stored, Tree, Where};
 pub use opening::first_forest;
-pub use pages::{cuts_have_frames, frames_tell_pages, roots_have_cuts};
+pub use pages::{
+    cuts_have_pages, frames_have_one_page, frames_tell_pages, images_tell_pages, roots_have_cuts,
+};
 pub use steps::{one_put_is_lawful, pages_come_and_go, restructures_follow, row_changes_follow};

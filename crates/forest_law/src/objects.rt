@@ -43,11 +43,28 @@ pub enum Where {
     Image,
 }
 
-/// Where each page is.
+/// The image of a page: the page with its bounds, outside all frames.
+#[derive(Drop)]
+pub struct Stored {
+    /// The page.
+    pub page: Page,
+    /// Each key of the page is this one or above it; none for the first page of a level.
+    pub low: Option<Key>,
+    /// Each key of the page is below this one; none for the last page of a level.
+    pub high: Option<Key>,
+}
+
+/// Where each page is, the pages that are in no frame, and how long ago each frame was used.
 #[derive(Drop)]
 pub struct Pool {
-    /// By the numbers of the pages.
+    /// Where each page is, by the numbers of the pages.
     pub place: Vec<Where>,
+    /// The images, by the numbers of the pages.
+    pub images: Vec<Option<Stored>>,
+    /// The tick at which each block was last accessed, by the numbers of the blocks.
+    pub ages: Vec<u64>,
+    /// How many accesses there were.
+    pub tick: u64,
 }
 
 /// The tree of an index.

@@ -1,20 +1,19 @@
 //! What a space of trees begins with.
-ghost use Rattle.std.specs.Prelude.{◌≡◌, ◌≤◌, IfOk, OnOk};
+ghost use Rattle.std.specs.Prelude.{◌≡◌, ◌≤◌, IfOk, OnOk, []};
 ghost use Rattle.forest_law.specs.declared.objects.Object.TheVariants as object;
-ghost use Rattle.forest_law.specs.Numbers.{frames_of};
-ghost use Rattle.forest_law.specs.Opening.{empty_page, first_page_in, new_frame, first_frame};
+ghost use Rattle.forest_law.specs.Opening.{empty_page, first_image, new_frame, first_frame};
 ghost use Rattle.forest_law.specs.Opening.{first_tree, first_where};
 ghost use Rattle.forest_law.specs.Opening.{IsFirstPool, AreFirstObjects, AddsEach};
 
 use crate::layout::ForestLayout;
-use crate::objects::{Frame, Object, Pool, Tree, Where};
+use crate::objects::{Frame, Object, Pool, Stored, Tree, Where};
 use index_page::{Page, PageHead};
 use key_tuple::NoMemory;
 use learning::BlockFigures;
 use std::alloc::Global;
 
-/// The pool, a tree for each index, and a frame for each page: the frame of an index's number has the
-/// index's empty root, and all others have no page.
+/// The pool, a tree for each index, and a frame for each block: each index's empty root is an
+/// image, and no frame has a page.
 pub fn first_forest(alloc: Global, layout: &ForestLayout) -> Result<Vec<Object>, NoMemory>
     requires room { layout.now.indexes ≤ layout.now.pages }
     ensures { IfOk result (λ objects. AreFirstObjects layout.now objects.items) }
@@ -22,20 +21,33 @@ pub fn first_forest(alloc: Global, layout: &ForestLayout) -> Result<Vec<Object>,
     let mut objects = Vec::new(alloc);
     objects.push(Object::Pool(first_pool(alloc, layout)?))?;
     push_trees(&mut objects, layout.indexes)?;
-    push_frames(alloc, &mut objects, layout)?;
+    push_frames(&mut objects, layout.blocks)?;
     Ok(objects)
 }
 
-/// The pool with each root in the frame of its number, and each other number free.
+/// The pool with each root as the image of its number, and each other number free.
 fn first_pool(alloc: Global, layout: &ForestLayout) -> Result<Pool, NoMemory>
     requires room { layout.now.indexes ≤ layout.now.pages }
     ensures { IfOk result (λ pool. IsFirstPool layout.now pool) }
+{
+    Ok(Pool {
+        place: first_places(alloc, layout)?,
+        images: first_images(alloc, layout)?,
+        ages: Vec::from_elem(alloc, 0, layout.blocks as usize)?,
+        tick: 0,
+    })
+}
+
+/// Where the page of each number is at the opening.
+fn first_places(alloc: Global, layout: &ForestLayout) -> Result<Vec<Where>, NoMemory>
+    ensures { IfOk result (λ place. AddsEach [] place.items layout.now.pages
+        (first_where layout.now.indexes)) }
 {
     let mut place = Vec::new(alloc);
     for n in 0..layout.pages {
         place.push(first_where(layout.indexes, n))?;
     }
-    Ok(Pool { place })
+    Ok(place)
 }
 
 /// Where the page of a number is at the opening.
@@ -43,9 +55,38 @@ fn first_where(indexes: u32, n: u32) -> Where
     ensures { result ≡ first_where indexes n }
 {
     if n < indexes {
-        Where::InFrame(n)
+        Where::Image
     } else {
         Where::Free
+    }
+}
+
+/// The image of each number at the opening.
+fn first_images(alloc: Global, layout: &ForestLayout) -> Result<Vec<Option<Stored>>, NoMemory>
+    ensures { IfOk result (λ images. AddsEach [] images.items layout.now.pages
+        (first_image layout.now)) }
+{
+    let mut images = Vec::new(alloc);
+    for n in 0..layout.pages {
+        images.push(first_image(alloc, layout, n)?)?;
+    }
+    Ok(images)
+}
+
+/// The image of a number at the opening: the empty root of the index of that number, if there is
+/// one.
+fn first_image(alloc: Global, layout: &ForestLayout, n: u32) -> Result<Option<Stored>, NoMemory>
+    ensures { IfOk result (λ image. image ≡ first_image layout.now n) }
+{
+    if n < layout.indexes {
+        let page = empty_page(alloc, n, layout.fields[n as usize])?;
+        Ok(Some(Stored {
+            page,
+            low: None,
+            high: None,
+        }))
+    } else {
+        Ok(None)
     }
 }
 
@@ -64,31 +105,15 @@ fn push_trees(objects: &mut Vec<Object>, indexes: u32) -> Result<(), NoMemory>
     Ok(())
 }
 
-/// A frame for each page, behind what is there.
-fn push_frames(
-    alloc: Global,
-    objects: &mut Vec<Object>,
-    layout: &ForestLayout,
-) -> Result<(), NoMemory>
-    ensures { OnOk result (AddsEach objects.old.items objects.new.items (frames_of layout.now)
-        (λ b. object.Frame (first_frame layout.now b))) }
+/// A frame without a page for each block, behind what is there.
+fn push_frames(objects: &mut Vec<Object>, blocks: u32) -> Result<(), NoMemory>
+    ensures { OnOk result
+        (AddsEach objects.old.items objects.new.items blocks (λ b. object.Frame first_frame)) }
 {
-    for block in 0..layout.pages {
-        objects.push(Object::Frame(new_frame(first_page_in(alloc, layout, block)?)))?;
+    for block in 0..blocks {
+        objects.push(Object::Frame(new_frame(None)))?;
     }
     Ok(())
-}
-
-/// The empty root of the index of a block's number, if there is one.
-fn first_page_in(alloc: Global, layout: &ForestLayout, block: u32) -> Result<Option<Page>, NoMemory>
-    ensures { IfOk result (λ page. page ≡ first_page_in layout.now block) }
-{
-    if block < layout.indexes {
-        let page = empty_page(alloc, block, layout.fields[block as usize])?;
-        Ok(Some(page))
-    } else {
-        Ok(None)
-    }
 }
 
 /// The empty first page of an index, for keys of so many fields.

@@ -22,7 +22,7 @@ use Rattle.forest_world.specs.HandLaws.{HandsMakeSteps, PoolInHand, HandsChangeT
 -- an object that is what it was is at rest
 pub rests_itself : (x : Object) → Rests x x
 rests_itself (object.Frame f) = record { page = refl; low = refl; high = refl; clock = omega arith }
-rests_itself (object.Pool p) = refl
+rests_itself (object.Pool p) = record { places = refl; images = refl; ages = refl }
 rests_itself (object.Tree t) = refl
 
 module _ (p : TreePass) where
@@ -51,7 +51,6 @@ module _ (p : TreePass) where
           (object.Frame s.hand.new) a.0.in_hand;
       had = a.0.had;
       has = a.0.has;
-      home = a.0.home;
       order = a.0.order;
     },
     frames_make ss a.1,
@@ -129,9 +128,8 @@ module _ (p : TreePass) (number : ℕ) (old new : Pool) (hand : InHand)
     pool = becomes_of p pool_id (object.Pool old) (object.Pool new) change.pool;
     frame = becomes_of p (frame_id (shape_of_pass p) hand.block) (object.Frame hand.old)
         (object.Frame hand.new) change.frame;
-    home = change.home;
     counted = change.counted;
-    named = change.named;
+    elsewhere = change.elsewhere;
     others = λ k x y b apart aside. rests_of p
         (pool_id ∷ frame_id (shape_of_pass p) hand.block ∷ []) change.others k x y b
         (apart, (aside, tt));

@@ -1,5 +1,5 @@
 -- What a pass has in hand of the trees, and which steps it makes there.
-use Rattle.std.specs.Prelude.{ℕ, ◌≡◌, ◌≢◌, ◌<◌, List, [], ◌∷◌, ◌++◌, map, length}
+use Rattle.std.specs.Prelude.{ℕ, ◌≡◌, ◌≢◌, ◌<◌, List, [], ◌∷◌, ◌++◌, map}
 use Rattle.std.specs.List.{AllByRecursion}
 use Rattle.latch_law.specs.declared.knows.Holding.{Holding}
 use Rattle.latch_law.specs.Rule.{Holds}
@@ -15,8 +15,10 @@ use Rattle.forest_law.specs.declared.objects.Tree.{Tree}
 use Rattle.forest_law.specs.declared.objects.Object.{Object}
 use Rattle.forest_law.specs.declared.objects.Object.TheVariants as object
 use Rattle.forest_law.specs.Numbers.{pool_id, tree_id, frame_id, frames_of}
-use Rattle.forest_law.specs.State.{where_at, fields_for}
+use Rattle.forest_law.specs.State.{fields_for}
+use Rattle.forest_law.specs.Counted.{CountsStay}
 use Rattle.forest_law.specs.Turns.{HasPage}
+use Rattle.forest_law.specs.Placed.{KeepsPlace}
 use Rattle.forest_law.specs.Steps.{InHand, FrameStep, TreeStep, Rests}
 
 -- a pass of the trees' space
@@ -54,12 +56,11 @@ abbrev pub IsKnownBeyond : TreePass → List ℕ → Type 0
 IsKnownBeyond p ks = (j : ℕ) (h : Holding Object) → AllByRecursion (λ (k : ℕ). j ≢ k) ks
     → Holds (view p) j h → Shows p j h.known
 
--- a frame in hand makes a step: its page has the same number, is at home and is in order
+-- a frame in hand makes a step: its page has the same number and is in order
 pub record HandStep (p : TreePass) (s : FrameStep) : Type 0 where
   pub in_hand : HasFrame p s.hand.block s.hand.old s.hand.new
   pub had : HasPage s.hand.old s.number s.was
   pub has : HasPage s.hand.new s.number s.is
-  pub home : s.hand.block ≡ s.number
   pub order : IsOrderly (fields_for (shape_of_pass p)) s.is
 
 -- a tree in hand makes a step, and stays that of its index
@@ -79,12 +80,11 @@ pub record HandSteps (p : TreePass) (frames : List FrameStep) (trees : List Tree
   pub tops : AllByRecursion (HandTree p) trees
   pub others : RestsBeyond p (ids_of (shape_of_pass p) frames trees)
 
--- the pool and a page's frame are in hand; the pool, which has as many places as before, names
--- another place for that page alone, and all else that is held is at rest
+-- the pool and a frame are in hand; the pool, whose ages and tick may change, keeps the place and
+-- the image of each page but that of the number, and all else that is held is at rest
 pub record HandPool (p : TreePass) (number : ℕ) (old new : Pool) (hand : InHand) : Type 0 where
   pub pool : HasPool p old new
   pub frame : HasFrame p hand.block hand.old hand.new
-  pub home : hand.block ≡ number
-  pub counted : length new.place.items ≡ length old.place.items
-  pub named : (n : ℕ) → n ≢ number → where_at new.place.items n ≡ where_at old.place.items n
+  pub counted : CountsStay old new
+  pub elsewhere : (n : ℕ) → n ≢ number → KeepsPlace old new n
   pub others : RestsBeyond p (pool_id ∷ frame_id (shape_of_pass p) hand.block ∷ [])

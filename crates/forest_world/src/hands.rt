@@ -6,7 +6,7 @@ pub fn hands_make_steps()
     ensures { HandsMakeSteps }
 {}
 
-/// What a pass has made of the pool and of a page's frame in hand is a step of the law.
+/// What a pass has made of the pool and of a frame in hand is a step of the law.
 pub fn hands_change_the_pool()
     ensures { HandsChangeThePool }
 {}

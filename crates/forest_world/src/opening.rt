@@ -12,7 +12,7 @@ use map_history::Sizes;
 use std::alloc::Global;
 
 /// A space of these sizes, for indexes with so many fields each, and its first pass, which has all
-/// numbers. Each index is an empty root.
+/// numbers. Each index is an empty root, which is an image.
 pub fn open_forest(
     alloc: Global,
     sizes: &Sizes,
@@ -20,7 +20,7 @@ pub fn open_forest(
     passes: u32,
 ) -> Result<(ForestSpace, ForestPass), NoMemory>
     requires room { length fields.now ≤ sizes.now.pages }
-    requires few { 1 + length fields.now + sizes.now.pages < 2 ^ 32 }
+    requires few { 1 + length fields.now + sizes.now.blocks < 2 ^ 32 }
     requires bits { sizes.now.fold_bits < 256 }
     requires passes { 0 < passes }
     ensures own { IfOk result (λ r. IsPassOf r.0 r.1) }

@@ -1,7 +1,7 @@
 use Rattle.std.proofs.Common.{ap, subst, ◌++◌, ◌∷◌, [], ◌∙◌}
 use Rattle.index_law.specs.Shape.{Shape}
 use Rattle.forest_law.specs.declared.objects.Object.TheVariants as object
-use Rattle.forest_law.specs.Opening.{first_tree, AddsEach}
+use Rattle.forest_law.specs.Opening.{first_frame, first_tree, AddsEach}
 use Rattle.forest_law.proofs.FirstLemmas.{first_objects_are}
 use Rattle.forest_law.proofs.opening.first_forest.Goals as goal
 
@@ -14,4 +14,5 @@ returns c =
     c.in_ok-first_pool.ensures
     (subst (λ (z : Shape). AddsEach c.push.new.self.items c.push_trees.new.objects.items z.indexes
     (λ i. object.Tree (first_tree i))) c.layout.view_is c.in_ok-push_trees.ensures)
-    c.in_ok-push_frames.ensures
+    (subst (λ (z : Shape). AddsEach c.push_trees.new.objects.items c.push_frames.new.objects.items
+    z.blocks (λ b. object.Frame first_frame)) c.layout.view_is c.in_ok-push_frames.ensures)

@@ -1,21 +1,15 @@
-use Rattle.std.proofs.Common.{[], arith, ap, subst, ◌∙◌}
+use Rattle.std.proofs.Common.{ap, ◌∙◌, replicate, refl}
 use Rattle.index_law.specs.Shape.{Shape}
-use Rattle.forest_law.specs.Opening.{first_where, AddsEach}
-use Rattle.forest_law.proofs.AddsLemmas.{adds_one}
 use Rattle.forest_law.proofs.FirstLemmas.{first_pool_is}
 use Rattle.forest_law.proofs.opening.first_pool.Goals as goal
 
-pub loop-n-preserved : goal.loop-n-preserved
-loop-n-preserved c =
-    adds_one [] (first_where c.args.layout.now.indexes) c.loop-n.place.items c.push.new.self.items
-    c.loop-n.n c.first_where.result c.loop-n.invariant
-    (c.first_where.ensures
-    ∙ ap (λ (z : Shape). first_where z.indexes c.loop-n.n) c.layout.view_is)
-    c.in_ok-push.ensures.items
-
 pub returns : goal.returns
-returns c = let pages = ap (λ (z : Shape). z.pages) c.layout.view_is in
-    let past = c.loop-n-test.false in let within = c.loop-n.auto.n-end in
-    first_pool_is c.args.layout.now (record { place = c.loop-n.place }) c.requires.room
-    (subst (λ n. AddsEach [] c.loop-n.place.items n (first_where c.args.layout.now.indexes))
-    (omega (arith, past, within, pages)) c.loop-n.invariant)
+returns c =
+    first_pool_is c.args.layout.now (record {
+      place = c.in_ok-first_places.field-0;
+      images = c.in_ok-first_images.field-0;
+      ages = c.in_ok-from_elem.field-0;
+      tick = 0;
+    }) c.requires.room c.in_ok-first_places.ensures c.in_ok-first_images.ensures
+    (c.in_ok-from_elem.ensures.items_if_clones_equal (λ y same. same)
+    ∙ ap (λ (z : Shape). replicate z.blocks 0) c.layout.view_is) refl
