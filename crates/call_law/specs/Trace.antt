@@ -1,5 +1,5 @@
 -- What a call adds to what its pass knows.
-use Rattle.std.specs.Prelude.{ℕ, ◌≡◌, ◌≢◌, ◌<◌, List, [], ◌∷◌, ◌++◌}
+use Rattle.std.specs.Prelude.{ℕ, ◌≡◌, ◌≢◌, ◌<◌, Bool, true, false, List, [], ◌∷◌, ◌++◌, filter}
 use Rattle.std.specs.List.{AllByRecursion}
 use mathlib.Core.Option.{some}
 use lib.ListN.{get_elem?}
@@ -7,6 +7,7 @@ use Rattle.latch_law.specs.declared.knows.Reference.{Reference}
 use Rattle.latch_law.specs.declared.knows.Refusal.{Refusal}
 use Rattle.latch_law.specs.declared.knows.Statement as what
 use Rattle.forest_law.specs.declared.objects.Object.{Object}
+use Rattle.forest_law.specs.declared.objects.Object.TheVariants as object
 use Rattle.forest_law.specs.Numbers.{tree_id}
 use Rattle.index_law.specs.Answers.{MadeChange, Where, Saying, Replies, Piece, Full, Look}
 use Rattle.index_law.specs.Shape.{Shape}
@@ -54,6 +55,16 @@ pub record SparesTrees (shape : Shape) (added : Added) : Type 0 where
   pub refused : AllByRecursion (λ (f : Refusal Object). IsNoTree shape f.object) added.refused
   pub references : AllByRecursion (λ (q : Reference Object). IsNoTree shape q.object)
       added.references
+
+-- the object is a frame
+abbrev pub is_frame : Object → Bool
+is_frame (object.Frame f) = true
+is_frame (object.Pool p) = false
+is_frame (object.Tree t) = false
+
+-- those references that are of frames
+abbrev pub frame_references : List (Reference Object) → List (Reference Object)
+frame_references qs = filter (λ (q : Reference Object). is_frame q.released) qs
 
 -- each of these was given at the list of the index i, by the number n
 abbrev pub AreGivenAt : ℕ → ℕ → List OwnAnswer → Type 0

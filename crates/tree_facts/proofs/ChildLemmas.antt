@@ -12,5 +12,5 @@ pointers_bound_children w law b f page is level above fore row aft parts n body 
     let there = (tells_page w law b f page is).is
     ∙ ap (λ xs. Some (record up { rows = xs })) parts in
     tagged_page w law n _ (shape.children n _
-    (pointed_to w.shape.indexes (heights_of w.objects) (pages_of w.shape w.objects) shape b n up
+    (pointed_to w.shape.indexes (heights_of w.objects) (pages_of w.shape w.objects) shape page.head.number n up
     fore row aft level there is.tree above body))

@@ -49,14 +49,14 @@ place_above x y l b = pick (is_empty x.key) refl
     pick true e = empty_before x.key y.key e some l
     pick false e = ap₂ before (sym (from_key x.key e)) (sym (from_key y.key some)) ∙ b
 
-module _ (w : ForestState) (law : IsLawful w) (n : ℕ) (g : Frame) (page : PageRows)
-    (is : IsTreeFrame w n g page) (first : Row) (lower : List Row) (cut : Row) (upper : List Row)
+module _ (w : ForestState) (law : IsLawful w) (c : ℕ) (g : Frame) (page : PageRows)
+    (is : IsTreeFrame w c g page) (first : Row) (lower : List Row) (cut : Row) (upper : List Row)
     (parts : page.rows ≡ first ∷ lower ++ cut ∷ upper) where
   -- the keys of both rows have as many fields
   long : AllByRecursion (λ (x : Row). length x.key ≡ page.head.fields)
       (first ∷ lower ++ cut ∷ upper)
   long = subst (AllByRecursion (λ (x : Row). length x.key ≡ page.head.fields)) parts
-      (tells_page w law n g page is).order.keys
+      (tells_page w law c g page is).order.keys
 
   pub cut_long : length cut.key ≡ page.head.fields
   cut_long = (each_right (λ (x : Row). length x.key ≡ page.head.fields) (first ∷ lower)
@@ -68,11 +68,11 @@ module _ (w : ForestState) (law : IsLawful w) (n : ℕ) (g : Frame) (page : Page
   -- on a leaf
   leaf_between : page.head.level ≡ 0 → IsBetween first cut (low_of g) (high_of g)
   leaf_between leaf = let rows = subst (AllByRecursion IsRow) parts
-      (rows_each page.head.level leaf page.rows (tells_page w law n g page is).order.bodies) in
+      (rows_each page.head.level leaf page.rows (tells_page w law c g page is).order.bodies) in
       let last = (each_right IsRow (first ∷ lower) (cut ∷ upper) rows).0 in
       let x : Pair = record { key = first.key; value = rows.0.0 } in
       let y : Pair = record { key = cut.key; value = last.0 } in
-      let pairs = sym (slice_is w law n g page is leaf) ∙ (ap row_pairs parts
+      let pairs = sym (slice_is w law c g page is leaf) ∙ (ap row_pairs parts
       ∙ (row_pairs-parts (first ∷ lower) cut upper last.0 last.1
       ∙ ap (λ z. z ++ y ∷ row_pairs upper) (row_pairs-row first lower rows.0.0 rows.0.1))) in
       let map = maps_of w.lists page.head.index in
@@ -88,7 +88,7 @@ module _ (w : ForestState) (law : IsLawful w) (n : ℕ) (g : Frame) (page : Page
 
   -- on an inner page
   inner_between : 0 < page.head.level → IsBetween first cut (low_of g) (high_of g)
-  inner_between above = let fills = inner_pages_point w law n g page is above in
+  inner_between above = let fills = inner_pages_point w law c g page is above in
       let inner = subst AreInner parts fills.inner in
       let last = (each_right (λ (x : Row). (n : ℕ) × (x.body ≡ Child n)) (first ∷ lower)
       (cut ∷ upper) inner).0 in
@@ -118,28 +118,28 @@ module _ (w : ForestState) (law : IsLawful w) (n : ℕ) (g : Frame) (page : Page
   ]
 
 pub cuts_are_in_ranges : CutsAreInRanges
-cuts_are_in_ranges w law b f page is fore row aft parts n body g child under first lower cut upper
-    rows =
+cuts_are_in_ranges w law b f page is fore row aft parts n body c g child under number first lower cut
+    upper rows =
     let pages = pages_of w.shape w.objects in
     let up = page_within page f.low f.high in
     let tells = tells_page w law b f page is in
     let there = tells.is ∙ ap (λ xs. Some (record up { rows = xs })) parts in
     let level = pointer_level w.shape.indexes (fields_for w.shape) (heights_of w.objects)
-    (maps_of w.lists) pages law.objects.pages b n up fore row aft there body in
+    (maps_of w.lists) pages law.objects.pages page.head.number n up fore row aft there body in
     let known = known_page w law n page.head.index level.0 (from_place row.key)
     (first_from (pointers_of aft) (high_of f))
     (pointers_bound_children w law b f page is level.0 level.1 fore row aft parts n body)
-    g child under in
-    let inside = between w law n g child under first lower cut upper rows in
+    c g child under number in
+    let inside = between w law c g child under first lower cut upper rows in
     let fields : child.head.fields ≡ page.head.fields =
-    (tells_page w law n g child under).order.fields
+    (tells_page w law c g child under).order.fields
     ∙ (ap (fields_for w.shape) known.0 ∙ sym tells.order.fields) in
     ranges_have_cuts page tells.order.keys tells.order.bodies fore row aft parts n body (high_of f)
-    cut.key (cut_long w law n g child under first lower cut upper rows ∙ fields)
+    cut.key (cut_long w law c g child under first lower cut upper rows ∙ fields)
     (record {
-      from = subst (λ z. before z (At cut.key) ≡ true) known.1 inside.from;
-      to = subst (λ z. before (At cut.key) z ≡ true) known.2 inside.to;
+      from = subst (λ z. before z (At cut.key) ≡ true) known.2 inside.from;
+      to = subst (λ z. before (At cut.key) z ≡ true) known.3 inside.to;
       lesser = first.key;
-      as_many = same_long w law n g child under first lower cut upper rows;
+      as_many = same_long w law c g child under first lower cut upper rows;
       above = inside.above;
     })

@@ -7,9 +7,9 @@ use Rattle.tree_law.specs.Pages.{pointers_of}
 use Rattle.tree_law.proofs.PickLemmas.{are_inner, descent_steps}
 use Rattle.tree_law.proofs.PlacingLemmas.{low_not_high}
 use Rattle.forest_law.specs.State.{page_within, pages_of, heights_of, maps_of, fields_for}
-use Rattle.forest_law.proofs.FramePageLemmas.{cuts_have_frames}
+use Rattle.forest_law.proofs.FramePageLemmas.{cuts_have_pages}
 use Rattle.tree_facts.specs.TreeFrames.{low_of, high_of}
-use Rattle.tree_facts.specs.InnerPages.{InnerPagesPoint, ChildrenHaveFrames}
+use Rattle.tree_facts.specs.InnerPages.{InnerPagesPoint, ChildrenHaveCuts}
 use Rattle.tree_facts.proofs.FrameLemmas.{tells_page}
 
 pub inner_pages_point : InnerPagesPoint
@@ -24,13 +24,13 @@ inner_pages_point w law b f page is above = let tells = tells_page w law b f pag
       rise = sound.rise above;
     }
 
-pub children_have_frames : ChildrenHaveFrames
-children_have_frames w law b f page is level above p cut low high place picked row there n body =
+pub children_have_cuts : ChildrenHaveCuts
+children_have_cuts w law b f page is level above p cut low high place picked row there n body =
     let tells = tells_page w law b f page is in
     let steps = descent_steps w.shape.indexes (fields_for w.shape) (heights_of w.objects)
-    (maps_of w.lists) (pages_of w.shape w.objects) law.objects.pages p cut b level
+    (maps_of w.lists) (pages_of w.shape w.objects) law.objects.pages p cut page.head.number level
     (page_within page f.low f.high) tells.is is.tree above low high in
-    cuts_have_frames w law p page.head.index level n
+    cuts_have_pages w law p page.head.index level n
     (elim picked [
       | inl last ↦ steps.last last.left last.right row n last.split
           (last.last ∙ (sym last.there ∙ there)) body last.out last.past

@@ -22,7 +22,8 @@ use Rattle.tree_facts.proofs.FrameLemmas.{tells_page}
 module _ (w : ForestState) (law : IsLawful w) (b : ℕ) (f : Frame) (page : PageRows)
     (is : IsTreeFrame w b f page) (leaf : page.head.level ≡ 0) where
   -- the page is a leaf of the law
-  is_leaf : IsLeaf (pages_of w.shape w.objects) page.head.index b (page_within page f.low f.high)
+  is_leaf : IsLeaf (pages_of w.shape w.objects) page.head.index page.head.number
+      (page_within page f.low f.high)
   is_leaf = record {
     is = (tells_page w law b f page is).is;
     tree = is.tree;
@@ -34,14 +35,14 @@ module _ (w : ForestState) (law : IsLawful w) (b : ℕ) (f : Frame) (page : Page
   pub slice_is : row_pairs page.rows
       ≡ slice (low_of f) (high_of f) (maps_of w.lists page.head.index)
   slice_is = leaf_rows w.shape.indexes (fields_for w.shape) (heights_of w.objects)
-      (maps_of w.lists) (pages_of w.shape w.objects) law.objects.pages page.head.index b
-      (page_within page f.low f.high) is_leaf
+      (maps_of w.lists) (pages_of w.shape w.objects) law.objects.pages page.head.index
+      page.head.number (page_within page f.low f.high) is_leaf
 
   pub value_is : (key : FieldList) → within (low_of f) (high_of f) (At key) ≡ true
       → value_at key (row_pairs page.rows) ≡ value_at key (maps_of w.lists page.head.index)
   value_is = has_value w.shape.indexes (fields_for w.shape) (heights_of w.objects)
-      (maps_of w.lists) (pages_of w.shape w.objects) law.objects.pages page.head.index b
-      (page_within page f.low f.high) is_leaf
+      (maps_of w.lists) (pages_of w.shape w.objects) law.objects.pages page.head.index
+      page.head.number (page_within page f.low f.high) is_leaf
 
 pub leaves_tell_maps : LeavesTellMaps
 leaves_tell_maps w law b f page is leaf xs list =
@@ -63,6 +64,6 @@ leaves_lead_walks w law b f page is leaf xs list = subst
     (λ m. WalksFrom (fields_for w.shape page.head.index) m (page_within page f.low f.high))
     (ap (λ o. map_after (changes (list_of o))) list)
     (walks_find w.shape.indexes (fields_for w.shape) (heights_of w.objects) (maps_of w.lists)
-    (pages_of w.shape w.objects) law.objects.pages page.head.index b
-    (page_within page f.low f.high) (is_leaf w law b f page is leaf)
+    (pages_of w.shape w.objects) law.objects.pages page.head.index
+    page.head.number (page_within page f.low f.high) (is_leaf w law b f page is leaf)
     (λ i. map_after-ascends (changes (list_of (get_elem? w.lists i)))))

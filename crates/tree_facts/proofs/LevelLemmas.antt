@@ -1,24 +1,20 @@
 -- A tree has fewer levels than there are page numbers.
-use Rattle.std.proofs.Common.{◌≡◌, ℕ, zero, suc, ◌<◌, ◌≤◌, ◌∷◌, [], List, Bool, true, false, Some, None, refl, sym, ap, subst, ◌∙◌, arith, length}
+use Rattle.std.proofs.Common.{◌≡◌, ℕ, zero, suc, ◌<◌, ◌≤◌, ◌∷◌, [], List, Bool, true, false, Some, refl, sym, ap, subst, ◌∙◌, arith, length}
 use Rattle.std.specs.Prelude.{nat_eq, ◌||◌}
 use Rattle.std.specs.List.{IsDistinct, AllByRecursion, list_any}
 use Rattle.std.proofs.lemmas.Bool.{ne_eqb, eqb-true}
 use Rattle.std.proofs.lemmas.Map.Keys.{IsDistinct-cons}
 use Rattle.std.proofs.lemmas.Map.Steps.{length-le_from_distinct_below}
-use mathlib.Core.Option as maybe
-use lib.ListN.{get_elem?}
 use Rattle.key_tuple.specs.KeyPlace.{Start, before}
 use Rattle.key_tuple.proofs.PlaceLemmas.{cut_after, Start-End}
 use Rattle.list_facts.proofs.Each.{each_weaker}
-use Rattle.list_facts.proofs.Places.{inside}
 use Rattle.tree_law.specs.TreeShape.{Outline, HasCut}
 use Rattle.tree_law.specs.Pages.{Page, forest}
 use Rattle.tree_law.proofs.OnePageLemmas.{one_page}
 use Rattle.tree_law.proofs.PageRowLemmas.{own_is, own_of}
-use Rattle.forest_law.specs.declared.objects.Where.{Where}
-use Rattle.forest_law.specs.State.{ForestState, pages_of, heights_of, places, page_where, where_of}
+use Rattle.forest_law.specs.State.{ForestState, pages_of, heights_of}
 use Rattle.forest_law.specs.Law.{IsLawful}
-use Rattle.forest_law.proofs.FramePageLemmas.{frames_tell_pages, cuts_have_frames}
+use Rattle.forest_law.proofs.FramePageLemmas.{number_below, cuts_have_pages}
 use Rattle.tree_facts.specs.Levels.{LevelsAreFew}
 
 -- what holds of each number of a list holds of one that is found there
@@ -43,20 +39,6 @@ unfolding IsDistinct
 none_apart = tt
 
 module _ (w : ForestState) (law : IsLawful w) where
-  -- each page has a number below the shape's
-  number_below : (n : ℕ) (page : Page) → pages_of w.shape w.objects n ≡ Some page
-      → n < w.shape.pages
-  number_below n page is = pick (get_elem? (places w.objects) n) refl
-    where
-      none_is_not : None ≡ Some page → ⊥
-      none_is_not e = absurd cc
-
-      pick : (o : maybe.Option Where) → get_elem? (places w.objects) n ≡ o → n < w.shape.pages
-      pick maybe.none e = absurd
-          (none_is_not (sym (ap (λ o. page_where w.shape w.objects (where_of o)) e) ∙ is))
-      pick (maybe.some at) e = let room = inside (places w.objects) n at e in
-          let counted = law.objects.counted.places in omega (arith, room, counted)
-
   module _ (i : ℕ) (below : i < w.shape.indexes) where
     -- the first page of a level
     abbrev IsFirstOn : ℕ → ℕ → Type 0
@@ -64,8 +46,8 @@ module _ (w : ForestState) (law : IsLawful w) where
 
     -- its number is below the shape's
     first_below : (level n : ℕ) → IsFirstOn level n → n < w.shape.pages
-    first_below level n has = let found = cuts_have_frames w law (before Start) i level n has in
-        (frames_tell_pages w law n found.frame found.rows found.at found.paged).below
+    first_below level n has = let found = cuts_have_pages w law (before Start) i level n has in
+        number_below w law n found.page found.at
 
     -- pages of two levels are two
     levels_apart : (j k m n : ℕ) → j < k → IsFirstOn k m → IsFirstOn j n → m ≡ n → ⊥

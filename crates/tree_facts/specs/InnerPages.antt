@@ -6,9 +6,9 @@ use Rattle.index_page.specs.Picks.{IsPicked}
 use Rattle.index_page.specs.Rows.{Row, Child, find_row}
 use Rattle.tree_law.specs.PickLaws.{AreInner}
 use Rattle.tree_law.specs.TreeShape.{Rise, first_from}
-use Rattle.tree_law.specs.Pages.{from_place, pointers_of}
+use Rattle.tree_law.specs.Pages.{Page, is_own, low_place, high_place, from_place, pointers_of}
 use Rattle.forest_law.specs.declared.objects.Frame.{Frame}
-use Rattle.forest_law.specs.State.{ForestState}
+use Rattle.forest_law.specs.State.{ForestState, pages_of}
 use Rattle.forest_law.specs.Law.{IsLawful}
 use Rattle.forest_law.specs.FramePages.{HasCutPage}
 use Rattle.tree_facts.specs.TreeFrames.{IsTreeFrame, low_of, high_of}
@@ -27,9 +27,9 @@ InnerPagesPoint =
     → 0 < page.head.level → FillsBounds f page
 
 -- where a page's bounds have a cut, the row that the cut picks points to the page of the level
--- below that has the cut, and that is in the frame of its number
-abbrev pub ChildrenHaveFrames : Type 0
-ChildrenHaveFrames =
+-- below that has the cut
+abbrev pub ChildrenHaveCuts : Type 0
+ChildrenHaveCuts =
     (w : ForestState) → IsLawful w → (b : ℕ) (f : Frame) (page : PageRows) → IsTreeFrame w b f page
     → (level : ℕ) → page.head.level ≡ suc level
     → (p : KeyPlace → Bool) → IsCut p → p (low_of f) ≡ false → p (high_of f) ≡ true
@@ -37,15 +37,15 @@ ChildrenHaveFrames =
     → (row : Row) → find_row place page.rows ≡ Some row → (n : ℕ) → row.body ≡ Child n
     → HasCutPage w p page.head.index level n
 
--- the frame of the block n has a page of the trees, of this index and level, with these bounds
+-- the page n is one of the trees, of this index and level, with these bounds
 pub record HasPageWithin (w : ForestState) (i level : ℕ) (from to : KeyPlace) (n : ℕ) : Type 0 where
-  pub frame : Frame
-  pub page : PageRows
-  pub is : IsTreeFrame w n frame page
-  pub index : page.head.index ≡ i
-  pub at_level : page.head.level ≡ level
-  pub low : low_of frame ≡ from
-  pub high : high_of frame ≡ to
+  pub page : Page
+  pub at : pages_of w.shape w.objects n ≡ Some page
+  pub tree : is_own n page.prev ≡ false
+  pub index : page.index ≡ i
+  pub at_level : page.level ≡ level
+  pub low : low_place page.low ≡ from
+  pub high : high_place page.high ≡ to
 
 -- the page that a row points to begins at the row's place, and ends at that of the next row, or
 -- where the page with the row ends

@@ -40,7 +40,7 @@ CutsAreInRanges =
     (w : ForestState) → IsLawful w → (b : ℕ) (f : Frame) (page : PageRows) → IsTreeFrame w b f page
     → (fore : List Row) (row : Row) (aft : List Row) → page.rows ≡ fore ++ row ∷ aft
     → (n : ℕ) → row.body ≡ Child n
-    → (g : Frame) (child : PageRows) → IsTreeFrame w n g child
+    → (c : ℕ) (g : Frame) (child : PageRows) → IsTreeFrame w c g child → child.head.number ≡ n
     → (first : Row) (lower : List Row) (cut : Row) (upper : List Row)
     → child.rows ≡ first ∷ lower ++ cut ∷ upper
     → RangeHas page n cut.key

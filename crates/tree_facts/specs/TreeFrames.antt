@@ -11,7 +11,7 @@ use Rattle.forest_law.specs.Objects.{IsFrameOf}
 pub record IsTreeFrame (w : ForestState) (b : ℕ) (f : Frame) (page : PageRows) : Type 0 where
   pub at : IsFrameOf w.shape w.objects b f
   pub paged : f.page ≡ Some page
-  pub tree : is_own b page.head.prev ≡ false
+  pub tree : is_own page.head.number page.head.prev ≡ false
 
 -- where the range of a frame's page begins
 abbrev pub low_of : Frame → KeyPlace

@@ -1,5 +1,5 @@
 //! Laws of the inner pages in frames, and of the pages that they point to.
-ghost use Rattle.tree_facts.specs.InnerPages.{InnerPagesPoint, ChildrenHaveFrames};
+ghost use Rattle.tree_facts.specs.InnerPages.{InnerPagesPoint, ChildrenHaveCuts};
 ghost use Rattle.tree_facts.specs.InnerPages.{PointersBoundChildren};
 ghost use Rattle.tree_facts.specs.Ranges.{RangesHaveCuts, CutsAreInRanges};
 
@@ -10,8 +10,8 @@ pub fn inner_pages_point()
 
 /// The row that a cut picks points to the page of the level below that has the cut: a step of a
 /// descent.
-pub fn children_have_frames()
-    ensures { ChildrenHaveFrames }
+pub fn children_have_cuts()
+    ensures { ChildrenHaveCuts }
 {}
 
 /// The page that a row points to has the bounds of the pointer's range.

@@ -1,16 +1,16 @@
 //! Laws of the pages of a level, and of how many levels there are.
 ghost use Rattle.tree_facts.specs.Levels.{LevelsAreFew};
-ghost use Rattle.tree_facts.specs.Neighbours.{NeighboursHaveFrames, PreviousHaveFrames};
+ghost use Rattle.tree_facts.specs.Neighbours.{NextPagesFit, PreviousPagesFit};
 
-/// The page after one of the trees is in the frame of its number, begins where that one ends, and
-/// leads back to it.
-pub fn neighbours_have_frames()
-    ensures { NeighboursHaveFrames }
+/// The page after one of the trees is of its index and level, begins where that one ends, and leads
+/// back to it.
+pub fn next_pages_fit()
+    ensures { NextPagesFit }
 {}
 
-/// The page before one of the trees is in the frame of its number, and ends where that one begins.
-pub fn previous_have_frames()
-    ensures { PreviousHaveFrames }
+/// The page before one of the trees is of its index and level, and ends where that one begins.
+pub fn previous_pages_fit()
+    ensures { PreviousPagesFit }
 {}
 
 /// Where there is a page outside the trees, each tree has fewer levels than there are page numbers.

@@ -7,8 +7,8 @@ mod leaves;
 mod levels;
 
 pub use inner::{
-    children_have_frames, cuts_are_in_ranges, inner_pages_point, pointers_bound_children,
+    children_have_cuts, cuts_are_in_ranges, inner_pages_point, pointers_bound_children,
     ranges_have_cuts,
 };
 pub use leaves::{leaves_lead_walks, leaves_tell_maps};
-pub use levels::{levels_are_few, neighbours_have_frames, previous_have_frames};
+pub use levels::{levels_are_few, next_pages_fit, previous_pages_fit};

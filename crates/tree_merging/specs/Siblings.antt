@@ -36,10 +36,11 @@ pub record AreSiblings (l r : Frame) (up page other : PageRows) (at : FieldList)
   pub around : (m : ℕ) → other.head.next ≡ Some m → m ≢ page.head.number
 
 -- so it is in each lawful state
-abbrev pub SiblingsHaveFrames : Type 0
-SiblingsHaveFrames =
+abbrev pub SiblingsFit : Type 0
+SiblingsFit =
     (w : ForestState) → IsLawful w → (b : ℕ) (f : Frame) (up : PageRows) → IsTreeFrame w b f up
     → (fore : List Row) (x y : Row) (aft : List Row) → up.rows ≡ fore ++ x ∷ y ∷ aft
-    → (left right : ℕ) → x.body ≡ Child left → y.body ≡ Child right
-    → (l r : Frame) (page other : PageRows) → IsTreeFrame w left l page → IsTreeFrame w right r other
+    → (l r : Frame) (page other : PageRows)
+    → (c : ℕ) → IsTreeFrame w c l page → x.body ≡ Child page.head.number
+    → (d : ℕ) → IsTreeFrame w d r other → y.body ≡ Child other.head.number
     → AreSiblings l r up page other y.key

@@ -1,11 +1,11 @@
 //! Laws of frames that were merged or lifted, each the contract of a function that does nothing.
-ghost use Rattle.tree_merging.specs.Siblings.{SiblingsHaveFrames};
+ghost use Rattle.tree_merging.specs.Siblings.{SiblingsFit};
 ghost use Rattle.tree_merging.specs.MergeSteps.{MergesAreInHand};
 ghost use Rattle.tree_merging.specs.Lifts.{LiftsAreInHand};
 
 /// Pages that follow one another under one parent are neighbours, and a key parts their rows.
-pub fn siblings_have_frames()
-    ensures { SiblingsHaveFrames }
+pub fn siblings_fit()
+    ensures { SiblingsFit }
 {}
 
 /// Frames that were merged, with their parent and the page behind, are a merge of the law, which

@@ -8,6 +8,6 @@ mod merge;
 mod pair;
 mod pointer;
 
-pub use laws::{lifts_are_in_hand, merges_are_in_hand, siblings_have_frames};
+pub use laws::{lifts_are_in_hand, merges_are_in_hand, siblings_fit};
 pub use lift::lift_frames;
 pub use merge::merge_frames;

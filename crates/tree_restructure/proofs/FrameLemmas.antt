@@ -93,7 +93,6 @@ module _ (shape : Shape) (before news : List (Option Object)) (n : ℕ) (outside
     becomes = part.becomes;
     had = had;
     has = has;
-    home = part.home;
     order = order;
   }
 

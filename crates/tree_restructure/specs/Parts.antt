@@ -16,7 +16,6 @@ pub record TakesPart (shape : Shape) (before news : List (Option Object)) (n : �
     (hand : InHand) : Type 0 where
   pub becomes : Becomes before news (frame_id shape hand.block) (object.Frame hand.old)
       (object.Frame hand.new)
-  pub home : hand.block ≡ n
   pub order : (page : Page) → page_in hand.old ≡ Some page → IsOrderly (fields_for shape) page
   pub tree : (page : Page) → page_in hand.old ≡ Some page → is_own n page.prev ≡ outside
 
