@@ -1,99 +1,170 @@
--- Looks at the pool that found nothing, and the one that ends them.
-use Rattle.std.proofs.Common.{◌≡◌, ℕ, ◌<◌, [], ◌∷◌, ◌++◌, sym, ap, subst, ◌∙◌, arith, refl}
+-- Looks at the pool that found nothing, and what the one that ends them tells.
+use Rattle.std.proofs.Common.{◌≡◌, ℕ, Bool, true, false, List, [], ◌∷◌, ◌++◌, cond, sym, ap, subst, ◌∙◌, refl, arith}
 use lib.ListN.{get_elem?}
+use Rattle.latch_law.specs.declared.knows.Reference.{Reference}
 use Rattle.latch_law.specs.declared.knows.Terms.{Terms}
 use Rattle.latch_law.specs.Whole.{reference}
 use Rattle.latch_space.specs.Has.{IsKnown}
 use Rattle.latch_space.specs.Passes.{view, IsSamePass}
 use Rattle.index_law.specs.Shape.{Shape}
+use Rattle.forest_law.specs.declared.objects.Object.{Object}
 use Rattle.forest_law.specs.declared.objects.Object.TheVariants as object
-use Rattle.forest_law.specs.Numbers.{pool_id, frame_id, frames_of}
+use Rattle.forest_law.specs.Numbers.{pool_id, frame_id}
 use Rattle.forest_world.specs.Held.{TreePass, shape_of_pass}
 use Rattle.call_law.specs.Hands.{HoldsNoPool}
-use Rattle.call_law.specs.Spoken.{spoken}
-use Rattle.call_law.specs.Trace.{AreGivenAt, fulls}
+use Rattle.call_law.specs.Trace.{Added, is_frame, frame_references}
 use Rattle.call_law.proofs.TraceLemmas.{both_added}
-use Rattle.buffer_pool.specs.Calls.{GetsNothing}
-use Rattle.buffer_pool.specs.FreeNumbers.{HoldsFree}
-use Rattle.buffer_pool.specs.NewPages.{HoldsPages, FindsNoneFree}
-use Rattle.buffer_pool.proofs.AddedLemmas.{rest_none}
-use Rattle.buffer_pool.proofs.CallLemmas.{silently_both, does_both, does_none, does_among, does_nothing}
-use Rattle.buffer_pool.proofs.FreeLemmas.{in_right, pages_still}
-
--- no look, and one more
-pub gets_none : (p : TreePass) → IsKnown p → GetsNothing p p
-gets_none p known = record { silently = does_nothing p known; count = refl }
-
-pub gets_both : (p q r : TreePass) → GetsNothing p q → GetsNothing q r → GetsNothing p r
-gets_both p q r first second = record {
-  silently = silently_both p q r [] first.silently second.silently;
-  count = second.count ∙ first.count;
-}
+use Rattle.buffer_pool.specs.Calls.{Does}
+use Rattle.buffer_pool.specs.Hands.{LacksFrame}
+use Rattle.buffer_pool.specs.Looking.{GivesNothing, FindsNone}
+use Rattle.buffer_pool.specs.Pages.{HoldsOtherPages, PagesIn, RefusesPage}
+use Rattle.buffer_pool.proofs.AddedLemmas.{none_added, held_adds, none_spares, frame_before}
+use Rattle.buffer_pool.proofs.CallLemmas.{does_both, does_none}
+use Rattle.buffer_pool.proofs.FitsLemmas.{live_still}
+use Rattle.buffer_pool.proofs.VictimLemmas.{in_right}
 
 -- it is the same pass over all of them
 pub passes_both : (p q r : TreePass) → IsSamePass p q → IsSamePass q r → IsSamePass p r
 passes_both p q r first second = (second.0 ∙ first.0, second.1 ∙ first.1)
 
-module _ (p q : TreePass) (gets : GetsNothing p q) where
-  same_shape : shape_of_pass q ≡ shape_of_pass p
-  same_shape = ap (λ (t : Terms Shape). t.shape) gets.silently.does.adds.numbers.terms
+-- the frames among the references of two calls
+pub frames-append : (qs rs : List (Reference Object))
+    → frame_references (qs ++ rs) ≡ frame_references qs ++ frame_references rs
+frames-append [] rs = refl
+frames-append (q ∷ qs) rs = pick (is_frame q.released) (frame_references (qs ++ rs))
+    (frame_references qs) (frames-append qs rs)
+  where
+    pick : (o : Bool) (xs ys : List (Reference Object)) → xs ≡ ys ++ frame_references rs
+        → cond o (q ∷ xs) xs ≡ cond o (q ∷ ys) ys ++ frame_references rs
+    pick true xs ys e = ap (λ zs. q ∷ zs) e
+    pick false xs ys e = e
 
-  -- what was held with pages is, and the pool isn't held
-  pub gets_pages : HoldsPages (view p) → HoldsPages (view q)
-  gets_pages pages = pages_still p q gets.silently.does.adds.numbers
-      (rest_none (view p) (view q) (pool_id ∷ []) gets.silently.does.rest) pages
+-- no look
+pub gives_none : (p : TreePass) → IsKnown p → GivesNothing p p
+gives_none p known = record {
+  got = record {
+    silently = record {
+      added = none_added;
+      does = record {
+        adds = held_adds (view p) (view p) (view p).held refl;
+        spares = none_spares (shape_of_pass p);
+        rest = λ k apart. refl;
+        known = known;
+      };
+      silent = refl;
+    };
+    count = refl;
+  };
+  none = refl;
+}
 
-  pub gets_no_pool : HoldsNoPool (view p) → HoldsNoPool (view q)
-  gets_no_pool lacks = gets.silently.does.rest pool_id tt ∙ lacks
+module _ (p q : TreePass) (gives : GivesNothing p q) where
+  abbrev a : Added
+  a = gives.got.silently.added
 
-  -- and a free number was found
-  pub gets_free : (n : ℕ) (r : TreePass) → HoldsFree q n r → HoldsFree p n r
-  gets_free n r free =
-      let ks = pool_id ∷ frame_id (shape_of_pass p) n ∷ [] in
-      let a = gets.silently.added in let b = free.silently.added in
-      let same = ap (λ (s : Shape). frame_id s n) same_shape in record {
+  pub gives_shape : shape_of_pass q ≡ shape_of_pass p
+  gives_shape =
+      ap (λ (t : Terms Shape). t.shape) gives.got.silently.does.adds.numbers.terms
+
+  -- all that a look asks for is so still
+  pub gives_others : (n : ℕ) → HoldsOtherPages (view p) n → HoldsOtherPages (view q) n
+  gives_others n others b f page knows = others b f page
+      (frame_before (view p) (view q) [] gives.got.silently.does.adds.numbers
+      gives.got.silently.does.rest b tt f knows)
+
+  pub gives_no_pool : HoldsNoPool (view p) → HoldsNoPool (view q)
+  gives_no_pool lacks = gives.got.silently.does.rest pool_id tt ∙ lacks
+
+  gives_lacks : (b : ℕ) → LacksFrame q b → LacksFrame p b
+  gives_lacks b lacked = sym (gives.got.silently.does.rest (frame_id (shape_of_pass p) b) tt)
+      ∙ (ap (λ (s : Shape). get_elem? (view q).held (frame_id s b)) (sym gives_shape) ∙ lacked)
+
+  module _ (r : TreePass) where
+    -- one more, that found nothing
+    pub gives_both : GivesNothing q r → GivesNothing p r
+    gives_both more = let c = more.got.silently.added in record {
+      got = record {
         silently = record {
-          added = both_added a b;
-          does = does_both p q r ks a b (does_none p q a ks gets.silently.does)
-              (does_among q r b (pool_id ∷ frame_id (shape_of_pass q) n ∷ []) ks
-              (λ j apart. (apart.0, ((λ e. apart.1.0 (e ∙ same)), tt))) free.silently.does);
-          silent = λ k. gets.silently.silent k ++ free.silently.silent k;
+          added = both_added a c;
+          does = does_both p q r [] a c gives.got.silently.does more.got.silently.does;
+          silent = λ k. gives.got.silently.silent k ++ more.got.silently.silent k;
         };
-        pool = free.pool;
-        held = free.held;
-        lowest = free.lowest;
-        below = subst (λ (s : Shape). n < frames_of s) same_shape free.below;
-        lacked = sym (gets.silently.does.rest (frame_id (shape_of_pass p) n) tt)
-            ∙ (ap (get_elem? (view q).held) (sym same) ∙ free.lacked);
-        frame = free.frame;
-        knows = free.knows;
-        empty = free.empty;
-        count = (let x = gets.count in let y = free.count in omega (arith, x, y));
-      }
+        count = more.got.count ∙ gives.got.count;
+      };
+      none = frames-append a.references c.references
+          ∙ (λ k. gives.none k ++ more.none k);
+    }
 
-  -- or none
-  pub gets_full : (i : ℕ) (r : TreePass) → FindsNoneFree q i r → FindsNoneFree p i r
-  gets_full i r none =
-      let a = gets.silently.added in let b = none.full.added in
-      let said : a.said ++ b.said ≡ b.said = (λ k. gets.silently.silent k ++ b.said) in record {
-        full = record {
-          added = both_added a b;
-          does = does_both p q r [] a b gets.silently.does none.full.does;
-          given = subst (AreGivenAt i (view p).low) (sym said)
-              (subst (λ n. AreGivenAt i n b.said) gets.silently.does.adds.numbers.low
-              none.full.given);
-          silent = ap spoken said ∙ none.full.silent;
-          places = none.full.places;
-          full = ap fulls said ∙ none.full.full;
-          count = none.full.count ∙ gets.count;
+    -- that held the page
+    pub gives_pages : (n b : ℕ) → PagesIn q n b r → PagesIn p n b r
+    gives_pages n b pages = let c = pages.silently.added in
+        let ks = frame_id (shape_of_pass p) b ∷ [] in record {
+          silently = record {
+            added = both_added a c;
+            does = does_both p q r ks a c (does_none p q a ks gives.got.silently.does)
+                (subst (λ (s : Shape). Does q r (frame_id s b ∷ []) c) gives_shape
+                pages.silently.does);
+            silent = λ k. gives.got.silently.silent k ++ pages.silently.silent k;
+          };
+          none = frames-append a.references c.references
+              ∙ (λ k. gives.none k ++ pages.none k);
+          lacked = gives_lacks b pages.lacked;
+          frame = pages.frame;
+          knows = pages.knows;
+          has = pages.has;
+          count = (let x = gives.got.count in let y = pages.count in omega (arith, x, y));
+        }
+
+    -- that found its frame another's
+    pub gives_refuses : (n : ℕ) → RefusesPage q n r → RefusesPage p n r
+    gives_refuses n refuses = let c = refuses.got.silently.added in record {
+      got = record {
+        silently = record {
+          added = both_added a c;
+          does = does_both p q r [] a c gives.got.silently.does refuses.got.silently.does;
+          silent = λ k. gives.got.silently.silent k ++ refuses.got.silently.silent k;
         };
-        pool = none.pool;
-        held = record {
-          now = none.held.now;
-          among = in_right
-              (reference pool_id (object.Pool none.pool) (object.Pool none.held.now)) a.references
-              b.references none.held.among;
+        count = refuses.got.count ∙ gives.got.count;
+      };
+      none = frames-append a.references c.references
+          ∙ (λ k. gives.none k ++ refuses.none k);
+      block = refuses.block;
+      taken = refuses.taken;
+      pool = refuses.pool;
+      gave = in_right (reference pool_id refuses.taken (object.Pool refuses.pool)) a.references
+          c.references refuses.gave;
+      named = refuses.named;
+      refused = refuses.refused;
+      among = in_right refuses.refused a.refused c.refused refuses.among;
+      object = refuses.object ∙ ap (λ (s : Shape). frame_id s refuses.block) gives_shape;
+    }
+
+    -- that found no page of the number
+    pub gives_finds_none : (n : ℕ) → FindsNone q n r → FindsNone p n r
+    gives_finds_none n finds = let c = finds.gives.got.silently.added in record {
+      gives = record {
+        got = record {
+          silently = record {
+            added = both_added a c;
+            does = does_both p q r [] a c gives.got.silently.does
+                finds.gives.got.silently.does;
+            silent = λ k. gives.got.silently.silent k ++ finds.gives.got.silently.silent k;
+          };
+          count = finds.gives.got.count ∙ gives.got.count;
         };
-        none = none.none;
-        same = none.same;
-      }
+        none = frames-append a.references c.references
+            ∙ (λ k. gives.none k ++ finds.gives.none k);
+      };
+      gave = record {
+        taken = finds.gave.taken;
+        pool = finds.gave.pool;
+        among = in_right (reference pool_id finds.gave.taken (object.Pool finds.gave.pool))
+            a.references c.references finds.gave.among;
+        free = finds.gave.free;
+      };
+      never = λ live. finds.never (live_still p q gives.got.silently n live);
+    }
+
+-- a look that found its frame another's found nothing
+pub refused_gives : (p q : TreePass) (n : ℕ) → RefusesPage p n q → GivesNothing p q
+refused_gives p q n refuses = record { got = refuses.got; none = refuses.none }

@@ -1,122 +1,190 @@
--- A free number, its frame, and what a look at the pool leaves behind.
-use Rattle.std.proofs.Common.{◌≡◌, ℕ, ◌<◌, List, [], ◌∷◌, ◌++◌, length, inl, inr, sym, ap, subst, ◌∙◌, refl, arith, Option, Some, None}
-use mathlib.Core.Option.{some, some-injective}
+-- What a look at the pool for a free number leaves behind.
+use Rattle.std.proofs.Common.{◌≡◌, ℕ, ◌<◌, [], ◌∷◌, ◌++◌, inl, sym, ap, subst, ◌∙◌, refl, arith, append-nil, Some}
 use lib.ListN.{get_elem?}
-use Rattle.atomic_table.proofs.Lists.{set_here}
-use Rattle.list_facts.proofs.Places.{inside}
 use Rattle.latch_law.specs.declared.knows.Holding.{Holding}
-use Rattle.latch_law.specs.Rule.{Holds}
 use Rattle.latch_law.specs.Views.{holding}
+use Rattle.latch_law.specs.Whole.{reference}
 use Rattle.latch_space.specs.Has.{IsKnown}
 use Rattle.latch_space.specs.Passes.{view}
-use Rattle.index_page.specs.Page.{PageRows}
+use Rattle.index_page.specs.Page.{IsNeighbour}
 use Rattle.index_law.specs.Shape.{Shape}
 use Rattle.tree_law.specs.TreeShape.{In}
-use Rattle.forest_law.specs.declared.objects.Frame.{Frame}
 use Rattle.forest_law.specs.declared.objects.Pool.{Pool}
 use Rattle.forest_law.specs.declared.objects.Where.TheVariants.{Free, InFrame}
 use Rattle.forest_law.specs.declared.objects.Object.{Object}
 use Rattle.forest_law.specs.declared.objects.Object.TheVariants as object
-use Rattle.forest_law.specs.Law.{IsLawful}
-use Rattle.forest_law.specs.Numbers.{pool_id, frame_id, frames_of}
-use Rattle.forest_law.specs.Objects.{IsFrameOf}
-use Rattle.forest_law.specs.State.{ForestState, places_of, where_at, places}
-use Rattle.forest_law.proofs.FramePageLemmas.{frame_tells}
-use Rattle.forest_world.specs.Held.{TreePass, shape_of_pass}
-use Rattle.call_law.specs.Hands.{HoldsNoPool, HoldsTheRest}
-use Rattle.call_law.specs.Trace.{SameNumbers}
-use Rattle.buffer_pool.specs.Forests.{TreeView, FitsTrees, IsFittedTree}
-use Rattle.buffer_pool.specs.Hands.{LacksFrame}
-use Rattle.buffer_pool.specs.NewPages.{HoldsPages}
-use Rattle.buffer_pool.specs.Pools.{TakesPool, HoldsKnownPool}
-use Rattle.buffer_pool.proofs.AddedLemmas.{frame_before}
-use Rattle.buffer_pool.proofs.CallLemmas.{pool_has}
-use Rattle.buffer_pool.proofs.PageLemmas.{lacks_if}
+use Rattle.forest_law.specs.Numbers.{pool_id, frame_id}
+use Rattle.forest_world.specs.Held.{TreePass, shape_of_pass, HasPool}
+use Rattle.call_law.specs.Hands.{HoldsNoPool}
+use Rattle.call_law.specs.Spoken.{spoken}
+use Rattle.call_law.specs.Trace.{Added, AreGivenAt, fulls}
+use Rattle.call_law.proofs.TraceLemmas.{both_added}
+use Rattle.buffer_pool.specs.Calls.{Does, FindsFull}
+use Rattle.buffer_pool.specs.Forests.{IsFittedTree}
+use Rattle.buffer_pool.specs.FreeNumbers.{HoldsFree}
+use Rattle.buffer_pool.specs.Looking.{GivesNothing}
+use Rattle.buffer_pool.specs.NewPages.{IsLowestFree, HasNoneFree, FindsNoneFree}
+use Rattle.buffer_pool.specs.Pools.{TakesPool, GivesPool}
+use Rattle.buffer_pool.specs.Tries.{tries_alone}
+use Rattle.buffer_pool.specs.Victims.{HoldsRoom}
+use Rattle.buffer_pool.proofs.AddedLemmas.{only_refused, only_given}
+use Rattle.buffer_pool.proofs.AgainLemmas.{frames-append, gives_shape}
+use Rattle.buffer_pool.proofs.CallLemmas.{does_both, does_none, does_among, does_again, gave_pool}
+use Rattle.buffer_pool.proofs.FrameLemmas.{one_held}
+use Rattle.buffer_pool.proofs.GiveLemmas.{first, first_shape, pool_taken, lacks_before}
+use Rattle.buffer_pool.proofs.KnownLemmas.{places_counted}
+use Rattle.buffer_pool.proofs.PoolLemmas.{same_pool}
+use Rattle.buffer_pool.proofs.VictimLemmas.{in_right}
 
--- the last of some
-pub in_last : {A : Type 0} (x : A) (xs : List A) → In x (xs ++ x ∷ [])
-in_last x [] = inl refl
-in_last x (y ∷ ys) = inr (in_last x ys)
+free_is_not : (b : ℕ) → Free ≡ InFrame b → ⊥
+free_is_not b e = absurd cc
 
--- one of the first, and one of the second, is one of both
-pub in_left : {A : Type 0} (x : A) (xs ys : List A) → In x xs → In x (xs ++ ys)
-in_left x [] ys among = absurd among
-in_left x (y ∷ xs) ys (inl e) = inl e
-in_left x (y ∷ xs) ys (inr among) = inr (in_left x xs ys among)
+module _ (p p1 : TreePass) (known : IsKnown p) (lacks : HoldsNoPool (view p))
+    (took : TakesPool p p1) where
+  -- the pool that is looked at is the one that was taken
+  pub found_is : (found : Pool) → ((x y : Pool) → HasPool p1 x y → found ≡ y) → found ≡ took.pool
+  found_is found is = is took.pool took.pool took.has
 
-pub in_right : {A : Type 0} (x : A) (xs ys : List A) → In x ys → In x (xs ++ ys)
-in_right x [] ys among = among
-in_right x (y ∷ xs) ys among = inr (in_right x xs ys among)
+  -- no number was free, and that was said
+  module _ (p2 p3 : TreePass) (i : ℕ) (full : FindsFull p1 i p2) (none : HasNoneFree took.pool)
+      (gave : GivesPool p2 p3) where
+    abbrev all : Added
+    all = both_added (both_added (only_refused took.refused) full.added)
+        (only_given pool_id gave.taken (object.Pool gave.pool))
 
--- where the pool is known, each lawful state that fits has its places
-module _ (w : ForestState) (law : IsLawful w) (v : TreeView) (fits : FitsTrees w v) (t : Object)
-    (x : Pool) (held : Holds v pool_id (holding t (object.Pool x))) where
-  pub places_are : places w.objects ≡ x.place.items
-  places_are = ap places_of (fits.known pool_id (holding t (object.Pool x)) held)
+    all_does : Does p p3 [] all
+    all_does = does_again p p3 all pool_id []
+        (does_both p p2 p3 (pool_id ∷ []) (both_added (only_refused took.refused) full.added)
+        (only_given pool_id gave.taken (object.Pool gave.pool))
+        (does_both p p1 p2 (pool_id ∷ []) (only_refused took.refused) full.added
+        (first p p1 known lacks took) (does_none p1 p2 full.added (pool_id ∷ []) full.does))
+        (gave_pool p2 p3 full.does.known gave)) (gave.lacks ∙ sym lacks)
 
-  pub places_counted : length x.place.items ≡ v.terms.shape.pages
-  places_counted = ap length (sym places_are)
-      ∙ (law.objects.counted.places ∙ ap (λ (s : Shape). s.pages) fits.shape)
+    gave_is : holding gave.taken (object.Pool gave.pool)
+        ≡ holding (object.Pool took.pool) (object.Pool took.pool)
+    gave_is = one_held p2 pool_id (holding gave.taken (object.Pool gave.pool))
+        (holding (object.Pool took.pool) (object.Pool took.pool)) gave.held
+        (full.does.rest pool_id tt ∙ pool_taken p p1 known lacks took)
 
-  -- the frame of a free number has no page
-  pub free_is_empty : (n : ℕ) → where_at x.place.items n ≡ Free → (f : Frame)
-      → IsFrameOf w.shape w.objects n f → f.page ≡ None
-  free_is_empty n free f at = pick f.page refl
-    where
-      not_in : Free ≡ InFrame n → ⊥
-      not_in e = absurd cc
+    pub finds_none : FindsNoneFree p i p3
+    finds_none = let said = append-nil full.added.said in record {
+      full = record {
+        added = all;
+        does = all_does;
+        given = subst (AreGivenAt i (view p).low) (sym said)
+            (subst (λ n. AreGivenAt i n full.added.said)
+            (first p p1 known lacks took).adds.numbers.low full.given);
+        silent = ap spoken said ∙ full.silent;
+        places = full.places;
+        full = ap fulls said ∙ full.full;
+        count = (let b = took.count in let c = full.count in let d = gave.count in
+            omega (arith, b, c, d));
+      };
+      pool = took.pool;
+      held = record {
+        now = gave.pool;
+        among = subst
+            (λ t. In (reference pool_id t (object.Pool gave.pool)) all.references)
+            (ap (λ (h : Holding Object). h.taken) gave_is)
+            (in_right (reference pool_id gave.taken (object.Pool gave.pool))
+            full.added.references
+            (reference pool_id gave.taken (object.Pool gave.pool) ∷ []) (inl refl));
+      };
+      none = none;
+      same = same_pool gave.pool took.pool (ap (λ (h : Holding Object). h.known) gave_is);
+    }
 
-      pick : (o : Option PageRows) → f.page ≡ o → o ≡ None
-      pick None e = refl
-      pick (Some rows) e = absurd
-          (not_in (sym free ∙ (ap (λ xs. where_at xs n) (sym places_are)
-          ∙ (ap (where_at (places w.objects)) (sym (frame_tells w law n f rows at e).number)
-          ∙ law.objects.placed.named n f rows at e))))
+  -- the lowest number that was free, and a frame for its page
+  pub holds_free : (n b : ℕ) (q : TreePass) → IsFittedTree (view p1) → IsNeighbour (Some n)
+      → IsLowestFree took.pool n → HoldsRoom p1 b (object.Pool took.pool) took.pool q
+      → HoldsFree p n b q
+  holds_free n b q fitted named lowest room =
+      let counted = places_counted fitted.whole fitted.is_lawful (view p1) fitted.fits
+      (object.Pool took.pool) took.pool (pool_taken p p1 known lacks took) in
+      let shape = first_shape p p1 known lacks took in
+      let ks = pool_id ∷ frame_id (shape_of_pass p) b ∷ [] in
+      let a = only_refused took.refused in let c = tries_alone room.tries.refused in
+      record {
+        silently = record {
+          added = both_added a c;
+          does = does_both p p1 q ks a c
+              (does_among p p1 a (pool_id ∷ []) ks (λ j apart. (apart.0, tt))
+              (first p p1 known lacks took))
+              (subst (λ (s : Shape). Does p1 q (pool_id ∷ frame_id s b ∷ []) c) shape
+              room.tries.does);
+          silent = refl;
+        };
+        none = refl;
+        pool = took.pool;
+        now = room.pool;
+        held = room.knew;
+        lowest = lowest;
+        free = room.keeps n (λ e. free_is_not b (sym lowest.free ∙ e)) ∙ lowest.free;
+        below = subst (λ (s : Shape). n < s.pages) shape
+            (let below = lowest.below in omega (arith, counted, below));
+        named = named;
+        lacked = lacks_before p p1 known lacks took b room.lacked;
+        frame = room.frame;
+        knows = room.knows;
+        empty = room.empty;
+        count = (let x = took.count in let y = room.count in omega (arith, x, y));
+      }
 
--- a pass that holds frames with pages alone lacks that of a free number
-module _ (p : TreePass) (fitted : IsFittedTree (view p)) (t : Object) (x : Pool)
-    (held : Holds (view p) pool_id (holding t (object.Pool x))) (pages : HoldsPages (view p)) where
-  pub lacks_free : (n : ℕ) → where_at x.place.items n ≡ Free → n < frames_of (shape_of_pass p)
-      → (view p).terms.objects ≡ frame_id (shape_of_pass p) (frames_of (shape_of_pass p))
-      → LacksFrame p n
-  lacks_free n free below objects =
-      lacks_if p (frame_id (shape_of_pass p) n) (omega (arith, below, objects)) never
-    where
-      some_not : (rows : PageRows) → None ≡ Some rows → ⊥
-      some_not rows e = absurd cc
+-- looks that found nothing, and then a number and a frame, or none
+module _ (p q r : TreePass) (gives : GivesNothing p q) where
+  abbrev a : Added
+  a = gives.got.silently.added
 
-      never : (h : Holding Object) → Holds (view p) (frame_id (shape_of_pass p) n) h → ⊥
-      never h has = let w = fitted.whole in
-          let there = fitted.is_lawful.objects.kinds.frames n
-          (subst (λ (s : Shape). n < frames_of s) (sym fitted.fits.shape) below) in
-          let is : h.known ≡ object.Frame there.0 =
-          some-injective h.known (object.Frame there.0)
-          (sym (fitted.fits.known (frame_id (shape_of_pass p) n) h has)
-          ∙ (ap (λ (s : Shape). get_elem? w.objects (frame_id s n)) (sym fitted.fits.shape)
-          ∙ there.1)) in
-          let page = pages n there.0
-          (h.taken, has ∙ ap (λ z. some (Some (holding h.taken z))) is) in
-          some_not page.0
-          (sym (free_is_empty w fitted.is_lawful (view p) fitted.fits t x held n free there.0
-          there.1)
-          ∙ page.1)
+  pub gives_free : (n b : ℕ) → HoldsFree q n b r → HoldsFree p n b r
+  gives_free n b free = let c = free.silently.added in let shape = gives_shape p q gives in
+      let ks = pool_id ∷ frame_id (shape_of_pass p) b ∷ [] in record {
+        silently = record {
+          added = both_added a c;
+          does = does_both p q r ks a c (does_none p q a ks gives.got.silently.does)
+              (subst (λ (s : Shape). Does q r (pool_id ∷ frame_id s b ∷ []) c) shape
+              free.silently.does);
+          silent = λ k. gives.got.silently.silent k ++ free.silently.silent k;
+        };
+        none = frames-append a.references c.references ∙ (λ k. gives.none k ++ free.none k);
+        pool = free.pool;
+        now = free.now;
+        held = free.held;
+        lowest = free.lowest;
+        free = free.free;
+        below = subst (λ (s : Shape). n < s.pages) shape free.below;
+        named = free.named;
+        lacked = sym (gives.got.silently.does.rest (frame_id (shape_of_pass p) b) tt)
+            ∙ (ap (λ (s : Shape). get_elem? (view q).held (frame_id s b)) (sym shape)
+            ∙ free.lacked);
+        frame = free.frame;
+        knows = free.knows;
+        empty = free.empty;
+        count = (let x = gives.got.count in let y = free.count in omega (arith, x, y));
+      }
 
--- the pool that was taken is known as it was then
-pub pool_taken : (p q : TreePass) → HoldsNoPool (view p) → (took : TakesPool p q)
-    → Holds (view q) pool_id (holding (object.Pool took.pool) (object.Pool took.pool))
-pool_taken p q lacks took = ap (λ (v : TreeView). get_elem? v.held pool_id) took.view
-    ∙ set_here (view p).held pool_id
-    (Some (holding (object.Pool took.pool) (object.Pool took.pool)))
-    (inside (view p).held pool_id None lacks)
-
--- a pool of the rest is held still
-pub pool_still : (p q : TreePass) (t : Object) (x : Pool) → HoldsTheRest (view p) (view q) []
-    → IsKnown q → Holds (view p) pool_id (holding t (object.Pool x)) → HoldsKnownPool q
-pool_still p q t x rest known held = (x, pool_has q known t x (rest pool_id tt ∙ held))
-
--- frames have pages still, where the rest is held
-pub pages_still : (p q : TreePass) → SameNumbers (view p) (view q)
-    → HoldsTheRest (view p) (view q) (pool_id ∷ []) → HoldsPages (view p) → HoldsPages (view q)
-pages_still p q same rest pages b f knows = pages b f
-    (frame_before (view p) (view q) (pool_id ∷ []) same rest b ((λ e. omega (arith, e)), tt) f
-    knows)
+  pub gives_full : (i : ℕ) → FindsNoneFree q i r → FindsNoneFree p i r
+  gives_full i none =
+      let c = none.full.added in
+      let said : a.said ++ c.said ≡ c.said = (λ k. gives.got.silently.silent k ++ c.said) in
+      record {
+        full = record {
+          added = both_added a c;
+          does = does_both p q r [] a c gives.got.silently.does none.full.does;
+          given = subst (AreGivenAt i (view p).low) (sym said)
+              (subst (λ n. AreGivenAt i n c.said) gives.got.silently.does.adds.numbers.low
+              none.full.given);
+          silent = ap spoken said ∙ none.full.silent;
+          places = none.full.places;
+          full = ap fulls said ∙ none.full.full;
+          count = none.full.count ∙ gives.got.count;
+        };
+        pool = none.pool;
+        held = record {
+          now = none.held.now;
+          among = in_right
+              (reference pool_id (object.Pool none.pool) (object.Pool none.held.now)) a.references
+              c.references none.held.among;
+        };
+        none = none.none;
+        same = none.same;
+      }

@@ -1,171 +1,176 @@
--- What a look at the pool for a free number leaves behind.
-use Rattle.std.proofs.Common.{◌≡◌, ℕ, ◌<◌, [], ◌∷◌, sym, ap, subst, ◌∙◌, refl, arith, append-nil, length}
+-- A page that is looked for in the pool in hand.
+use Rattle.std.proofs.Common.{◌≡◌, ℕ, ◌<◌, [], ◌∷◌, sym, ap, subst, ◌∙◌, arith, Some}
+use mathlib.Core.Option.{some, some-injective}
 use lib.ListN.{get_elem?}
 use Rattle.latch_law.specs.declared.knows.Holding.{Holding}
-use Rattle.latch_law.specs.declared.knows.Terms.{Terms}
-use Rattle.latch_law.specs.Views.{holding, with_refused}
-use Rattle.latch_law.specs.Whole.{reference}
+use Rattle.latch_law.specs.Rule.{Holds}
+use Rattle.latch_law.specs.Views.{holding}
 use Rattle.latch_space.specs.Has.{IsKnown}
 use Rattle.latch_space.specs.Passes.{view}
 use Rattle.index_law.specs.Shape.{Shape}
-use Rattle.tree_law.specs.TreeShape.{In}
+use Rattle.forest_law.specs.declared.objects.Frame.{Frame}
 use Rattle.forest_law.specs.declared.objects.Pool.{Pool}
+use Rattle.forest_law.specs.declared.objects.Where.TheVariants.{InFrame, Image}
 use Rattle.forest_law.specs.declared.objects.Object.{Object}
 use Rattle.forest_law.specs.declared.objects.Object.TheVariants as object
 use Rattle.forest_law.specs.Numbers.{pool_id, frame_id, frames_of}
 use Rattle.forest_law.specs.State.{where_at}
-use Rattle.forest_world.specs.Held.{TreePass, shape_of_pass, HasPool}
-use Rattle.call_law.specs.Hands.{HoldsNoPool}
-use Rattle.call_law.specs.Spoken.{spoken}
-use Rattle.call_law.specs.Trace.{Added, AreGivenAt, fulls}
-use Rattle.call_law.proofs.TraceLemmas.{both_added}
-use Rattle.buffer_pool.specs.Calls.{Does, GetsNothing, FindsFull}
+use Rattle.forest_law.proofs.ObjectLemmas.{same_frame}
+use Rattle.forest_world.specs.Held.{TreePass, shape_of_pass}
+use Rattle.buffer_pool.specs.declared.looking.Looked.{Looked}
+use Rattle.buffer_pool.specs.declared.looking.Looked.TheVariants as looked
+use Rattle.buffer_pool.specs.Calls.{Does}
 use Rattle.buffer_pool.specs.Forests.{IsFittedTree}
-use Rattle.buffer_pool.specs.Frames.{TakesFrame, RefusesFrame}
-use Rattle.buffer_pool.specs.FreeNumbers.{HoldsFree}
+use Rattle.buffer_pool.specs.Frames.{TakesFrame}
 use Rattle.buffer_pool.specs.Hands.{LacksFrame}
-use Rattle.buffer_pool.specs.NewPages.{HoldsPages, IsLowestFree, HasNoneFree, FindsNoneFree}
-use Rattle.buffer_pool.specs.Pools.{TakesPool, GivesPool}
-use Rattle.buffer_pool.proofs.AddedLemmas.{only_refused, only_given}
-use Rattle.buffer_pool.proofs.CallLemmas.{does_both, does_none, does_among, does_again, took_pool, gave_pool, took_frame, refused_frame}
+use Rattle.buffer_pool.specs.Looking.{HoldsPage, RefusesNamed, TellsLook}
+use Rattle.buffer_pool.specs.Pages.{HasNumber, HoldsOtherPages}
+use Rattle.buffer_pool.specs.Tries.{tries_alone, KnowsPool}
+use Rattle.buffer_pool.specs.Turning.{SetsAge, MayRestore, RestoresTo}
+use Rattle.buffer_pool.specs.Victims.{MissesFrame, HoldsRoom}
+use Rattle.buffer_pool.proofs.AddedLemmas.{frame_still}
+use Rattle.buffer_pool.proofs.CallLemmas.{took_frame}
 use Rattle.buffer_pool.proofs.FrameLemmas.{one_held}
-use Rattle.buffer_pool.proofs.FreeLemmas.{in_last, places_counted, free_is_empty, lacks_free, pool_taken, pages_still}
+use Rattle.buffer_pool.proofs.KnownLemmas.{page_there, block_below}
+use Rattle.buffer_pool.proofs.PageLemmas.{fits_before, lacks_if}
 use Rattle.buffer_pool.proofs.PoolLemmas.{same_pool}
+use Rattle.buffer_pool.proofs.TurnLemmas.{frame_not_pool}
+use Rattle.buffer_pool.proofs.VictimLemmas.{tries_both, tries_among, tries_shape}
 
-module _ (p p1 : TreePass) (known : IsKnown p) (lacks : HoldsNoPool (view p))
-    (took : TakesPool p p1) where
-  pub first : Does p p1 (pool_id ∷ []) (only_refused took.refused)
-  first = took_pool p p1 known took
+image_is_not : (b : ℕ) → Image ≡ InFrame b → ⊥
+image_is_not b e = absurd cc
 
-  same_shape : shape_of_pass p1 ≡ shape_of_pass p
-  same_shape = ap (λ (t : Terms Shape). t.shape) took.hand.terms
+-- one pool is known
+pub one_pool : (p : TreePass) (t u : Object) (x y : Pool) → KnowsPool (view p) t x
+    → KnowsPool (view p) u y → x ≡ y
+one_pool p t u x y held other = same_pool x y
+    (ap (λ (h : Holding Object). h.known)
+    (one_held p pool_id (holding t (object.Pool x)) (holding u (object.Pool y)) held other))
 
-  module _ (p2 p3 : TreePass) (a : Added) (second : Does p1 p2 [] a) (gave : GivesPool p2 p3) where
-    -- what was added in all
-    abbrev all_added : Added
-    all_added = both_added (both_added (only_refused took.refused) a)
-        (only_given pool_id gave.taken (object.Pool gave.pool))
+-- a frame that is named for the page
+module _ (p : TreePass) (t : Object) (x : Pool) (held : KnowsPool (view p) t x) (n b : ℕ)
+    (named : where_at x.place.items n ≡ InFrame b) where
+  -- is one of the frames
+  pub named_below : IsFittedTree (view p) → b < frames_of (shape_of_pass p)
+  named_below fitted =
+      block_below fitted.whole fitted.is_lawful (view p) fitted.fits t x held n b named
 
-    -- the pool was given back, and all that is held is held as before
-    given_back : Does p p3 [] all_added
-    given_back = does_again p p3 all_added pool_id []
-        (does_both p p2 p3 (pool_id ∷ []) (both_added (only_refused took.refused) a)
-        (only_given pool_id gave.taken (object.Pool gave.pool))
-        (does_both p p1 p2 (pool_id ∷ []) (only_refused took.refused) a first
-        (does_none p1 p2 a (pool_id ∷ []) second)) (gave_pool p2 p3 second.known gave))
-        (gave.lacks ∙ sym lacks)
+  -- isn't held, where each page in hand is another
+  pub named_lacked : IsFittedTree (view p)
+      → (view p).terms.objects ≡ frame_id (shape_of_pass p) (frames_of (shape_of_pass p))
+      → HoldsOtherPages (view p) n → LacksFrame p b
+  named_lacked fitted objects others = let below = named_below fitted in
+      lacks_if p (frame_id (shape_of_pass p) b) (omega (arith, below, objects)) never
+    where
+      never : (h : Holding Object) → Holds (view p) (frame_id (shape_of_pass p) b) h → ⊥
+      never h has =
+          let at = page_there fitted.whole fitted.is_lawful (view p) fitted.fits t x held n b
+          named in
+          let is : h.known ≡ object.Frame at.frame =
+          some-injective h.known (object.Frame at.frame)
+          (sym (fitted.fits.known (frame_id (shape_of_pass p) b) h has)
+          ∙ (ap (λ (s : Shape). get_elem? fitted.whole.objects (frame_id s b))
+          (sym fitted.fits.shape) ∙ at.at)) in
+          others b at.frame at.page
+          (h.taken, has ∙ ap (λ z. some (Some (holding h.taken z))) is) at.paged at.number
 
-    -- and it was taken as it was
-    gave_is : holding gave.taken (object.Pool gave.pool)
-        ≡ holding (object.Pool took.pool) (object.Pool took.pool)
-    gave_is = one_held p2 pool_id (holding gave.taken (object.Pool gave.pool))
-        (holding (object.Pool took.pool) (object.Pool took.pool)) gave.held
-        (second.rest pool_id tt ∙ pool_taken p p1 lacks took)
-
-  -- the frame was another's
-  pub looks_busy : (n m : ℕ) (p2 p3 : TreePass) → RefusesFrame p1 n m p2 → GivesPool p2 p3
-      → GetsNothing p p3
-  looks_busy n m p2 p3 busy gave =
-      let second = refused_frame p1 p2 first.known n m busy in
-      let a = only_refused (record {
-        object = frame_id (shape_of_pass p1) n;
-        holder = m;
-        held = (view p1).held;
-      } ∷ []) in record {
-        silently = record {
-          added = all_added p2 p3 a second gave;
-          does = given_back p2 p3 a second gave;
-          silent = refl;
-        };
-        count = (let b = took.count in let c = busy.same.count in let d = gave.count in
-            omega (arith, b, c, d));
+  -- and has the page once it is taken
+  pub named_has : (q : TreePass) → (took : TakesFrame p b q) → HasNumber took.frame n
+  named_has q took = let w = took.was.whole in
+      let at = page_there w took.was.is_lawful (view p)
+      (fits_before w (view p) took.refused took.was.fits) t x held n b named in
+      let is : at.frame ≡ took.frame =
+      same_frame at.frame took.frame
+      (some-injective (object.Frame at.frame) (object.Frame took.frame)
+      (sym at.at ∙ took.was.at)) in
+      record {
+        page = at.page;
+        paged = ap (λ (f : Frame). f.page) (sym is) ∙ at.paged;
+        number = at.number;
       }
 
-  -- no number was free, and that was said
-  pub finds_none : (i : ℕ) (p2 p3 : TreePass) → FindsFull p1 i p2 → HasNoneFree took.pool
-      → GivesPool p2 p3 → FindsNoneFree p i p3
-  finds_none i p2 p3 full none gave =
-      let total = all_added p2 p3 full.added full.does gave in
-      let said = append-nil full.added.said in record {
-        full = record {
-          added = total;
-          does = given_back p2 p3 full.added full.does gave;
-          given = subst (AreGivenAt i (view p).low) (sym said)
-              (subst (λ n. AreGivenAt i n full.added.said) first.adds.numbers.low full.given);
-          silent = ap spoken said ∙ full.silent;
-          places = full.places;
-          full = ap fulls said ∙ full.full;
-          count = (let b = took.count in let c = full.count in let d = gave.count in
-              omega (arith, b, c, d));
-        };
-        pool = took.pool;
-        held = record {
-          now = gave.pool;
-          among = subst
-              (λ t. In (reference pool_id t (object.Pool gave.pool)) total.references)
-              (ap (λ (h : Holding Object). h.taken) (gave_is p2 p3 full.added full.does gave))
-              (in_last (reference pool_id gave.taken (object.Pool gave.pool))
-              full.added.references);
-        };
-        none = none;
-        same = same_pool gave.pool took.pool
-            (ap (λ (h : Holding Object). h.known) (gave_is p2 p3 full.added full.does gave));
+  module _ (known : IsKnown p) (q : TreePass) (took : TakesFrame p b q) where
+    -- the pool is known still
+    pub pool_beside : KnowsPool (view q) t x
+    pool_beside = (took_frame p q known b took).rest pool_id ((λ e. omega (arith, e)), tt) ∙ held
+
+    -- the page is held once its block has an age
+    pub holds_named : LacksFrame p b → (r : TreePass) → SetsAge q b t x r → HoldsPage p n b t r
+    holds_named lacks r aged =
+        let first = took_frame p q known b took in
+        let k = frame_id (shape_of_pass p) b in
+        let ks = pool_id ∷ k ∷ [] in
+        record {
+          tries = tries_both p q r ks
+              (tries_among p q (k ∷ []) ks (λ j apart. (apart.1.0, tt))
+              (record { refused = took.refused; does = first }))
+              (tries_among q r (pool_id ∷ []) ks (λ j apart. (apart.0, tt)) aged.tries);
+          pool = aged.pool;
+          knew = aged.knows;
+          lacked = lacks;
+          frame = took.frame;
+          knows = frame_still (view q) (view r) (pool_id ∷ []) aged.tries.does.adds.numbers
+              aged.tries.does.rest b (frame_not_pool (shape_of_pass q) b, tt) took.frame
+              took.has.held;
+          has = named_has q took;
+          count = (let a = took.count in let c = aged.count in omega (arith, a, c));
+        }
+
+  -- or the try of its frame was in vain
+  pub refuses_named : LacksFrame p b → (q : TreePass) → MissesFrame p b q → RefusesNamed p x n q
+  refuses_named lacks q misses = record {
+    vain = record { tries = misses.tries; count = misses.count };
+    block = b;
+    named = named;
+    tried = misses.tried lacks;
+  }
+
+-- room for an image
+module _ (p q : TreePass) (t : Object) (x : Pool) (n b : ℕ) (room : HoldsRoom p b t x q) where
+  -- is a frame to which it may come
+  pub room_restores : where_at x.place.items n ≡ Image → MayRestore q b n
+  room_restores stored = record {
+    taken = t;
+    pool = room.pool;
+    frame = room.frame;
+    both = record {
+      known = room.tries.does.known;
+      pool = room.knew;
+      frame = room.knows;
+    };
+    empty = room.empty;
+    stored = room.keeps n (λ e. image_is_not b (sym stored ∙ e)) ∙ stored;
+  }
+
+  -- and is held with it then
+  pub holds_restored : (r : TreePass) → RestoresTo q b n t room.pool r → HoldsPage p n b t r
+  holds_restored r restored = let ks = pool_id ∷ frame_id (shape_of_pass p) b ∷ [] in
+      record {
+        tries = tries_both p q r ks room.tries
+            (record {
+              refused = restored.turns.tries.refused;
+              does = subst
+                  (λ (s : Shape). Does q r (pool_id ∷ frame_id s b ∷ [])
+                  (tries_alone restored.turns.tries.refused)) (tries_shape p q ks room.tries)
+                  restored.turns.tries.does;
+            });
+        pool = restored.pool;
+        knew = restored.turns.both.pool;
+        lacked = room.lacked;
+        frame = restored.frame;
+        knows = restored.turns.both.frame;
+        has = restored.has;
+        count = (let a = restored.turns.count in let c = room.count in omega (arith, a, c));
       }
 
-  -- the pool that is looked at is the one that was taken, which a lawful state has
-  module _ (fitted : IsFittedTree (view p1)) (found : Pool)
-      (is : (x y : Pool) → HasPool p1 x y → found ≡ y) where
-    pub found_is : found ≡ took.pool
-    found_is = is took.pool took.pool took.has
-
-    pub found_counted : length found.place.items ≡ frames_of (shape_of_pass p1)
-    found_counted = ap (λ (z : Pool). length z.place.items) found_is
-        ∙ places_counted fitted.whole fitted.is_lawful (view p1) fitted.fits
-        (object.Pool took.pool) took.pool (pool_taken p p1 lacks took)
-
-    module _ (n : ℕ) (lowest : IsLowestFree found n) where
-      pub lowest_below : n < frames_of (shape_of_pass p1)
-      lowest_below = let counted = found_counted in let below = lowest.below in
-          omega (arith, counted, below)
-
-      -- the frame of its lowest free number isn't held
-      pub lowest_lacked : HoldsPages (view p)
-          → (view p1).terms.objects ≡ frame_id (shape_of_pass p1) (frames_of (shape_of_pass p1))
-          → LacksFrame p1 n
-      lowest_lacked pages objects =
-          lacks_free p1 fitted (object.Pool took.pool) took.pool (pool_taken p p1 lacks took)
-          (pages_still p p1 first.adds.numbers first.rest pages) n
-          (ap (λ (z : Pool). where_at z.place.items n) (sym found_is) ∙ lowest.free) lowest_below
-          objects
-
-  -- the frame of the lowest free number was taken
-  pub holds_free : (n : ℕ) (p2 : TreePass) → IsLowestFree took.pool n
-      → n < frames_of (shape_of_pass p1) → LacksFrame p1 n → TakesFrame p1 n p2 → HoldsFree p n p2
-  holds_free n p2 lowest below lacked takes =
-      let ks = pool_id ∷ frame_id (shape_of_pass p) n ∷ [] in
-      let same = ap (λ (s : Shape). frame_id s n) same_shape in
-      let pooled = pool_taken p p1 lacks took in record {
-        silently = record {
-          added = both_added (only_refused took.refused) (only_refused takes.refused);
-          does = does_both p p1 p2 (pool_id ∷ frame_id (shape_of_pass p) n ∷ [])
-              (only_refused took.refused) (only_refused takes.refused)
-              (does_among p p1 (only_refused took.refused) (pool_id ∷ []) ks
-              (λ j apart. (apart.0, tt)) first)
-              (does_among p1 p2 (only_refused takes.refused)
-              (frame_id (shape_of_pass p1) n ∷ []) ks (λ j apart. ((λ e. apart.1.0 (e ∙ same)), tt))
-              (took_frame p1 p2 first.known n takes));
-          silent = refl;
-        };
-        pool = took.pool;
-        held = (takes.hand.others pool_id (λ e. omega (arith, e))).0 ∙ pooled;
-        lowest = lowest;
-        below = subst (λ (s : Shape). n < frames_of s) same_shape below;
-        lacked = sym (took.hand.others (frame_id (shape_of_pass p) n) (λ e. omega (arith, e))).0
-            ∙ (ap (get_elem? (view p1).held) (sym same) ∙ lacked);
-        frame = takes.frame;
-        knows = takes.has.held;
-        empty = free_is_empty takes.was.whole takes.was.is_lawful
-            (with_refused (view p1) takes.refused) takes.was.fits (object.Pool took.pool) took.pool
-            pooled n lowest.free takes.frame takes.was.at;
-        count = (let b = took.count in let c = takes.count in omega (arith, b, c));
-      }
+-- the pool is held still, whatever was found
+pub pool_after : (p q : TreePass) (t : Object) (x : Pool) (n : ℕ) (r : Looked)
+    → KnowsPool (view p) t x → TellsLook p t x n r q → IsKnown q × ((y : Pool) × KnowsPool (view q)
+    t y)
+pool_after p q t x n (looked.Held b) held told = (told.tries.does.known, (told.pool, told.knew))
+pool_after p q t x n looked.Busy held told =
+    (told.vain.tries.does.known, (x, told.vain.tries.does.rest pool_id tt ∙ held))
+pool_after p q t x n looked.NoRoom held told =
+    (told.tries.does.known, (x, told.tries.does.rest pool_id tt ∙ held))
+pool_after p q t x n looked.Free held told =
+    (told.vain.tries.does.known, (x, told.vain.tries.does.rest pool_id tt ∙ held))

@@ -7,6 +7,10 @@ pub mod Trees
 pub mod Calls
 pub mod Pages
 pub mod NewPages
+pub mod Ages
+pub mod Tries
+pub mod Turning
+pub mod Victims
+pub mod Looking
 pub mod FreeNumbers
 pub mod Full
-pub mod Placing

@@ -16,13 +16,9 @@ use Rattle.forest_law.specs.State.{where_at}
 use Rattle.forest_world.specs.Held.{TreePass, shape_of_pass}
 use Rattle.call_law.specs.Hands.{KnowsFrame}
 use Rattle.call_law.specs.Spoken.{View}
-use Rattle.call_law.specs.Trace.{Added}
+use Rattle.call_law.specs.Trace.{Added, frame_references}
 use Rattle.buffer_pool.specs.Hands.{LacksFrame}
 use Rattle.buffer_pool.specs.Calls.{DoesSilently, FindsFull}
-
--- each frame that is held is known to have a page
-abbrev pub HoldsPages : View → Type 0
-HoldsPages v = (b : ℕ) (f : Frame) → KnowsFrame v b f → (page : PageRows) × (f.page ≡ Some page)
 
 -- the number is the lowest that is free
 pub record IsLowestFree (pool : Pool) (n : ℕ) : Type 0 where
@@ -50,17 +46,19 @@ pub record HasOutsidePage (f : Frame) (head : PageHead) (n : ℕ) : Type 0 where
   pub high : f.high ≡ None
 
 -- the lowest number that was free in the pool, as it was held, has a new page outside the trees,
--- and its frame is held
-pub record GetsPage (p : TreePass) (head : PageHead) (n : ℕ) (q : TreePass) : Type 0 where
-  pub silently : DoesSilently p q (frame_id (shape_of_pass p) n ∷ [])
+-- which is held in the frame of the block b; no frame was given back
+pub record GetsPage (p : TreePass) (head : PageHead) (b : ℕ) (q : TreePass) : Type 0 where
+  pub silently : DoesSilently p q (frame_id (shape_of_pass p) b ∷ [])
+  pub none : frame_references silently.added.references ≡ []
   pub pool : Pool
   pub held : HeldPool silently.added pool
-  pub lowest : IsLowestFree pool n
-  pub placed : held.now.place.items ≡ slice_set pool.place.items n (InFrame n)
-  pub lacked : LacksFrame p n
+  pub number : ℕ
+  pub lowest : IsLowestFree pool number
+  pub placed : where_at held.now.place.items number ≡ InFrame b
+  pub lacked : LacksFrame p b
   pub frame : Frame
-  pub knows : KnowsFrame (view q) n frame
-  pub has : HasOutsidePage frame head n
+  pub knows : KnowsFrame (view q) b frame
+  pub has : HasOutsidePage frame head number
   pub count : count q ≡ count p + 1
 
 -- no number was free in the pool, as it was held
@@ -77,7 +75,7 @@ pub record HoldsOutsidePage (v : View) (b : ℕ) : Type 0 where
   pub knows : KnowsFrame v b frame
   pub page : PageRows
   pub paged : frame.page ≡ Some page
-  pub own : page.head.prev ≡ Some b
+  pub own : page.head.prev ≡ Some page.head.number
   pub empty : page.rows ≡ []
 
 -- the frame that was held was given back as this one, at a higher clock
@@ -91,10 +89,11 @@ pub record GaveFrame (v : View) (added : Added) (b : ℕ) (frame : Frame) : Type
 -- the page's number is free in the pool, as it was given back, and its frame was given back without
 -- a page
 pub record FreesPage (p : TreePass) (b : ℕ) (q : TreePass) : Type 0 where
+  pub was : HoldsOutsidePage (view p) b
   pub silently : DoesSilently p q (frame_id (shape_of_pass p) b ∷ [])
   pub pool : Pool
   pub held : HeldPool silently.added pool
-  pub placed : held.now.place.items ≡ slice_set pool.place.items b Free
+  pub placed : held.now.place.items ≡ slice_set pool.place.items was.page.head.number Free
   pub frame : Frame
   pub gave : GaveFrame (view p) silently.added b frame
   pub empty : frame.page ≡ None

@@ -1,5 +1,5 @@
 //! A block's frame is taken, tried and given back.
-ghost use Rattle.std.specs.Prelude.{◌<◌};
+ghost use Rattle.std.specs.Prelude.{◌<◌, IsTrue, IsFalse};
 ghost use Rattle.latch_space.specs.Passes.{view, count, IsSamePass};
 ghost use Rattle.latch_space.specs.Spaces.{IsPassOf};
 ghost use Rattle.forest_law.specs.Numbers.{frames_of};
@@ -39,6 +39,16 @@ pub fn try_frame(space: &ForestSpace, pass: &mut ForestPass, block: u32) -> Take
 {
     let number = frame_number(space, pass, block);
     space.try_take(pass, number)
+}
+
+/// Whether the pass holds the block's frame.
+pub(crate) fn holds_frame(space: &ForestSpace, pass: &ForestPass, block: u32) -> bool
+    requires own { IsForest space.now × IsPassOf space.now pass.now }
+    requires there { block < frames_of (shape_of_pass pass.now) }
+    ensures lacks { IsFalse result → LacksFrame pass.now block }
+    ensures held { IsTrue result → LacksFrame pass.now block → ⊥ }
+{
+    pass.holds(frame_number(space, pass, block))
 }
 
 /// Gives the block's frame back, which is what it is known to be.

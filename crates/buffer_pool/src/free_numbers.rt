@@ -1,72 +1,72 @@
-//! The lowest page number that is free is looked for, and its frame held.
-ghost use Rattle.std.specs.Prelude.{◌≡◌, ◌<◌, ◌+◌, ◌^◌, ◌≤◌, ◌↔◌, length, IsTrue, IfSome, IfNone, IfOk, IfErr};
+//! The lowest page number that is free is looked for, and a frame for its page.
+ghost use Rattle.std.specs.Prelude.{◌≡◌, ◌<◌, ◌+◌, ◌^◌, ◌≤◌, ◌↔◌, Some, IsTrue, IfSome, IfNone, IfOk, IfErr};
 ghost use Rattle.latch_space.specs.Has.{IsKnown};
 ghost use Rattle.latch_space.specs.Passes.{view, count, IsSamePass};
 ghost use Rattle.latch_space.specs.Spaces.{IsPassOf};
+ghost use Rattle.index_page.specs.Page.{IsNeighbour};
 ghost use Rattle.forest_law.specs.declared.objects.Where.TheVariants as place;
 ghost use Rattle.forest_world.specs.Held.{shape_of_pass};
 ghost use Rattle.call_law.specs.Hands.{HoldsNoPool};
 ghost use Rattle.buffer_pool.specs.declared.error.PoolError.TheVariants as refused;
 ghost use Rattle.buffer_pool.specs.Forests.{IsForest, IsFittedTree};
 ghost use Rattle.buffer_pool.specs.FreeNumbers.{HoldsFree, TellsFree};
-ghost use Rattle.buffer_pool.specs.NewPages.{HoldsPages, IsLowestFree, HasNoneFree, FindsNoneFree};
+ghost use Rattle.buffer_pool.specs.NewPages.{IsLowestFree, HasNoneFree, FindsNoneFree};
 
 use crate::error::PoolError;
-use crate::frames::try_frame;
 use crate::full::say_full;
 use crate::pools::{give_pool_back, pool, take_pool};
+use crate::victims::make_room;
 use crossbeam_utils::Backoff;
 use forest_world::{ForestPass, ForestSpace, Pool, Where};
-use latch_space::Take;
 use std::sync::Wait;
 
 /// What a look at the pool found.
 #[derive(Clone, Copy)]
 pub(crate) enum Found {
-    /// A free number, whose frame is held now with the pool.
-    Number(u32),
-    /// A free number, whose frame was another's.
-    Busy,
+    /// A free number and a block, whose frame is held now with the pool, and has no page.
+    Room(u32, u32),
+    /// A free number, and no frame that could be had.
+    NoRoom,
     /// No free number.
     NoneFree,
 }
 
-/// Tries until the pool and the frame of its lowest free number are held. Where the pool has no
-/// free number, that is said at the index's list.
-pub(crate) fn hold_free<R: Wait>(
+/// Looks until the pool is held with its lowest free number, and a frame without a page. Where the
+/// pool has no free number, that is said at the index's list.
+pub(crate) fn hold_room<R: Wait>(
     space: &ForestSpace,
     pass: &mut ForestPass,
     index: u32,
     wait: &R,
-) -> Result<u32, PoolError>
+) -> Result<(u32, u32), PoolError>
     requires own { IsForest space.now × IsPassOf space.now pass.old }
     requires index { index < (shape_of_pass pass.old).indexes }
-    requires known { IsKnown pass.old × HoldsPages (view pass.old) }
+    requires known { IsKnown pass.old }
     requires pool { HoldsNoPool (view pass.old) }
     requires room { count pass.old + 2 ≤ 16 }
     ensures own { IsSamePass pass.old pass.new × IsPassOf space.now pass.new }
-    ensures ok { IfOk result (λ n. HoldsFree pass.old n pass.new) }
+    ensures ok { IfOk result (λ r. HoldsFree pass.old r.0 r.1 pass.new) }
     ensures full { IfErr result (λ e. (e ≡ refused.SpaceFull)
         × FindsNoneFree pass.old index pass.new) }
     ensures fits { IsFittedTree (view pass.new) }
 {
     let backoff = Backoff::new();
     for _ in wait.forever() {
-        match try_free(space, pass, index, wait) {
-            Found::Number(number) => return Ok(number),
+        match try_room(space, pass, index, wait) {
+            Found::Room(number, block) => return Ok((number, block)),
             Found::NoneFree => return Err(PoolError::SpaceFull),
-            Found::Busy => backoff.snooze(),
+            Found::NoRoom => backoff.snooze(),
         }
     }
     unreachable!()
 }
 
-/// One look at the pool. Nothing is waited for while the pool is held: a frame that another holds
-/// is left to him, and the pool given back.
-fn try_free<R: Wait>(space: &ForestSpace, pass: &mut ForestPass, index: u32, wait: &R) -> Found
+// One look at the pool. Nothing is waited for while it is held: where no frame can be had it is
+// given back.
+fn try_room<R: Wait>(space: &ForestSpace, pass: &mut ForestPass, index: u32, wait: &R) -> Found
     requires own { IsForest space.now × IsPassOf space.now pass.old }
     requires index { index < (shape_of_pass pass.old).indexes }
-    requires known { IsKnown pass.old × HoldsPages (view pass.old) }
+    requires known { IsKnown pass.old }
     requires pool { HoldsNoPool (view pass.old) }
     requires room { count pass.old + 2 ≤ 16 }
     ensures own { IsSamePass pass.old pass.new × IsPassOf space.now pass.new }
@@ -74,32 +74,45 @@ fn try_free<R: Wait>(space: &ForestSpace, pass: &mut ForestPass, index: u32, wai
     ensures fits { IsFittedTree (view pass.new) }
 {
     take_pool(space, pass, wait);
-    let Some(number) = lowest_free(pool(space, pass)) else {
+    let Some(free) = lowest_free(pool(space, pass)) else {
         say_full(space, pass, index);
         give_pool_back(space, pass);
         return Found::NoneFree;
     };
-    match try_frame(space, pass, number) {
-        Take::Taken => Found::Number(number),
-        Take::Busy { .. } => {
-            give_pool_back(space, pass);
-            Found::Busy
-        }
-    }
+    let Some(number) = as_number(free) else {
+        give_pool_back(space, pass);
+        return Found::NoRoom;
+    };
+    let Some(block) = make_room(space, pass) else {
+        give_pool_back(space, pass);
+        return Found::NoRoom;
+    };
+    Found::Room(number, block)
 }
 
 // The lowest number that is free.
-fn lowest_free(pool: &Pool) -> Option<u32>
-    requires { length pool.now.place.items < 2 ^ 32 }
+fn lowest_free(pool: &Pool) -> Option<usize>
     ensures found { IfSome result (IsLowestFree pool.now) }
     ensures none { IfNone result (HasNoneFree pool.now) }
 {
-    for n in 0..pool.place.len() as u32 {
-        if is_free(pool.place[n as usize]) {
+    for n in 0..pool.place.len() {
+        if is_free(pool.place[n]) {
             return Some(n);
         }
     }
     None
+}
+
+// The number of a page, as long as there are fewer than 2^32 pages: the last `u32` is no page's.
+fn as_number(free: usize) -> Option<u32>
+    ensures same { IfSome result (λ n. n ≡ free) }
+    ensures named { IfSome result (λ n. IsNeighbour (Some n)) }
+    ensures past { IfNone result (2 ^ 32 ≤ free + 1) }
+{
+    if free >= u32::MAX as usize {
+        return None;
+    }
+    Some(free as u32)
 }
 
 // Whether no page has the number.

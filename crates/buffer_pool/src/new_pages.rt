@@ -10,24 +10,24 @@ ghost use Rattle.call_law.specs.Hands.{HoldsNoPool};
 ghost use Rattle.buffer_pool.specs.declared.error.PoolError.TheVariants as refused;
 ghost use Rattle.buffer_pool.specs.Calls.{GetsNothing};
 ghost use Rattle.buffer_pool.specs.Forests.{IsForest, IsFittedTree};
-ghost use Rattle.buffer_pool.specs.NewPages.{HoldsPages, HoldsOutsidePage, outside_page};
+ghost use Rattle.buffer_pool.specs.NewPages.{HoldsOutsidePage, outside_page};
 ghost use Rattle.buffer_pool.specs.NewPages.{GetsPage, FindsNoneFree, FreesPage};
 
 use crate::error::PoolError;
 use crate::frames::give_back;
-use crate::free_numbers::hold_free;
-use crate::hands::frame_out;
-use crate::placing::{place_page, with_page, without_page};
+use crate::free_numbers::hold_room;
+use crate::placing::{bring, drop_page};
 use crate::pools::{give_pool_back, take_pool};
-use forest_world::{ForestPass, ForestSpace, Where};
+use forest_world::{ForestPass, ForestSpace};
 use index_page::{Page, PageHead};
 use std::alloc::Global;
 use std::sync::Wait;
 
-/// A new empty page with this head, outside the trees, in the frame of its number, which is held
-/// from now on. It gets the lowest number that is free while the pool is held, whatever number and
-/// left neighbour the head names, and has itself as its left neighbour. `SpaceFull` comes where the
-/// pool, as it was held, has none, and that is said at the list of the head's index.
+/// A new empty page with this head, outside the trees, which is held from now on; the answer is the
+/// block that has it in its frame. It gets the lowest number that is free while the pool is held,
+/// whatever number and left neighbour the head names, and has itself as its left neighbour.
+/// `SpaceFull` comes where the pool, as it was held, has none, and that is said at the list of the
+/// head's index.
 pub fn new_page<R: Wait>(
     alloc: Global,
     space: &ForestSpace,
@@ -40,11 +40,10 @@ pub fn new_page<R: Wait>(
     requires fields { head.fields ≡ fields_for (shape_of_pass pass.old) head.index }
     requires next { IsNeighbour head.next }
     requires known { IsKnown pass.old }
-    requires pages { HoldsPages (view pass.old) }
     requires pool { HoldsNoPool (view pass.old) }
     requires room { count pass.old + 2 ≤ 16 }
     ensures own { IsSamePass pass.old pass.new × IsPassOf space.now pass.new }
-    ensures ok { IfOk result (λ n. GetsPage pass.old head n pass.new) }
+    ensures ok { IfOk result (λ b. GetsPage pass.old head b pass.new) }
     ensures full { result ≡ Err refused.SpaceFull
         → FindsNoneFree pass.old head.index pass.new }
     ensures memory { result ≡ Err refused.NoMemory → GetsNothing pass.old pass.new }
@@ -54,18 +53,11 @@ pub fn new_page<R: Wait>(
     let Ok(mut page) = Page::empty(alloc, own_head(head, 0)) else {
         return Err(PoolError::NoMemory);
     };
-    let number = hold_free(space, pass, head.index, wait)?;
+    let (number, block) = hold_room(space, pass, head.index, wait)?;
     page.restart(own_head(head, number));
-    let frame = frame_out(space, pass, number);
-    place_page(
-        space,
-        pass,
-        number,
-        with_page(frame, page),
-        Where::InFrame(number),
-    );
+    bring(space, pass, block, page);
     give_pool_back(space, pass);
-    Ok(number)
+    Ok(block)
 }
 
 /// Gives the number of an empty page outside the trees back, and its frame without it. The frame's
@@ -81,8 +73,7 @@ pub fn free_page<R: Wait>(space: &ForestSpace, pass: &mut ForestPass, block: u32
     ensures fits { IsFittedTree (view pass.new) }
 {
     take_pool(space, pass, wait);
-    let frame = frame_out(space, pass, block);
-    place_page(space, pass, block, without_page(frame), Where::Free);
+    drop_page(space, pass, block);
     give_pool_back(space, pass);
     give_back(space, pass, block);
 }

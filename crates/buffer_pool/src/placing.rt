@@ -1,69 +1,102 @@
-//! A page comes to the frame of its number, or goes from it.
-ghost use Rattle.std.specs.Prelude.{◌≡◌, ◌<◌, Some, None, length, slice_set};
+//! A page comes to a frame in hand, or goes from it, while the pool is in hand.
+ghost use Rattle.std.specs.Prelude.{◌≡◌, ◌<◌, Some};
+ghost use Rattle.latch_space.specs.Has.{IsKnown};
 ghost use Rattle.latch_space.specs.Passes.{view, IsSamePass};
 ghost use Rattle.latch_space.specs.Spaces.{IsPassOf};
-ghost use Rattle.clock_law.specs.ModifyClock.{raised, ClockRises};
+ghost use Rattle.index_page.specs.Page.{PageRows};
+ghost use Rattle.forest_law.specs.declared.objects.Frame.{Frame};
+ghost use Rattle.forest_law.specs.declared.objects.Object.{Object};
+ghost use Rattle.forest_law.specs.declared.objects.Pool.{Pool};
+ghost use Rattle.forest_law.specs.Numbers.{frames_of};
+ghost use Rattle.forest_world.specs.Held.{shape_of_pass};
 ghost use Rattle.buffer_pool.specs.Forests.{IsForest, IsFittedTree};
-ghost use Rattle.buffer_pool.specs.Placing.{MayPlace, Places};
+ghost use Rattle.buffer_pool.specs.Tries.{KnowsPool, HoldsBoth};
+ghost use Rattle.buffer_pool.specs.Turning.{SetsAge, MayRestore, RestoresTo, MayBring, BringsTo};
+ghost use Rattle.buffer_pool.specs.Turning.{MayFree, FreesFrom};
 
-use crate::hands::frame_back;
+use crate::ages::{forget_age, touch};
+use crate::hands::frame_out;
 use crate::pools::{pool_back, pool_out};
-use forest_world::{ForestPass, ForestSpace, Frame, Pool, Where};
+use crate::turning::{load, put_page, turn, unload};
+use forest_world::{ForestPass, ForestSpace, Stored, Where};
 use index_page::Page;
 
-/// The frame of the number, which was taken out, comes back as this one, the pool names this place,
-/// and both are made known.
-pub(crate) fn place_page(
-    space: &ForestSpace,
-    pass: &mut ForestPass,
-    number: u32,
-    frame: Frame,
-    to: Where,
-)
+/// The block gets a new age.
+pub(crate) fn set_age(space: &ForestSpace, pass: &mut ForestPass, block: u32)
     requires own { IsForest space.now × IsPassOf space.now pass.old }
-    requires may { MayPlace pass.old number frame to }
+    requires there { block < frames_of (shape_of_pass pass.old) }
+    requires known { IsKnown pass.old }
+    requires pool { (t : Object) × (x : Pool) × KnowsPool (view pass.old) t x }
     ensures own { IsSamePass pass.old pass.new × IsPassOf space.now pass.new }
-    ensures placed { Places pass.old number frame to pass.new }
+    ensures aged { (t : Object) (x : Pool) → KnowsPool (view pass.old) t x
+        → SetsAge pass.old block t x pass.new }
     ensures fits { IsFittedTree (view pass.new) }
 {
-    frame_back(space, pass, number, frame);
+    pass.fits();
     let mut pool = pool_out(space, pass);
-    set_place(&mut pool, number, to);
+    touch(&mut pool, block);
     pool_back(space, pass, pool);
     space.settle(pass);
 }
 
-// The pool names this place for the number.
-fn set_place(pool: &mut Pool, number: u32, to: Where)
-    requires { number < length pool.old.place.items }
-    ensures { pool.new.place.items ≡ slice_set pool.old.place.items number to }
+/// The page of the number comes from its image to the block's frame, with its bounds.
+pub(crate) fn restore(space: &ForestSpace, pass: &mut ForestPass, block: u32, page: u32)
+    requires own { IsForest space.now × IsPassOf space.now pass.old }
+    requires may { MayRestore pass.old block page }
+    ensures own { IsSamePass pass.old pass.new × IsPassOf space.now pass.new }
+    ensures restored { (t : Object) (x : Pool) (f : Frame) → HoldsBoth pass.old block t x f
+        → RestoresTo pass.old block page t x pass.new }
+    ensures fits { IsFittedTree (view pass.new) }
 {
-    pool.place[number as usize] = to;
+    pass.fits();
+    let frame = frame_out(space, pass, block);
+    let mut pool = pool_out(space, pass);
+    let Some(stored) = put_page(&mut pool, page, Where::InFrame(block), None) else {
+        unreachable!()
+    };
+    touch(&mut pool, block);
+    turn(space, pass, block, load(frame, stored), pool);
 }
 
-/// The frame with this page, and no bounds.
-pub(crate) fn with_page(mut frame: Frame, page: Page) -> Frame
-    ensures { result ≡ record frame { page = Some page; low = None; high = None } }
+/// A page outside the trees comes to the block's frame, under its number, which was free.
+pub(crate) fn bring(space: &ForestSpace, pass: &mut ForestPass, block: u32, page: Page)
+    requires own { IsForest space.now × IsPassOf space.now pass.old }
+    requires may { MayBring pass.old block page }
+    ensures own { IsSamePass pass.old pass.new × IsPassOf space.now pass.new }
+    ensures brought { (t : Object) (x : Pool) (f : Frame) → HoldsBoth pass.old block t x f
+        → BringsTo pass.old block page t x pass.new }
+    ensures fits { IsFittedTree (view pass.new) }
 {
-    frame.page = Some(page);
-    frame.low = None;
-    frame.high = None;
-    frame
+    pass.fits();
+    let number = page.head().number;
+    let stored = Stored {
+        page,
+        low: None,
+        high: None,
+    };
+    let frame = frame_out(space, pass, block);
+    let mut pool = pool_out(space, pass);
+    put_page(&mut pool, number, Where::InFrame(block), None);
+    touch(&mut pool, block);
+    turn(space, pass, block, load(frame, stored), pool);
 }
 
-/// The frame without its page, and no bounds. Its clock rises.
-pub(crate) fn without_page(mut frame: Frame) -> Frame
-    ensures kept { result ≡ record frame {
-      page = None;
-      low = None;
-      high = None;
-      clock = raised frame.clock;
-    } }
-    ensures rises { ClockRises frame.clock result.clock }
+/// The page of the block's frame, which is outside the trees, is gone, and its number is free.
+pub(crate) fn drop_page(space: &ForestSpace, pass: &mut ForestPass, block: u32)
+    requires own { IsForest space.now × IsPassOf space.now pass.old }
+    requires may { (page : PageRows) × MayFree pass.old block page }
+    ensures own { IsSamePass pass.old pass.new × IsPassOf space.now pass.new }
+    ensures freed { (page : PageRows) (t : Object) (x : Pool) (f : Frame)
+        → HoldsBoth pass.old block t x f → f.page ≡ Some page
+        → FreesFrom pass.old block page.head.number t x f pass.new }
+    ensures fits { IsFittedTree (view pass.new) }
 {
-    frame.page = None;
-    frame.low = None;
-    frame.high = None;
-    frame.raise_clock();
-    frame
+    pass.fits();
+    let frame = frame_out(space, pass, block);
+    let mut pool = pool_out(space, pass);
+    let (frame, stored) = unload(frame);
+    let number = stored.page.head().number;
+    put_page(&mut pool, number, Where::Free, None);
+    forget_age(&mut pool, block);
+    turn(space, pass, block, frame, pool);
 }

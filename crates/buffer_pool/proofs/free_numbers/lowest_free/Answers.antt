@@ -1,7 +1,7 @@
 use Rattle.std.proofs.Common.{◌≡◌, ◌<◌, Bool, true, false, length, sym, ap, ◌∙◌, inl, inr, arith}
 use Rattle.std.proofs.lemmas.Bool.{cases_eq}
 use Rattle.forest_law.specs.State.{where_at}
-use Rattle.buffer_pool.proofs.PlaceLemmas.{read_place}
+use Rattle.buffer_pool.proofs.PutLemmas.{read_place}
 use Rattle.buffer_pool.proofs.free_numbers.lowest_free.Goals as goal
 
 not_both : (b : Bool) → b ≡ false → b ≡ true → ⊥

@@ -1,31 +1,40 @@
-use Rattle.std.proofs.Common.{◌∙◌}
-use Rattle.buffer_pool.proofs.AgainLemmas.{gets_none}
-use Rattle.buffer_pool.proofs.NewPageLemmas.{may_bring, pool_brought, gets_page}
+use Rattle.std.proofs.Common.{sym, subst, ◌∙◌}
+use Rattle.forest_law.specs.declared.objects.Object.TheVariants as object
+use Rattle.index_page.specs.Page.{IsNeighbour}
+use Rattle.buffer_pool.proofs.AgainLemmas.{gives_none}
+use Rattle.buffer_pool.proofs.CallLemmas.{pool_has}
+use Rattle.buffer_pool.proofs.NewPageLemmas.{free_both, may_new, gets_page}
 use Rattle.buffer_pool.proofs.new_pages.new_page.Goals as goal
 
 pub returns-in_default-clause-memory : goal.returns-in_default-clause-memory
-returns-in_default-clause-memory g c = λ e. gets_none c.args.pass.now c.requires.known
+returns-in_default-clause-memory g c = λ e. (gives_none c.args.pass.now c.requires.known).got
 
-pub place_page-requires-clause-may : goal.place_page-requires-clause-may
-place_page-requires-clause-may g c =
-    may_bring c.args.pass.now c.hold_free.new.pass c.frame_out-frame.new.pass c.in_ok-number.number
-    c.frame_out-frame.result c.args.head c.in_ok-number.ensures.ok c.frame_out-frame.ensures.out
-    c.with_page.result c.restart.new.self c.with_page.ensures
-    (c.restart.ensures.head ∙ c.own_head-2.ensures) c.restart.ensures.rows c.requires.fields
+pub restart-requires-clause-prev : goal.restart-requires-clause-prev
+restart-requires-clause-prev g c =
+    subst (λ h. IsNeighbour h.prev) (sym c.own_head-2.ensures) c.in_ok-number.ensures.ok.named
+
+pub bring-requires-clause-may : goal.bring-requires-clause-may
+bring-requires-clause-may g c = may_new c.args.pass.now c.hold_room.new.pass c.args.head
+    c.in_ok-number.number c.in_ok-number.block c.in_ok-number.ensures.ok c.restart.new.self
+    (c.restart.ensures.head ∙ c.own_head-2.ensures) c.restart.ensures.rows
+    c.hold_room.ensures.fits c.requires.fields
 
 pub give_pool_back-requires-clause-held : goal.give_pool_back-requires-clause-held
-give_pool_back-requires-clause-held g c =
-    pool_brought c.args.pass.now c.hold_free.new.pass c.frame_out-frame.new.pass
-    c.in_ok-number.number c.frame_out-frame.result c.args.head c.in_ok-number.ensures.ok
-    c.frame_out-frame.ensures.out c.with_page.result c.restart.new.self c.with_page.ensures
-    (c.restart.ensures.head ∙ c.own_head-2.ensures) c.restart.ensures.rows c.place_page.new.pass
-    c.place_page.ensures.placed
+give_pool_back-requires-clause-held g c = let free = c.in_ok-number.ensures.ok in
+    let brought = c.bring.ensures.brought (object.Pool free.pool) free.now free.frame
+    (free_both c.args.pass.now c.hold_room.new.pass c.args.head c.in_ok-number.number
+    c.in_ok-number.block free) in (
+      brought.pool,
+      pool_has c.bring.new.pass brought.turns.both.known (object.Pool free.pool) brought.pool
+          brought.turns.both.pool,
+    )
 
 pub returns-clause-ok : goal.returns-clause-ok
-returns-clause-ok g c =
-    gets_page c.args.pass.now c.hold_free.new.pass c.frame_out-frame.new.pass
-    c.in_ok-number.number c.frame_out-frame.result c.args.head c.in_ok-number.ensures.ok
-    c.frame_out-frame.ensures.out c.with_page.result c.restart.new.self c.with_page.ensures
-    (c.restart.ensures.head ∙ c.own_head-2.ensures) c.restart.ensures.rows c.place_page.new.pass
-    c.place_page.ensures.placed c.requires.pool c.give_pool_back.new.pass
-    c.give_pool_back.ensures.gave
+returns-clause-ok g c = let free = c.in_ok-number.ensures.ok in
+    gets_page c.args.pass.now c.hold_room.new.pass c.args.head c.in_ok-number.number
+    c.in_ok-number.block free c.restart.new.self
+    (c.restart.ensures.head ∙ c.own_head-2.ensures) c.restart.ensures.rows c.bring.new.pass
+    c.give_pool_back.new.pass
+    (c.bring.ensures.brought (object.Pool free.pool) free.now free.frame
+    (free_both c.args.pass.now c.hold_room.new.pass c.args.head c.in_ok-number.number
+    c.in_ok-number.block free)) c.give_pool_back.ensures.gave c.requires.pool

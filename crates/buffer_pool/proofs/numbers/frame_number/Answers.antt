@@ -10,7 +10,8 @@ pub frame_id-requires : goal.frame_id-requires
 frame_id-requires c = let own = c.requires.own in let space = c.args.space.now in
     number_fits (shape_of_pass c.args.pass.now) c.shape.result.now c.args.block space.terms.objects
     (c.shape.ensures ∙ ap (λ (t : Terms Shape). t.shape) (sym own.1.1)) c.requires.there
-    (ap (λ (t : Terms Shape). t.objects) (sym own.1.1) ∙ objects_of space c.args.pass.now own.0 own.1)
+    (ap (λ (t : Terms Shape). t.objects) (sym own.1.1) ∙ objects_of space c.args.pass.now own.0
+    own.1)
     space.small.1
 
 pub returns : goal.returns

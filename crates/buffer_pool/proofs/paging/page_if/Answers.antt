@@ -1,42 +1,44 @@
-use Rattle.std.proofs.Common.{sym, subst, ◌∙◌}
-use Rattle.std.proofs.lemmas.Bool.{false≢true}
-use Rattle.forest_law.specs.declared.objects.Frame.{Frame}
+use Rattle.std.proofs.Common.{◌≡◌, Bool, true, false, sym, subst}
 use Rattle.buffer_pool.specs.Pages.{HasTreePage}
-use Rattle.buffer_pool.proofs.PageLemmas.{lacks_page, finds_page, finds_no_page}
-use Rattle.buffer_pool.proofs.SpaceLemmas.{objects_of}
+use Rattle.buffer_pool.proofs.PageIfLemmas.{none_found, paged_has, other_found}
 use Rattle.buffer_pool.proofs.paging.page_if.Goals as goal
 
-pub take_frame-requires-clause-lacks : goal.take_frame-requires-clause-lacks
-take_frame-requires-clause-lacks g c =
-    lacks_page c.args.pass.now c.args.page c.fits.ensures c.requires.there
-    (objects_of c.args.space.now c.args.pass.now c.requires.own.0 c.requires.own.1)
-    c.requires.others.1
+both_ways : (b : Bool) → b ≡ true → b ≡ false → ⊥
+both_ways b so not = absurd cc
+
+pub returns-in_default-clause-did : goal.returns-in_default-clause-did
+returns-in_default-clause-did g c = none_found c.args.pass.now c.hold_page.new.pass c.args.page
+    c.args.index c.args.level c.in_default.ensures.did
 
 pub frame-requires-clause-held : goal.frame-requires-clause-held
-frame-requires-clause-held g c = let took = c.take_frame.ensures.took in
-    (took.frame, took.frame, took.has)
-
-pub give_back-requires-clause-held : goal.give_back-requires-clause-held
-give_back-requires-clause-held g c = let took = c.take_frame.ensures.took in (took.frame, took.has)
+frame-requires-clause-held g c = let pages = c.in-Some.ensures.did in (
+  pages.frame,
+  pages.frame,
+  paged_has c.args.pass.now c.hold_page.new.pass c.args.page c.in-Some.block pages,
+)
 
 pub returns-then-has_tree_page-clause-did : goal.returns-then-has_tree_page-clause-did
-returns-then-has_tree_page-clause-did g c = let took = c.take_frame.ensures.took in
-    finds_page c.args.pass.now c.take_frame.new.pass c.args.page
-    (lacks_page c.args.pass.now c.args.page c.fits.ensures c.requires.there
-    (objects_of c.args.space.now c.args.pass.now c.requires.own.0 c.requires.own.1)
-    c.requires.others.1) took c.args.index c.args.level
-    (subst (λ (f : Frame). HasTreePage c.args.page f c.args.index c.args.level)
-    (c.frame.ensures took.frame took.frame took.has)
-    (c.has_tree_page.ensures.there c.if-has_tree_page.true))
+returns-then-has_tree_page-clause-did g c = let pages = c.in-Some.ensures.did in record {
+  paged = pages;
+  is = subst (λ f. HasTreePage f c.args.index c.args.level)
+      (c.frame.ensures pages.frame pages.frame
+      (paged_has c.args.pass.now c.hold_page.new.pass c.args.page c.in-Some.block pages))
+      (c.has_tree_page.ensures.there c.if-has_tree_page.true);
+}
+
+pub give_back-requires-clause-held : goal.give_back-requires-clause-held
+give_back-requires-clause-held g c = let pages = c.in-Some.ensures.did in (
+  pages.frame,
+  paged_has c.args.pass.now c.hold_page.new.pass c.args.page c.in-Some.block pages,
+)
 
 pub returns-clause-did : goal.returns-clause-did
-returns-clause-did g c = let took = c.take_frame.ensures.took in
-    finds_no_page c.args.pass.now c.take_frame.new.pass c.args.page
-    (lacks_page c.args.pass.now c.args.page c.fits.ensures c.requires.there
-    (objects_of c.args.space.now c.args.pass.now c.requires.own.0 c.requires.own.1)
-    c.requires.others.1) took c.give_back.new.pass c.give_back.ensures.gave c.args.index
-    c.args.level
-    (λ is. false≢true
-    (sym c.if-has_tree_page.false ∙ c.has_tree_page.ensures.none
-    (subst (λ (f : Frame). HasTreePage c.args.page f c.args.index c.args.level)
-    (sym (c.frame.ensures took.frame took.frame took.has)) is)))
+returns-clause-did g c = let pages = c.in-Some.ensures.did in
+    other_found c.args.pass.now c.hold_page.new.pass c.args.page c.in-Some.block pages
+    c.give_back.new.pass c.give_back.ensures.gave c.args.index c.args.level
+    (λ is. both_ways c.has_tree_page.result
+    (c.has_tree_page.ensures.none
+    (subst (λ f. HasTreePage f c.args.index c.args.level)
+    (sym (c.frame.ensures pages.frame pages.frame
+    (paged_has c.args.pass.now c.hold_page.new.pass c.args.page c.in-Some.block pages))) is))
+    c.if-has_tree_page.false)

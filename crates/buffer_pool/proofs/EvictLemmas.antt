@@ -1,0 +1,117 @@
+-- The page of a frame goes to its image.
+use Rattle.std.proofs.Common.{◌≡◌, ℕ, ◌<◌, List, length, sym, ap, subst, ◌∙◌, refl, Option, Some, None}
+use Rattle.tree_law.specs.Pages.{Page, IsOrderly}
+use Rattle.forest_law.specs.declared.objects.Frame.{Frame}
+use Rattle.forest_law.specs.declared.objects.Stored.{Stored}
+use Rattle.forest_law.specs.declared.objects.Pool.{Pool}
+use Rattle.forest_law.specs.declared.objects.Where.TheVariants.{InFrame, Image}
+use Rattle.forest_law.specs.declared.objects.Object.{Object}
+use Rattle.forest_law.specs.Law.{Follows}
+use Rattle.forest_law.specs.PoolSteps.{PoolStep}
+use Rattle.forest_law.specs.State.{page_within, page_if, where_at, fields_for}
+use Rattle.forest_law.specs.Turns.{HasPage}
+use Rattle.forest_law.proofs.PoolStepLemmas.{pages_come_and_go}
+use Rattle.forest_world.specs.Held.{TreePass, shape_of_pass}
+use Rattle.latch_space.specs.Passes.{view}
+use Rattle.buffer_pool.specs.Forests.{IsFittedTree}
+use Rattle.buffer_pool.specs.Frames.{TakesOut}
+use Rattle.buffer_pool.specs.Pools.{TakesPoolOut}
+use Rattle.buffer_pool.specs.Tries.{HoldsBoth}
+use Rattle.buffer_pool.specs.Turning.{PutsPage, UnloadsFrame, MayTurn, TurnsBack, EmptiesFrame}
+use Rattle.buffer_pool.proofs.KnownLemmas.{frame_named, number_in, frame_order, image_room}
+use Rattle.buffer_pool.proofs.PutLemmas.{put_place, put_image, puts_keeps}
+use Rattle.buffer_pool.proofs.TurnLemmas.{frame_is, pool_is, may_turn, turned}
+
+module _ (p p1 p2 : TreePass) (b : ℕ) (frame : Frame) (pool : Pool) (out : TakesOut p b frame p1)
+    (outside : TakesPoolOut p1 pool p2) (t : Object) (x : Pool) (f : Frame)
+    (both : HoldsBoth p b t x f) (fitted : IsFittedTree (view p)) (g : Frame) (s : Stored)
+    (unloaded : UnloadsFrame frame s g) (n : ℕ) (number : n ≡ s.page.head.number) where
+  unloads : UnloadsFrame f s g
+  unloads = subst (λ (z : Frame). UnloadsFrame z s g)
+      (frame_is p p1 p2 b frame pool out outside t x f both) unloaded
+
+  pool_same : pool ≡ x
+  pool_same = pool_is p p1 p2 b frame pool out outside t x f both
+
+  -- the pool names the frame
+  pub evicted_named : where_at x.place.items n ≡ InFrame b
+  evicted_named = ap (where_at x.place.items) number
+      ∙ frame_named fitted.whole fitted.is_lawful (view p) fitted.fits t x both.pool b f both.frame
+      s.page unloads.page
+
+  place_below : n < length x.place.items
+  place_below = subst (λ m. m < length x.place.items) (sym number)
+      (number_in fitted.whole fitted.is_lawful (view p) fitted.fits t x both.pool b f both.frame
+      s.page unloads.page)
+
+  image_below : n < length x.images.items
+  image_below =
+      image_room fitted.whole fitted.is_lawful (view p) fitted.fits t x both.pool n place_below
+
+  -- the number has a place and an image
+  pub unloaded_place : n < length pool.place.items
+  unloaded_place = subst (λ (z : Pool). n < length z.place.items) (sym pool_same) place_below
+
+  pub unloaded_image : n < length pool.images.items
+  unloaded_image = subst (λ (z : Pool). n < length z.images.items) (sym pool_same) image_below
+
+  -- the page with its bounds
+  abbrev page : Page
+  page = page_within s.page s.low s.high
+
+  pub unloaded_had : HasPage f n page
+  unloaded_had = record {
+    rows = s.page;
+    paged = unloads.page;
+    number = sym number;
+    is = λ k. page_if (unloads.page k) (unloads.low k) (unloads.high k);
+  }
+
+  unloaded_order : IsOrderly (fields_for (shape_of_pass p)) page
+  unloaded_order = subst (IsOrderly (fields_for (shape_of_pass p)))
+      (λ k. page_within s.page (unloads.low k) (unloads.high k))
+      (frame_order fitted.whole fitted.is_lawful (view p) fitted.fits t x both.pool b f both.frame
+      s.page unloads.page)
+
+  module _ (y : Pool) (put : PutsPage pool n Image (Some s) y) where
+    puts : PutsPage x n Image (Some s) y
+    puts = subst (λ (z : Pool). PutsPage z n Image (Some s) y) pool_same put
+
+    evict_follows : (before news : List (Option Object))
+        → PoolStep (shape_of_pass p) before news n (record { block = b; old = f; new = g }) x y
+        → Follows (shape_of_pass p) before news None
+    evict_follows before news step = pages_come_and_go.evicts (shape_of_pass p) before news
+        (record {
+          number = n;
+          hand = record { block = b; old = f; new = g };
+          old = x;
+          new = y;
+          step = step;
+          page = page;
+          image = s;
+          was = evicted_named;
+          is = put_place x n Image (Some s) y puts place_below;
+          stored = put_image x n Image (Some s) y puts image_below;
+          had = unloaded_had;
+          has = record { number = sym number; is = refl };
+          empty = ap (λ (z : Frame). z.page) unloads.empty;
+          order = unloaded_order;
+          clock = unloads.clock;
+        })
+
+    -- the page may go
+    pub may_evict : MayTurn p2 b g y
+    may_evict = may_turn p p1 p2 b frame pool out outside t x f both g y n
+        (puts_keeps x n Image (Some s) y puts) evict_follows
+
+    -- and then the frame has none
+    pub evicts : (q : TreePass) → TurnsBack p2 b g y q → EmptiesFrame p b t x q
+    evicts q back = record {
+      pool = y;
+      frame = g;
+      turns = turned p p1 p2 b frame pool out outside t x f both g y q back;
+      empty = ap (λ (z : Frame). z.page) unloads.empty;
+      keeps = λ m other.
+          ((puts_keeps x n Image (Some s) y puts).elsewhere m
+          (λ e. other (ap (where_at x.place.items) e ∙ evicted_named))).place;
+    }

@@ -1,0 +1,49 @@
+use Rattle.std.proofs.Common.{◌<◌, sym, subst, refl, arith}
+use Rattle.buffer_pool.proofs.AgainLemmas.{passes_both, gives_none, gives_shape, gives_no_pool, gives_both}
+use Rattle.buffer_pool.proofs.FreeLemmas.{gives_free, gives_full}
+use Rattle.buffer_pool.proofs.free_numbers.hold_room.Goals as goal
+
+pub loop-init : goal.loop-init
+loop-init g c = record {
+  same = (refl, refl);
+  own = c.requires.own.1;
+  gives = gives_none c.args.pass.now c.requires.known;
+}
+
+pub try_room-requires-clause-own : goal.try_room-requires-clause-own
+try_room-requires-clause-own g c = (c.requires.own.0, c.loop.invariant.own)
+
+pub try_room-requires-clause-index : goal.try_room-requires-clause-index
+try_room-requires-clause-index g c = subst (λ s. c.args.index < s.indexes)
+    (sym (gives_shape c.args.pass.now c.loop.pass c.loop.invariant.gives)) c.requires.index
+
+pub try_room-requires-clause-known : goal.try_room-requires-clause-known
+try_room-requires-clause-known g c = c.loop.invariant.gives.got.silently.does.known
+
+pub try_room-requires-clause-pool : goal.try_room-requires-clause-pool
+try_room-requires-clause-pool g c = gives_no_pool c.args.pass.now c.loop.pass
+    c.loop.invariant.gives c.requires.pool
+
+pub try_room-requires-clause-room : goal.try_room-requires-clause-room
+try_room-requires-clause-room g c = let same = c.loop.invariant.gives.got.count in
+    let room = c.requires.room in omega (arith, same, room)
+
+pub returns-in-Room-clause-ok : goal.returns-in-Room-clause-ok
+returns-in-Room-clause-ok g c = gives_free c.args.pass.now c.loop.pass c.try_room.new.pass
+    c.loop.invariant.gives c.in-Room.number c.in-Room.block c.in-Room.ensures.did
+
+pub returns-in-NoneFree-clause-full : goal.returns-in-NoneFree-clause-full
+returns-in-NoneFree-clause-full g c = (
+  refl,
+  gives_full c.args.pass.now c.loop.pass c.try_room.new.pass c.loop.invariant.gives c.args.index
+      c.in-NoneFree.ensures.did,
+)
+
+pub loop-preserved : goal.loop-preserved
+loop-preserved g c = record {
+  same = passes_both c.args.pass.now c.loop.pass c.try_room.new.pass c.loop.invariant.same
+      c.try_room.ensures.own.0;
+  own = c.try_room.ensures.own.1;
+  gives = gives_both c.args.pass.now c.loop.pass c.loop.invariant.gives c.try_room.new.pass
+      c.in-NoRoom.ensures.did;
+}

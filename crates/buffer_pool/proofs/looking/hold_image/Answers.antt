@@ -1,0 +1,14 @@
+use Rattle.buffer_pool.proofs.LookLemmas.{room_restores, holds_restored}
+use Rattle.buffer_pool.proofs.looking.hold_image.Goals as goal
+
+pub restore-requires-clause-may : goal.restore-requires-clause-may
+restore-requires-clause-may c = let h = c.requires.pool in
+    room_restores c.args.pass.now c.make_room.new.pass h.0 h.1 c.args.page c.in-Some.block
+    (c.in-Some.ensures.did h.0 h.1 h.2) h.3
+
+pub returns-clause-did : goal.returns-clause-did
+returns-clause-did c = λ t x held. let room = c.in-Some.ensures.did t x held in
+    holds_restored c.args.pass.now c.make_room.new.pass t x c.args.page c.in-Some.block room
+    c.restore.new.pass
+    (c.restore.ensures.restored t room.pool room.frame
+    (record { known = room.tries.does.known; pool = room.knew; frame = room.knows }))

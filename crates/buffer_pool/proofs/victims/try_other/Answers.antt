@@ -1,0 +1,14 @@
+use Rattle.buffer_pool.proofs.VictimLemmas.{took_too, missed_frame, passed_frame}
+use Rattle.buffer_pool.proofs.victims.try_other.Goals as goal
+
+pub returns-then-holds_frame-clause-did : goal.returns-then-holds_frame-clause-did
+returns-then-holds_frame-clause-did c = passed_frame c.args.pass.now c.args.block c.requires.known
+    (c.holds_frame.ensures.held c.if-holds_frame.true)
+
+pub returns-in-Taken-clause-did : goal.returns-in-Taken-clause-did
+returns-in-Taken-clause-did c = took_too c.args.pass.now c.try_frame.new.pass c.args.block
+    c.requires.known (c.holds_frame.ensures.lacks c.if-holds_frame.false) c.in-Taken.ensures.did.0
+
+pub returns-in-Busy-clause-did : goal.returns-in-Busy-clause-did
+returns-in-Busy-clause-did c = missed_frame c.args.pass.now c.try_frame.new.pass c.args.block
+    c.in-Busy.holder c.requires.known c.in-Busy.ensures.did

@@ -1,0 +1,68 @@
+//! A page comes to a frame or goes from it, with the pool in hand: what becomes of both, and the
+//! step.
+ghost use Rattle.std.specs.Prelude.{◌≡◌, ◌<◌, Some, length};
+ghost use Rattle.latch_space.specs.Passes.{view, IsSamePass};
+ghost use Rattle.latch_space.specs.Spaces.{IsPassOf};
+ghost use Rattle.index_page.specs.Page.{PageRows};
+ghost use Rattle.forest_law.specs.State.{image_at};
+ghost use Rattle.buffer_pool.specs.Forests.{IsForest, IsFittedTree};
+ghost use Rattle.buffer_pool.specs.Turning.{PutsPage, UnloadsFrame, loaded, MayTurn, TurnsBack};
+
+use crate::hands::frame_back;
+use crate::pools::pool_back;
+use forest_world::{ForestPass, ForestSpace, Frame, Pool, Stored, Where};
+use std::mem;
+
+/// The frame and the pool, which were taken out, come back as these, and that is made known.
+pub(crate) fn turn(space: &ForestSpace, pass: &mut ForestPass, block: u32, frame: Frame, pool: Pool)
+    requires own { IsForest space.now × IsPassOf space.now pass.old }
+    requires may { MayTurn pass.old block frame pool }
+    ensures own { IsSamePass pass.old pass.new × IsPassOf space.now pass.new }
+    ensures turned { TurnsBack pass.old block frame pool pass.new }
+    ensures fits { IsFittedTree (view pass.new) }
+{
+    frame_back(space, pass, block, frame);
+    pool_back(space, pass, pool);
+    space.settle(pass);
+}
+
+/// The page of the number has this place and this image from now on; the answer is the image that
+/// it had.
+pub(crate) fn put_page(
+    pool: &mut Pool,
+    number: u32,
+    to: Where,
+    image: Option<Stored>,
+) -> Option<Stored>
+    requires place { number < length pool.old.place.items }
+    requires image { number < length pool.old.images.items }
+    ensures puts { PutsPage pool.old number to image pool.new }
+    ensures had { result ≡ image_at pool.old.images.items number }
+{
+    pool.place[number as usize] = to;
+    mem::replace(&mut pool.images[number as usize], image)
+}
+
+/// The frame without its page and its bounds, at a clock that rises, and these.
+pub(crate) fn unload(mut frame: Frame) -> (Frame, Stored)
+    requires { (page : PageRows) × (frame.page ≡ Some page) }
+    ensures { UnloadsFrame frame result.1 result.0 }
+{
+    let Some(page) = frame.page.take() else {
+        unreachable!()
+    };
+    let low = frame.low.take();
+    let high = frame.high.take();
+    frame.raise_clock();
+    (frame, Stored { page, low, high })
+}
+
+/// The frame with this page in these bounds.
+pub(crate) fn load(mut frame: Frame, stored: Stored) -> Frame
+    ensures { result ≡ loaded frame stored }
+{
+    frame.page = Some(stored.page);
+    frame.low = stored.low;
+    frame.high = stored.high;
+    frame
+}

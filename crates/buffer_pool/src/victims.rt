@@ -1,0 +1,130 @@
+//! Room for a page: the frame of the lowest age that one try takes, without its page.
+ghost use Rattle.std.specs.Prelude.{◌≡◌, ◌<◌, Some, is_some};
+ghost use Rattle.latch_space.specs.Has.{IsKnown};
+ghost use Rattle.latch_space.specs.Passes.{view, count, IsSamePass};
+ghost use Rattle.latch_space.specs.Spaces.{IsPassOf};
+ghost use Rattle.index_page.specs.Page.{PageRows};
+ghost use Rattle.forest_law.specs.declared.objects.Frame.{Frame};
+ghost use Rattle.forest_law.specs.declared.objects.Object.{Object};
+ghost use Rattle.forest_law.specs.declared.objects.Pool.{Pool};
+ghost use Rattle.forest_law.specs.Numbers.{frames_of};
+ghost use Rattle.forest_world.specs.Held.{shape_of_pass};
+ghost use Rattle.buffer_pool.specs.Forests.{IsForest, IsFittedTree};
+ghost use Rattle.buffer_pool.specs.Tries.{KnowsPool, HoldsBoth};
+ghost use Rattle.buffer_pool.specs.Turning.{EmptiesFrame};
+ghost use Rattle.buffer_pool.specs.Victims.{TellsOther, TellsVictim, TellsRoom};
+
+use crate::ages::next_block;
+use crate::frames::{holds_frame, try_frame};
+use crate::hands::{frame, frame_out};
+use crate::pools::{pool, pool_out};
+use crate::turning::{put_page, turn, unload};
+use forest_world::{ForestPass, ForestSpace, Frame, Where};
+use latch_space::Take;
+
+/// Holds the frame of the lowest age that one try takes, and of equal ages that of the lowest
+/// block, and sees to it that it has no page: its page goes to its image. Frames that the pass holds
+/// are passed over. The pool is held, so nothing is waited for.
+pub(crate) fn make_room(space: &ForestSpace, pass: &mut ForestPass) -> Option<u32>
+    requires own { IsForest space.now × IsPassOf space.now pass.old }
+    requires known { IsKnown pass.old }
+    requires pool { (t : Object) × (x : Pool) × KnowsPool (view pass.old) t x }
+    requires room { count pass.old < 16 }
+    ensures own { IsSamePass pass.old pass.new × IsPassOf space.now pass.new }
+    ensures did { (t : Object) (x : Pool) → KnowsPool (view pass.old) t x
+        → TellsRoom pass.old t x result pass.new }
+    ensures fits { IsFittedTree (view pass.new) }
+{
+    let Some(block) = try_victim(space, pass) else {
+        return None;
+    };
+    empty_frame(space, pass, block);
+    Some(block)
+}
+
+// Holds the first frame, by age and then by number, that one try takes.
+fn try_victim(space: &ForestSpace, pass: &mut ForestPass) -> Option<u32>
+    requires own { IsForest space.now × IsPassOf space.now pass.old }
+    requires known { IsKnown pass.old }
+    requires pool { (t : Object) × (x : Pool) × KnowsPool (view pass.old) t x }
+    requires room { count pass.old < 16 }
+    ensures own { IsSamePass pass.old pass.new × IsPassOf space.now pass.new }
+    ensures did { (t : Object) (x : Pool) → KnowsPool (view pass.old) t x
+        → TellsVictim pass.old x result pass.new }
+    ensures fits { IsFittedTree (view pass.new) }
+{
+    pass.fits();
+    let mut last: Option<u32> = None;
+    for _i in 0..pool(space, pass).ages.len() {
+        let Some(block) = next_block(pool(space, pass).ages.as_slice(), last) else {
+            return None;
+        };
+        if try_other(space, pass, block) {
+            return Some(block);
+        }
+        last = Some(block);
+    }
+    None
+}
+
+// One try of the block's frame, unless the pass holds it.
+fn try_other(space: &ForestSpace, pass: &mut ForestPass, block: u32) -> bool
+    requires own { IsForest space.now × IsPassOf space.now pass.old }
+    requires there { block < frames_of (shape_of_pass pass.old) }
+    requires known { IsKnown pass.old }
+    requires room { count pass.old < 16 }
+    ensures own { IsSamePass pass.old pass.new × IsPassOf space.now pass.new }
+    ensures did { TellsOther pass.old block result pass.new }
+    ensures fits { IsFittedTree (view pass.new) }
+{
+    if holds_frame(space, pass, block) {
+        pass.fits();
+        return false;
+    }
+    match try_frame(space, pass, block) {
+        Take::Taken => true,
+        Take::Busy { .. } => false,
+    }
+}
+
+// The page of the block's frame, if it has one, goes to its image.
+fn empty_frame(space: &ForestSpace, pass: &mut ForestPass, block: u32)
+    requires own { IsForest space.now × IsPassOf space.now pass.old }
+    requires both { (t : Object) × (x : Pool) × (f : Frame) × HoldsBoth pass.old block t x f }
+    ensures own { IsSamePass pass.old pass.new × IsPassOf space.now pass.new }
+    ensures empty { (t : Object) (x : Pool) (f : Frame) → HoldsBoth pass.old block t x f
+        → EmptiesFrame pass.old block t x pass.new }
+    ensures fits { IsFittedTree (view pass.new) }
+{
+    pass.fits();
+    if !has_page(frame(space, pass, block)) {
+        return;
+    }
+    evict(space, pass, block);
+}
+
+// Whether the frame has a page.
+fn has_page(frame: &Frame) -> bool
+    ensures { result ≡ is_some frame.now.page }
+{
+    frame.page.is_some()
+}
+
+// The page of the block's frame goes to its image, with its bounds.
+fn evict(space: &ForestSpace, pass: &mut ForestPass, block: u32)
+    requires own { IsForest space.now × IsPassOf space.now pass.old }
+    requires both { (t : Object) × (x : Pool) × (f : Frame) × (page : PageRows)
+        × HoldsBoth pass.old block t x f × (f.page ≡ Some page) }
+    ensures own { IsSamePass pass.old pass.new × IsPassOf space.now pass.new }
+    ensures empty { (t : Object) (x : Pool) (f : Frame) → HoldsBoth pass.old block t x f
+        → EmptiesFrame pass.old block t x pass.new }
+    ensures fits { IsFittedTree (view pass.new) }
+{
+    pass.fits();
+    let frame = frame_out(space, pass, block);
+    let mut pool = pool_out(space, pass);
+    let (frame, stored) = unload(frame);
+    let number = stored.page.head().number;
+    put_page(&mut pool, number, Where::Image, Some(stored));
+    turn(space, pass, block, frame, pool);
+}
