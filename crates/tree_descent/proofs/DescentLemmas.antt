@@ -15,6 +15,7 @@ use Rattle.forest_law.specs.Numbers.{pool_id, frame_id, frames_of}
 use Rattle.forest_law.specs.State.{page_within, fields_for}
 use Rattle.forest_world.specs.Held.{TreePass, shape_of_pass}
 use Rattle.call_law.specs.Hands.{HoldsNoFrameBut, HoldsNoPool}
+use Rattle.call_law.specs.Trace.{frame_references}
 use Rattle.call_law.proofs.TraceLemmas.{both_added}
 use Rattle.buffer_pool.specs.Calls.{Does, GetsNothing}
 use Rattle.buffer_pool.proofs.CallLemmas.{does_both, does_none, does_nothing, silently_both}
@@ -22,7 +23,7 @@ use Rattle.tree_descent.specs.Descents.{Descends}
 use Rattle.tree_descent.specs.Leaves.{HasCutWithin, cut_in}
 use Rattle.tree_descent.specs.Paths.{LeadFromRoot}
 use Rattle.tree_descent.specs.Ways.{ComesDown}
-use Rattle.tree_descent.proofs.WayLemmas.{way_page}
+use Rattle.tree_descent.proofs.WayLemmas.{frames_both}
 
 -- before the first way
 pub vain_none : (p : TreePass) → IsKnown p → GetsNothing p p
@@ -72,19 +73,11 @@ module _ (p q : TreePass) (vain : GetsNothing p q) where
                 (does_none p q a (k ∷ []) vain.silently.does) leaf_does;
             silent = λ j. vain.silently.silent j ++ way.silently.silent j;
           };
-          path = record {
-            vain = a.references;
-            path = way.silently.added.references;
-            references = refl;
-            leads = subst
-                (λ (s : Shape). LeadFromRoot s (cut_in s i mode tuple) i 0 b
-                way.silently.added.references) vain_shape way.leads;
-          };
           lacked = sym (vain.silently.does.rest k tt)
               ∙ subst (λ (s : Shape). get_elem? (view q).held (frame_id s b) ≡ some None)
               vain_shape way.lacked;
           frame = way.frame;
-          knows = (way_page q (cut_in (shape_of_pass q) i mode tuple) i 0 b r way).knows;
+          knows = way.knows;
           is = record {
             page = record {
               is = way.page.is;
@@ -96,6 +89,15 @@ module _ (p q : TreePass) (vain : GetsNothing p q) where
                   vain_shape down.within;
             };
             finds = finds;
+          };
+          path = record {
+            vain = frame_references a.references;
+            path = frame_references way.silently.added.references;
+            references = frames_both a.references way.silently.added.references;
+            leads = subst
+                (λ (s : Shape). LeadFromRoot s (cut_in s i mode tuple) i 0
+                way.page.is.page.head.number
+                (frame_references way.silently.added.references)) vain_shape way.leads;
           };
           count = (let x = vain.count in let y = way.count in omega (arith, x, y));
         }

@@ -12,31 +12,32 @@ use Rattle.forest_law.specs.Numbers.{frame_id}
 use Rattle.forest_world.specs.Held.{TreePass, shape_of_pass}
 use Rattle.call_law.specs.Hands.{KnowsFrame}
 use Rattle.call_law.specs.Spoken.{View}
-use Rattle.call_law.specs.Trace.{Added}
+use Rattle.call_law.specs.Trace.{Added, frame_references}
 use Rattle.buffer_pool.specs.Calls.{DoesSilently}
 use Rattle.buffer_pool.specs.Hands.{LacksFrame}
 use Rattle.tree_descent.specs.declared.descending.Leaf.{Leaf}
 use Rattle.tree_descent.specs.Leaves.{cut_in, IsPageFor, IsLeafFor}
 use Rattle.tree_descent.specs.Paths.{PicksChild, LeadFromRoot}
 
--- the last references that were added are the path from the root to the page; those before are of
--- ways that were left
-pub record AddsPath (p : TreePass) (cut : KeyPlace → Bool) (i level c : ℕ) (added : Added) : Type 0
+-- of the references of frames that were added the last are the path from the root to the page n;
+-- those before are of ways that were left
+pub record AddsPath (p : TreePass) (cut : KeyPlace → Bool) (i level n : ℕ) (added : Added) : Type 0
   where
     pub vain : List (Reference Object)
     pub path : List (Reference Object)
-    pub references : added.references ≡ vain ++ path
-    pub leads : LeadFromRoot (shape_of_pass p) cut i level c path
+    pub references : frame_references added.references ≡ vain ++ path
+    pub leads : LeadFromRoot (shape_of_pass p) cut i level n path
 
--- the leaf with the tuple's position is held besides, as it was at its take
+-- the leaf with the tuple's position is held besides
 pub record Descends (p : TreePass) (i : ℕ) (mode : Mode) (tuple : FieldList) (leaf : Leaf)
     (q : TreePass) : Type 0 where
   pub silently : DoesSilently p q (frame_id (shape_of_pass p) leaf.block ∷ [])
-  pub path : AddsPath p (cut_in (shape_of_pass p) i mode tuple) i 0 leaf.block silently.added
   pub lacked : LacksFrame p leaf.block
   pub frame : Frame
   pub knows : KnowsFrame (view q) leaf.block frame
-  pub is : IsLeafFor (shape_of_pass p) leaf.block frame i mode tuple leaf.spot
+  pub is : IsLeafFor (shape_of_pass p) frame i mode tuple leaf.spot
+  pub path : AddsPath p (cut_in (shape_of_pass p) i mode tuple) i 0 is.page.is.page.head.number
+      silently.added
   pub count : count q ≡ count p + 1
 
 -- the pass holds an inner page that has the tuple's position
@@ -44,7 +45,7 @@ pub record HoldsInner (v : View) (b i : ℕ) (mode : Mode) (tuple : FieldList) :
   pub level : ℕ
   pub frame : Frame
   pub knows : KnowsFrame v b frame
-  pub page : IsPageFor v.terms.shape b frame i (suc level) (cut_in v.terms.shape i mode tuple)
+  pub page : IsPageFor v.terms.shape frame i (suc level) (cut_in v.terms.shape i mode tuple)
 
 -- a row points to the page n
 pub record PointsAt (rows : List Row) (n : ℕ) : Type 0 where
@@ -54,17 +55,19 @@ pub record PointsAt (rows : List Row) (n : ℕ) : Type 0 where
   pub was : rows ≡ fore ++ this ∷ aft
   pub child : this.body ≡ Child n
 
--- the child that has the position is held besides, a level lower, as it was at its take
-pub record TakesChild (p : TreePass) (b i : ℕ) (mode : Mode) (tuple : FieldList) (n : ℕ)
+-- the child that has the position is held besides, in the frame of the block c, a level lower, and
+-- no frame was given back
+pub record TakesChild (p : TreePass) (b i : ℕ) (mode : Mode) (tuple : FieldList) (c : ℕ)
     (q : TreePass) : Type 0 where
-  pub silently : DoesSilently p q (frame_id (shape_of_pass p) n ∷ [])
-  pub none : silently.added.references ≡ []
-  pub lacked : LacksFrame p n
+  pub silently : DoesSilently p q (frame_id (shape_of_pass p) c ∷ [])
+  pub none : frame_references silently.added.references ≡ []
+  pub lacked : LacksFrame p c
   pub parent : HoldsInner (view p) b i mode tuple
   pub frame : Frame
-  pub knows : KnowsFrame (view q) n frame
-  pub page : IsPageFor (shape_of_pass p) n frame i parent.level
+  pub knows : KnowsFrame (view q) c frame
+  pub page : IsPageFor (shape_of_pass p) frame i parent.level
       (cut_in (shape_of_pass p) i mode tuple)
-  pub picks : PicksChild (cut_in (shape_of_pass p) i mode tuple) parent.page.is.page.rows n
-  pub points : PointsAt parent.page.is.page.rows n
+  pub picks : PicksChild (cut_in (shape_of_pass p) i mode tuple) parent.page.is.page.rows
+      page.is.page.head.number
+  pub points : PointsAt parent.page.is.page.rows page.is.page.head.number
   pub count : count q ≡ count p + 1

@@ -17,11 +17,11 @@ pub record HasCutWithin (f : Frame) (cut : KeyPlace → Bool) : Type 0 where
   pub low : cut (low_place (bound f.low)) ≡ false
   pub high : cut (high_place (bound f.high)) ≡ true
 
--- the block's frame has a page of the trees, of this index and level, in order by itself, with the
+-- the frame has a page of the trees, of this index and level, in order by itself, with the
 -- cut in its bounds
-pub record IsPageFor (shape : Shape) (b : ℕ) (f : Frame) (i level : ℕ)
+pub record IsPageFor (shape : Shape) (f : Frame) (i level : ℕ)
     (cut : KeyPlace → Bool) : Type 0 where
-  pub is : HasTreePage b f i level
+  pub is : HasTreePage f i level
   pub order : IsOrderly (fields_for shape) (page_within is.page f.low f.high)
   pub within : HasCutWithin f cut
 
@@ -29,9 +29,9 @@ pub record IsPageFor (shape : Shape) (b : ℕ) (f : Frame) (i level : ℕ)
 abbrev pub cut_in : Shape → ℕ → Mode → FieldList → KeyPlace → Bool
 cut_in shape i mode tuple = position_cut (fields_for shape i) mode tuple
 
--- the block's frame has the leaf of an index that has the tuple's position, and this is the mode's
+-- the frame has the leaf of an index that has the tuple's position, and this is the mode's
 -- spot there
-pub record IsLeafFor (shape : Shape) (b : ℕ) (f : Frame) (i : ℕ) (mode : Mode) (tuple : FieldList)
+pub record IsLeafFor (shape : Shape) (f : Frame) (i : ℕ) (mode : Mode) (tuple : FieldList)
     (spot : Spot) : Type 0 where
-  pub page : IsPageFor shape b f i 0 (cut_in shape i mode tuple)
+  pub page : IsPageFor shape f i 0 (cut_in shape i mode tuple)
   pub finds : Finds mode tuple page.is.page.rows spot

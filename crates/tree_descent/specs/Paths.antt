@@ -20,25 +20,28 @@ pub record PicksChild (cut : KeyPlace → Bool) (rows : List Row) (n : ℕ) : Ty
   pub picked : IsPicked cut rows place
   pub child : row.body ≡ Child n
 
--- the block's frame was taken and given back as it was: a page of this index, a level above the one
--- asked for, whose picked row leads to the page n
-pub record LeadsTo (shape : Shape) (cut : KeyPlace → Bool) (i level b n : ℕ)
+-- a frame was given back that had the page m: one of this index, a level above the one asked for,
+-- whose picked row leads to the page n
+pub record LeadsTo (shape : Shape) (cut : KeyPlace → Bool) (i level m n : ℕ)
     (q : Reference Object) : Type 0 where
+  pub block : ℕ
+  pub taken : Object
   pub frame : Frame
-  pub is : q ≡ reference (frame_id shape b) (object.Frame frame) (object.Frame frame)
-  pub page : HasTreePage b frame i (suc level)
+  pub is : q ≡ reference (frame_id shape block) taken (object.Frame frame)
+  pub page : HasTreePage frame i (suc level)
+  pub number : page.page.head.number ≡ m
   pub picks : PicksChild cut page.page.rows n
 
--- these lead from a page on the level `top` down to one on the other level, one for each level
--- between
-abbrev pub LeadDown : Shape → (KeyPlace → Bool) → (i top b : ℕ) → List (Reference Object)
-    → (level c : ℕ) → Type 0
-LeadDown shape cut i top b [] level c = (top ≡ level) × (b ≡ c)
-LeadDown shape cut i top b (q ∷ qs) level c =
-    (l n : ℕ) × (top ≡ suc l) × LeadsTo shape cut i l b n q × LeadDown shape cut i l n qs level c
+-- these lead from the page m on the level `top` down to the page n on the other level, one for each
+-- level between
+abbrev pub LeadDown : Shape → (KeyPlace → Bool) → (i top m : ℕ) → List (Reference Object)
+    → (level n : ℕ) → Type 0
+LeadDown shape cut i top m [] level n = (top ≡ level) × (m ≡ n)
+LeadDown shape cut i top m (q ∷ qs) level n =
+    (l k : ℕ) × (top ≡ suc l) × LeadsTo shape cut i l m k q × LeadDown shape cut i l k qs level n
 
--- these lead from the root of an index down to a page
-pub record LeadFromRoot (shape : Shape) (cut : KeyPlace → Bool) (i level c : ℕ)
+-- these lead from the root of an index down to the page n
+pub record LeadFromRoot (shape : Shape) (cut : KeyPlace → Bool) (i level n : ℕ)
     (qs : List (Reference Object)) : Type 0 where
   pub top : ℕ
-  pub down : LeadDown shape cut i top i qs level c
+  pub down : LeadDown shape cut i top i qs level n

@@ -1,18 +1,16 @@
 -- One way down, from the root to the leaf or to where it ends in vain.
 use Rattle.std.specs.Prelude.{ℕ, suc, ◌≡◌, ◌+◌, ◌<◌, Bool, Option, Some, None, [], ◌∷◌}
 use Rattle.key_tuple.specs.KeyPlace.{KeyPlace}
-use Rattle.latch_law.specs.Rule.{Holds}
-use Rattle.latch_law.specs.Views.{holding}
 use Rattle.latch_space.specs.Passes.{view, count}
 use Rattle.tree_law.specs.Pages.{IsOrderly}
 use Rattle.index_law.specs.Shape.{Shape}
 use Rattle.forest_law.specs.declared.objects.Frame.{Frame}
-use Rattle.forest_law.specs.declared.objects.Object.TheVariants as object
-use Rattle.forest_law.specs.Numbers.{frame_id, frames_of}
+use Rattle.forest_law.specs.Numbers.{frame_id}
 use Rattle.forest_law.specs.State.{page_within, fields_for}
 use Rattle.forest_world.specs.Held.{TreePass, shape_of_pass}
 use Rattle.call_law.specs.Hands.{KnowsFrame}
 use Rattle.call_law.specs.Spoken.{View}
+use Rattle.call_law.specs.Trace.{frame_references}
 use Rattle.buffer_pool.specs.Calls.{DoesSilently, GetsNothing}
 use Rattle.buffer_pool.specs.Hands.{LacksFrame}
 use Rattle.buffer_pool.specs.Pages.{HasTreePage}
@@ -24,7 +22,7 @@ use Rattle.tree_descent.specs.Paths.{LeadFromRoot}
 pub record HoldsPage (v : View) (b i level : ℕ) : Type 0 where
   pub frame : Frame
   pub knows : KnowsFrame v b frame
-  pub is : HasTreePage b frame i level
+  pub is : HasTreePage frame i level
   pub order : IsOrderly (fields_for v.terms.shape) (page_within is.page frame.low frame.high)
 
 -- the same on some level
@@ -35,32 +33,33 @@ HoldsSome v b i = (level : ℕ) × HoldsPage v b i level
 abbrev pub HoldsAbove : View → (b i : ℕ) → Type 0
 HoldsAbove v b i = (level : ℕ) × HoldsPage v b i (suc level)
 
--- the block's frame has a page of the trees, of this index and level, in order by itself; above the
--- leaves its rows point to pages that have frames
-pub record IsOnWay (shape : Shape) (b : ℕ) (f : Frame) (i level : ℕ) : Type 0 where
-  pub is : HasTreePage b f i level
+-- the frame has a page of the trees, of this index and level, in order by itself; above the
+-- leaves its rows point to numbers of pages
+pub record IsOnWay (shape : Shape) (f : Frame) (i level : ℕ) : Type 0 where
+  pub is : HasTreePage f i level
   pub order : IsOrderly (fields_for shape) (page_within is.page f.low f.high)
-  pub below : 0 < level → (n : ℕ) → PointsAt is.page.rows n → n < frames_of shape
+  pub below : 0 < level → (n : ℕ) → PointsAt is.page.rows n → n < shape.pages
 
--- a way down has come to the page, which is held as it was at its take, and the references that
--- were added are the path to it
+-- a way down has come to the page in the block's frame, and the references of frames that were
+-- added are the path to it
 pub record GoesDown (p : TreePass) (cut : KeyPlace → Bool) (i level b : ℕ)
     (q : TreePass) : Type 0 where
   pub silently : DoesSilently p q (frame_id (shape_of_pass p) b ∷ [])
-  pub leads : LeadFromRoot (shape_of_pass p) cut i level b silently.added.references
   pub lacked : LacksFrame p b
   pub frame : Frame
-  pub holds : Holds (view q) (frame_id (shape_of_pass p) b)
-      (holding (object.Frame frame) (object.Frame frame))
-  pub page : IsOnWay (shape_of_pass p) b frame i level
+  pub knows : KnowsFrame (view q) b frame
+  pub page : IsOnWay (shape_of_pass p) frame i level
+  pub leads : LeadFromRoot (shape_of_pass p) cut i level page.is.page.head.number
+      (frame_references silently.added.references)
   pub count : count q ≡ count p + 1
 
 -- the same before the page is taken: nothing of the way is held, and its path leads to the page
 pub record LooksFor (p : TreePass) (cut : KeyPlace → Bool) (i level n : ℕ)
     (q : TreePass) : Type 0 where
   pub silently : DoesSilently p q []
-  pub leads : LeadFromRoot (shape_of_pass p) cut i level n silently.added.references
-  pub below : n < frames_of (shape_of_pass p)
+  pub leads : LeadFromRoot (shape_of_pass p) cut i level n
+      (frame_references silently.added.references)
+  pub below : n < (shape_of_pass p).pages
   pub count : count q ≡ count p
 
 -- the way has come to the leaf whose bounds have the cut

@@ -1,5 +1,5 @@
 //! One level down, with the parent in hand.
-ghost use Rattle.std.specs.Prelude.{◌≡◌, ◌<◌, ◌≤◌, [], ◌∷◌, length};
+ghost use Rattle.std.specs.Prelude.{◌≡◌, ◌+◌, ◌≤◌, [], ◌∷◌, length};
 ghost use Rattle.latch_space.specs.Has.{IsKnown};
 ghost use Rattle.latch_space.specs.Passes.{view, count, IsSamePass};
 ghost use Rattle.latch_space.specs.Spaces.{IsPassOf};
@@ -10,7 +10,7 @@ ghost use Rattle.buffer_pool.specs.Forests.{IsForest, IsFittedTree};
 ghost use Rattle.tree_descent.specs.Descents.{HoldsInner, TakesChild};
 
 use crate::picking::picked_child;
-use buffer_pool::take_frame;
+use buffer_pool::page_in;
 use forest_world::{ForestPass, ForestSpace};
 use key_tuple::{Fields, Mode};
 use std::sync::Wait;
@@ -32,13 +32,12 @@ pub fn child_for<T: Fields, R: Wait>(
     requires known { IsKnown pass.old }
     requires frames { HoldsNoFrameBut (view pass.old) (block ∷ []) }
     requires pool { HoldsNoPool (view pass.old) }
-    requires room { count pass.old < 16 }
+    requires room { count pass.old + 2 ≤ 16 }
     ensures own { IsSamePass pass.old pass.new × IsPassOf space.now pass.new }
     ensures took { TakesChild pass.old block index mode (T.fields_of tuple.now) result pass.new }
     ensures fits { IsFittedTree (view pass.new) }
 {
     pass.fits();
     let child = picked_child(space, pass, block, index, tuple, mode);
-    take_frame(space, pass, child, wait);
-    child
+    page_in(space, pass, child, wait)
 }

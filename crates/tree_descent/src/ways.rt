@@ -1,5 +1,5 @@
 //! One way down. Each page is given back before the next one is taken.
-ghost use Rattle.std.specs.Prelude.{ℕ, ◌≡◌, ◌<◌, ◌≤◌, suc, Bool, [], length};
+ghost use Rattle.std.specs.Prelude.{ℕ, ◌≡◌, ◌<◌, ◌+◌, ◌≤◌, suc, Bool, [], length};
 ghost use Rattle.key_tuple.specs.KeyPlace.{KeyPlace};
 ghost use Rattle.latch_space.specs.Has.{IsKnown};
 ghost use Rattle.latch_space.specs.Passes.{view, count, IsSamePass};
@@ -13,7 +13,7 @@ ghost use Rattle.tree_descent.specs.Ways.{HoldsAbove, GoesDown, LooksFor, TriesD
 
 use crate::pages::page_of;
 use crate::picking::{is_within, picked_child};
-use buffer_pool::{frame, give_back, page_if, take_frame};
+use buffer_pool::{frame, give_back, page_if, page_in};
 use forest_world::{ForestPass, ForestSpace};
 use key_tuple::{Fields, Mode};
 use std::sync::Wait;
@@ -35,14 +35,13 @@ pub(crate) fn try_down<T: Fields, R: Wait>(
     requires known { IsKnown pass.old }
     requires frames { HoldsNoFrameBut (view pass.old) [] }
     requires pool { HoldsNoPool (view pass.old) }
-    requires room { count pass.old < 16 }
+    requires room { count pass.old + 2 ≤ 16 }
     ensures own { IsSamePass pass.old pass.new × IsPassOf space.now pass.new }
     ensures tried { TriesDown pass.old
         (cut_in (shape_of_pass pass.old) index mode (T.fields_of tuple.now)) index result pass.new }
     ensures fits { IsFittedTree (view pass.new) }
 {
-    let mut level = take_root(space, pass, index, wait);
-    let mut block = index;
+    let (mut block, mut level) = take_root(space, pass, index, wait);
     while level > 0 {
         let child = leave(space, pass, block, index, tuple, mode);
         level -= 1;
@@ -56,20 +55,27 @@ pub(crate) fn try_down<T: Fields, R: Wait>(
     None
 }
 
-/// Takes the root of the index, and answers its level.
-fn take_root<R: Wait>(space: &ForestSpace, pass: &mut ForestPass, index: u32, wait: &R) -> u16
+/// Takes the root of the index, and answers the block that has it in its frame, and its level.
+fn take_root<R: Wait>(
+    space: &ForestSpace,
+    pass: &mut ForestPass,
+    index: u32,
+    wait: &R,
+) -> (u32, u16)
     requires own { IsForest space.now × IsPassOf space.now pass.old }
     requires index { index < (shape_of_pass pass.old).indexes }
     requires known { IsKnown pass.old }
     requires frames { HoldsNoFrameBut (view pass.old) [] }
-    requires room { count pass.old < 16 }
+    requires pool { HoldsNoPool (view pass.old) }
+    requires room { count pass.old + 2 ≤ 16 }
     ensures own { IsSamePass pass.old pass.new × IsPassOf space.now pass.new }
-    ensures took { (cut : KeyPlace → Bool) → GoesDown pass.old cut index result index pass.new }
+    ensures took { (cut : KeyPlace → Bool)
+        → GoesDown pass.old cut index result.1 result.0 pass.new }
     ensures fits { IsFittedTree (view pass.new) }
 {
     pass.fits();
-    take_frame(space, pass, index, wait);
-    page_of(frame(space, pass, index)).head().level
+    let block = page_in(space, pass, index, wait);
+    (block, page_of(frame(space, pass, block)).head().level)
 }
 
 /// Gives the block's page back, and answers the child that the position picks there.

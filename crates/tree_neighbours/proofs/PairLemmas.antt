@@ -16,7 +16,7 @@ use Rattle.forest_law.specs.declared.objects.Object.TheVariants as object
 use Rattle.forest_law.specs.Numbers.{frame_id}
 use Rattle.forest_law.specs.State.{page_within, fields_for}
 use Rattle.forest_world.specs.Held.{TreePass, shape_of_pass}
-use Rattle.call_law.specs.Trace.{Added}
+use Rattle.call_law.specs.Trace.{Added, frame_references}
 use Rattle.call_law.proofs.TraceLemmas.{both_added}
 use Rattle.buffer_pool.specs.Calls.{Does, GetsNothing}
 use Rattle.buffer_pool.specs.Frames.{GivesFrame}
@@ -31,11 +31,12 @@ use Rattle.tree_descent.specs.Ways.{HoldsPage}
 use Rattle.tree_descent.proofs.DescentLemmas.{vain_shape}
 use Rattle.tree_descent.proofs.InnerLemmas.{one_known}
 use Rattle.tree_descent.proofs.PageLemmas.{same_page}
+use Rattle.tree_descent.proofs.WayLemmas.{frames_both}
 use Rattle.tree_neighbours.specs.declared.pairs.LeafPair.{LeafPair}
 use Rattle.tree_neighbours.specs.declared.side.Side.{Side}
-use Rattle.tree_neighbours.specs.Neighbours.{IsLeafBeside, IsLastOn, TakesBeside, IsBusyOn}
+use Rattle.tree_neighbours.specs.Neighbours.{IsLastOn, TakesBeside, IsBusyOn}
 use Rattle.tree_neighbours.specs.Pairs.{frames_at, HoldsOther, DescendsPair}
-use Rattle.tree_neighbours.specs.Sides.{side_of, row_on, page_on}
+use Rattle.tree_neighbours.specs.Sides.{side_of, row_on, page_on, Meets}
 
 module _ (p q : TreePass) (i : ℕ) (mode : Mode) (tuple : FieldList) (leaf : Leaf)
     (down : Descends p i mode tuple leaf q) where
@@ -113,8 +114,10 @@ module _ (p q : TreePass) (i : ℕ) (mode : Mode) (tuple : FieldList) (leaf : Le
       path = record {
         vain = down.path.vain;
         path = down.path.path;
-        references = ap (λ qs. down.silently.added.references ++ qs) took.none
-            ∙ (append-nil down.silently.added.references ∙ down.path.references);
+        references = frames_both down.silently.added.references took.silently.added.references
+            ∙ (ap (λ qs. frame_references down.silently.added.references ++ qs) took.none
+            ∙ (append-nil (frame_references down.silently.added.references)
+            ∙ down.path.references));
         leads = down.path.leads;
       };
       lacked = down.lacked;
@@ -126,20 +129,23 @@ module _ (p q : TreePass) (i : ℕ) (mode : Mode) (tuple : FieldList) (leaf : Le
       other = (
         none,
         record {
-          leads = ap (page_on (side_of mode)) (sym (one_leaf took.holds)) ∙ took.leads;
           lacked = sym (down.silently.does.rest j (λ e. apart (omega (arith, e)), tt))
               ∙ subst (λ (s : Shape). get_elem? (view q).held (frame_id s m) ≡ some None)
               leaf_shape took.lacked;
           frame = took.frame;
           knows = took.knows;
-          beside = subst
-              (λ (s : Shape). IsLeafBeside s (side_of mode) leaf.block i down.frame m took.frame)
-              leaf_shape
-              (subst
-              (λ (f : Frame). IsLeafBeside (shape_of_pass q) (side_of mode) leaf.block i f m
-              took.frame)
-              (one_known (view q) leaf.block took.holds.frame down.frame took.holds.knows
-              down.knows) took.beside);
+          beside = record {
+            is = took.beside.is;
+            order = subst
+                (λ (s : Shape). IsOrderly (fields_for s)
+                (page_within took.beside.is.page took.frame.low took.frame.high)) leaf_shape
+                took.beside.order;
+            other = took.beside.other;
+            meets = subst (λ (f : Frame). Meets (side_of mode) f took.frame)
+                (one_known (view q) leaf.block took.holds.frame down.frame took.holds.knows
+                down.knows) took.beside.meets;
+          };
+          leads = ap (page_on (side_of mode)) (sym (one_leaf took.holds)) ∙ took.leads;
         },
       );
       count = (let one = down.count in let two = took.count in omega (arith, one, two));
@@ -148,7 +154,7 @@ module _ (p q : TreePass) (i : ℕ) (mode : Mode) (tuple : FieldList) (leaf : Le
   -- where that one is another pass's, the leaf is given back as it was taken
   module _ (r : TreePass) (busy : IsBusyOn q leaf.block i (side_of mode) r) where
     busy_shape : shape_of_pass r ≡ shape_of_pass p
-    busy_shape = ap (λ (t : Terms Shape). t.shape) busy.got.silently.does.adds.numbers.terms
+    busy_shape = ap (λ (t : Terms Shape). t.shape) busy.refused.got.silently.does.adds.numbers.terms
         ∙ leaf_shape
 
     module _ (s : TreePass) (gave : GivesFrame r leaf.block s) where
@@ -159,27 +165,27 @@ module _ (p q : TreePass) (i : ℕ) (mode : Mode) (tuple : FieldList) (leaf : Le
       gave_does = subst
           (λ (z : Shape). Does r s (frame_id z leaf.block ∷ [])
           (only_given (frame_id z leaf.block) gave.taken (object.Frame gave.frame))) busy_shape
-          (gave_frame r s busy.got.silently.does.known leaf.block gave)
+          (gave_frame r s busy.refused.got.silently.does.known leaf.block gave)
 
       -- then nothing is held besides
       pub leaf_given_back : GetsNothing p s
       leaf_given_back =
           let a = down.silently.added in
-          let b = busy.got.silently.added in
+          let b = busy.refused.got.silently.added in
           record {
             silently = record {
               added = both_added (both_added a b) given;
               does = does_again p s (both_added (both_added a b) given) k []
                   (does_both p r s (k ∷ []) (both_added a b) given
                   (does_both p q r (k ∷ []) a b down.silently.does
-                  (does_none q r b (k ∷ []) busy.got.silently.does)) gave_does)
+                  (does_none q r b (k ∷ []) busy.refused.got.silently.does)) gave_does)
                   (subst
                   (λ (z : Shape). get_elem? (view s).held (frame_id z leaf.block) ≡ some None)
                   (ap (λ (t : Terms Shape). t.shape) gave.hand.terms ∙ busy_shape) gave.lacks
                   ∙ sym down.lacked);
-              silent = λ n. (down.silently.silent n ++ busy.got.silently.silent n) ++ [];
+              silent = λ n. (down.silently.silent n ++ busy.refused.got.silently.silent n) ++ [];
             };
-            count = (let one = down.count in let two = busy.got.count in
+            count = (let one = down.count in let two = busy.refused.got.count in
                 let three = gave.count in omega (arith, one, two, three));
           }
 
@@ -196,12 +202,19 @@ module _ (p q : TreePass) (vain : GetsNothing p q) where
   other_back r b i side f page spot (Some m) other = (
     other.0,
     record {
-      leads = other.1.leads;
       lacked = lacked_back m other.1.lacked;
       frame = other.1.frame;
       knows = other.1.knows;
-      beside = subst (λ (s : Shape). IsLeafBeside s side b i f m other.1.frame)
-          (vain_shape p q vain) other.1.beside;
+      beside = record {
+        is = other.1.beside.is;
+        order = subst
+            (λ (s : Shape). IsOrderly (fields_for s)
+            (page_within other.1.beside.is.page other.1.frame.low other.1.frame.high))
+            (vain_shape p q vain) other.1.beside.order;
+        other = other.1.beside.other;
+        meets = other.1.beside.meets;
+      };
+      leads = other.1.leads;
     },
   )
 
@@ -223,13 +236,14 @@ module _ (p q : TreePass) (vain : GetsNothing p q) where
           silent = λ n. vain.silently.silent n ++ went.silently.silent n;
         };
         path = record {
-          vain = a.references ++ went.path.vain;
+          vain = frame_references a.references ++ went.path.vain;
           path = went.path.path;
-          references = ap (λ qs. a.references ++ qs) went.path.references
-              ∙ sym (append_assoc a.references went.path.vain went.path.path);
+          references = frames_both a.references went.silently.added.references
+              ∙ (ap (λ qs. frame_references a.references ++ qs) went.path.references
+              ∙ sym (append_assoc (frame_references a.references) went.path.vain went.path.path));
           leads = subst
-              (λ (s : Shape). LeadFromRoot s (cut_in s i mode tuple) i 0 b went.path.path) same
-              went.path.leads;
+              (λ (s : Shape). LeadFromRoot s (cut_in s i mode tuple) i 0
+              went.is.page.is.page.head.number went.path.path) same went.path.leads;
         };
         lacked = lacked_back b went.lacked;
         frame = went.frame;

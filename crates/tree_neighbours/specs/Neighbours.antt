@@ -8,10 +8,10 @@ use Rattle.forest_law.specs.Numbers.{frame_id}
 use Rattle.forest_law.specs.State.{page_within, fields_for}
 use Rattle.forest_world.specs.Held.{TreePass, shape_of_pass}
 use Rattle.call_law.specs.Hands.{KnowsFrame}
-use Rattle.buffer_pool.specs.Calls.{DoesSilently, GetsNothing}
-use Rattle.buffer_pool.specs.Frames.{RefusesFrame}
+use Rattle.call_law.specs.Trace.{frame_references}
+use Rattle.buffer_pool.specs.Calls.{DoesSilently}
 use Rattle.buffer_pool.specs.Hands.{LacksFrame}
-use Rattle.buffer_pool.specs.Pages.{HasTreePage}
+use Rattle.buffer_pool.specs.Pages.{HasTreePage, RefusesPage}
 use Rattle.tree_descent.specs.Ways.{HoldsPage}
 use Rattle.tree_neighbours.specs.declared.beside.Beside.{Beside}
 use Rattle.tree_neighbours.specs.declared.beside.Beside.TheVariants.{AtEnd, Held, Busy}
@@ -23,7 +23,7 @@ use Rattle.tree_neighbours.specs.Sides.{Meets, page_on}
 -- side: of the same index, in order by itself, with bounds that meet those of f
 pub record IsLeafBeside (shape : Shape) (side : Side) (b i : ℕ) (f : Frame) (m : ℕ)
     (g : Frame) : Type 0 where
-  pub is : HasTreePage m g i 0
+  pub is : HasTreePage g i 0
   pub order : IsOrderly (fields_for shape) (page_within is.page g.low g.high)
   pub other : m ≢ b
   pub meets : Meets side f g
@@ -34,28 +34,27 @@ pub record IsLastOn (p : TreePass) (b i : ℕ) (side : Side) (q : TreePass) : Ty
   pub last : page_on side holds.is.page ≡ None
   pub same : q ≡ p
 
--- the leaf to which the one in the block b leads on this side is held besides, as at its take
+-- the leaf to which the one in the block b leads on this side is held besides, in the frame of the
+-- block m, and no frame was given back
 pub record TakesBeside (p : TreePass) (b i : ℕ) (side : Side) (m : ℕ) (q : TreePass) : Type 0 where
   pub silently : DoesSilently p q (frame_id (shape_of_pass p) m ∷ [])
-  pub none : silently.added.references ≡ []
+  pub none : frame_references silently.added.references ≡ []
   pub lacked : LacksFrame p m
   pub holds : HoldsPage (view p) b i 0
-  pub leads : page_on side holds.is.page ≡ Some m
   pub frame : Frame
   pub knows : KnowsFrame (view q) m frame
   pub beside : IsLeafBeside (shape_of_pass p) side b i holds.frame m frame
+  pub leads : page_on side holds.is.page ≡ Some beside.is.page.head.number
   pub count : count q ≡ count p + 1
 
--- the leaf to which the one in the block b leads to the left was another pass's at the one try
+-- the frame of the leaf to which the one in the block b leads to the left was another pass's at the
+-- one try
 pub record IsBusyOn (p : TreePass) (b i : ℕ) (side : Side) (q : TreePass) : Type 0 where
   pub left : side ≡ Left
   pub holds : HoldsPage (view p) b i 0
-  pub block : ℕ
-  pub leads : page_on side holds.is.page ≡ Some block
-  pub holder : ℕ
-  pub refused : RefusesFrame p block holder q
-  pub got : GetsNothing p q
-  pub none : got.silently.added.references ≡ []
+  pub page : ℕ
+  pub leads : page_on side holds.is.page ≡ Some page
+  pub refused : RefusesPage p page q
 
 -- what stands on this side of the leaf in the block b is told, and held where it is a leaf that
 -- could be taken

@@ -25,14 +25,14 @@ frames_at shape None = []
 frames_at shape (Some m) = frame_id shape m ∷ []
 
 -- the block m has the leaf beside the one of the frame f, to which that one's page leads on this
--- side and which was lacked; it is held, as it was at its take
+-- side and which was lacked; it is held
 pub record HoldsBeside (p q : TreePass) (b i : ℕ) (side : Side) (f : Frame) (page : PageRows)
     (m : ℕ) : Type 0 where
-  pub leads : page_on side page ≡ Some m
   pub lacked : LacksFrame p m
   pub frame : Frame
   pub knows : KnowsFrame (view q) m frame
   pub beside : IsLeafBeside (shape_of_pass p) side b i f m frame
+  pub leads : page_on side page ≡ Some beside.is.page.head.number
 
 -- the leaf beside the one of the frame f is held where that one has no row at the spot on this
 -- side; none is where it has one, or is the last leaf on this side
@@ -43,16 +43,17 @@ HoldsOther p q b i side f page spot (Some m) =
     (row_on side spot ≡ None) × HoldsBeside p q b i side f page m
 
 -- the leaf with the tuple's position is held, and the one beside it where the row of the mode may
--- be there, both as they were at their takes
+-- be there
 pub record DescendsPair (p : TreePass) (i : ℕ) (mode : Mode) (tuple : FieldList) (pair : LeafPair)
     (q : TreePass) : Type 0 where
   pub silently : DoesSilently p q
       (frame_id (shape_of_pass p) pair.leaf.block ∷ frames_at (shape_of_pass p) pair.other)
-  pub path : AddsPath p (cut_in (shape_of_pass p) i mode tuple) i 0 pair.leaf.block silently.added
   pub lacked : LacksFrame p pair.leaf.block
   pub frame : Frame
   pub knows : KnowsFrame (view q) pair.leaf.block frame
-  pub is : IsLeafFor (shape_of_pass p) pair.leaf.block frame i mode tuple pair.leaf.spot
+  pub is : IsLeafFor (shape_of_pass p) frame i mode tuple pair.leaf.spot
+  pub path : AddsPath p (cut_in (shape_of_pass p) i mode tuple) i 0 is.page.is.page.head.number
+      silently.added
   pub other : HoldsOther p q pair.leaf.block i (side_of mode) frame is.page.is.page pair.leaf.spot
       pair.other
   pub count : count q ≡ count p + 1 + length (frames_at (shape_of_pass p) pair.other)

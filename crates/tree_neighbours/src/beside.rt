@@ -1,5 +1,5 @@
 //! The leaf beside the one in hand.
-ghost use Rattle.std.specs.Prelude.{ℕ, ◌≡◌, ◌<◌, [], ◌∷◌};
+ghost use Rattle.std.specs.Prelude.{ℕ, ◌≡◌, ◌+◌, ◌≤◌, [], ◌∷◌};
 ghost use Rattle.latch_space.specs.Has.{IsKnown};
 ghost use Rattle.latch_space.specs.Passes.{view, count, IsSamePass};
 ghost use Rattle.latch_space.specs.Spaces.{IsPassOf};
@@ -10,9 +10,8 @@ ghost use Rattle.tree_neighbours.specs.Neighbours.{TellsBeside};
 ghost use Rattle.tree_neighbours.specs.Sides as sides;
 
 use crate::side::{Side, page_on};
-use buffer_pool::{frame, take_frame, try_frame};
+use buffer_pool::{frame, page_in, try_page};
 use forest_world::{ForestPass, ForestSpace};
-use latch_space::Take;
 use std::sync::Wait;
 
 /// What stands on a side of a leaf.
@@ -20,7 +19,7 @@ use std::sync::Wait;
 pub enum Beside {
     /// Nothing: it is the last leaf on this side.
     AtEnd,
-    /// The leaf in this block, which is held now.
+    /// The leaf in this block's frame, which is held now.
     Held(u32),
     /// A leaf that another pass holds.
     Busy,
@@ -41,7 +40,7 @@ pub fn take_beside<R: Wait>(
     requires known { IsKnown pass.old }
     requires frames { HoldsNoFrameBut (view pass.old) (block ∷ []) }
     requires pool { HoldsNoPool (view pass.old) }
-    requires room { count pass.old < 16 }
+    requires room { count pass.old + 2 ≤ 16 }
     ensures own { IsSamePass pass.old pass.new × IsPassOf space.now pass.new }
     ensures tells { TellsBeside pass.old block index side result pass.new }
     ensures fits { IsFittedTree (view pass.new) }
@@ -52,13 +51,10 @@ pub fn take_beside<R: Wait>(
         return Beside::AtEnd;
     };
     match side {
-        Side::Right => {
-            take_frame(space, pass, other, wait);
-            Beside::Held(other)
-        }
-        Side::Left => match try_frame(space, pass, other) {
-            Take::Taken => Beside::Held(other),
-            Take::Busy { .. } => Beside::Busy,
+        Side::Right => Beside::Held(page_in(space, pass, other, wait)),
+        Side::Left => match try_page(space, pass, other, wait) {
+            Some(found) => Beside::Held(found),
+            None => Beside::Busy,
         },
     }
 }

@@ -1,1 +1,1 @@
-mod RootLemmas
+mod EmptyLemmas

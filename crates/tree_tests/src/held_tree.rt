@@ -24,7 +24,8 @@ const SIZES: Sizes = Sizes {
     max_changes: 1,
 };
 
-/// The block of the key's leaf, which one pass finds while the other one has the tree.
+/// The block that has the key's leaf in its frame, which one pass finds while the other one has the
+/// tree.
 fn found_meanwhile<R: Wait>(
     space: &ForestSpace,
     pass: &mut ForestPass,

@@ -3,7 +3,7 @@ use crate::setup::Grove;
 use buffer_pool::PoolError;
 use std::sync::Wait;
 
-/// A page, an index and a level, and the block where there is such a page.
+/// A page, an index and a level, and the block that has it where there is such a page.
 const ASKED: [(u32, u32, u16, Option<u32>); 6] = [
     (0, 0, 0, Some(0)),
     (1, 1, 0, Some(1)),
@@ -27,7 +27,7 @@ fn other_block<R: Wait>(grove: &mut Grove, wait: &R) -> Option<usize> {
 fn roots_alone_are_pages_of_the_trees(rt: HostRuntime) {
     let mut grove = Grove::open(rt.alloc(), 4).expect(&rt, "a space");
     assert_eq!(rt; other_block(&mut grove, &rt), None);
-    assert_eq!(rt; grove.root_block(&rt), Some(0));
+    assert_eq!(rt; grove.root_block(&rt), 0);
 }
 
 #[test]

@@ -2,10 +2,9 @@
 ghost use Rattle.std.specs.Prelude.{◌≡◌, ◌≤◌, [], ◌∷◌, length, IfSome};
 ghost use Rattle.latch_space.specs.Passes.{view, count};
 ghost use Rattle.latch_space.specs.Spaces.{IsPassOf};
-ghost use Rattle.forest_law.specs.Numbers.{frames_of};
 ghost use Rattle.buffer_pool.specs.Forests.{IsForest};
 
-use buffer_pool::{PoolError, free_page, give_back, new_page, page_if, page_in};
+use buffer_pool::{PoolError, frame, free_page, give_back, new_page, page_if, page_in};
 use forest_world::{ForestPass, ForestSpace, open_forest};
 use index_page::PageHead;
 use map_history::Sizes;
@@ -22,7 +21,7 @@ pub(crate) struct Grove {
     ghost forest: { IsForest space },
     ghost two: { space.terms.shape.indexes ≡ 2 },
     ghost fields: { space.terms.shape.fields ≡ 1 ∷ 1 ∷ [] },
-    ghost frames: { frames_of space.terms.shape ≡ pages },
+    ghost numbers: { space.terms.shape.pages ≡ pages },
     ghost nothing: { count pass ≡ 0 },
 }
 
@@ -61,19 +60,24 @@ impl Grove {
         alloc: Global,
         wait: &R,
     ) -> Result<u32, PoolError> {
-        let number = new_page(alloc, &self.space, &mut self.pass, HEAD, wait)?;
-        free_page(&self.space, &mut self.pass, number, wait);
+        let block = new_page(alloc, &self.space, &mut self.pass, HEAD, wait)?;
+        let number = match &frame(&self.space, &self.pass, block).page {
+            Some(page) => page.head().number,
+            None => unreachable!(),
+        };
+        free_page(&self.space, &mut self.pass, block, wait);
         Ok(number)
     }
 
-    /// The block of the first root, which is given back.
-    pub(crate) fn root_block<R: Wait>(&mut self, wait: &R) -> Option<u32> {
-        let block = page_in(&self.space, &mut self.pass, 0, wait).ok()?;
+    /// The block that has the first root in its frame, which is given back.
+    pub(crate) fn root_block<R: Wait>(&mut self, wait: &R) -> u32 {
+        let block = page_in(&self.space, &mut self.pass, 0, wait);
         give_back(&self.space, &mut self.pass, block);
-        Some(block)
+        block
     }
 
-    /// The block of a page of the trees with this index and level, which is given back.
+    /// The block that has a page of the trees with this index and level in its frame, which is given
+    /// back.
     pub(crate) fn block_of<R: Wait>(
         &mut self,
         page: u32,

@@ -1,12 +1,13 @@
 use Rattle.std.proofs.Common.{◌≡◌, ◌-◌, ◌<◌, suc, sym, subst, arith, rules}
+use Rattle.latch_space.specs.Passes.{view}
 use Rattle.index_law.specs.Shape.{Shape}
-use Rattle.forest_law.specs.Numbers.{frames_of}
 use Rattle.forest_world.specs.Held.{shape_of_pass}
 use Rattle.buffer_pool.proofs.CallLemmas.{frame_has}
 use Rattle.buffer_pool.specs.Pages.{PagesInIf}
 use Rattle.tree_descent.specs.Leaves.{HasCutWithin, cut_in}
 use Rattle.tree_descent.specs.Ways.{GoesDown, TriesDown}
-use Rattle.tree_descent.proofs.WayLemmas.{looks_shape, looks_others, looks_pool, ends_in_vain, way_shape, way_page, way_above, turns_back, finds_way}
+use Rattle.tree_descent.proofs.PageLemmas.{none_others}
+use Rattle.tree_descent.proofs.WayLemmas.{looks_shape, looks_frames, looks_pool, ends_in_vain, way_shape, way_page, way_above, turns_back, finds_way}
 use Rattle.tree_descent.proofs.ways.try_down.Goals as goal
 
 pub leave-child-requires-clause-held : goal.leave-child-requires-clause-held
@@ -32,7 +33,7 @@ page_if-requires-clause-there g c =
     way_above p cut i c.loop-level.level c.loop-level.block c.loop-level.pass
     c.loop-level.invariant.way c.loop-level-test.true in
     let looks = c.leave-child.ensures.left p level way in
-    subst (λ (s : Shape). c.leave-child.result < frames_of s)
+    subst (λ (s : Shape). c.leave-child.result < s.pages)
     (sym (looks_shape p cut i level c.leave-child.result c.leave-child.new.pass looks)) looks.below
 
 pub page_if-requires-clause-others : goal.page_if-requires-clause-others
@@ -45,11 +46,37 @@ page_if-requires-clause-others g c =
     let way =
     way_above p cut i c.loop-level.level c.loop-level.block c.loop-level.pass
     c.loop-level.invariant.way c.loop-level-test.true in
-    let looks = c.leave-child.ensures.left p level way in (
-      looks_pool p cut i level c.leave-child.result c.leave-child.new.pass looks c.requires.pool,
-      looks_others p cut i level c.leave-child.result c.leave-child.new.pass looks
-          c.requires.frames,
-    )
+    let looks = c.leave-child.ensures.left p level way in
+    let q = c.leave-child.new.pass in
+    none_others (view q) c.leave-child.ensures.fits
+    (looks_frames p cut i level c.leave-child.result q looks c.requires.frames)
+    c.leave-child.result
+
+pub page_if-requires-clause-known : goal.page_if-requires-clause-known
+page_if-requires-clause-known g c =
+    let p = c.args.pass.now in
+    let i = c.args.index in
+    let cut =
+    cut_in (shape_of_pass p) i c.args.mode (g.T.Fields.fields_of c.args.tuple.now) in
+    let level = c.loop-level.level - 1 in
+    let way =
+    way_above p cut i c.loop-level.level c.loop-level.block c.loop-level.pass
+    c.loop-level.invariant.way c.loop-level-test.true in
+    let looks = c.leave-child.ensures.left p level way in
+    looks.silently.does.known
+
+pub page_if-requires-clause-pool : goal.page_if-requires-clause-pool
+page_if-requires-clause-pool g c =
+    let p = c.args.pass.now in
+    let i = c.args.index in
+    let cut =
+    cut_in (shape_of_pass p) i c.args.mode (g.T.Fields.fields_of c.args.tuple.now) in
+    let level = c.loop-level.level - 1 in
+    let way =
+    way_above p cut i c.loop-level.level c.loop-level.block c.loop-level.pass
+    c.loop-level.invariant.way c.loop-level-test.true in
+    let looks = c.leave-child.ensures.left p level way in
+    looks_pool p cut i level c.leave-child.result c.leave-child.new.pass looks c.requires.pool
 
 pub page_if-requires-clause-room : goal.page_if-requires-clause-room
 page_if-requires-clause-room g c =
@@ -98,7 +125,7 @@ loop-level-preserved g c =
     record {
       own = search rules;
       way = finds_way p cut i level c.leave-child.result c.in_ok-block.block c.leave-child.new.pass
-          c.page_if.new.pass looks c.requires.frames
+          c.page_if.new.pass looks c.page_if.ensures.fits
           (subst
           (λ o. PagesInIf c.leave-child.new.pass c.leave-child.result i level o
           c.page_if.new.pass) c.in_ok-block.was c.page_if.ensures.did);

@@ -1,5 +1,6 @@
 use Rattle.std.proofs.Common.{sym, refl}
-use Rattle.tree_neighbours.proofs.NeighbourLemmas.{beside_below, beside_lacked, takes_beside, is_busy}
+use Rattle.latch_space.specs.Passes.{view}
+use Rattle.tree_neighbours.proofs.NeighbourLemmas.{beside_live, beside_others, takes_beside, is_busy}
 use Rattle.tree_neighbours.proofs.beside.take_beside.Goals as goal
 
 pub returns-in_default-clause-tells : goal.returns-in_default-clause-tells
@@ -9,46 +10,42 @@ returns-in_default-clause-tells g c = record {
   same = refl;
 }
 
-pub take_frame-requires-clause-there : goal.take_frame-requires-clause-there
-take_frame-requires-clause-there g c =
-    beside_below c.args.pass.now c.args.block c.args.index c.args.side c.requires.held
-    c.in-Some.other (sym (c.in-Some.ensures c.args.index c.requires.held)) c.fits.ensures
+pub page_in-requires-clause-live : goal.page_in-requires-clause-live
+page_in-requires-clause-live g c =
+    beside_live (view c.args.pass.now) c.args.block c.args.index c.args.side c.requires.held
+    c.in-Some.other (sym (c.in-Some.ensures c.args.index c.requires.held))
 
-pub take_frame-requires-clause-lacks : goal.take_frame-requires-clause-lacks
-take_frame-requires-clause-lacks g c =
-    beside_lacked c.args.pass.now c.args.block c.args.index c.args.side c.requires.held
+pub page_in-requires-clause-others : goal.page_in-requires-clause-others
+page_in-requires-clause-others g c =
+    beside_others (view c.args.pass.now) c.args.block c.args.index c.args.side c.requires.held
     c.in-Some.other (sym (c.in-Some.ensures c.args.index c.requires.held)) c.fits.ensures
     c.requires.frames
 
-pub try_frame-requires-clause-there : goal.try_frame-requires-clause-there
-try_frame-requires-clause-there g c =
-    beside_below c.args.pass.now c.args.block c.args.index c.args.side c.requires.held
-    c.in-Some.other (sym (c.in-Some.ensures c.args.index c.requires.held)) c.fits.ensures
+pub try_page-requires-clause-live : goal.try_page-requires-clause-live
+try_page-requires-clause-live g c =
+    beside_live (view c.args.pass.now) c.args.block c.args.index c.args.side c.requires.held
+    c.in-Some.other (sym (c.in-Some.ensures c.args.index c.requires.held))
 
-pub try_frame-requires-clause-lacks : goal.try_frame-requires-clause-lacks
-try_frame-requires-clause-lacks g c =
-    beside_lacked c.args.pass.now c.args.block c.args.index c.args.side c.requires.held
+pub try_page-requires-clause-others : goal.try_page-requires-clause-others
+try_page-requires-clause-others g c =
+    beside_others (view c.args.pass.now) c.args.block c.args.index c.args.side c.requires.held
     c.in-Some.other (sym (c.in-Some.ensures c.args.index c.requires.held)) c.fits.ensures
     c.requires.frames
 
 pub returns-in-Right-clause-tells : goal.returns-in-Right-clause-tells
 returns-in-Right-clause-tells g c =
-    let leads = sym (c.in-Some.ensures c.args.index c.requires.held) in
     takes_beside c.args.pass.now c.args.block c.args.index c.args.side c.requires.held
-    c.in-Some.other leads c.take_frame.new.pass c.requires.known
-    (beside_lacked c.args.pass.now c.args.block c.args.index c.args.side c.requires.held
-    c.in-Some.other leads c.fits.ensures c.requires.frames) c.take_frame.ensures.took
+    c.in-Some.other (sym (c.in-Some.ensures c.args.index c.requires.held)) c.page_in.new.pass
+    c.page_in.result c.page_in.ensures.took c.page_in.ensures.fits
 
-pub returns-in-Taken-clause-tells : goal.returns-in-Taken-clause-tells
-returns-in-Taken-clause-tells g c =
-    let leads = sym (c.in-Some.ensures c.args.index c.requires.held) in
+pub returns-in-Some-try_page-clause-tells : goal.returns-in-Some-try_page-clause-tells
+returns-in-Some-try_page-clause-tells g c =
     takes_beside c.args.pass.now c.args.block c.args.index c.args.side c.requires.held
-    c.in-Some.other leads c.try_frame.new.pass c.requires.known
-    (beside_lacked c.args.pass.now c.args.block c.args.index c.args.side c.requires.held
-    c.in-Some.other leads c.fits.ensures c.requires.frames) c.in-Taken.ensures.did.0
+    c.in-Some.other (sym (c.in-Some.ensures c.args.index c.requires.held)) c.try_page.new.pass
+    c.in-Some-try_page.found c.in-Some-try_page.ensures.did c.try_page.ensures.fits
 
-pub returns-in-Busy-clause-tells : goal.returns-in-Busy-clause-tells
-returns-in-Busy-clause-tells g c =
+pub returns-in-None-clause-tells : goal.returns-in-None-clause-tells
+returns-in-None-clause-tells g c =
     is_busy c.args.pass.now c.args.block c.args.index c.args.side c.requires.held c.in-Some.other
-    (sym (c.in-Some.ensures c.args.index c.requires.held)) c.try_frame.new.pass c.requires.known
-    c.in-Busy.holder c.in-Left.is c.in-Busy.ensures.did
+    (sym (c.in-Some.ensures c.args.index c.requires.held)) c.try_page.new.pass c.in-Left.is
+    c.in-None.ensures.did
