@@ -1,5 +1,5 @@
 -- What was added on the way, by one call behind the other.
-use Rattle.std.proofs.Common.{◌≡◌, ℕ, Bool, List, [], ◌∷◌, ◌++◌, append-nil, inl, inr, sym, ap, subst, ◌∙◌, refl}
+use Rattle.std.proofs.Common.{◌≡◌, ℕ, List, [], ◌∷◌, ◌++◌, append-nil, inl, inr, sym, ap, subst, ◌∙◌, refl}
 use Rattle.key_tuple.specs.Order.{FieldList}
 use Rattle.latch_law.specs.declared.knows.Terms.{Terms}
 use Rattle.latch_space.specs.Passes.{view}
@@ -16,7 +16,7 @@ use Rattle.buffer_pool.specs.NewPages.{FindsNoneFree}
 use Rattle.buffer_pool.proofs.AddedLemmas.{none_added, held_adds}
 use Rattle.tree_growth.specs.declared.looking.PageInHand.{PageInHand}
 use Rattle.tree_growth.specs.Growing.{HadRoom}
-use Rattle.tree_growth.specs.Ways.{GoesOn, SaysFull, SaysError, StopsOnWay, ArrivesAt, WalksDown}
+use Rattle.tree_growth.specs.Ways.{GoesOn, SaysFull, SaysError, StopsOnWay, ArrivesAt}
 
 -- an element of one of two lists
 pub in_first : {A : Type 0} (x : A) (xs ys : List A) → In x xs → In x (xs ++ ys)

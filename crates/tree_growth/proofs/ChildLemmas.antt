@@ -32,7 +32,7 @@ module _ (v : View) (i : ℕ) (key : FieldList) (need : ℕ) (at : PageInHand)
     level = at.level - 1;
     frame = is.frame;
     knows = is.knows;
-    page = subst (λ l. HasKey v.terms.shape at.block i l key is.frame)
+    page = subst (λ l. HasKey v.terms.shape i l key is.frame)
         (let e : at.level ≡ suc (at.level - 1) = omega (arith, above) in e) is.page;
   }
 
@@ -42,8 +42,8 @@ module _ (v : View) (i : ℕ) (key : FieldList) (need : ℕ) (at : PageInHand)
 
     -- its level
     pub level_above : suc inner.level ≡ at.level
-    level_above = level_one at.block i i (suc inner.level) at.level inner.frame inner.page.is
-        (subst (λ f. HasTreePage at.block f i at.level) same_frame is.page.is)
+    level_above = level_one i i (suc inner.level) at.level inner.frame inner.page.is
+        (subst (λ f. HasTreePage f i at.level) same_frame is.page.is)
 
     -- and its room, where it isn't full
     pub room_above : at.is_full ≡ false
@@ -95,7 +95,7 @@ module _ (p q : TreePass) (i : ℕ) (key : FieldList) (need : ℕ) (at : PageInH
           takes.parent.frame takes.parent.knows;
       knows_low = takes.knows;
       above = takes.parent.page.is;
-      below = subst (λ (t : Shape). HasKey t child i takes.parent.level key takes.frame)
+      below = subst (λ (t : Shape). HasKey t i takes.parent.level key takes.frame)
           (sym (same_shape p q takes.silently.added does.adds)) takes.page;
       points = takes.points;
       room = room_above (view p) i key need at is above takes.parent not_full;

@@ -28,7 +28,7 @@ module _ (p q : TreePass) (i : ℕ) (key : FieldList) (need left right : ℕ)
     (way : IsGoingDown p i key (left ∷ right ∷ [])) where
   -- of two pages the left one is kept, or the right one
   pub keeps_left : left ≢ right → GivesFrame p right q → (level : ℕ) (f : Frame)
-      → KnowsFrame (view p) left f → (page : HasKey (shape_of_pass p) left i level key f)
+      → KnowsFrame (view p) left f → (page : HasKey (shape_of_pass p) i level key f)
       → (at : PageInHand) → TellsRoom left page.is.page need at
       → ArrivesAt p i key need at q
   keeps_left ne gave level f knows page at tells =
@@ -36,7 +36,7 @@ module _ (p q : TreePass) (i : ℕ) (key : FieldList) (need left right : ℕ)
       (λ j apart each. (each.0, (apart, tt))) refl level f knows page at tells
 
   pub keeps_right : right ≢ left → GivesFrame p left q → (level : ℕ) (f : Frame)
-      → KnowsFrame (view p) right f → (page : HasKey (shape_of_pass p) right i level key f)
+      → KnowsFrame (view p) right f → (page : HasKey (shape_of_pass p) i level key f)
       → (at : PageInHand) → TellsRoom right page.is.page need at
       → ArrivesAt p i key need at q
   keeps_right ne gave level f knows page at tells =

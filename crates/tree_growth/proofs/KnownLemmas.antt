@@ -14,7 +14,8 @@ use Rattle.forest_law.specs.declared.objects.Object.{Object}
 use Rattle.forest_law.specs.declared.objects.Object.TheVariants as object
 use Rattle.forest_law.specs.FramePages.{TellsPage}
 use Rattle.forest_law.specs.Numbers.{frame_id}
-use Rattle.forest_law.proofs.FramePageLemmas.{frame_tells}
+use Rattle.forest_law.specs.Objects.{IsFrameOf}
+use Rattle.forest_law.proofs.FramePageLemmas.{frame_tells, frames_have_one_page}
 use Rattle.forest_world.specs.Held.{TreePass, shape_of_pass}
 use Rattle.call_law.specs.Hands.{KnowsFrame}
 use Rattle.call_law.specs.Spoken.{View}
@@ -38,8 +39,8 @@ pub frame_one : (v : View) (b : ℕ) (f g : Frame) → KnowsFrame v b f → Know
 frame_one v b f g a c = ap (frame_held f) (sym a.1 ∙ c.1)
 
 -- and so is the level of its page
-pub level_one : (b i j l m : ℕ) (f : Frame) → HasTreePage b f i l → HasTreePage b f j m → l ≡ m
-level_one b i j l m f x y =
+pub level_one : (i j l m : ℕ) (f : Frame) → HasTreePage f i l → HasTreePage f j m → l ≡ m
+level_one i j l m f x y =
     sym x.at_level
     ∙ (ap (λ page. page.head.level) (same_some x.page y.page (sym x.paged ∙ y.paged)) ∙ y.at_level)
 
@@ -53,19 +54,30 @@ lacked_apart p b c f lacks knows e =
 
 -- pages of two levels are in two blocks
 pub levels_apart : (v : View) (b c i l : ℕ) (f g : Frame) → KnowsFrame v b f → KnowsFrame v c g
-    → HasTreePage b f i (suc l) → HasTreePage c g i l → c ≢ b
+    → HasTreePage f i (suc l) → HasTreePage g i l → c ≢ b
 levels_apart v b c i l f g knows_b knows_c above below e =
     let same : g ≡ f = frame_one v b g f (subst (λ n. KnowsFrame v n g) e knows_c) knows_b in
-    let one = level_one b i i l (suc l) f
-    (subst (λ n. HasTreePage n f i l) e (subst (λ h. HasTreePage c h i l) same below)) above in
+    let one = level_one i i l (suc l) f (subst (λ h. HasTreePage h i l) same below) above in
     absurd (omega (arith, one))
 
--- what the state in which all that is known is so tells of a frame's page
+-- in the state in which all that is known is so the frame is there
+pub known_at : (v : View) (fitted : IsFittedTree v) (b : ℕ) (f : Frame) → KnowsFrame v b f
+    → IsFrameOf fitted.whole.shape fitted.whole.objects b f
+known_at v fitted b f knows =
+    ap (λ (s : Shape). get_elem? fitted.whole.objects (frame_id s b)) fitted.fits.shape
+    ∙ fitted.fits.known (frame_id v.terms.shape b) (holding knows.0 (object.Frame f)) knows.1
+
+-- and this is told of its page
 pub known_tells : (v : View) (fitted : IsFittedTree v) (b : ℕ) (f : Frame) (page : PageRows)
     → KnowsFrame v b f → f.page ≡ Some page
-    → TellsPage fitted.whole b f page
+    → TellsPage fitted.whole f page
 known_tells v fitted b f page knows paged =
-    frame_tells fitted.whole fitted.is_lawful b f page
-    (ap (λ (s : Shape). get_elem? fitted.whole.objects (frame_id s b)) fitted.fits.shape
-    ∙ fitted.fits.known (frame_id v.terms.shape b) (holding knows.0 (object.Frame f)) knows.1)
-    paged
+    frame_tells fitted.whole fitted.is_lawful b f page (known_at v fitted b f knows) paged
+
+-- frames of two blocks have pages of two numbers
+pub numbers_apart : (v : View) (fitted : IsFittedTree v) (b c : ℕ) (f g : Frame) (x y : PageRows)
+    → KnowsFrame v b f → KnowsFrame v c g → f.page ≡ Some x → g.page ≡ Some y → b ≢ c
+    → x.head.number ≢ y.head.number
+numbers_apart v fitted b c f g x y knows_f knows_g has_f has_g apart same =
+    apart (frames_have_one_page fitted.whole fitted.is_lawful b c f g x y
+    (known_at v fitted b f knows_f) (known_at v fitted c g knows_g) has_f has_g same)

@@ -7,7 +7,7 @@ use Rattle.key_tuple.specs.KeyPlace.{KeyPlace, At, above, cut_of}
 use Rattle.key_tuple.specs.Order.{FieldList}
 use Rattle.key_tuple.specs.Position.{position_cut}
 use Rattle.latch_space.specs.Passes.{view}
-use Rattle.tree_law.specs.Pages.{low_place, high_place, is_own, IsOrderly}
+use Rattle.tree_law.specs.Pages.{low_place, high_place, IsOrderly}
 use Rattle.index_law.specs.Shape.{Shape}
 use Rattle.forest_law.specs.declared.objects.Frame.{Frame}
 use Rattle.forest_law.specs.Numbers.{frame_id}
@@ -25,8 +25,8 @@ use Rattle.tree_growth.proofs.AddLemmas.{same_shape}
 use Rattle.tree_growth.proofs.HandLemmas.{way_less, goes_gave, still_gave}
 
 -- a page of the index with the key in its bounds, of a pass of this shape
-abbrev pub HasKey : Shape → (b i level : ℕ) → FieldList → Frame → Type 0
-HasKey s b i level key f = IsPageFor s b f i level (cut_in s i mode.Ge key)
+abbrev pub HasKey : Shape → (i level : ℕ) → FieldList → Frame → Type 0
+HasKey s i level key f = IsPageFor s f i level (cut_in s i mode.Ge key)
 
 -- a key with all fields is where its cut is
 pub cut_is_above : (fields : ℕ) (m : Mode) (key : FieldList) (x : KeyPlace) → length key ≡ fields
@@ -36,7 +36,7 @@ cut_is_above fields m key x e =
 
 -- a page in hand of which this is known
 module _ (v : View) (i : ℕ) (key : FieldList) (need b level : ℕ) (at : PageInHand) (f : Frame)
-    (page : HasKey v.terms.shape b i level key f) (tells : TellsRoom b page.is.page need at) where
+    (page : HasKey v.terms.shape i level key f) (tells : TellsRoom b page.is.page need at) where
   pub in_hand : KnowsFrame v b f → IsPageInHand v i key need at
   in_hand knows = record {
     frame = f;
@@ -45,7 +45,7 @@ module _ (v : View) (i : ℕ) (key : FieldList) (need b level : ℕ) (at : PageI
       is = record {
         page = page.is.page;
         paged = page.is.paged;
-        tree = subst (λ c. is_own c page.is.page.head.prev ≡ false) (sym tells.is_block) page.is.tree;
+        tree = page.is.tree;
         index = page.is.index;
         at_level = sym tells.is_level;
       };
@@ -72,7 +72,7 @@ module _ (p q : TreePass) (i : ℕ) (key : FieldList) (need : ℕ) (bs : List �
     → AllByRecursion (λ (c : ℕ). j ≢ frame_id (shape_of_pass p) c) (k ∷ [])
     → AllByRecursion (λ (c : ℕ). j ≢ frame_id (shape_of_pass p) c) bs)
     (two : length bs ≡ 2) (level : ℕ) (f : Frame) (knows : KnowsFrame (view p) k f)
-    (page : HasKey (shape_of_pass p) k i level key f) where
+    (page : HasKey (shape_of_pass p) i level key f) where
   kept_way : IsGoingDown q i key (k ∷ [])
   kept_way = way_less p q i key bs (k ∷ []) way b gave cover two
 
@@ -103,7 +103,7 @@ module _ (p : TreePass) (i : ℕ) (key : FieldList) (left right : ℕ)
   at_cut = cut_is_above (fields_for (shape_of_pass p) i) mode.Ge key (At halves.at) fields
 
   abbrev pub lower_has : above key (At halves.at) ≡ true
-      → HasKey (shape_of_pass p) left i halves.level key halves.lower
+      → HasKey (shape_of_pass p) i halves.level key halves.lower
   lower_has below = record {
     is = halves.is_lower;
     order = halves.order_lower;
@@ -115,7 +115,7 @@ module _ (p : TreePass) (i : ℕ) (key : FieldList) (left right : ℕ)
   }
 
   abbrev pub upper_has : above key (At halves.at) ≡ false
-      → HasKey (shape_of_pass p) right i halves.level key halves.upper
+      → HasKey (shape_of_pass p) i halves.level key halves.upper
   upper_has not_below = record {
     is = halves.is_upper;
     order = halves.order_upper;

@@ -25,7 +25,7 @@ use Rattle.tree_growth.specs.Ways.{IsGoingDown, GoesOn, GrowsChild, KeepsHalf}
 use Rattle.tree_growth.proofs.AddLemmas.{same_shape, goes_silently, goes_both, reaches_after}
 use Rattle.tree_growth.proofs.HandLemmas.{way_more, way_less, goes_gave, still_gave}
 use Rattle.tree_growth.proofs.RoomLemmas.{halves_roomy}
-use Rattle.tree_growth.proofs.KnownLemmas.{frame_one, level_one, lacked_apart, levels_apart, known_tells}
+use Rattle.tree_growth.proofs.KnownLemmas.{frame_one, level_one, lacked_apart, levels_apart, known_tells, numbers_apart}
 
 module _ (p q : TreePass) (i : ℕ) (key : FieldList) (parent child right : ℕ)
     (way : IsGoingDown p i key (parent ∷ child ∷ [])) (splits : SplitsChild p parent child i right q) where
@@ -49,8 +49,8 @@ module _ (p q : TreePass) (i : ℕ) (key : FieldList) (parent child right : ℕ)
     same_low = frame_one (view p) child held.low splits.was.low held.knows_low splits.was.knows_low
 
     pub same_level : splits.was.level ≡ held.level
-    same_level = level_one child i i splits.was.level held.level splits.was.low splits.was.below
-        (subst (λ f. HasTreePage child f i held.level) same_low held.below.is)
+    same_level = level_one i i splits.was.level held.level splits.was.low splits.was.below
+        (subst (λ f. HasTreePage f i held.level) same_low held.below.is)
 
     pub child_apart : child ≢ parent
     child_apart = levels_apart (view p) parent child i held.level held.up held.low held.knows_up
@@ -67,12 +67,13 @@ module _ (p q : TreePass) (i : ℕ) (key : FieldList) (parent child right : ℕ)
     same_page = same_some splits.cuts.page splits.was.below.page
         (sym splits.cuts.had ∙ splits.was.below.paged)
 
-    left_page : HasTreePage child splits.left i splits.was.level
+    left_page : HasTreePage splits.left i splits.was.level
     left_page = let head = splits.cuts.cuts.head in record {
       page = splits.cuts.stays;
       paged = splits.cuts.has;
-      tree = ap (λ (h : PageHead). is_own child h.prev) head
-          ∙ (ap (λ (r : PageRows). is_own child r.head.prev) same_page ∙ splits.was.below.tree);
+      tree = ap (λ (h : PageHead). is_own h.number h.prev) head
+          ∙ (ap (λ (r : PageRows). is_own r.head.number r.head.prev) same_page
+          ∙ splits.was.below.tree);
       index = ap (λ (h : PageHead). h.index) head
           ∙ (ap (λ (r : PageRows). r.head.index) same_page ∙ splits.was.below.index);
       at_level = ap (λ (h : PageHead). h.level) head
@@ -80,24 +81,28 @@ module _ (p q : TreePass) (i : ℕ) (key : FieldList) (parent child right : ℕ)
     }
 
     module _ (fitted : IsFittedTree (view q)) where
-      left_tells : TellsPage fitted.whole child splits.left splits.cuts.stays
+      left_tells : TellsPage fitted.whole splits.left splits.cuts.stays
       left_tells = known_tells (view q) fitted child splits.left splits.cuts.stays splits.knows_left
           splits.cuts.has
 
-      right_tells : TellsPage fitted.whole right splits.new splits.cuts.new
+      right_tells : TellsPage fitted.whole splits.new splits.cuts.new
       right_tells = known_tells (view q) fitted right splits.new splits.cuts.new splits.knows_new
           splits.cuts.has_new
 
-      -- the number of the page that was cut
-      number_is : splits.cuts.page.head.number ≡ child
-      number_is = sym (ap (λ (h : PageHead). h.number) splits.cuts.cuts.head) ∙ left_tells.number
+      -- the halves have two numbers
+      two_numbers : splits.cuts.page.head.number ≢ splits.cuts.fresh.head.number
+      two_numbers e =
+          numbers_apart (view q) fitted child right splits.left splits.new splits.cuts.stays
+          splits.cuts.new splits.knows_left splits.knows_new splits.cuts.has splits.cuts.has_new
+          halves_apart (ap (λ (h : PageHead). h.number) splits.cuts.cuts.head
+          ∙ (e ∙ sym (ap (λ (h : PageHead). h.number) splits.cuts.cuts.new_head)))
 
-      right_page : HasTreePage right splits.new i splits.was.level
+      right_page : HasTreePage splits.new i splits.was.level
       right_page = let head = splits.cuts.cuts.new_head in let blank = splits.cuts.blank in record {
         page = splits.cuts.new;
         paged = splits.cuts.has_new;
-        tree = ap (λ (h : PageHead). is_own right h.prev) head
-            ∙ ne_eqb splits.cuts.page.head.number right (λ e. halves_apart (sym number_is ∙ e));
+        tree = ap (λ (h : PageHead). is_own h.number h.prev) head
+            ∙ ne_eqb splits.cuts.page.head.number splits.cuts.fresh.head.number two_numbers;
         index = ap (λ (h : PageHead). h.index) head
             ∙ (blank.index
             ∙ (ap (λ (r : PageRows). r.head.index) same_page ∙ splits.was.below.index));

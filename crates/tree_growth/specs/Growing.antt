@@ -42,7 +42,7 @@ pub record HadRoom (shape : Shape) (i : ℕ) (key : FieldList) (need : ℕ) (add
     pub taken : Object
     pub leaf : Frame
     pub among : In (reference (frame_id shape block) taken (object.Frame leaf)) added.references
-    pub page : IsPageFor shape block leaf i 0 (cut_in shape i mode.Ge key)
+    pub page : IsPageFor shape leaf i 0 (cut_in shape i mode.Ge key)
     pub room : load_of page.is.page.rows + need ≤ PAGE_ROOM
 
 -- the leaf that has the key's position had so much room when it was given back

@@ -11,7 +11,7 @@ use Rattle.forest_law.specs.State.{bound, page_within, fields_for}
 use Rattle.forest_world.specs.Held.{TreePass, HasFrame}
 use Rattle.call_law.specs.Hands.{KnowsFrame}
 use Rattle.call_law.specs.Spoken.{View}
-use Rattle.buffer_pool.specs.Pages.{HasTreePage}
+use Rattle.buffer_pool.specs.Pages.{HasNumber, HasTreePage}
 use Rattle.tree_descent.specs.Descents.{PointsAt}
 use Rattle.tree_descent.specs.Leaves.{cut_in, IsPageFor}
 use Rattle.tree_smo.specs.Splitting.{most_for_pointer}
@@ -57,8 +57,14 @@ pub record HoldsLow (p : TreePass) (b : ℕ) (key : FieldList) : Type 0 where
 pub record IsPageInHand (v : View) (i : ℕ) (key : FieldList) (need : ℕ) (at : PageInHand) : Type 0 where
   pub frame : Frame
   pub knows : KnowsFrame v at.block frame
-  pub page : IsPageFor v.terms.shape at.block frame i at.level (cut_in v.terms.shape i mode.Ge key)
+  pub page : IsPageFor v.terms.shape frame i at.level (cut_in v.terms.shape i mode.Ge key)
   pub tells : TellsRoom at.block page.is.page need at
+
+-- the block's frame has the root of the index, which is the page of the index's number
+pub record HoldsRoot (v : View) (b i : ℕ) : Type 0 where
+  pub frame : Frame
+  pub knows : KnowsFrame v b frame
+  pub has : HasNumber frame i
 
 -- a page of the index is in hand that has room for any pointer, and under it one that it points to,
 -- in whose bounds the key is
@@ -68,9 +74,9 @@ pub record HoldsChild (v : View) (parent child i : ℕ) (key : FieldList) : Type
   pub low : Frame
   pub knows_up : KnowsFrame v parent up
   pub knows_low : KnowsFrame v child low
-  pub above : HasTreePage parent up i (suc level)
-  pub below : IsPageFor v.terms.shape child low i level (cut_in v.terms.shape i mode.Ge key)
-  pub points : PointsAt above.page.rows child
+  pub above : HasTreePage up i (suc level)
+  pub below : IsPageFor v.terms.shape low i level (cut_in v.terms.shape i mode.Ge key)
+  pub points : PointsAt above.page.rows below.is.page.head.number
   pub room : load_of above.page.rows + most_for_pointer ≤ PAGE_ROOM
 
 -- two pages of a level of the index are in hand that meet at a key, and in whose bounds together
@@ -82,8 +88,8 @@ pub record HoldsBothHalves (v : View) (left right i : ℕ) (key : FieldList) : T
   pub upper : Frame
   pub knows_lower : KnowsFrame v left lower
   pub knows_upper : KnowsFrame v right upper
-  pub is_lower : HasTreePage left lower i level
-  pub is_upper : HasTreePage right upper i level
+  pub is_lower : HasTreePage lower i level
+  pub is_upper : HasTreePage upper i level
   pub order_lower : IsOrderly (fields_for v.terms.shape)
       (page_within is_lower.page lower.low lower.high)
   pub order_upper : IsOrderly (fields_for v.terms.shape)

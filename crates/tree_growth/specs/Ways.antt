@@ -1,5 +1,5 @@
 -- The way down to a leaf, on which pages are split.
-use Rattle.std.specs.Prelude.{ℕ, ◌≡◌, ◌≢◌, ◌<◌, ◌+◌, ◌≤◌, Bool, true, false, List, [], ◌∷◌, length}
+use Rattle.std.specs.Prelude.{ℕ, ◌≡◌, ◌≢◌, ◌<◌, ◌+◌, ◌≤◌, false, List, [], ◌∷◌, length}
 use Rattle.std.specs.List.{AllByRecursion}
 use Rattle.key_tuple.specs.Order.{FieldList}
 use Rattle.latch_law.specs.declared.knows.Holding.{Holding}

@@ -5,12 +5,12 @@ ghost use Rattle.latch_space.specs.Spaces.{IsPassOf};
 ghost use Rattle.index_page.specs.declared.TheConstants.{MAX_CHARGE};
 ghost use Rattle.buffer_pool.specs.Forests.{IsForest, IsFittedTree};
 ghost use Rattle.tree_smo.specs.Splitting.{CanSplit};
-ghost use Rattle.tree_growth.specs.Pages.{IsOrdered, IsPageInHand, HoldsChild};
+ghost use Rattle.tree_growth.specs.Pages.{IsOrdered, IsPageInHand, HoldsRoot, HoldsChild};
 ghost use Rattle.tree_growth.specs.Ways.{IsGoingDown, ArrivesAt, ArrivesWithRoom, StopsOnWay, GrowsChild};
 
 use crate::halves::keep_half;
 use crate::looking::{PageInHand, page_in_hand};
-use buffer_pool::{PoolError, give_back, take_frame};
+use buffer_pool::{PoolError, give_back, page_in};
 use forest_world::{ForestPass, ForestSpace};
 use key_tuple::Key;
 use std::alloc::Global;
@@ -31,13 +31,12 @@ pub fn take_root<R: Wait>(
     requires way { IsGoingDown pass.old index key.now.tuple [] }
     ensures own { IsSamePass pass.old pass.new × IsPassOf space.now pass.new }
     ensures took { ArrivesAt pass.old index key.now.tuple need result pass.new }
-    ensures root { result.block ≡ index }
+    ensures root { HoldsRoot (view pass.new) result.block index }
     ensures fits { IsFittedTree (view pass.new) }
 {
     let _ = key;
-    pass.fits();
-    take_frame(space, pass, index, wait);
-    page_in_hand(space, pass, index, need)
+    let block = page_in(space, pass, index, wait);
+    page_in_hand(space, pass, block, need)
 }
 
 /// Raises the root where it has too little room, and splits the page under it.
@@ -55,7 +54,7 @@ pub(crate) fn grow_root<R: Wait>(
     requires need { need ≤ MAX_CHARGE }
     requires way { IsGoingDown pass.old index key.now.tuple (root.block ∷ []) }
     requires held { IsPageInHand (view pass.old) index key.now.tuple need root }
-    requires root { root.block ≡ index }
+    requires root { HoldsRoot (view pass.old) root.block index }
     ensures own { IsSamePass pass.old pass.new × IsPassOf space.now pass.new }
     ensures ok { IfOk result (λ at. ArrivesWithRoom pass.old index key.now.tuple need at pass.new) }
     ensures err { IfErr result (λ e. StopsOnWay pass.old index key.now.tuple e pass.new) }
@@ -65,10 +64,12 @@ pub(crate) fn grow_root<R: Wait>(
         pass.fits();
         return Ok(root);
     }
-    match raise_root(alloc, space, pass, index, wait) {
-        Ok(under) => grow_child(alloc, space, pass, index, under, index, key, need, wait),
+    match raise_root(alloc, space, pass, index, root.block, wait) {
+        Ok(under) => grow_child(
+            alloc, space, pass, root.block, under, index, key, need, wait,
+        ),
         Err(error) => {
-            give_back(space, pass, index);
+            give_back(space, pass, root.block);
             Err(error)
         }
     }

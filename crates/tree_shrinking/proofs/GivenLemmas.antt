@@ -35,12 +35,16 @@ module _ (rs rs' : List (Reference Object)) (more : AreAmong rs rs') (s t : Shap
       → StayApart t i left right asks rs'
   apart_more i left right asks a = record {
     level = a.level;
+    lower_block = a.lower_block;
+    upper_block = a.upper_block;
     lower = a.lower;
     upper = a.upper;
-    gave_left = given_more left a.lower a.gave_left;
-    gave_right = given_more right a.upper a.gave_right;
+    gave_left = given_more a.lower_block a.lower a.gave_left;
+    gave_right = given_more a.upper_block a.upper a.gave_right;
     is_left = a.is_left;
     is_right = a.is_right;
+    left_number = a.left_number;
+    right_number = a.right_number;
     apart = a.apart;
   }
 
@@ -67,9 +71,11 @@ rests_more rs rs' more s t same i level key r = subst (λ z. RestsAt z i level k
       })
       | inr e ↦ inr (record {
         top = e.top;
+        block = e.block;
         root = e.root;
-        gave = given_more rs rs' more s s refl i e.root e.gave;
+        gave = given_more rs rs' more s s refl e.block e.root e.gave;
         page = e.page;
+        number = e.number;
         low = e.low;
       })
     ])

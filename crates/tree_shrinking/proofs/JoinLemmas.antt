@@ -8,6 +8,7 @@ use Rattle.buffer_pool.specs.Calls.{GetsNothing}
 use Rattle.tree_descent.specs.Descents.{HoldsInner}
 use Rattle.tree_shrinking.specs.declared.families.Family.{Family}
 use Rattle.tree_shrinking.specs.declared.pairs.Pair.{Pair}
+use Rattle.tree_shrinking.specs.declared.pairs.Siblings.{Siblings}
 use Rattle.tree_shrinking.specs.Families.{TellsFamily, HoldsFamily}
 use Rattle.tree_shrinking.specs.Pairs.{HoldsPair, GoesTo, StillKnows, ComesBack, TakesPair}
 use Rattle.tree_shrinking.proofs.WayLemmas.{to_both, still_nothing, way_nothing}
@@ -63,8 +64,8 @@ family_still p q parent i family h still = record {
 }
 
 -- both pages were taken and given back
-module _ (p q r : TreePass) (pair : Pair) (i : ℕ) (key : FieldList)
-    (took : TakesPair p pair i key q) (gave : GoesTo q i key (pair.parent ∷ []) r)
+module _ (p q r : TreePass) (pair : Pair) (asked : Siblings) (i : ℕ) (key : FieldList)
+    (took : TakesPair p pair asked i key q) (gave : GoesTo q i key (pair.parent ∷ []) r)
     (still : StillKnows q pair.parent r) where
   abbrev pub taken_back : ComesBack p pair.parent i key r
   taken_back = record {
@@ -78,10 +79,10 @@ module _ (p q r : TreePass) (pair : Pair) (i : ℕ) (key : FieldList)
   taken_still f knows = still f (took.still f knows)
 
 -- and so after nothing was done between
-pub failed_back : (p q r s : TreePass) (pair : Pair) (i : ℕ) (key : FieldList)
-    → TakesPair p pair i key q → GetsNothing q r → GoesTo r i key (pair.parent ∷ []) s
+pub failed_back : (p q r s : TreePass) (pair : Pair) (asked : Siblings) (i : ℕ) (key : FieldList)
+    → TakesPair p pair asked i key q → GetsNothing q r → GoesTo r i key (pair.parent ∷ []) s
     → StillKnows r pair.parent s → ComesBack p pair.parent i key s
-failed_back p q r s pair i key took got gave still = record {
+failed_back p q r s pair asked i key took got gave still = record {
   to = to_both p q s i key (pair.parent ∷ pair.left ∷ pair.right ∷ []) (pair.parent ∷ []) took.to
       (to_both q r s i key (pair.parent ∷ pair.left ∷ pair.right ∷ []) (pair.parent ∷ [])
       (way_nothing q r got i key (pair.parent ∷ pair.left ∷ pair.right ∷ []) took.to.way) gave);

@@ -3,6 +3,7 @@ use Rattle.std.proofs.Common.{◌≡◌, ◌≢◌, ℕ, suc, ◌<◌, List, [],
 use lib.ListN.{get_elem?}
 use Rattle.key_tuple.specs.Order.{FieldList}
 use Rattle.latch_space.specs.Passes.{view}
+use Rattle.index_page.specs.declared.head.PageHead.{PageHead}
 use Rattle.index_page.specs.Loads.{load_of}
 use Rattle.index_page.specs.Page.{PageRows}
 use Rattle.index_page.specs.Rows.{Child}
@@ -28,7 +29,7 @@ use Rattle.tree_shrinking.specs.Merging.{CanMerge, MergesChildren}
 use Rattle.tree_shrinking.specs.Pairs.{GoesTo, HoldsJoined}
 use Rattle.tree_shrinking.specs.Shrinking.{pages_freed}
 use Rattle.tree_shrinking.proofs.GivenLemmas.{freed_append, one_freed}
-use Rattle.tree_shrinking.proofs.MergePlanLemmas.{left_number, right_apart, pair_apart}
+use Rattle.tree_shrinking.proofs.MergePlanLemmas.{right_apart, pair_apart}
 use Rattle.tree_shrinking.proofs.WayLemmas.{way_without}
 
 module _ (p q : TreePass) (parent left right i : ℕ) (key : FieldList) (fitted : IsFittedTree (view p))
@@ -104,9 +105,6 @@ module _ (p q : TreePass) (parent left right i : ℕ) (key : FieldList) (fitted 
   apart_left : right ≢ left
   apart_left = pair_apart (view p) fitted.whole fitted.is_lawful fitted.fits parent left right i can
 
-  number : can.is_left.page.head.number ≡ left
-  number = left_number (view p) fitted.whole fitted.is_lawful fitted.fits parent left right i can
-
   -- another frame is known as before the right one's number was freed
   still : (b : ℕ) (f : Frame) → right ≢ b → KnowsFrame (view m) b f → KnowsFrame (view q) b f
   still b f ne knows = frame_still (view m) (view q) (frame_id (shape_of_pass m) right ∷ [])
@@ -125,24 +123,25 @@ module _ (p q : TreePass) (parent left right i : ℕ) (key : FieldList) (fitted 
   up_is = that_page can.up can.above.page made.merges.merges.pointer.was.page can.above.paged
       made.merges.merges.pointer.was.has
 
-  abbrev parent_page : HasTreePage parent made.merges.up i (suc can.level)
+  abbrev parent_page : HasTreePage made.merges.up i (suc can.level)
   parent_page = let d = made.merges.merges.pointer in record {
     page = d.new;
     paged = ap (λ (f : Frame). f.page) d.kept;
-    tree = ap (λ h. is_own parent h.prev) d.head
-        ∙ (ap (λ (x : PageRows). is_own parent x.head.prev) (sym up_is) ∙ can.above.tree);
+    tree = ap (λ (h : PageHead). is_own h.number h.prev) d.head
+        ∙ (ap (λ (x : PageRows). is_own x.head.number x.head.prev) (sym up_is) ∙ can.above.tree);
     index = ap (λ h. h.index) d.head
         ∙ (ap (λ (x : PageRows). x.head.index) (sym up_is) ∙ can.above.index);
     at_level = ap (λ h. h.level) d.head
         ∙ (ap (λ (x : PageRows). x.head.level) (sym up_is) ∙ can.above.at_level);
   }
 
-  abbrev child_page : HasTreePage left made.merges.whole i can.level
+  abbrev child_page : HasTreePage made.merges.whole i can.level
   child_page = let g = made.merges.merges.merge in record {
     page = g.whole;
     paged = g.has;
-    tree = ap (λ h. is_own left h.prev) g.merges.head
-        ∙ (ap (λ (x : PageRows). is_own left x.head.prev) (sym left_is) ∙ can.is_left.tree);
+    tree = ap (λ (h : PageHead). is_own h.number h.prev) g.merges.head
+        ∙ (ap (λ (x : PageRows). is_own x.head.number x.head.prev) (sym left_is)
+        ∙ can.is_left.tree);
     index = ap (λ h. h.index) g.merges.head
         ∙ (ap (λ (x : PageRows). x.head.index) (sym left_is) ∙ can.is_left.index);
     at_level = ap (λ h. h.level) g.merges.head
@@ -171,8 +170,7 @@ module _ (p q : TreePass) (parent left right i : ℕ) (key : FieldList) (fitted 
           this = d.was.this;
           aft = d.was.aft;
           was = d.is;
-          child = d.was.this_is
-              ∙ ap Child (ap (λ (x : PageRows). x.head.number) (sym left_is) ∙ number);
+          child = d.was.this_is ∙ ap (λ (h : PageHead). Child h.number) (sym g.merges.head);
         };
         fits = omega (arith, sum, moved, a, b, fits);
       }

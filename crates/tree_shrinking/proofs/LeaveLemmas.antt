@@ -1,10 +1,13 @@
 -- What is told on the way up of pages that stay apart, and of pages that were freed.
-use Rattle.std.proofs.Common.{◌≡◌, ℕ, suc, ◌+◌, ◌≤◌, true, false, List, [], ◌∷◌, inl, inr, ap, subst, ◌∙◌, refl, arith}
+use Rattle.std.proofs.Common.{◌≡◌, ℕ, suc, ◌+◌, ◌≤◌, true, false, List, [], ◌∷◌, inl, inr, sym, ap, subst, ◌∙◌, refl, arith}
+use Rattle.list_facts.proofs.Places.{same_some}
 use Rattle.key_tuple.specs.Order.{FieldList}
 use Rattle.key_tuple.specs.declared.mode.Mode.TheVariants as mode
 use Rattle.latch_space.specs.Passes.{view}
-use Rattle.tree_law.specs.Pages.{is_own, IsOrderly}
+use Rattle.tree_law.specs.Pages.{IsOrderly}
+use Rattle.index_page.specs.Page.{PageRows}
 use Rattle.index_law.specs.Shape.{Shape}
+use Rattle.forest_law.specs.declared.objects.Frame.{Frame}
 use Rattle.forest_law.specs.State.{page_within, fields_for}
 use Rattle.forest_world.specs.Held.{TreePass, shape_of_pass}
 use Rattle.buffer_pool.specs.Forests.{IsFittedTree}
@@ -13,14 +16,16 @@ use Rattle.tree_descent.specs.Descents.{HoldsInner}
 use Rattle.tree_descent.specs.Leaves.{HasCutWithin, cut_in}
 use Rattle.tree_descent.specs.Paths.{PicksChild}
 use Rattle.tree_growth.specs.declared.looking.PageInHand.{PageInHand}
+use Rattle.tree_growth.specs.Pages.{HoldsRoot}
 use Rattle.tree_growth.specs.Ways.{ArrivesAt}
 use Rattle.tree_growth.proofs.AddLemmas.{same_shape}
 use Rattle.tree_growth.proofs.KnownLemmas.{frame_one}
 use Rattle.tree_shrinking.specs.declared.families.Family.{Family}
 use Rattle.tree_shrinking.specs.declared.pairs.Pair.{Pair}
+use Rattle.tree_shrinking.specs.declared.pairs.Siblings.{Siblings}
 use Rattle.tree_shrinking.specs.Families.{TellsFamily}
 use Rattle.tree_shrinking.specs.Merging.{MergesChildren}
-use Rattle.tree_shrinking.specs.Pairs.{AreToJoin, GoesTo, ComesBack, TakesPair}
+use Rattle.tree_shrinking.specs.Pairs.{AreToJoin, GoesTo, ComesBack, pair_in, TakesPair}
 use Rattle.tree_shrinking.specs.Shrinking.{WasGiven}
 use Rattle.tree_shrinking.specs.Joins.{GivesPair, LeavesPair, LeavesBefore, LeavesAfter, LeavesChild, FreesUnder, RestsOn, FreesOne, FreesMany, WalksUp}
 use Rattle.tree_shrinking.proofs.GivenLemmas.{given_more, apart_more, alone_more, rests_more, among_first, among_second, freed_both, gave_among}
@@ -35,21 +40,25 @@ shape_to : (p q : TreePass) (i : ℕ) (key : FieldList) (bs : List ℕ) → Goes
 shape_to p q i key bs to = same_shape p q to.goes.added to.goes.adds
 
 -- a pair that isn't to be merged was given back
-pub leaves_pair : (p q r : TreePass) (pair : Pair) (i : ℕ) (key : FieldList)
-    (took : TakesPair p pair i key q) (gave : GivesPair q pair i key r)
-    → (AreToJoin took.held.is_left.page took.held.is_right.page pair.right_asks → ⊥)
-    → LeavesPair p pair i key r
-leaves_pair p q r pair i key took gave apart =
+pub leaves_pair : (p q r : TreePass) (parent : ℕ) (asked : Siblings) (left right i : ℕ)
+    (key : FieldList) (took : TakesPair p (pair_in parent asked left right) asked i key q)
+    (gave : GivesPair q (pair_in parent asked left right) i key r)
+    → (AreToJoin took.held.is_left.page took.held.is_right.page asked.right_asks → ⊥)
+    → LeavesPair p parent asked i key r
+leaves_pair p q r parent asked left right i key took gave apart =
+    let pair = pair_in parent asked left right in
     let three = pair.parent ∷ pair.left ∷ pair.right ∷ [] in
     let more = among_second p q r i key three (pair.parent ∷ []) took.to gave.to in
     let shapes = shape_to p q i key three took.to in
     let rs = gave.to.goes.added.references in
     let all = (to_both p q r i key three (pair.parent ∷ []) took.to gave.to).goes.added.references in
     record {
-      back = taken_back p q r pair i key took gave.to gave.still;
-      still = taken_still p q r pair i key took gave.to gave.still;
+      back = taken_back p q r pair asked i key took gave.to gave.still;
+      still = taken_still p q r pair asked i key took gave.to gave.still;
       apart = record {
         level = took.held.level;
+        lower_block = left;
+        upper_block = right;
         lower = took.held.lower;
         upper = took.held.upper;
         gave_left = given_more rs all more (shape_of_pass q) (shape_of_pass p) shapes pair.left
@@ -58,16 +67,18 @@ leaves_pair p q r pair i key took gave apart =
             took.held.upper (gave.right took.held.upper took.held.knows_right);
         is_left = took.held.is_left;
         is_right = took.held.is_right;
+        left_number = took.left;
+        right_number = took.right;
         apart = apart;
       };
     }
 
 -- a pair was merged, and the way led back to the page above
-pub frees_pair : (p q r s : TreePass) (pair : Pair) (i : ℕ) (key : FieldList)
-    (fitted : IsFittedTree (view q)) (took : TakesPair p pair i key q)
+pub frees_pair : (p q r s : TreePass) (pair : Pair) (asked : Siblings) (i : ℕ) (key : FieldList)
+    (fitted : IsFittedTree (view q)) (took : TakesPair p pair asked i key q)
     (made : MergesChildren q pair.parent pair.left pair.right i r)
     → ComesBack r pair.parent i key s → FreesUnder p pair.parent i key s
-frees_pair p q r s pair i key fitted took made back =
+frees_pair p q r s pair asked i key fitted took made back =
     let three = pair.parent ∷ pair.left ∷ pair.right ∷ [] in
     let two = pair.parent ∷ pair.left ∷ [] in
     let joined = way_joined q r pair.parent pair.left pair.right i key fitted took.to.way made in
@@ -126,7 +137,8 @@ module _ (p q : TreePass) (i level : ℕ) (key : FieldList) (at : PageInHand)
   shape_is = same_shape p q reaches.goes.added reaches.goes.adds
 
   -- the root isn't above the level, and was given back
-  pub rests_below : (r : TreePass) → at.level ≤ level → at.block ≡ i → GivesFrame q at.block r
+  pub rests_below : (r : TreePass) → at.level ≤ level → HoldsRoot (view q) at.block i
+      → GivesFrame q at.block r
       → RestsOn p i level key r
   rests_below r low root gave =
       let back = way_gave q r i key one [] reaches.way at.block gave (λ k ne each. (ne, tt)) refl in
@@ -138,20 +150,19 @@ module _ (p q : TreePass) (i level : ℕ) (key : FieldList) (at : PageInHand)
       let same = frame_one (view q) at.block gave.frame reaches.is.frame (gave.taken, gave.held)
       reaches.is.knows in
       let page = reaches.is.page.is in
+      let one_frame = frame_one (view q) at.block reaches.is.frame root.frame reaches.is.knows
+      root.knows in
+      let one_page = same_some page.page root.has.page
+      (sym page.paged ∙ (ap (λ (f : Frame). f.page) one_frame ∙ root.has.paged)) in
       record {
         to = given_at_once p q i key at reaches r gave;
         rests = inr (record {
           top = at.level;
+          block = at.block;
           root = reaches.is.frame;
-          gave = subst (λ b. WasGiven (shape_of_pass p) b reaches.is.frame all) root
-              (subst (λ f. WasGiven (shape_of_pass p) at.block f all) same given);
-          page = record {
-            page = page.page;
-            paged = page.paged;
-            tree = subst (λ b. is_own b page.page.head.prev ≡ false) root page.tree;
-            index = page.index;
-            at_level = page.at_level;
-          };
+          gave = subst (λ f. WasGiven (shape_of_pass p) at.block f all) same given;
+          page = page;
+          number = ap (λ (x : PageRows). x.head.number) one_page ∙ root.has.number;
           low = low;
         });
       }

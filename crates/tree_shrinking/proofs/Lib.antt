@@ -9,6 +9,7 @@ pub mod SinkLemmas
 pub mod LiftLemmas
 pub mod FamilyLemmas
 pub mod WayLemmas
+pub mod OtherLemmas
 pub mod PairLemmas
 pub mod TakenLemmas
 pub mod JoinedLemmas

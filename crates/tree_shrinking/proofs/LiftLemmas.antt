@@ -7,9 +7,9 @@ use Rattle.call_law.specs.Hands.{HoldsNoPool}
 use Rattle.tree_shrinking.specs.Lifting.{SinksRoot}
 
 -- the pool still isn't held
-pub no_pool_sunk : (p q : TreePass) (i child : ℕ) → SinksRoot p i child q
+pub no_pool_sunk : (p q : TreePass) (i b child : ℕ) → SinksRoot p i b child q
     → HoldsNoPool (view p) → HoldsNoPool (view q)
-no_pool_sunk p q i child made lacks = made.silently.does.rest pool_id (
+no_pool_sunk p q i b child made lacks = made.silently.does.rest pool_id (
   λ e. absurd (omega (arith, e)),
   (λ e. absurd (omega (arith, e)), (λ e. absurd (omega (arith, e)), tt)),
 ) ∙ lacks

@@ -1,74 +1,80 @@
 -- A merge can be made with the frames that are known.
-use Rattle.std.proofs.Common.{◌≡◌, ◌≢◌, ℕ, suc, sym, ap, ◌∙◌, refl, arith, Option, Some}
+use Rattle.std.proofs.Common.{◌≡◌, ◌≢◌, ℕ, false, sym, ap, refl, arith, Option, Some}
 use Rattle.latch_space.specs.Has.{IsKnown}
 use Rattle.latch_space.specs.Passes.{view}
 use Rattle.index_page.specs.declared.TheConstants.{NO_PAGE}
-use Rattle.index_page.specs.Rows.{Child}
-use Rattle.tree_law.proofs.PageRowLemmas.{own_of}
+use Rattle.index_page.specs.Page.{PageRows}
+use Rattle.tree_law.specs.Pages.{Page}
 use Rattle.forest_law.specs.declared.objects.Frame.{Frame}
 use Rattle.forest_law.specs.Law.{IsLawful}
 use Rattle.forest_law.specs.State.{ForestState}
 use Rattle.forest_world.specs.Held.{TreePass}
+use Rattle.tree_facts.specs.Neighbours.{HasNextPage}
 use Rattle.tree_facts.specs.TreeFrames.{IsTreeFrame}
-use Rattle.tree_facts.proofs.NeighbourLemmas.{neighbours_have_frames}
+use Rattle.tree_facts.proofs.NeighbourLemmas.{next_pages_fit}
 use Rattle.tree_merging.specs.FrameMerges.{SuitsMerge}
 use Rattle.tree_merging.specs.Siblings.{AreSiblings}
-use Rattle.tree_merging.proofs.SiblingLemmas.{siblings_have_frames}
 use Rattle.call_law.specs.Hands.{KnowsFrame}
 use Rattle.call_law.specs.Spoken.{View}
 use Rattle.buffer_pool.specs.Forests.{FitsTrees, IsFittedTree}
 use Rattle.buffer_pool.specs.Pages.{HasTreePage}
 use Rattle.tree_smo.specs.declared.halves.SplitBlocks.{SplitBlocks}
 use Rattle.tree_smo.specs.Halves.{AreThree}
-use Rattle.tree_smo.proofs.LawfulLemmas.{levels_apart, known_tells, tree_frame}
+use Rattle.tree_smo.proofs.LawfulLemmas.{one_page, known_page, tree_frame}
+use Rattle.tree_shrinking.specs.declared.pairs.Pair.{Pair}
 use Rattle.tree_shrinking.specs.Merging.{CanMerge}
 use Rattle.tree_shrinking.specs.MergePlans.{HoldsMerge}
+use Rattle.tree_shrinking.specs.Pairs.{HoldsPair}
+use Rattle.tree_shrinking.proofs.PairLemmas.{siblings_are, left_parent, right_parent, both_apart}
 
--- what a lawful state tells of two children and of their parent
+-- two children in hand, and their parent
+abbrev pair_of : (parent left right : ℕ) → Pair
+pair_of parent left right =
+    record { parent = parent; left = left; right = right; right_asks = false }
+
+abbrev pair_held : (v : View) (parent left right i : ℕ) → CanMerge v parent left right i
+    → HoldsPair v (pair_of parent left right) i
+pair_held v parent left right i can = record {
+  level = can.level;
+  up = can.up;
+  lower = can.lower;
+  upper = can.upper;
+  knows_up = can.knows_up;
+  knows_left = can.knows_left;
+  knows_right = can.knows_right;
+  above = can.above;
+  is_left = can.is_left;
+  is_right = can.is_right;
+  points = can.points;
+}
+
+-- what a lawful state tells of them
 module _ (v : View) (w : ForestState) (law : IsLawful w) (fits : FitsTrees w v)
     (parent left right i : ℕ) (can : CanMerge v parent left right i) where
-  up_frame : IsTreeFrame w parent can.up can.above.page
-  up_frame = tree_frame w law v fits parent i (suc can.level) can.up can.knows_up can.above
-
-  left_frame : IsTreeFrame w left can.lower can.is_left.page
-  left_frame = tree_frame w law v fits left i can.level can.lower can.knows_left can.is_left
-
   pub right_frame : IsTreeFrame w right can.upper can.is_right.page
   right_frame = tree_frame w law v fits right i can.level can.upper can.knows_right can.is_right
 
-  pub left_number : can.is_left.page.head.number ≡ left
-  left_number = (known_tells w law v fits left can.lower can.is_left.page can.knows_left
-      can.is_left.paged).number
-
-  pub right_number : can.is_right.page.head.number ≡ right
-  right_number = (known_tells w law v fits right can.upper can.is_right.page can.knows_right
-      can.is_right.paged).number
-
   pub siblings : AreSiblings can.lower can.upper can.above.page can.is_left.page can.is_right.page
       can.points.pointer.key
-  siblings = siblings_have_frames w law parent can.up can.above.page up_frame can.points.fore
-      can.points.this can.points.pointer can.points.aft can.points.was left right
-      can.points.this_is can.points.pointer_is can.lower can.upper can.is_left.page
-      can.is_right.page left_frame right_frame
+  siblings = siblings_are v w law fits (pair_of parent left right) i
+      (pair_held v parent left right i can)
 
   -- the three blocks differ
   pub left_apart : left ≢ parent
-  left_apart = levels_apart v left parent i i can.level (suc can.level) can.lower can.up
-      can.knows_left can.knows_up can.is_left can.above (λ e. omega (arith, e))
+  left_apart = left_parent v w law fits (pair_of parent left right) i
+      (pair_held v parent left right i can)
 
   pub right_apart : right ≢ parent
-  right_apart = levels_apart v right parent i i can.level (suc can.level) can.upper can.up
-      can.knows_right can.knows_up can.is_right can.above (λ e. omega (arith, e))
+  right_apart = right_parent v w law fits (pair_of parent left right) i
+      (pair_held v parent left right i can)
 
   pub pair_apart : right ≢ left
-  pair_apart e = absurd (cc (
-    can.is_right.tree,
-    own_of right can.is_right.page.head.prev
-        (siblings.follows.prev ∙ ap Some (left_number ∙ sym e)),
-  ))
+  pair_apart = both_apart v w law fits (pair_of parent left right) i
+      (pair_held v parent left right i can)
 
   -- the frames can be merged
-  pub suits_merge : right ≢ NO_PAGE → SuitsMerge can.lower can.upper can.up
+  pub suits_merge : can.is_right.page.head.number ≢ NO_PAGE
+      → SuitsMerge can.lower can.upper can.up
   suits_merge some = record {
     at = can.points.pointer.key;
     page = can.is_left.page;
@@ -77,7 +83,7 @@ module _ (v : View) (w : ForestState) (law : IsLawful w) (fits : FitsTrees w v)
     has_other = can.is_right.paged;
     follows = siblings.follows;
     fits = (let fits = can.fits in omega (arith, fits));
-    number = λ e. some (sym right_number ∙ e);
+    number = some;
     up = record {
       page = can.above.page;
       has = can.above.paged;
@@ -86,24 +92,51 @@ module _ (v : View) (w : ForestState) (law : IsLawful w) (fits : FitsTrees w v)
       pointer = can.points.pointer;
       aft = can.points.aft;
       was = can.points.was;
-      this_is = can.points.this_is ∙ ap Child (sym left_number);
-      pointer_is = can.points.pointer_is ∙ ap Child (sym right_number);
+      this_is = can.points.this_is;
+      pointer_is = can.points.pointer_is;
       key_is = refl;
     };
   }
 
-  -- the page behind is in another block than the three
+  -- the page behind is another one than the three
   module _ (n : ℕ) (next : can.is_right.page.head.next ≡ Some n) where
-    pub next_right : n ≢ right
-    next_right = (neighbours_have_frames w law right can.upper can.is_right.page right_frame n
-        next).other
+    pub behind : HasNextPage w can.upper can.is_right.page n
+    behind = next_pages_fit w law right can.upper can.is_right.page right_frame n next
 
-    pub next_left : n ≢ left
-    next_left e = siblings.around n next (e ∙ sym left_number)
+    pub not_right : can.is_right.page.head.number ≢ n
+    not_right z = behind.other (sym z)
 
-    pub next_parent : (f : Frame) → KnowsFrame v n f → HasTreePage n f i can.level → n ≢ parent
-    next_parent f knows tree = levels_apart v n parent i i can.level (suc can.level) f can.up knows
-        can.knows_up tree can.above (λ e. omega (arith, e))
+    pub not_left : can.is_left.page.head.number ≢ n
+    not_left z = siblings.around n next (sym z)
+
+    pub not_parent : can.above.page.head.number ≢ n
+    not_parent z =
+        let same = ap (λ (q : Page). q.level) (known_page w law v fits parent can.up can.above.page
+        can.knows_up can.above.paged n behind.after z behind.at) in
+        let level = behind.level in
+        let low = can.is_right.at_level in
+        let high = can.above.at_level in
+        omega (arith, same, level, low, high)
+
+  -- so it is in another block
+  module _ (b : ℕ) (f : Frame) (knows : KnowsFrame v b f) (t : HasTreePage f i can.level)
+      (next : can.is_right.page.head.next ≡ Some t.page.head.number) where
+    apart_of : (c : ℕ) (g : Frame) (page : PageRows) → KnowsFrame v c g → g.page ≡ Some page
+        → page.head.number ≢ t.page.head.number → b ≢ c
+    apart_of c g page that paged ne e = ne (ap (λ (x : PageRows). x.head.number)
+        (one_page v c b g f page t.page that knows (sym e) paged t.paged))
+
+    pub next_right : b ≢ right
+    next_right = apart_of right can.upper can.is_right.page can.knows_right can.is_right.paged
+        (not_right t.page.head.number next)
+
+    pub next_left : b ≢ left
+    next_left = apart_of left can.lower can.is_left.page can.knows_left can.is_left.paged
+        (not_left t.page.head.number next)
+
+    pub next_parent : b ≢ parent
+    next_parent = apart_of parent can.up can.above.page can.knows_up can.above.paged
+        (not_parent t.page.head.number next)
 
 -- what is known when a merge is made in hand
 pub record MergeCall (p : TreePass) (at : SplitBlocks) (i : ℕ) (next : Option ℕ) : Type 0 where

@@ -1,5 +1,5 @@
 -- A merge in hand is a merge of the law, and is known once it is settled.
-use Rattle.std.proofs.Common.{◌≡◌, ◌≢◌, ℕ, false, ◌∷◌, sym, ap, subst, ◌∙◌, refl, Option, Some, None}
+use Rattle.std.proofs.Common.{◌≡◌, ◌≢◌, ℕ, false, ◌∷◌, sym, ap, subst, ◌∙◌, Option, Some, None}
 use Rattle.std.specs.List.{AllByRecursion}
 use Rattle.latch_law.specs.Views.{without_seen}
 use Rattle.latch_space.specs.Has.{DidSettle}
@@ -22,7 +22,7 @@ use Rattle.call_law.specs.Spoken.{View}
 use Rattle.buffer_pool.specs.Forests.{FitsTrees}
 use Rattle.tree_smo.specs.declared.halves.SplitBlocks.{SplitBlocks}
 use Rattle.tree_smo.specs.declared.halves.SplitHands.{SplitHands}
-use Rattle.tree_smo.specs.Plans.{next_ids, RelinksBehind}
+use Rattle.tree_smo.specs.Plans.{RelinksBehind}
 use Rattle.tree_smo.specs.Remakes.{Remakes}
 use Rattle.tree_smo.proofs.LawfulLemmas.{that_page}
 use Rattle.tree_smo.proofs.PartLemmas.{part_of}
@@ -30,12 +30,13 @@ use Rattle.tree_smo.proofs.SettledLemmas.{whole_but, known_beyond, rests_beyond,
 use Rattle.tree_smo.proofs.BehindLemmas.{Behind, behind, shows_next, knows_next}
 use Rattle.tree_shrinking.specs.MergeHands.{MergesHalves, JoinsHalves}
 use Rattle.tree_shrinking.specs.MergePlans.{HoldsMerge, merge_ids, MakesMerge}
-use Rattle.tree_shrinking.proofs.MergePlanLemmas.{MergeCall, left_number, siblings}
+use Rattle.tree_shrinking.proofs.MergePlanLemmas.{MergeCall, siblings}
 use Rattle.tree_shrinking.proofs.MergedLemmas.{was, joined, IsRemade, remade}
 
 module _ (p : TreePass) (at : SplitBlocks) (i : ℕ) (next : Option ℕ) (c : MergeCall p at i next)
-    (m0 : TreePass) (joins : JoinsHalves p at m0) (m : TreePass)
-    (relinks : RelinksBehind m0 next at.child m) where
+    (m0 : TreePass) (joins : JoinsHalves p at m0) (left : ℕ)
+    (number : left ≡ c.held.can.is_left.page.head.number) (m : TreePass)
+    (relinks : RelinksBehind m0 next left m) where
   abbrev h : HoldsMerge (view p) at i next
   h = c.held
 
@@ -56,7 +57,8 @@ module _ (p : TreePass) (at : SplitBlocks) (i : ℕ) (next : Option ℕ) (c : Me
   under = changed.merges
 
   all : IsRemade p at i next c m0 joins m next
-  all = remade p at i next c m0 joins m next refl h.behind relinks
+  all = remade p at i next c m0 joins m next h.behind
+      (subst (λ n. RelinksBehind m0 next n m) number relinks)
 
   fits_now : FitsTrees w (view m)
   fits_now = subst (FitsTrees w) (sym all.remakes.same_view) c.fitted.fits
@@ -76,7 +78,8 @@ module _ (p : TreePass) (at : SplitBlocks) (i : ℕ) (next : Option ℕ) (c : Me
           (object.Frame changed.now.left, all.has.left.value),
           (
             (object.Frame changed.now.right, all.has.right.value),
-            shows_next m i h.can.level next at.child all.behind,
+            shows_next m i h.can.level next h.can.is_right.page.head.next
+                h.can.is_left.page.head.number all.behind,
           ),
         ),
       )
@@ -93,17 +96,11 @@ module _ (p : TreePass) (at : SplitBlocks) (i : ℕ) (next : Option ℕ) (c : Me
   up_is = that_page h.can.up h.can.above.page under.pointer.was.page h.can.above.paged
       under.pointer.was.has
 
-  next_is : next ≡ under.merge.other.head.next
-  next_is = sym h.is_next ∙ ap (λ (z : PageRows). z.head.next) right_is
-
-  child_is : at.child ≡ under.merge.page.head.number
-  child_is = sym (left_number (view p) w law c.fitted.fits at.parent at.child at.right i h.can)
-      ∙ ap (λ (z : PageRows). z.head.number) left_is
-
-  after : Behind m under.merge.other.head.next under.merge.page.head.number
-  after = subst (λ o. Behind m o under.merge.page.head.number) next_is
-      (subst (λ n. Behind m next n) child_is
-      (behind m w law fits_now then.left i h.can.level next at.child all.behind))
+  after : Behind m next under.merge.other.head.next under.merge.page.head.number
+  after = subst (λ (x : PageRows). Behind m next x.head.next under.merge.page.head.number) right_is
+      (subst (λ (x : PageRows). Behind m next h.can.is_right.page.head.next x.head.number) left_is
+      (behind m w law fits_now then.left i h.can.level next h.can.is_right.page.head.next
+      h.can.is_left.page.head.number all.behind))
 
   no_loop : under.merge.other.head.next ≢ Some under.merge.page.head.number
   no_loop e = (siblings (view p) w law c.fitted.fits at.parent at.child at.right i h.can).around
@@ -119,14 +116,7 @@ module _ (p : TreePass) (at : SplitBlocks) (i : ℕ) (next : Option ℕ) (c : Me
       → AllByRecursion (λ (j : ℕ). k ≢ j) (merge_ids (shape_of_pass m) at next)
   left_ids k a = (
     a.1.1.0,
-    (
-      a.0,
-      (
-        a.1.0,
-        subst (λ o. AllByRecursion (λ (j : ℕ). k ≢ j)
-            (next_ids (shape_of_pass m) o)) (sym next_is) (after.ids k a.1.1.1),
-      ),
-    ),
+    (a.0, (a.1.0, after.ids k a.1.1.1)),
   )
 
   -- the frames in hand are a merge of the law
@@ -141,15 +131,16 @@ module _ (p : TreePass) (at : SplitBlocks) (i : ℕ) (next : Option ℕ) (c : Me
     under = under;
     links = after.links;
     left = part_of m w law fits_now at.child then.left changed.now.left all.has.left
-        under.merge.page under.merge.had under.merge.page.head.number refl false
-        (ap (λ (x : PageRows). is_own at.child x.head.prev) (sym left_is) ∙ h.can.is_left.tree);
+        under.merge.page under.merge.had under.merge.page.head.number false
+        (ap (λ (x : PageRows). is_own x.head.number x.head.prev) (sym left_is)
+        ∙ h.can.is_left.tree);
     right = part_of m w law fits_now at.right then.right changed.now.right all.has.right
-        under.merge.other under.merge.had_other under.merge.other.head.number refl false
-        (ap (λ (x : PageRows). is_own at.right x.head.prev) (sym right_is)
+        under.merge.other under.merge.had_other under.merge.other.head.number false
+        (ap (λ (x : PageRows). is_own x.head.number x.head.prev) (sym right_is)
         ∙ h.can.is_right.tree);
     up = part_of m w law fits_now at.parent then.up changed.now.up all.has.up
-        under.pointer.was.page under.pointer.was.has under.pointer.was.page.head.number refl false
-        (ap (λ (x : PageRows). is_own at.parent x.head.prev) (sym up_is) ∙ h.can.above.tree);
+        under.pointer.was.page under.pointer.was.has under.pointer.was.page.head.number false
+        (ap (λ (x : PageRows). is_own x.head.number x.head.prev) (sym up_is) ∙ h.can.above.tree);
     beyond = after.part;
     apart = no_loop;
     others = λ k x y becomes a. rests_of m (merge_ids (shape_of_pass m) at next)
@@ -175,7 +166,8 @@ module _ (p : TreePass) (at : SplitBlocks) (i : ℕ) (next : Option ℕ) (c : Me
         right = settled_frame m q did at.right then.right changed.now.right all.has.right;
       };
       merges = under;
-      behind = knows_next m q did i h.can.level next at.child all.behind;
+      behind = knows_next m q did i h.can.level next h.can.is_right.page.head.next
+          h.can.is_left.page.head.number all.behind;
     };
     count = settled_count p m (merge_ids (shape_of_pass p) at next) c.known all.remakes whole q
         did;

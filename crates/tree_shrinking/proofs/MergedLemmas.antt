@@ -1,5 +1,5 @@
 -- What is in hand once a merge was made of it.
-use Rattle.std.proofs.Common.{◌≡◌, ◌≢◌, ℕ, [], ◌∷◌, sym, subst, refl, ◌∙◌, arith, Option, Some, None}
+use Rattle.std.proofs.Common.{◌≡◌, ◌≢◌, ℕ, [], ◌∷◌, sym, subst, refl, arith, Option, Some, None}
 use Rattle.latch_space.specs.Passes.{view}
 use Rattle.index_page.specs.declared.TheConstants.{NO_PAGE}
 use Rattle.index_law.specs.Shape.{Shape}
@@ -48,7 +48,7 @@ module _ (p : TreePass) (at : SplitBlocks) (i : ℕ) (next : Option ℕ)
   }
 
   -- the frames can be merged
-  pub suits_taken : at.right ≢ NO_PAGE → SuitsTaken p at
+  pub suits_taken : h.can.is_right.page.head.number ≢ NO_PAGE → SuitsTaken p at
   suits_taken some = record {
     held = record { three = three p at i next c; was = was; has = has_was };
     suits = suits_merge (view p) w law fits at.parent at.child at.right i h.can some;
@@ -58,19 +58,20 @@ module _ (p : TreePass) (at : SplitBlocks) (i : ℕ) (next : Option ℕ)
     pub joined : MergesHalves p at was m0
     joined = joins was has_was
 
-    module _ (n : ℕ) (e : next ≡ Some n)
-        (held : (f : Frame) × KnowsFrame (view p) n f × HasTreePage n f i h.can.level) where
+    module _ (n : ℕ) (held : (f : Frame) × KnowsFrame (view p) n f
+        × (t : HasTreePage f i h.can.level)
+        × (h.can.is_right.page.head.next ≡ Some t.page.head.number)) where
       apart_parent : n ≢ at.parent
-      apart_parent = next_parent (view p) w law fits at.parent at.child at.right i h.can n
-          (h.is_next ∙ e) held.0 held.1 held.2
+      apart_parent = next_parent (view p) w law fits at.parent at.child at.right i h.can n held.0
+          held.1 held.2 held.3
 
       apart_left : n ≢ at.child
-      apart_left = next_left (view p) w law fits at.parent at.child at.right i h.can n
-          (h.is_next ∙ e)
+      apart_left = next_left (view p) w law fits at.parent at.child at.right i h.can n held.0
+          held.1 held.2 held.3
 
       apart_right : n ≢ at.right
-      apart_right = next_right (view p) w law fits at.parent at.child at.right i h.can n
-          (h.is_next ∙ e)
+      apart_right = next_right (view p) w law fits at.parent at.child at.right i h.can n held.0
+          held.1 held.2 held.3
 
       still_next : HasFrame m0 n held.0 held.0
       still_next = frame_remade p m0 (halves_ids (shape_of_pass p) at) joined.remakes n held.0
@@ -83,13 +84,14 @@ module _ (p : TreePass) (at : SplitBlocks) (i : ℕ) (next : Option ℕ)
           ) (frame_has p c.known n held.0 held.1)
 
     pub next_in_hand : HasNext m0 next
-    next_in_hand = go next refl h.behind
+    next_in_hand = go next h.behind
       where
-        go : (o : Option ℕ) → next ≡ o → HoldsNext (view p) i h.can.level o → HasNext m0 o
-        go None e held = tt
-        go (Some n) e held = (
+        go : (o : Option ℕ)
+            → HoldsNext (view p) i h.can.level o h.can.is_right.page.head.next → HasNext m0 o
+        go None held = tt
+        go (Some n) held = (
           held.0,
-          still_next n e held,
+          still_next n held,
           record { page = held.2.page; has = held.2.paged },
         )
 
@@ -98,27 +100,29 @@ module _ (p : TreePass) (at : SplitBlocks) (i : ℕ) (next : Option ℕ)
       pub record IsRemade (o : Option ℕ) : Type 0 where
         pub has : HasHalves m at was joined.now
         pub remakes : Remakes p m (merge_ids (shape_of_pass p) at o)
-        pub behind : HasRelinked m i h.can.level o at.child
+        pub behind : HasRelinked m i h.can.level o h.can.is_right.page.head.next
+            h.can.is_left.page.head.number
 
-      pub remade : (o : Option ℕ) → next ≡ o → HoldsNext (view p) i h.can.level o
-          → RelinksBehind m0 o at.child m → IsRemade o
-      remade None e held same = record {
+      pub remade : (o : Option ℕ)
+          → HoldsNext (view p) i h.can.level o h.can.is_right.page.head.next
+          → RelinksBehind m0 o h.can.is_left.page.head.number m → IsRemade o
+      remade None held same = record {
         has = subst (λ (z : TreePass). HasHalves z at was joined.now) (sym same) joined.has;
         remakes = subst (λ (z : TreePass). Remakes p z (merge_ids (shape_of_pass p) at None))
             (sym same) joined.remakes;
-        behind = tt;
+        behind = held;
       }
-      remade (Some n) e held relinks =
-          let r = relinks held.0 (still_next n e held) in
+      remade (Some n) held relinks =
+          let r = relinks held.0 (still_next n held) in
           let k = frame_id (shape_of_pass m0) n in
           record {
             has = record {
               up = frame_remade m0 m (k ∷ []) r.remakes at.parent was.up joined.now.up
-                  (λ z. apart_parent n e held (omega (arith, z)), tt) joined.has.up;
+                  (λ z. apart_parent n held (omega (arith, z)), tt) joined.has.up;
               left = frame_remade m0 m (k ∷ []) r.remakes at.child was.left joined.now.left
-                  (λ z. apart_left n e held (omega (arith, z)), tt) joined.has.left;
+                  (λ z. apart_left n held (omega (arith, z)), tt) joined.has.left;
               right = frame_remade m0 m (k ∷ []) r.remakes at.right was.right joined.now.right
-                  (λ z. apart_right n e held (omega (arith, z)), tt) joined.has.right;
+                  (λ z. apart_right n held (omega (arith, z)), tt) joined.has.right;
             };
             remakes = remakes_both p m0 m (λ (s : Shape). merge_ids s at (Some n))
                 (remakes_weaker p m0 (halves_ids (shape_of_pass p) at)
@@ -126,5 +130,5 @@ module _ (p : TreePass) (at : SplitBlocks) (i : ℕ) (next : Option ℕ)
                 (λ j a. (a.0, (a.1.0, (a.1.1.0, tt)))) joined.remakes)
                 (remakes_among m0 m k (merge_ids (shape_of_pass m0) at (Some n))
                 (λ a. a.1.1.1.0 refl) r.remakes);
-            behind = (held.0, r.now, r.has, held.2, r.relinks);
+            behind = (held.0, r.now, r.has, held.2, held.3, r.relinks);
           }

@@ -1,14 +1,13 @@
 -- A root that is left with one child is lifted, on the way up.
-use Rattle.std.proofs.Common.{◌≡◌, ◌≢◌, ℕ, ◌≤◌, false, List, [], ◌∷◌, ◌++◌, length, sym, ap, subst, ◌∙◌, refl, arith}
+use Rattle.std.proofs.Common.{◌≡◌, ◌≢◌, ℕ, ◌≤◌, List, [], ◌∷◌, ◌++◌, length, sym, ap, subst, ◌∙◌, refl, arith}
 use lib.ListN.{get_elem?}
 use Rattle.key_tuple.specs.Order.{FieldList}
 use Rattle.latch_space.specs.Passes.{view}
 use Rattle.index_page.specs.Rows.{Row}
-use Rattle.tree_law.specs.Pages.{is_own}
 use Rattle.index_law.specs.Shape.{Shape}
 use Rattle.forest_law.specs.Numbers.{tree_id, frame_id}
 use Rattle.forest_world.specs.Held.{TreePass, shape_of_pass}
-use Rattle.call_law.specs.Hands.{KnowsFrame, KnowsTree}
+use Rattle.call_law.specs.Hands.{KnowsTree}
 use Rattle.buffer_pool.specs.Calls.{DoesSilently, GetsNothing}
 use Rattle.buffer_pool.specs.Frames.{GivesFrame}
 use Rattle.buffer_pool.proofs.AddedLemmas.{frame_no_tree, frame_still, tree_still}
@@ -62,33 +61,29 @@ module _ (p : TreePass) (parent child i : ℕ) (key : FieldList)
             (still_nothing p q got parent h.up h.knows_up);
       }
 
-  pub can_lift : parent ≡ i → length h.above.page.rows ≤ 1 → CanLift (view p) i child
-  can_lift e few = record {
+  pub can_lift : h.above.page.head.number ≡ i → length h.above.page.rows ≤ 1
+      → CanLift (view p) i parent child
+  can_lift number few = record {
     level = h.level;
     tree = way.tree;
     root = h.up;
     low = h.low;
     knows_tree = way.knows;
-    knows_root = subst (λ b. KnowsFrame (view p) b h.up) e h.knows_up;
+    knows_root = h.knows_up;
     knows_low = h.knows_low;
-    above = record {
-      page = h.above.page;
-      paged = h.above.paged;
-      tree = subst (λ b. is_own b h.above.page.head.prev ≡ false) e h.above.tree;
-      index = h.above.index;
-      at_level = h.above.at_level;
-    };
+    above = h.above;
+    number = number;
     below = h.below;
-    only = points_only h.above.page.rows child h.points few;
+    only = points_only h.above.page.rows h.below.page.head.number h.points few;
     fits = (let fits = h.fits in omega (arith, fits));
   }
 
-  module _ (e : parent ≡ i) (q : TreePass) (made : LiftsRoot p i child q) where
+  module _ (q : TreePass) (made : LiftsRoot p i parent child q) where
     abbrev m : TreePass
     m = made.settled
 
     abbrev ids : List ℕ
-    ids = frame_id (shape_of_pass p) i ∷ frame_id (shape_of_pass p) child ∷ tree_id i ∷ []
+    ids = frame_id (shape_of_pass p) parent ∷ frame_id (shape_of_pass p) child ∷ tree_id i ∷ []
 
     shape_is : shape_of_pass m ≡ shape_of_pass p
     shape_is = does_shape p m ids made.sinks.silently.added made.sinks.silently.does
@@ -119,19 +114,11 @@ module _ (p : TreePass) (parent child i : ℕ) (key : FieldList)
               all.does.adds all.silent all.does.rest all.does.known
               (ap (λ (s : Shape). get_elem? (view q).held (frame_id s child)) (sym shapes)
               ∙ made.frees.lacks)
-              (λ k not ne each. (
-                (
-                  λ z. each.0 (z ∙ ap (frame_id (shape_of_pass p)) (sym e)),
-                  (ne, (not, tt)),
-                ),
-                (each.0, (ne, tt)),
-              )) made.sinks.tree knows_tree (omega (arith, had, same, less));
+              (λ k not ne each. ((each.0, (ne, (not, tt))), (each.0, (ne, tt))))
+              made.sinks.tree knows_tree (omega (arith, had, same, less));
           up = made.sinks.root;
-          knows = subst (λ b. KnowsFrame (view q) b made.sinks.root) (sym e)
-              (frame_still (view m) (view q) (frame_id (shape_of_pass m) child ∷ [])
-              made.frees.silently.does.adds.numbers made.frees.silently.does.rest i (
-                frames_apart (shape_of_pass m) i child
-                    (λ z. joined_apart (sym (e ∙ z))),
-                tt,
-              ) made.sinks.root made.sinks.knows_root);
+          knows = frame_still (view m) (view q) (frame_id (shape_of_pass m) child ∷ [])
+              made.frees.silently.does.adds.numbers made.frees.silently.does.rest parent
+              (frames_apart (shape_of_pass m) parent child (λ z. joined_apart (sym z)), tt)
+              made.sinks.root made.sinks.knows_root;
         }

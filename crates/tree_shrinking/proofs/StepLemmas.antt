@@ -29,8 +29,8 @@ module _ (p q r : TreePass) (i : ℕ) (key : FieldList) (at : PageInHand) (child
   apart : child ≢ at.block
   apart e = lacked_apart p at.block child takes.parent.frame takes.lacked takes.parent.knows (sym e)
 
-  page : HasKey (shape_of_pass q) child i takes.parent.level key takes.frame
-  page = subst (λ (t : Shape). HasKey t child i takes.parent.level key takes.frame)
+  page : HasKey (shape_of_pass q) i takes.parent.level key takes.frame
+  page = subst (λ (t : Shape). HasKey t i takes.parent.level key takes.frame)
       (sym (same_shape p q takes.silently.added takes.silently.does.adds)) takes.page
 
   tells : TellsRoom child page.is.page 0 low

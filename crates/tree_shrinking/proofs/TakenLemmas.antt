@@ -1,35 +1,38 @@
 -- Two pages are taken besides the page above them, and given back.
-use Rattle.std.proofs.Common.{◌≢◌, ℕ, [], ◌∷◌, sym, subst, refl}
+use Rattle.std.proofs.Common.{◌≢◌, ℕ, [], ◌∷◌, sym, ap, subst, refl, ◌∙◌}
 use Rattle.key_tuple.specs.Order.{FieldList}
 use Rattle.latch_space.specs.Has.{IsKnown}
 use Rattle.latch_space.specs.Passes.{view}
+use Rattle.index_page.specs.Rows.{Child}
 use Rattle.forest_law.specs.declared.objects.Frame.{Frame}
 use Rattle.forest_world.specs.Held.{TreePass, shape_of_pass}
 use Rattle.call_law.specs.Hands.{KnowsFrame}
-use Rattle.buffer_pool.specs.Forests.{FitsTrees, IsFittedTree}
-use Rattle.buffer_pool.specs.Frames.{TakesFrame, GivesFrame}
+use Rattle.buffer_pool.specs.Forests.{IsFittedTree}
+use Rattle.buffer_pool.specs.Frames.{GivesFrame}
 use Rattle.buffer_pool.specs.Hands.{HoldsKnownFrame}
-use Rattle.buffer_pool.specs.Pages.{HasTreePage}
+use Rattle.buffer_pool.specs.Pages.{IsLive, HoldsOtherPages, PagesIn, HasTreePage}
 use Rattle.buffer_pool.proofs.CallLemmas.{frame_has}
-use Rattle.buffer_pool.proofs.PageLemmas.{fits_before}
 use Rattle.tree_growth.specs.Pages.{HoldsPagedFrame}
 use Rattle.tree_growth.specs.Ways.{IsGoingDown}
 use Rattle.tree_growth.proofs.HandLemmas.{still_gave}
 use Rattle.tree_shrinking.specs.declared.pairs.Pair.{Pair}
+use Rattle.tree_shrinking.specs.declared.pairs.Siblings.{Siblings}
 use Rattle.tree_shrinking.specs.Merging.{CanMerge}
-use Rattle.tree_shrinking.specs.Pairs.{HoldsAbovePair, HoldsPair, AreToJoin, GoesTo, StillKnows, TakesPair}
+use Rattle.tree_shrinking.specs.Pairs.{HoldsAbovePair, HoldsPair, AreToJoin, GoesTo, StillKnows, pair_in, TakesPair}
 use Rattle.tree_growth.proofs.AddLemmas.{same_shape}
 use Rattle.tree_growth.proofs.KnownLemmas.{frame_one}
 use Rattle.tree_shrinking.specs.Shrinking.{WasGiven}
 use Rattle.tree_shrinking.specs.Joins.{GivesPair}
 use Rattle.tree_shrinking.proofs.GivenLemmas.{given_more, among_first, among_second, gave_among}
-use Rattle.tree_shrinking.proofs.PairLemmas.{above_pair, left_parent, right_parent, left_page, right_page, pair_differ}
+use Rattle.tree_shrinking.proofs.OtherLemmas.{way_knows, has_other, holds_others}
+use Rattle.tree_shrinking.proofs.PairLemmas.{left_live, right_live, left_other, right_other, left_page, right_page, pair_differ, left_parent, right_parent, both_apart}
 use Rattle.tree_shrinking.proofs.WayLemmas.{way_took, way_gave, to_both, still_took}
 
 -- the page above is still in hand
-abbrev pub above_still : (p q : TreePass) (pair : Pair) (i : ℕ) → HoldsAbovePair (view p) pair i
-    → StillKnows p pair.parent q → HoldsAbovePair (view q) pair i
-above_still p q pair i h still = record {
+abbrev pub above_still : (p q : TreePass) (parent : ℕ) (asked : Siblings) (i : ℕ)
+    → HoldsAbovePair (view p) parent asked i → StillKnows p parent q
+    → HoldsAbovePair (view q) parent asked i
+above_still p q parent asked i h still = record {
   level = h.level;
   up = h.up;
   knows = still h.up h.knows;
@@ -37,85 +40,109 @@ above_still p q pair i h still = record {
   points = h.points;
 }
 
-module _ (p q r : TreePass) (pair : Pair) (i : ℕ) (key : FieldList)
-    (way : IsGoingDown p i key (pair.parent ∷ [])) (h : HoldsAbovePair (view p) pair i)
-    (first : TakesFrame p pair.left q) (second : TakesFrame q pair.right r) where
-  fits_first : FitsTrees first.was.whole (view p)
-  fits_first = fits_before first.was.whole (view p) first.refused first.was.fits
+-- before the first page is taken
+module _ (p : TreePass) (parent : ℕ) (asked : Siblings) (i : ℕ) (key : FieldList)
+    (way : IsGoingDown p i key (parent ∷ [])) (h : HoldsAbovePair (view p) parent asked i) where
+  pub first_live : IsLive (view p) asked.left
+  first_live w law fits = left_live (view p) w law fits parent asked i h
 
-  one : GoesTo p i key (pair.parent ∷ pair.left ∷ []) q
-  one = way_took p q i key (pair.parent ∷ []) (pair.parent ∷ pair.left ∷ []) way pair.left first
-      (λ k each. (each.1.0, (each.0, tt))) refl
+  pub first_others : IsFittedTree (view p) → HoldsOtherPages (view p) asked.left
+  first_others fitted = holds_others (view p) asked.left (parent ∷ [])
+      (way_knows p i key (parent ∷ []) way) (
+        has_other (view p) asked.left parent h.up h.above.page h.knows h.above.paged
+            (left_other (view p) fitted.whole fitted.is_lawful fitted.fits parent asked i h),
+        tt,
+      )
 
-  left_apart : pair.left ≢ pair.parent
-  left_apart = left_parent (view p) first.was.whole first.was.is_lawful fits_first pair i h
+  -- the first page was taken
+  module _ (left : ℕ) (q : TreePass) (first : PagesIn p asked.left left q) where
+    pub one : GoesTo p i key (parent ∷ left ∷ []) q
+    one = way_took p q i key (parent ∷ []) (parent ∷ left ∷ []) way left asked.left first
+        (λ k each. (each.1.0, (each.0, tt))) refl
 
-  up_first : StillKnows p pair.parent q
-  up_first = still_took p q pair.left way.known first pair.parent (λ e. left_apart (sym e))
+    abbrev above_first : HoldsAbovePair (view q) parent asked i
+    above_first = above_still p q parent asked i h (still_took p q asked.left left first parent)
 
-  abbrev above_first : HoldsAbovePair (view q) pair i
-  above_first = above_still p q pair i h up_first
+    pub second_live : IsLive (view q) asked.right
+    second_live w law fits = right_live (view q) w law fits parent asked i above_first
 
-  fits_second : FitsTrees second.was.whole (view q)
-  fits_second = fits_before second.was.whole (view q) second.refused second.was.fits
+    pub second_others : IsFittedTree (view q) → HoldsOtherPages (view q) asked.right
+    second_others fitted =
+        let w = fitted.whole in let law = fitted.is_lawful in let fits = fitted.fits in
+        let up = above_first in
+        holds_others (view q) asked.right (parent ∷ left ∷ [])
+        (way_knows q i key (parent ∷ left ∷ []) one.way) (
+          has_other (view q) asked.right parent up.up up.above.page up.knows up.above.paged
+              (right_other (view q) w law fits parent asked i up),
+          (
+            has_other (view q) asked.right left first.frame first.has.page first.knows
+                first.has.paged
+                (λ e. pair_differ (view q) w law fits parent asked i up
+                (sym first.has.number ∙ e)),
+            tt,
+          ),
+        )
 
-  right_apart : pair.right ≢ pair.parent
-  right_apart = right_parent (view q) second.was.whole second.was.is_lawful fits_second pair i
-      above_first
+    -- and the second one
+    module _ (right : ℕ) (r : TreePass) (second : PagesIn q asked.right right r)
+        (fitted : IsFittedTree (view r)) where
+      two : GoesTo q i key (parent ∷ left ∷ right ∷ []) r
+      two = way_took q r i key (parent ∷ left ∷ []) (parent ∷ left ∷ right ∷ []) one.way right
+          asked.right second (λ k each. (each.1.1.0, (each.0, (each.1.0, tt)))) refl
 
-  both_apart : pair.right ≢ pair.left
-  both_apart = pair_differ (view q) second.was.whole second.was.is_lawful fits_second pair i
-      above_first
+      still : (b : ℕ) → StillKnows q b r
+      still = still_took q r asked.right right second
 
-  two : GoesTo q i key (pair.parent ∷ pair.left ∷ pair.right ∷ []) r
-  two = way_took q r i key (pair.parent ∷ pair.left ∷ []) (pair.parent ∷ pair.left ∷ pair.right ∷ [])
-      one.way pair.right second (λ k each. (each.1.1.0, (each.0, (each.1.0, tt)))) refl
+      abbrev above_second : HoldsAbovePair (view r) parent asked i
+      above_second = above_still q r parent asked i above_first (still parent)
 
-  left_second : StillKnows q pair.left r
-  left_second = still_took q r pair.right one.way.known second pair.left (λ e. both_apart (sym e))
-
-  up_second : StillKnows q pair.parent r
-  up_second = still_took q r pair.right one.way.known second pair.parent
-      (λ e. right_apart (sym e))
-
-  pub takes_pair : TakesPair p pair i key r
-  takes_pair = record {
-    to = to_both p q r i key (pair.parent ∷ pair.left ∷ [])
-        (pair.parent ∷ pair.left ∷ pair.right ∷ []) one two;
-    held = record {
-      level = h.level;
-      up = h.up;
-      lower = first.frame;
-      upper = second.frame;
-      knows_up = up_second h.up (up_first h.up h.knows);
-      knows_left = left_second first.frame first.has.held;
-      knows_right = second.has.held;
-      above = h.above;
-      is_left = left_page (view p) first.was.whole first.was.is_lawful fits_first pair i h
-          first.frame first.was.at;
-      is_right = right_page (view q) second.was.whole second.was.is_lawful fits_second pair i
-          above_first second.frame second.was.at;
-      points = h.points;
-    };
-    still = λ f knows. up_second f (up_first f knows);
-  }
+      pub takes_pair : TakesPair p (pair_in parent asked left right) asked i key r
+      takes_pair =
+          let w = fitted.whole in let law = fitted.is_lawful in let fits = fitted.fits in
+          let up = above_second in
+          let knows = still left first.frame first.knows in record {
+            to = to_both p q r i key (parent ∷ left ∷ []) (parent ∷ left ∷ right ∷ []) one two;
+            held = record {
+              level = h.level;
+              up = h.up;
+              lower = first.frame;
+              upper = second.frame;
+              knows_up = up.knows;
+              knows_left = knows;
+              knows_right = second.knows;
+              above = h.above;
+              is_left = left_page (view r) w law fits parent asked i up left first.frame knows
+                  first.has;
+              is_right = right_page (view r) w law fits parent asked i up right second.frame
+                  second.knows second.has;
+              points = record {
+                fore = h.points.fore;
+                this = h.points.this;
+                pointer = h.points.pointer;
+                aft = h.points.aft;
+                was = h.points.was;
+                this_is = h.points.this_is ∙ ap Child (sym first.has.number);
+                pointer_is = h.points.pointer_is ∙ ap Child (sym second.has.number);
+              };
+            };
+            left = first.has.number;
+            right = second.has.number;
+            still = λ f knows. still parent f (still_took p q asked.left left first parent f knows);
+          }
 
 -- both are given back
 module _ (p q r : TreePass) (pair : Pair) (i : ℕ) (key : FieldList)
     (way : IsGoingDown p i key (pair.parent ∷ pair.left ∷ pair.right ∷ []))
     (h : HoldsPair (view p) pair i) (fitted : IsFittedTree (view p))
     (first : GivesFrame p pair.right q) where
-  abbrev up : HoldsAbovePair (view p) pair i
-  up = above_pair (view p) pair i h
-
   apart_left : pair.left ≢ pair.parent
-  apart_left = left_parent (view p) fitted.whole fitted.is_lawful fitted.fits pair i up
+  apart_left = left_parent (view p) fitted.whole fitted.is_lawful fitted.fits pair i h
 
   apart_right : pair.right ≢ pair.parent
-  apart_right = right_parent (view p) fitted.whole fitted.is_lawful fitted.fits pair i up
+  apart_right = right_parent (view p) fitted.whole fitted.is_lawful fitted.fits pair i h
 
   apart_both : pair.right ≢ pair.left
-  apart_both = pair_differ (view p) fitted.whole fitted.is_lawful fitted.fits pair i up
+  apart_both = both_apart (view p) fitted.whole fitted.is_lawful fitted.fits pair i h
 
   abbrev gave_right : GoesTo p i key (pair.parent ∷ pair.left ∷ []) q
   gave_right = way_gave p q i key (pair.parent ∷ pair.left ∷ pair.right ∷ [])
@@ -174,7 +201,7 @@ module _ (p q r : TreePass) (pair : Pair) (i : ℕ) (key : FieldList)
 
 -- a page in hand can be read
 pub paged_frame : (p : TreePass) → IsKnown p → (b i level : ℕ) (f : Frame)
-    → KnowsFrame (view p) b f → HasTreePage b f i level → HoldsPagedFrame p b
+    → KnowsFrame (view p) b f → HasTreePage f i level → HoldsPagedFrame p b
 paged_frame p known b i level f knows page = (f, page.page, frame_has p known b f knows, page.paged)
 
 -- pages that are to be merged can be

@@ -1,5 +1,5 @@
 -- What is in hand on the way up, as frames are taken, freed and given back.
-use Rattle.std.proofs.Common.{◌≡◌, ◌≢◌, ℕ, ◌+◌, ◌<◌, ◌≤◌, List, [], ◌∷◌, length, None, inl, inr, sym, ap, subst, ◌∙◌, refl, arith}
+use Rattle.std.proofs.Common.{◌≡◌, ◌≢◌, ℕ, ◌+◌, ◌<◌, ◌≤◌, List, [], ◌∷◌, length, None, inl, inr, sym, ap, subst, ◌∙◌, arith}
 use Rattle.std.proofs.lemmas.Bool.{cases_eq}
 use Rattle.std.specs.List.{AllByRecursion}
 use mathlib.Core.Option.{some}
@@ -16,27 +16,28 @@ use Rattle.forest_world.specs.Held.{TreePass, shape_of_pass}
 use Rattle.call_law.specs.Hands.{KnowsTree, HoldsTheRest}
 use Rattle.call_law.specs.Trace.{Added, Adds}
 use Rattle.buffer_pool.specs.Calls.{GetsNothing}
-use Rattle.buffer_pool.specs.Frames.{TakesFrame, GivesFrame}
-use Rattle.buffer_pool.proofs.AddedLemmas.{only_refused, frame_no_tree, frame_still, tree_still}
-use Rattle.buffer_pool.proofs.CallLemmas.{took_frame}
+use Rattle.buffer_pool.specs.Frames.{GivesFrame}
+use Rattle.buffer_pool.specs.Pages.{PagesIn}
+use Rattle.buffer_pool.proofs.AddedLemmas.{frame_no_tree, frame_still, tree_still}
 use Rattle.tree_growth.specs.Ways.{HoldsOnly, IsGoingDown}
 use Rattle.tree_growth.proofs.AddLemmas.{same_shape, goes_silently, goes_both}
 use Rattle.tree_growth.proofs.HandLemmas.{frames_apart, way_more, way_less, goes_gave}
+use Rattle.tree_growth.proofs.KnownLemmas.{lacked_apart}
 use Rattle.tree_shrinking.specs.Pairs.{GoesTo, StillKnows}
 
 module _ (p q : TreePass) (i : ℕ) (key : FieldList) (bs cs : List ℕ)
     (way : IsGoingDown p i key bs) (b : ℕ) where
-  -- a frame was taken besides
-  pub way_took : TakesFrame p b q
+  -- a page was taken besides
+  pub way_took : (n : ℕ) → PagesIn p n b q
       → ((k : ℕ) → AllByRecursion (λ (c : ℕ). k ≢ frame_id (shape_of_pass p) c) cs
       → (k ≢ frame_id (shape_of_pass p) b)
       × AllByRecursion (λ (c : ℕ). k ≢ frame_id (shape_of_pass p) c) bs)
       → length cs ≡ length bs + 1 → GoesTo p i key cs q
-  way_took took cover long =
-      let does = took_frame p q way.known b took in let s = shape_of_pass p in
+  way_took n took cover long =
+      let does = took.silently.does in let s = shape_of_pass p in
       let had = way.count in let more = took.count in record {
-        goes = record { added = only_refused took.refused; adds = does.adds; silent = refl };
-        way = way_more p q i key bs cs way (frame_id s b ∷ []) (only_refused took.refused) does.adds
+        goes = goes_silently p q (frame_id s b ∷ []) took.silently;
+        way = way_more p q i key bs cs way (frame_id s b ∷ []) took.silently.added does.adds
             does.rest does.known
             (λ k not each. (let c = cover k each in ((c.0, tt), c.1))) way.tree
             (tree_still (view p) (view q) (frame_id s b ∷ []) does.rest i
@@ -111,9 +112,8 @@ module _ (p q : TreePass) (got : GetsNothing p q) where
             (omega (arith, same, had));
       }
 
--- another frame stays where one was taken
-pub still_took : (p q : TreePass) (b : ℕ) → IsKnown p → TakesFrame p b q → (c : ℕ) → c ≢ b
-    → StillKnows p c q
-still_took p q b known took c ne f knows = let does = took_frame p q known b took in
+-- a frame that is known stays so where a page was taken
+pub still_took : (p q : TreePass) (n b : ℕ) → PagesIn p n b q → (c : ℕ) → StillKnows p c q
+still_took p q n b took c f knows = let does = took.silently.does in
     frame_still (view p) (view q) (frame_id (shape_of_pass p) b ∷ []) does.adds.numbers does.rest c
-    (frames_apart (shape_of_pass p) c b ne, tt) f knows
+    (frames_apart (shape_of_pass p) c b (lacked_apart p c b f took.lacked knows), tt) f knows

@@ -32,5 +32,5 @@ pub record HoldsFamily (v : View) (parent i : ℕ) (family : Family) : Type 0 wh
   pub level : ℕ
   pub up : Frame
   pub knows : KnowsFrame v parent up
-  pub above : HasTreePage parent up i (suc level)
+  pub above : HasTreePage up i (suc level)
   pub tells : TellsFamily above.page.rows family

@@ -11,6 +11,7 @@ use Rattle.tree_descent.specs.Leaves.{cut_in}
 use Rattle.tree_descent.specs.Paths.{PicksChild}
 use Rattle.tree_shrinking.specs.declared.families.Family.{Family}
 use Rattle.tree_shrinking.specs.declared.pairs.Pair.{Pair}
+use Rattle.tree_shrinking.specs.declared.pairs.Siblings.{Siblings}
 use Rattle.tree_shrinking.specs.Families.{TellsFamily}
 use Rattle.tree_shrinking.specs.Pairs.{GoesTo, StillKnows, ComesBack}
 use Rattle.tree_shrinking.specs.Shrinking.{WasGiven, StayApart, StaysAlone, RestsAt, pages_freed, EndsUp}
@@ -26,12 +27,12 @@ pub record GivesPair (p : TreePass) (pair : Pair) (i : ℕ) (key : FieldList) (q
         → WasGiven (shape_of_pass p) pair.right f to.goes.added.references
 
 -- the pass came back to the page above, which is as it was, and both pages stay apart
-pub record LeavesPair (p : TreePass) (pair : Pair) (i : ℕ) (key : FieldList) (q : TreePass) : Type 0
-  where
-    pub back : ComesBack p pair.parent i key q
-    pub still : StillKnows p pair.parent q
-    pub apart : StayApart (shape_of_pass p) i pair.left pair.right pair.right_asks
-        back.to.goes.added.references
+pub record LeavesPair (p : TreePass) (parent : ℕ) (asked : Siblings) (i : ℕ) (key : FieldList)
+    (q : TreePass) : Type 0 where
+  pub back : ComesBack p parent i key q
+  pub still : StillKnows p parent q
+  pub apart : StayApart (shape_of_pass p) i asked.left asked.right asked.right_asks
+      back.to.goes.added.references
 
 -- the same of the child and the page before it, where there is one
 pub record LeavesBefore (p : TreePass) (parent i : ℕ) (family : Family) (key : FieldList)

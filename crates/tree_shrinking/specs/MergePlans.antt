@@ -14,11 +14,10 @@ use Rattle.tree_smo.specs.Plans.{HoldsNext, next_ids, KnowsNext}
 use Rattle.tree_shrinking.specs.Merging.{CanMerge}
 
 -- the pass holds all that the merge changes: the three pages, and the one behind them, where there
--- is one
+-- is one, in the frame of the block `next`
 pub record HoldsMerge (v : View) (at : SplitBlocks) (i : ℕ) (next : Option ℕ) : Type 0 where
   pub can : CanMerge v at.parent at.child at.right i
-  pub is_next : can.is_right.page.head.next ≡ next
-  pub behind : HoldsNext v i can.level next
+  pub behind : HoldsNext v i can.level next can.is_right.page.head.next
 
 -- the numbers of the frames that a merge changes
 abbrev pub merge_ids : Shape → SplitBlocks → Option ℕ → List ℕ

@@ -34,10 +34,10 @@ pub record CanMerge (v : View) (parent left right i : ℕ) : Type 0 where
   pub knows_up : KnowsFrame v parent up
   pub knows_left : KnowsFrame v left lower
   pub knows_right : KnowsFrame v right upper
-  pub above : HasTreePage parent up i (suc level)
-  pub is_left : HasTreePage left lower i level
-  pub is_right : HasTreePage right upper i level
-  pub points : PointsAtPair above.page.rows left right
+  pub above : HasTreePage up i (suc level)
+  pub is_left : HasTreePage lower i level
+  pub is_right : HasTreePage upper i level
+  pub points : PointsAtPair above.page.rows is_left.page.head.number is_right.page.head.number
   pub fits : load_of is_left.page.rows + load_of is_right.page.rows ≤ MERGED_LOAD
 
 -- the rows of the right page are behind those of the left one, the parent points to that alone, and

@@ -13,15 +13,16 @@ use Rattle.tree_descent.specs.Descents.{PointsAt}
 use Rattle.tree_growth.specs.Ways.{IsGoingDown, GoesOn}
 use Rattle.tree_shrinking.specs.declared.TheConstants.{MERGED_LOAD, LIGHT_LOAD}
 use Rattle.tree_shrinking.specs.declared.pairs.Pair.{Pair}
+use Rattle.tree_shrinking.specs.declared.pairs.Siblings.{Siblings}
 use Rattle.tree_shrinking.specs.Merging.{PointsAtPair}
 
 -- the pass holds a page of an index that points to both pages, one behind the other
-pub record HoldsAbovePair (v : View) (pair : Pair) (i : ℕ) : Type 0 where
+pub record HoldsAbovePair (v : View) (parent : ℕ) (asked : Siblings) (i : ℕ) : Type 0 where
   pub level : ℕ
   pub up : Frame
-  pub knows : KnowsFrame v pair.parent up
-  pub above : HasTreePage pair.parent up i (suc level)
-  pub points : PointsAtPair above.page.rows pair.left pair.right
+  pub knows : KnowsFrame v parent up
+  pub above : HasTreePage up i (suc level)
+  pub points : PointsAtPair above.page.rows asked.left asked.right
 
 -- and it holds both pages
 pub record HoldsPair (v : View) (pair : Pair) (i : ℕ) : Type 0 where
@@ -32,10 +33,10 @@ pub record HoldsPair (v : View) (pair : Pair) (i : ℕ) : Type 0 where
   pub knows_up : KnowsFrame v pair.parent up
   pub knows_left : KnowsFrame v pair.left lower
   pub knows_right : KnowsFrame v pair.right upper
-  pub above : HasTreePage pair.parent up i (suc level)
-  pub is_left : HasTreePage pair.left lower i level
-  pub is_right : HasTreePage pair.right upper i level
-  pub points : PointsAtPair above.page.rows pair.left pair.right
+  pub above : HasTreePage up i (suc level)
+  pub is_left : HasTreePage lower i level
+  pub is_right : HasTreePage upper i level
+  pub points : PointsAtPair above.page.rows is_left.page.head.number is_right.page.head.number
 
 -- one of two pages is to be merged with the other: its rows are light, and those of both take no
 -- more than a page may that comes of two
@@ -68,12 +69,19 @@ pub record ComesBack (p : TreePass) (parent i : ℕ) (key : FieldList) (q : Tree
   pub up : Frame
   pub knows : KnowsFrame (view q) parent up
 
--- both pages were taken besides
-pub record TakesPair (p : TreePass) (pair : Pair) (i : ℕ) (key : FieldList) (q : TreePass) : Type 0
-  where
-    pub to : GoesTo p i key (pair.parent ∷ pair.left ∷ pair.right ∷ []) q
-    pub held : HoldsPair (view q) pair i
-    pub still : StillKnows p pair.parent q
+-- the blocks of a page and of two pages under it
+abbrev pub pair_in : (parent : ℕ) → Siblings → (left right : ℕ) → Pair
+pair_in parent asked left right =
+    record { parent = parent; left = left; right = right; right_asks = asked.right_asks }
+
+-- both pages, of these numbers, were taken besides
+pub record TakesPair (p : TreePass) (pair : Pair) (asked : Siblings) (i : ℕ) (key : FieldList)
+    (q : TreePass) : Type 0 where
+  pub to : GoesTo p i key (pair.parent ∷ pair.left ∷ pair.right ∷ []) q
+  pub held : HoldsPair (view q) pair i
+  pub left : held.is_left.page.head.number ≡ asked.left
+  pub right : held.is_right.page.head.number ≡ asked.right
+  pub still : StillKnows p pair.parent q
 
 -- the pass holds a page of an index, and one that it points to whose rows take no more than a page
 -- may that comes of two
@@ -83,7 +91,7 @@ pub record HoldsJoined (v : View) (parent child i : ℕ) : Type 0 where
   pub low : Frame
   pub knows_up : KnowsFrame v parent up
   pub knows_low : KnowsFrame v child low
-  pub above : HasTreePage parent up i (suc level)
-  pub below : HasTreePage child low i level
-  pub points : PointsAt above.page.rows child
+  pub above : HasTreePage up i (suc level)
+  pub below : HasTreePage low i level
+  pub points : PointsAt above.page.rows below.page.head.number
   pub fits : load_of below.page.rows ≤ MERGED_LOAD

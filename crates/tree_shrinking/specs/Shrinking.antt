@@ -25,16 +25,20 @@ pub record WasGiven (shape : Shape) (b : ℕ) (f : Frame) (rs : List (Reference 
     pub taken : Object
     pub among : In (reference (frame_id shape b) taken (object.Frame f)) rs
 
--- two pages of one level were given back that weren't to be merged
+-- two pages of one level, of these numbers, were given back that weren't to be merged
 pub record StayApart (shape : Shape) (i left right : ℕ) (right_asks : Bool)
     (rs : List (Reference Object)) : Type 0 where
   pub level : ℕ
+  pub lower_block : ℕ
+  pub upper_block : ℕ
   pub lower : Frame
   pub upper : Frame
-  pub gave_left : WasGiven shape left lower rs
-  pub gave_right : WasGiven shape right upper rs
-  pub is_left : HasTreePage left lower i level
-  pub is_right : HasTreePage right upper i level
+  pub gave_left : WasGiven shape lower_block lower rs
+  pub gave_right : WasGiven shape upper_block upper rs
+  pub is_left : HasTreePage lower i level
+  pub is_right : HasTreePage upper i level
+  pub left_number : is_left.page.head.number ≡ left
+  pub right_number : is_right.page.head.number ≡ right
   pub apart : AreToJoin is_left.page is_right.page right_asks → ⊥
 
 -- the child wasn't to be merged with the page before it, nor with the one after it, where the page
@@ -51,7 +55,7 @@ pub record RestsUnder (shape : Shape) (i level : ℕ) (key : FieldList)
   pub parent : ℕ
   pub up : Frame
   pub gave : WasGiven shape parent up rs
-  pub page : IsPageFor shape parent up i (suc level) (cut_in shape i mode.Ge key)
+  pub page : IsPageFor shape up i (suc level) (cut_in shape i mode.Ge key)
   pub family : Family
   pub tells : TellsFamily page.is.page.rows family
   pub picks : PicksChild (cut_in shape i mode.Ge key) page.is.page.rows family.child
@@ -60,9 +64,11 @@ pub record RestsUnder (shape : Shape) (i level : ℕ) (key : FieldList)
 -- the root was given back, and isn't above the level
 pub record EndsBelow (shape : Shape) (i level : ℕ) (rs : List (Reference Object)) : Type 0 where
   pub top : ℕ
+  pub block : ℕ
   pub root : Frame
-  pub gave : WasGiven shape i root rs
-  pub page : HasTreePage i root i top
+  pub gave : WasGiven shape block root rs
+  pub page : HasTreePage root i top
+  pub number : page.page.head.number ≡ i
   pub low : top ≤ level
 
 -- on the level of the index no page that has the key is to be merged

@@ -22,11 +22,11 @@ use key_tuple::{Key, Mode};
 /// A child of a page, with the pages that the rows before and after its own point to.
 #[derive(Drop, Clone, Copy)]
 pub(crate) struct Family {
-    /// The child.
+    /// The child's number.
     pub child: u32,
-    /// The page before it, if the same page points to it.
+    /// The number of the page before it, if the same page points to that.
     pub left: Option<u32>,
-    /// The page after it, if the same page points to it.
+    /// The number of the page after it, if the same page points to that.
     pub right: Option<u32>,
 }
 

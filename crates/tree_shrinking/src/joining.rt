@@ -18,7 +18,7 @@ ghost use Rattle.tree_shrinking.specs.Pairs.{HoldsAbovePair, HoldsJoined, ComesB
 use crate::families::{Family, family_in};
 use crate::lifting::lift;
 use crate::merging::merge_children;
-use crate::pairs::{Pair, are_to_join, give_pair_back, take_pair};
+use crate::pairs::{Pair, Siblings, are_to_join, give_pair_back, take_pair};
 use buffer_pool::{frame, give_back};
 use forest_world::{ForestPass, ForestSpace};
 use index_page::loads_add_up;
@@ -85,13 +85,12 @@ fn join_left<R: Wait>(
             Ok(false)
         }
         Some(left) => {
-            let pair = Pair {
-                parent,
+            let asked = Siblings {
                 left,
                 right: family.child,
                 right_asks: true,
             };
-            join_pair(alloc, space, pass, pair, index, key, wait)
+            join_pair(alloc, space, pass, parent, asked, index, key, wait)
         }
     }
 }
@@ -124,13 +123,12 @@ fn join_right<R: Wait>(
             Ok(false)
         }
         Some(right) => {
-            let pair = Pair {
-                parent,
+            let asked = Siblings {
                 left: family.child,
                 right,
                 right_asks: false,
             };
-            join_pair(alloc, space, pass, pair, index, key, wait)
+            join_pair(alloc, space, pass, parent, asked, index, key, wait)
         }
     }
 }
@@ -141,31 +139,38 @@ fn join_pair<R: Wait>(
     alloc: Global,
     space: &ForestSpace,
     pass: &mut ForestPass,
-    pair: Pair,
+    parent: u32,
+    asked: Siblings,
     index: u32,
     key: &Key,
     wait: &R,
 ) -> Result<bool, NoMemory>
     requires own { IsForest space.now × IsPassOf space.now pass.old }
-    requires way { IsGoingDown pass.old index key.now.tuple (pair.parent ∷ []) }
-    requires held { HoldsAbovePair (view pass.old) pair index }
+    requires way { IsGoingDown pass.old index key.now.tuple (parent ∷ []) }
+    requires held { HoldsAbovePair (view pass.old) parent asked index }
     ensures own { IsSamePass pass.old pass.new × IsPassOf space.now pass.new }
-    ensures back { ComesBack pass.old pair.parent index key.now.tuple pass.new }
+    ensures back { ComesBack pass.old parent index key.now.tuple pass.new }
     ensures apart { result ≡ Ok false
-        → LeavesPair pass.old pair index key.now.tuple pass.new }
+        → LeavesPair pass.old parent asked index key.now.tuple pass.new }
     ensures freed { result ≡ Ok true
-        → FreesUnder pass.old pair.parent index key.now.tuple pass.new }
+        → FreesUnder pass.old parent index key.now.tuple pass.new }
     ensures fits { IsFittedTree (view pass.new) }
 {
-    take_pair(space, pass, pair, index, key, wait);
+    let (left, right) = take_pair(space, pass, parent, asked, index, key, wait);
+    let pair = Pair {
+        parent,
+        left,
+        right,
+        right_asks: asked.right_asks,
+    };
     if !are_to_join(space, pass, pair) {
         give_pair_back(space, pass, pair, index, key);
         return Ok(false);
     }
-    match merge_children(space, pass, pair.parent, pair.left, pair.right, index, wait) {
+    match merge_children(space, pass, parent, left, right, index, wait) {
         Ok(()) => {
             loads_add_up();
-            lift_only(alloc, space, pass, pair.parent, pair.left, index, key, wait)
+            lift_only(alloc, space, pass, parent, left, index, key, wait)
         }
         Err(error) => {
             give_pair_back(space, pass, pair, index, key);
@@ -196,16 +201,29 @@ fn lift_only<R: Wait>(
 {
     let _ = key;
     pass.fits();
-    if parent != index || count_in(space, pass, parent) > 1 {
+    if number_in(space, pass, parent) != index || count_in(space, pass, parent) > 1 {
         give_back(space, pass, child);
         return Ok(true);
     }
-    match lift(alloc, space, pass, index, child, wait) {
+    match lift(alloc, space, pass, index, parent, child, wait) {
         Ok(()) => Ok(true),
         Err(error) => {
             give_back(space, pass, child);
             Err(error)
         }
+    }
+}
+
+/// The number of a page in hand.
+fn number_in(space: &ForestSpace, pass: &ForestPass, block: u32) -> u32
+    requires own { IsForest space.now × IsPassOf space.now pass.now }
+    requires held { HoldsPagedFrame pass.now block }
+    ensures { (f : Frame) (page : PageRows) → HasFrame pass.now block f f → f.page ≡ Some page
+        → result ≡ page.head.number }
+{
+    match &frame(space, pass, block).page {
+        Some(page) => page.head().number,
+        None => unreachable!(),
     }
 }
 

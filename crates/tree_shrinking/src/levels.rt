@@ -3,7 +3,7 @@ ghost use Rattle.std.specs.Prelude.{ℕ, ◌≡◌, ◌<◌, ◌≤◌, ◌+◌,
 ghost use Rattle.latch_space.specs.Passes.{view, IsSamePass};
 ghost use Rattle.latch_space.specs.Spaces.{IsPassOf};
 ghost use Rattle.buffer_pool.specs.Forests.{IsForest, IsFittedTree};
-ghost use Rattle.tree_growth.specs.Pages.{IsPageInHand};
+ghost use Rattle.tree_growth.specs.Pages.{IsPageInHand, HoldsRoot};
 ghost use Rattle.tree_growth.specs.Ways.{IsGoingDown, ArrivesAt};
 ghost use Rattle.tree_shrinking.specs.Joins.{RestsOn, FreesOne};
 ghost use Rattle.tree_shrinking.specs.Pairs.{GoesTo};
@@ -68,7 +68,7 @@ fn walk_above<R: Wait>(
     ensures own { IsSamePass pass.old pass.new × IsPassOf space.now pass.new }
     ensures reaches { ArrivesAt pass.old index key.now.tuple 0 result pass.new }
     ensures above { level < result.level → result.level ≡ level + 1 }
-    ensures root { result.level ≤ level → result.block ≡ index }
+    ensures root { result.level ≤ level → HoldsRoot (view pass.new) result.block index }
     ensures fits { IsFittedTree (view pass.new) }
 {
     let mut at = take_root(space, pass, index, key, 0, wait);

@@ -15,29 +15,33 @@ use forest_world::{ForestPass, ForestSpace};
 use key_tuple::NoMemory;
 use std::alloc::Global;
 use std::sync::Wait;
+use tree_smo::pages_are_numbered;
 
 /// Moves all rows of the only page that an index's root points to to the root, which is a level
-/// lower then, and frees the page's number. After `NoMemory` all is as before.
+/// lower then, and frees the page's number. The root is in the block `root`. After `NoMemory` all is
+/// as before.
 pub fn lift<R: Wait>(
     alloc: Global,
     space: &ForestSpace,
     pass: &mut ForestPass,
     index: u32,
+    root: u32,
     child: u32,
     wait: &R,
 ) -> Result<(), NoMemory>
     requires own { IsForest space.now × IsPassOf space.now pass.old }
     requires index { index < (shape_of_pass pass.old).indexes }
-    requires held { CanLift (view pass.old) index child }
+    requires held { CanLift (view pass.old) index root child }
     requires known { IsKnown pass.old }
     requires pool { HoldsNoPool (view pass.old) }
     requires room { count pass.old < 16 }
     ensures own { IsSamePass pass.old pass.new × IsPassOf space.now pass.new }
-    ensures ok { OnOk result (LiftsRoot pass.old index child pass.new) }
+    ensures ok { OnOk result (LiftsRoot pass.old index root child pass.new) }
     ensures memory { OnErr result (GetsNothing pass.old pass.new) }
     ensures fits { IsFittedTree (view pass.new) }
 {
-    sink_root(alloc, space, pass, index, child)?;
+    pages_are_numbered(space, pass);
+    sink_root(alloc, space, pass, index, root, child)?;
     free_page(space, pass, child, wait);
     Ok(())
 }

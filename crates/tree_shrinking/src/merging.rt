@@ -1,24 +1,26 @@
 //! Two children become one under their parent.
-ghost use Rattle.std.specs.Prelude.{◌≡◌, ◌+◌, ◌≤◌, [], ◌∷◌, OnOk, OnErr};
+ghost use Rattle.std.specs.Prelude.{◌≡◌, ◌+◌, ◌<◌, ◌≤◌, ◌^◌, [], ◌∷◌, OnOk, OnErr};
 ghost use Rattle.latch_space.specs.Has.{IsKnown};
 ghost use Rattle.latch_space.specs.Passes.{view, count, IsSamePass};
 ghost use Rattle.latch_space.specs.Spaces.{IsPassOf};
 ghost use Rattle.index_page.specs.Page.{PageRows};
+ghost use Rattle.forest_world.specs.Held.{shape_of_pass};
 ghost use Rattle.call_law.specs.Hands.{HoldsNoFrameBut, HoldsNoPool};
 ghost use Rattle.buffer_pool.specs.Calls.{GetsNothing};
 ghost use Rattle.buffer_pool.specs.Forests.{IsForest, IsFittedTree};
 ghost use Rattle.tree_shrinking.specs.Merging.{CanMerge, MergesPair, MergesChildren};
 
 use crate::settling::make_merge;
-use buffer_pool::{frame, free_page, give_back, take_frame};
+use buffer_pool::{frame, free_page, give_back, page_in};
 use forest_world::{ForestPass, ForestSpace};
 use key_tuple::NoMemory;
 use std::sync::Wait;
-use tree_smo::{SplitBlocks, head_of};
+use tree_smo::{SplitBlocks, head_of, pages_are_numbered};
 
 /// Moves the rows of the right page behind those of the left one, which follows it under their
 /// parent, and frees the right one's number. The tree of the index is held by whoever calls, so
-/// that no other call changes its shape meanwhile. After `NoMemory` all is as before.
+/// that no other call changes its shape meanwhile. `parent`, `left` and `right` are blocks. After
+/// `NoMemory` all is as before.
 pub fn merge_children<R: Wait>(
     space: &ForestSpace,
     pass: &mut ForestPass,
@@ -44,6 +46,7 @@ pub fn merge_children<R: Wait>(
         child: left,
         right,
     };
+    pages_are_numbered(space, pass);
     merge_pair(space, pass, at, index, wait)?;
     free_page(space, pass, right, wait);
     Ok(())
@@ -61,7 +64,9 @@ fn merge_pair<R: Wait>(
     requires held { CanMerge (view pass.old) at.parent at.child at.right index }
     requires known { IsKnown pass.old }
     requires frames { HoldsNoFrameBut (view pass.old) (at.parent ∷ at.child ∷ at.right ∷ []) }
-    requires room { count pass.old + 1 ≤ 16 }
+    requires pool { HoldsNoPool (view pass.old) }
+    requires few { (shape_of_pass pass.old).pages < 2 ^ 32 }
+    requires room { count pass.old + 2 ≤ 16 }
     ensures own { IsSamePass pass.old pass.new × IsPassOf space.now pass.new }
     ensures ok { OnOk result (MergesPair pass.old at.parent at.child at.right index pass.new) }
     ensures memory { OnErr result (GetsNothing pass.old pass.new) }
@@ -71,9 +76,9 @@ fn merge_pair<R: Wait>(
     match head_of(frame(space, pass, at.right)).next {
         None => make_merge(space, pass, at, index, None),
         Some(next) => {
-            take_frame(space, pass, next, wait);
-            let made = make_merge(space, pass, at, index, Some(next));
-            give_back(space, pass, next);
+            let behind = page_in(space, pass, next, wait);
+            let made = make_merge(space, pass, at, index, Some(behind));
+            give_back(space, pass, behind);
             made
         }
     }

@@ -10,15 +10,26 @@ ghost use Rattle.buffer_pool.specs.Forests.{IsForest, IsFittedTree};
 ghost use Rattle.tree_growth.specs.Pages.{HoldsPagedFrame};
 ghost use Rattle.tree_growth.specs.Ways.{IsGoingDown};
 ghost use Rattle.tree_shrinking.specs.Joins.{GivesPair};
-ghost use Rattle.tree_shrinking.specs.Pairs.{HoldsAbovePair, HoldsPair, TellsJoin, TakesPair};
+ghost use Rattle.tree_shrinking.specs.Pairs.{HoldsAbovePair, HoldsPair, TellsJoin, pair_in, TakesPair};
 
 use crate::{LIGHT_LOAD, MERGED_LOAD};
-use buffer_pool::{frame, give_back, take_frame};
+use buffer_pool::{frame, give_back, page_in};
 use forest_world::{ForestPass, ForestSpace};
 use key_tuple::Key;
 use std::sync::Wait;
 
 /// Two pages that follow one another under a third.
+#[derive(Drop, Clone, Copy)]
+pub(crate) struct Siblings {
+    /// The number of the first page.
+    pub left: u32,
+    /// The number of the second page.
+    pub right: u32,
+    /// Whether it is the second page that may be light.
+    pub right_asks: bool,
+}
+
+/// The same once all three are held.
 #[derive(Drop, Clone, Copy)]
 pub(crate) struct Pair {
     /// The block of the page above.
@@ -31,27 +42,31 @@ pub(crate) struct Pair {
     pub right_asks: bool,
 }
 
-/// Takes both pages, from left to right.
+/// Takes both pages, from left to right, and answers their blocks.
 pub(crate) fn take_pair<R: Wait>(
     space: &ForestSpace,
     pass: &mut ForestPass,
-    pair: Pair,
+    parent: u32,
+    asked: Siblings,
     index: u32,
     key: &Key,
     wait: &R,
-)
+) -> (u32, u32)
     requires own { IsForest space.now × IsPassOf space.now pass.old }
-    requires way { IsGoingDown pass.old index key.now.tuple (pair.parent ∷ []) }
-    requires held { HoldsAbovePair (view pass.old) pair index }
+    requires way { IsGoingDown pass.old index key.now.tuple (parent ∷ []) }
+    requires held { HoldsAbovePair (view pass.old) parent asked index }
     ensures own { IsSamePass pass.old pass.new × IsPassOf space.now pass.new }
-    ensures took { TakesPair pass.old pair index key.now.tuple pass.new }
+    ensures took { TakesPair pass.old (pair_in parent asked result.0 result.1) asked index
+        key.now.tuple pass.new }
     ensures fits { IsFittedTree (view pass.new) }
 {
+    let _ = parent;
     let _ = index;
     let _ = key;
     pass.fits();
-    take_frame(space, pass, pair.left, wait);
-    take_frame(space, pass, pair.right, wait);
+    let left = page_in(space, pass, asked.left, wait);
+    let right = page_in(space, pass, asked.right, wait);
+    (left, right)
 }
 
 /// Gives both pages back.

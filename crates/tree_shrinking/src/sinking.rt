@@ -1,5 +1,5 @@
 //! A root and its only child, in hand.
-ghost use Rattle.std.specs.Prelude.{◌<◌, OnOk, OnErr};
+ghost use Rattle.std.specs.Prelude.{◌<◌, ◌^◌, OnOk, OnErr};
 ghost use Rattle.latch_space.specs.Has.{IsKnown};
 ghost use Rattle.latch_space.specs.Passes.{view, IsSamePass};
 ghost use Rattle.latch_space.specs.Spaces.{IsPassOf};
@@ -15,26 +15,28 @@ use key_tuple::NoMemory;
 use std::alloc::Global;
 use tree_merging::lift_frames;
 
-/// Gives a root in hand the rows of its only child, and makes that known with the tree's height.
-/// After `NoMemory` all is as before.
+/// Gives a root in hand, in the block `root`, the rows of its only child, and makes that known with
+/// the tree's height. After `NoMemory` all is as before.
 pub(crate) fn sink_root(
     alloc: Global,
     space: &ForestSpace,
     pass: &mut ForestPass,
     index: u32,
+    root: u32,
     child: u32,
 ) -> Result<(), NoMemory>
     requires own { IsForest space.now × IsPassOf space.now pass.old }
     requires index { index < (shape_of_pass pass.old).indexes }
-    requires held { CanLift (view pass.old) index child }
+    requires held { CanLift (view pass.old) index root child }
     requires known { IsKnown pass.old }
+    requires few { (shape_of_pass pass.old).pages < 2 ^ 32 }
     ensures own { IsSamePass pass.old pass.new × IsPassOf space.now pass.new }
-    ensures ok { OnOk result (SinksRoot pass.old index child pass.new) }
+    ensures ok { OnOk result (SinksRoot pass.old index root child pass.new) }
     ensures err { OnErr result (IsAsBefore pass.old pass.new) }
     ensures fits { IsFittedTree (view pass.new) }
 {
     pass.fits();
-    sink_storeys(alloc, space, pass, index, child)?;
+    sink_storeys(alloc, space, pass, root, child)?;
     let old = tree(space, pass, index);
     let height = old.height - 1;
     change_tree(space, pass, index, Tree { height, ..old });

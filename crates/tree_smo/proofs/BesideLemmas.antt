@@ -1,34 +1,30 @@
 -- A new page is held besides, or was given back.
-use Rattle.std.proofs.Common.{◌≡◌, ◌≢◌, ℕ, ◌<◌, [], ◌∷◌, inl, inr, sym, ap, subst, ◌∙◌, refl, arith, Option, Some, None}
-use Rattle.std.specs.List.{AllByRecursion}
-use Rattle.std.proofs.lemmas.Bool.{cases_eq}
+use Rattle.std.proofs.Common.{◌≡◌, ◌≢◌, ℕ, ◌<◌, [], ◌∷◌, sym, ap, subst, ◌∙◌, refl, arith, Option, Some, None}
 use mathlib.Core.Option.{some}
 use lib.ListN.{get_elem?}
 use Rattle.list_facts.proofs.Places.{none_is_not, same_some}
 use Rattle.latch_law.specs.Views.{holding}
 use Rattle.latch_space.specs.Passes.{view}
 use Rattle.index_page.specs.declared.head.PageHead.{PageHead}
-use Rattle.index_page.specs.Page.{PageRows}
 use Rattle.index_law.specs.Shape.{Shape}
 use Rattle.forest_law.specs.declared.objects.Frame.{Frame}
 use Rattle.forest_law.specs.declared.objects.Object.TheVariants as object
 use Rattle.forest_law.specs.FramePages.{TellsPage}
 use Rattle.forest_law.specs.Law.{IsLawful}
-use Rattle.forest_law.specs.Numbers.{pool_id, frame_id, frames_of}
+use Rattle.forest_law.specs.Numbers.{pool_id, frame_id}
 use Rattle.forest_law.specs.State.{ForestState, fields_for}
 use Rattle.forest_world.specs.Held.{TreePass, shape_of_pass}
-use Rattle.call_law.specs.Hands.{KnowsFrame, HoldsNoFrameBut, HoldsNoPool}
+use Rattle.call_law.specs.Hands.{KnowsFrame, HoldsNoPool}
 use Rattle.call_law.specs.Spoken.{View}
 use Rattle.buffer_pool.specs.Calls.{DoesSilently, GetsNothing}
 use Rattle.buffer_pool.specs.Forests.{FitsTrees}
-use Rattle.buffer_pool.specs.NewPages.{HoldsPages, outside_page, GetsPage, HoldsOutsidePage, FreesPage}
+use Rattle.buffer_pool.specs.NewPages.{outside_page, GetsPage, HoldsOutsidePage, FreesPage}
 use Rattle.buffer_pool.proofs.AddedLemmas.{frame_still, frame_before}
 use Rattle.buffer_pool.proofs.CallLemmas.{silently_both, does_again}
-use Rattle.buffer_pool.proofs.SpaceLemmas.{known_below}
 use Rattle.tree_smo.specs.declared.plans.SplitPlan.{SplitPlan}
-use Rattle.tree_smo.specs.Plans.{HoldsNext, HoldsPlan, next_blocks, plan_ids, MakesSplit, SplitsBeside}
+use Rattle.tree_smo.specs.Plans.{HoldsNext, HoldsPlan, plan_ids, MakesSplit, SplitsBeside}
 use Rattle.tree_smo.specs.Remakes.{IsAsBefore}
-use Rattle.tree_smo.proofs.LawfulLemmas.{one_frame, known_tells}
+use Rattle.tree_smo.proofs.LawfulLemmas.{known_tells}
 use Rattle.tree_smo.proofs.SilentLemmas.{silently_weaker, silently_same, does_shape}
 
 -- a frame that is known is held
@@ -46,7 +42,7 @@ lacked_apart v b n f knows lacks e = known_held v b f knows
 unfoldable pub plan_moves : (v v' : View) (plan : SplitPlan) (h : HoldsPlan v plan)
     → (KnowsFrame v plan.parent h.can.up → KnowsFrame v' plan.parent h.can.up)
     → (KnowsFrame v plan.child h.can.low → KnowsFrame v' plan.child h.can.low)
-    → ((n : ℕ) (f : Frame) → plan.head.next ≡ Some n → KnowsFrame v n f → KnowsFrame v' n f)
+    → ((b : ℕ) (f : Frame) → plan.next ≡ Some b → KnowsFrame v b f → KnowsFrame v' b f)
     → HoldsPlan v' plan
 plan_moves v v' plan h up low next = record {
   can = record {
@@ -62,18 +58,19 @@ plan_moves v v' plan h up low next = record {
     two = h.can.two;
   };
   is = h.is;
-  next = go plan.head.next refl h.next;
+  next = go plan.next refl h.next;
 }
   where
-    go : (o : Option ℕ) → plan.head.next ≡ o → HoldsNext v plan.head.index h.can.level o
-        → HoldsNext v' plan.head.index h.can.level o
-    go None e held = tt
-    go (Some n) e held = (held.0, next n held.0 e held.1, held.2)
+    go : (o : Option ℕ) → plan.next ≡ o
+        → HoldsNext v plan.head.index h.can.level o plan.head.next
+        → HoldsNext v' plan.head.index h.can.level o plan.head.next
+    go None e held = held
+    go (Some b) e held = (held.0, next b held.0 e held.1, held.2, held.3)
 
 -- what a lawful state tells of a page that is to be split
 module _ (p : TreePass) (w : ForestState) (law : IsLawful w) (fits : FitsTrees w (view p))
     (plan : SplitPlan) (h : HoldsPlan (view p) plan) where
-  tells : TellsPage w plan.child h.can.low h.can.below.page
+  tells : TellsPage w h.can.low h.can.below.page
   tells = known_tells w law (view p) fits plan.child h.can.low h.can.below.page h.can.knows_low
       h.can.below.paged
 
@@ -88,53 +85,17 @@ module _ (p : TreePass) (w : ForestState) (law : IsLawful w) (fits : FitsTrees w
       ∙ ((λ i. fields_for (fits.shape i) h.can.below.page.head.index)
       ∙ ap (fields_for (shape_of_pass p)) h.can.below.index))
 
--- each frame that is held has a page
-pub holds_pages : (p : TreePass) (plan : SplitPlan) → HoldsPlan (view p) plan
-    → (view p).terms.objects ≡ frame_id (shape_of_pass p) (frames_of (shape_of_pass p))
-    → HoldsNoFrameBut (view p) (plan.parent ∷ plan.child ∷ next_blocks plan.head.next)
-    → HoldsPages (view p)
-holds_pages p plan h objects only b f knows = elim (cases_eq b plan.parent) [
-  | inl e ↦ (
-    h.can.above.page,
-    ap (λ (g : Frame). g.page)
-        (one_frame (view p) b plan.parent f h.can.up knows h.can.knows_up e) ∙ h.can.above.paged,
-  )
-  | inr up ↦ elim (cases_eq b plan.child) [
-    | inl e ↦ (
-      h.can.below.page,
-      ap (λ (g : Frame). g.page)
-          (one_frame (view p) b plan.child f h.can.low knows h.can.knows_low e) ∙ h.can.below.paged,
-    )
-    | inr low ↦ go plan.head.next h.next (λ apart. only b
-        (known_below p b knows.0 (object.Frame f) knows.1 objects) (up, (low, apart)))
-  ]
-]
-  where
-    go : (o : Option ℕ) → HoldsNext (view p) plan.head.index h.can.level o
-        → (AllByRecursion (λ (c : ℕ). b ≢ c) (next_blocks o)
-        → get_elem? (view p).held (frame_id (shape_of_pass p) b) ≡ some None)
-        → (page : PageRows) × (f.page ≡ Some page)
-    go None held lacks = absurd (known_held (view p) b f knows (lacks tt))
-    go (Some n) held lacks = elim (cases_eq b n) [
-      | inl e ↦ (
-        held.2.page,
-        ap (λ (g : Frame). g.page)
-            (one_frame (view p) b n f held.0 knows held.1 e) ∙ held.2.paged,
-      )
-      | inr ne ↦ absurd (known_held (view p) b f knows (lacks (ne, tt)))
-    ]
-
-module _ (p q : TreePass) (head : PageHead) (n : ℕ) (got : GetsPage p head n q) where
+module _ (p q : TreePass) (head : PageHead) (b : ℕ) (got : GetsPage p head b q) where
   -- what was known is known beside the new page
-  pub still_known : (b : ℕ) (f : Frame) → KnowsFrame (view p) b f → KnowsFrame (view q) b f
-  still_known b f knows = frame_still (view p) (view q) (frame_id (shape_of_pass p) n ∷ [])
-      got.silently.does.adds.numbers got.silently.does.rest b
-      (λ e. lacked_apart (view p) b n f knows got.lacked (omega (arith, e)), tt) f knows
+  pub still_known : (c : ℕ) (f : Frame) → KnowsFrame (view p) c f → KnowsFrame (view q) c f
+  still_known c f knows = frame_still (view p) (view q) (frame_id (shape_of_pass p) b ∷ [])
+      got.silently.does.adds.numbers got.silently.does.rest c
+      (λ e. lacked_apart (view p) c b f knows got.lacked (omega (arith, e)), tt) f knows
 
-  pub known_before : (b : ℕ) (f : Frame) → b ≢ n → KnowsFrame (view q) b f
-      → KnowsFrame (view p) b f
-  known_before b f ne knows = frame_before (view p) (view q) (frame_id (shape_of_pass p) n ∷ [])
-      got.silently.does.adds.numbers got.silently.does.rest b
+  pub known_before : (c : ℕ) (f : Frame) → c ≢ b → KnowsFrame (view q) c f
+      → KnowsFrame (view p) c f
+  known_before c f ne knows = frame_before (view p) (view q) (frame_id (shape_of_pass p) b ∷ [])
+      got.silently.does.adds.numbers got.silently.does.rest c
       (λ e. ne (omega (arith, e)), tt) f knows
 
   pub plan_still : (plan : SplitPlan) → HoldsPlan (view p) plan → HoldsPlan (view q) plan
@@ -142,14 +103,14 @@ module _ (p q : TreePass) (head : PageHead) (n : ℕ) (got : GetsPage p head n q
       (still_known plan.child h.can.low) (λ m f e. still_known m f)
 
   here : shape_of_pass q ≡ shape_of_pass p
-  here = does_shape p q (frame_id (shape_of_pass p) n ∷ []) got.silently.added got.silently.does
+  here = does_shape p q (frame_id (shape_of_pass p) b ∷ []) got.silently.added got.silently.does
 
   -- the new page's frame is held, where all is as before since
-  pub holds_outside : (r : TreePass) → IsAsBefore q r → HoldsOutsidePage (view r) n
+  pub holds_outside : (r : TreePass) → IsAsBefore q r → HoldsOutsidePage (view r) b
   holds_outside r same = record {
     frame = got.frame;
-    knows = subst (λ v. KnowsFrame v n got.frame) (sym same.same_view) got.knows;
-    page = outside_page head n;
+    knows = subst (λ v. KnowsFrame v b got.frame) (sym same.same_view) got.knows;
+    page = outside_page head got.number;
     paged = got.has.page;
     own = refl;
     empty = refl;
@@ -162,23 +123,24 @@ module _ (p q : TreePass) (head : PageHead) (n : ℕ) (got : GetsPage p head n q
 
   -- the split was made
   module _ (r : TreePass) (plan : SplitPlan) (is : plan.head ≡ head) (h : HoldsPlan (view p) plan)
-      (makes : MakesSplit q plan n r) where
-    pub splits_beside : SplitsBeside p plan n r
+      (makes : MakesSplit q plan b r) where
+    pub splits_beside : SplitsBeside p plan b r
     unfolding plan_moves
     splits_beside = record {
-      silently = silently_both p q r (plan_ids (shape_of_pass p) plan n)
-          (silently_weaker p q (frame_id (shape_of_pass p) n ∷ [])
-          (plan_ids (shape_of_pass p) plan n) (λ k apart. (apart.1.1.0, tt)) got.silently)
-          (subst (λ (s : Shape). DoesSilently q r (plan_ids s plan n)) here makes.silently);
+      silently = silently_both p q r (plan_ids (shape_of_pass p) plan b)
+          (silently_weaker p q (frame_id (shape_of_pass p) b ∷ [])
+          (plan_ids (shape_of_pass p) plan b) (λ k apart. (apart.1.1.0, tt)) got.silently)
+          (subst (λ (s : Shape). DoesSilently q r (plan_ids s plan b)) here makes.silently);
       lacked = got.lacked;
       splits = record {
         was = plan_moves (view q) (view p) plan makes.splits.was
             (known_before plan.parent makes.splits.was.can.up
-            (lacked_apart (view p) plan.parent n h.can.up h.can.knows_up got.lacked))
+            (lacked_apart (view p) plan.parent b h.can.up h.can.knows_up got.lacked))
             (known_before plan.child makes.splits.was.can.low
-            (lacked_apart (view p) plan.child n h.can.low h.can.knows_low got.lacked))
-            (λ m f e. known_before m f (next_apart plan.head.next h.next m e));
+            (lacked_apart (view p) plan.child b h.can.low h.can.knows_low got.lacked))
+            (λ m f e. known_before m f (next_apart plan.next h.next m e));
         fresh = makes.splits.fresh;
+        number = makes.splits.number;
         blank = makes.splits.blank;
         now = makes.splits.now;
         knows = makes.splits.knows;
@@ -189,27 +151,28 @@ module _ (p q : TreePass) (head : PageHead) (n : ℕ) (got : GetsPage p head n q
       count = makes.count ∙ got.count;
     }
       where
-        next_apart : (o : Option ℕ) → HoldsNext (view p) plan.head.index h.can.level o → (m : ℕ)
-            → o ≡ Some m → m ≢ n
+        next_apart : (o : Option ℕ)
+            → HoldsNext (view p) plan.head.index h.can.level o plan.head.next → (m : ℕ)
+            → o ≡ Some m → m ≢ b
         next_apart None held m e = absurd cc
-        next_apart (Some k) held m e = subst (λ z. z ≢ n) (same_some k m e)
-            (lacked_apart (view p) k n held.0 held.1 got.lacked)
+        next_apart (Some k) held m e = subst (λ z. z ≢ b) (same_some k m e)
+            (lacked_apart (view p) k b held.0 held.1 got.lacked)
 
   -- the page was given back
-  pub gets_nothing : (r s : TreePass) → IsAsBefore q r → FreesPage r n s → GetsNothing p s
+  pub gets_nothing : (r s : TreePass) → IsAsBefore q r → FreesPage r b s → GetsNothing p s
   gets_nothing r s same frees =
-      let k = frame_id (shape_of_pass p) n in
+      let k = frame_id (shape_of_pass p) b in
       let shape : shape_of_pass r ≡ shape_of_pass p =
       ap (λ (v : View). v.terms.shape) same.same_view ∙ here in
       let all = silently_both p q s (k ∷ []) got.silently
       (silently_both q r s (k ∷ [])
       (silently_weaker q r [] (k ∷ []) (λ j apart. tt) (silently_same q r same))
-      (subst (λ (z : Shape). DoesSilently r s (frame_id z n ∷ [])) shape frees.silently)) in
+      (subst (λ (z : Shape). DoesSilently r s (frame_id z b ∷ [])) shape frees.silently)) in
       record {
         silently = record {
           added = all.added;
           does = does_again p s all.added k [] all.does
-              (ap (λ (z : Shape). get_elem? (view s).held (frame_id z n))
+              (ap (λ (z : Shape). get_elem? (view s).held (frame_id z b))
               (sym (does_shape p s (k ∷ []) all.added all.does)) ∙ (frees.lacks ∙ sym got.lacked));
           silent = all.silent;
         };

@@ -1,7 +1,6 @@
 -- What is in hand once a planned split was made of it.
-use Rattle.std.proofs.Common.{◌≡◌, ◌≢◌, ℕ, List, [], ◌∷◌, sym, subst, refl, arith, Option, Some, None}
+use Rattle.std.proofs.Common.{◌≢◌, ℕ, ◌≤◌, ◌<◌, ◌^◌, List, [], ◌∷◌, sym, subst, refl, arith, Option, Some, None}
 use Rattle.latch_space.specs.Passes.{view}
-use Rattle.index_page.specs.declared.TheConstants.{NO_PAGE}
 use Rattle.index_law.specs.Shape.{Shape}
 use Rattle.forest_law.specs.declared.objects.Frame.{Frame}
 use Rattle.forest_law.specs.Numbers.{frame_id}
@@ -41,10 +40,10 @@ module _ (p : TreePass) (plan : SplitPlan) (right : ℕ) (c : SplitCall p plan r
   }
 
   -- the frames can be split at the planned cut
-  pub suits_halves : plan.child ≢ NO_PAGE → right ≢ NO_PAGE → SuitsHalves p at plan.cut
-  suits_halves some other = record {
+  pub suits_halves : (shape_of_pass p).pages < 2 ^ 32 → SuitsHalves p at plan.cut
+  suits_halves few = record {
     held = record { three = apart; was = was; has = has_was };
-    suits = suits p plan right c some other;
+    suits = suits p plan right c few;
     taken = taken p plan right c;
   }
 
@@ -58,33 +57,32 @@ module _ (p : TreePass) (plan : SplitPlan) (right : ℕ) (c : SplitCall p plan r
     halves = changes was has_was
 
     -- the page behind is in another block than the three
-    pub next_right : (n : ℕ) (f : Frame) → KnowsFrame (view p) n f
-        → HasTreePage n f plan.head.index h.can.level → right ≢ n
-    next_right n f that tree = outside_apart (view p) right n plan.head.index h.can.level c.fresh f
-        plan.head c.knows c.blank that tree
+    pub next_right : (b : ℕ) (f : Frame) → KnowsFrame (view p) b f
+        → HasTreePage f plan.head.index h.can.level → right ≢ b
+    next_right b f that tree = outside_apart (view p) right b plan.head.index h.can.level c.fresh f
+        plan.head c.number c.knows c.blank that tree
 
-    still_next : (n : ℕ) → plan.head.next ≡ Some n
-        → (held : (f : Frame) × KnowsFrame (view p) n f
-        × HasTreePage n f plan.head.index h.can.level)
-        → HasFrame m0 n held.0 held.0
-    still_next n e held = frame_remade p m0 (halves_ids (shape_of_pass p) at) halves.remakes n
+    still_next : (b : ℕ)
+        → (held : HoldsNext (view p) plan.head.index h.can.level (Some b) plan.head.next)
+        → HasFrame m0 b held.0 held.0
+    still_next b held = frame_remade p m0 (halves_ids (shape_of_pass p) at) halves.remakes b
         held.0 held.0 (
-          λ z. next_parent p plan right c n e held (omega (arith, z)),
+          λ z. next_parent p plan right c b held (omega (arith, z)),
           (
-            λ z. next_child p plan right c n e held (omega (arith, z)),
-            (λ z. next_right n held.0 held.1 held.2 (omega (arith, z)), tt),
+            λ z. next_child p plan right c b held (omega (arith, z)),
+            (λ z. next_right b held.0 held.1 held.2 (omega (arith, z)), tt),
           ),
-        ) (frame_has p c.known n held.0 held.1)
+        ) (frame_has p c.known b held.0 held.1)
 
-    pub next_in_hand : HasNext m0 plan.head.next
-    next_in_hand = go plan.head.next refl h.next
+    pub next_in_hand : HasNext m0 plan.next
+    next_in_hand = go plan.next h.next
       where
-        go : (o : Option ℕ) → plan.head.next ≡ o
-            → HoldsNext (view p) plan.head.index h.can.level o → HasNext m0 o
-        go None e held = tt
-        go (Some n) e held = (
+        go : (o : Option ℕ) → HoldsNext (view p) plan.head.index h.can.level o plan.head.next
+            → HasNext m0 o
+        go None held = tt
+        go (Some b) held = (
           held.0,
-          still_next n e held,
+          still_next b held,
           record { page = held.2.page; has = held.2.paged },
         )
 
@@ -93,37 +91,37 @@ module _ (p : TreePass) (plan : SplitPlan) (right : ℕ) (c : SplitCall p plan r
       pub record IsRemade (o : Option ℕ) : Type 0 where
         pub has : HasHalves m at was halves.now
         pub remakes : Remakes p m (ids o (shape_of_pass p))
-        pub next : HasRelinked m plan.head.index h.can.level o right
+        pub next : HasRelinked m plan.head.index h.can.level o plan.head.next c.number
 
-      pub remade : (o : Option ℕ) → plan.head.next ≡ o
-          → HoldsNext (view p) plan.head.index h.can.level o → RelinksBehind m0 o right m
-          → IsRemade o
-      remade None e held same = record {
+      pub remade : (o : Option ℕ)
+          → HoldsNext (view p) plan.head.index h.can.level o plan.head.next
+          → RelinksBehind m0 o c.number m → IsRemade o
+      remade None held same = record {
         has = subst (λ (z : TreePass). HasHalves z at was halves.now) (sym same) halves.has;
         remakes = subst (λ (z : TreePass). Remakes p z (ids None (shape_of_pass p))) (sym same)
             halves.remakes;
-        next = tt;
+        next = held;
       }
-      remade (Some n) e held relinks =
-          let r = relinks held.0 (still_next n e held) in
-          let k = frame_id (shape_of_pass m0) n in
+      remade (Some b) held relinks =
+          let r = relinks held.0 (still_next b held) in
+          let k = frame_id (shape_of_pass m0) b in
           record {
             has = record {
               up = frame_remade m0 m (k ∷ []) r.remakes plan.parent was.up halves.now.up
-                  (λ z. next_parent p plan right c n e held (omega (arith, z)), tt)
+                  (λ z. next_parent p plan right c b held (omega (arith, z)), tt)
                   halves.has.up;
               left = frame_remade m0 m (k ∷ []) r.remakes plan.child was.left halves.now.left
-                  (λ z. next_child p plan right c n e held (omega (arith, z)), tt)
+                  (λ z. next_child p plan right c b held (omega (arith, z)), tt)
                   halves.has.left;
               right = frame_remade m0 m (k ∷ []) r.remakes right was.right halves.now.right
-                  (λ z. next_right n held.0 held.1 held.2 (omega (arith, z)), tt)
+                  (λ z. next_right b held.0 held.1 held.2 (omega (arith, z)), tt)
                   halves.has.right;
             };
-            remakes = remakes_both p m0 m (ids (Some n))
+            remakes = remakes_both p m0 m (ids (Some b))
                 (remakes_weaker p m0 (halves_ids (shape_of_pass p) at)
-                (ids (Some n) (shape_of_pass p))
+                (ids (Some b) (shape_of_pass p))
                 (λ j a. (a.0, (a.1.0, (a.1.1.0, tt)))) halves.remakes)
-                (remakes_among m0 m k (ids (Some n) (shape_of_pass m0)) (λ a. a.1.1.1.0 refl)
+                (remakes_among m0 m k (ids (Some b) (shape_of_pass m0)) (λ a. a.1.1.1.0 refl)
                 r.remakes);
-            next = (held.0, r.now, r.has, held.2, r.relinks);
+            next = (held.0, r.now, r.has, held.2, held.3, r.relinks);
           }

@@ -1,5 +1,5 @@
 -- The page that is to be split, as it is read in its frame.
-use Rattle.std.proofs.Common.{◌≡◌, ℕ, sym, ap, subst, ◌∙◌, refl, Some}
+use Rattle.std.proofs.Common.{◌≡◌, ℕ, sym, ap, subst, ◌∙◌, refl, Some, None}
 use Rattle.key_tuple.specs.Limits.{IsWithinLimits}
 use Rattle.latch_space.specs.Has.{IsKnown}
 use Rattle.latch_space.specs.Passes.{view}
@@ -12,6 +12,7 @@ use Rattle.tree_restructure.specs.Links.{HasAPage}
 use Rattle.tree_restructure.specs.declared.cut.Cut.{Cut}
 use Rattle.buffer_pool.specs.Calls.{GetsNothing}
 use Rattle.buffer_pool.proofs.CallLemmas.{frame_has, does_nothing}
+use Rattle.tree_smo.specs.declared.plans.SplitPlan.{SplitPlan}
 use Rattle.tree_smo.specs.Plans.{IsPlanOf}
 use Rattle.tree_smo.specs.Splitting.{CanSplit}
 
@@ -39,18 +40,22 @@ module _ (p : TreePass) (known : IsKnown p) (parent child index : ℕ)
     pub index_is : head.index ≡ index
     index_is = ap (λ (z : PageHead). z.index) (is can.below.page paged) ∙ can.below.index
 
+    abbrev plan_for : Cut → SplitPlan
+    plan_for cut =
+        record { parent = parent; child = child; head = head; cut = cut; next = None }
+
     -- the split of it is planned
     pub planned : (cut : Cut) → IsNeighbour head.next → IsCutOf f cut
         → IsWithinLimits cut.key.tuple
         → (c : CanSplit (view p) parent child head.index)
-        × IsPlanOf c.low (record { parent = parent; child = child; head = head; cut = cut })
+        × IsPlanOf c.low (plan_for cut)
     planned cut next cuts limits = subst
         (λ i. (c : CanSplit (view p) parent child i)
-        × IsPlanOf c.low (record { parent = parent; child = child; head = head; cut = cut }))
+        × IsPlanOf c.low (plan_for cut))
         (sym index_is) (
           can,
           subst
-              (λ x. IsPlanOf x (record { parent = parent; child = child; head = head; cut = cut }))
+              (λ x. IsPlanOf x (plan_for cut))
               low_is
               (record { head = is; cut = cuts; limits = limits; next = next }),
         )

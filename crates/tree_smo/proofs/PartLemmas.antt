@@ -21,26 +21,20 @@ use Rattle.tree_smo.proofs.LawfulLemmas.{known_tells}
 module _ (m : TreePass) (w : ForestState) (law : IsLawful w) (fits : FitsTrees w (view m))
     (b : ℕ) (f g : Frame) (has : HasFrame m b f g) (page : PageRows)
     (paged : f.page ≡ Some page) where
-  tells : TellsPage w b f page
+  tells : TellsPage w f page
   tells = known_tells w law (view m) fits b f page has.held paged
-
-  pub number_of : page.head.number ≡ b
-  number_of = tells.number
 
   that : (q : Page) → page_in f ≡ Some q → page_within page f.low f.high ≡ q
   that q e = same_some (page_within page f.low f.high) q (sym (in_frame f page paged) ∙ e)
 
-  -- it is at home and in order, in the trees or outside them
-  pub part_of : (n : ℕ) → page.head.number ≡ n → (outside : Bool)
-      → is_own b page.head.prev ≡ outside
+  -- it is in order, in the trees or outside them
+  pub part_of : (n : ℕ) (outside : Bool) → is_own n page.head.prev ≡ outside
       → TakesPart (shape_of_pass m) (known_values m) (values m) n outside
       (record { block = b; old = f; new = g })
-  part_of n number outside own = let home = sym number_of ∙ number in record {
+  part_of n outside own = record {
     becomes = becomes_of m (frame_id (shape_of_pass m) b) (object.Frame f) (object.Frame g) has;
-    home = home;
     order = λ q e. subst (IsOrderly (fields_for (shape_of_pass m))) (that q e)
         (subst (λ (s : Shape). IsOrderly (fields_for s) (page_within page f.low f.high)) fits.shape
         tells.order);
-    tree = λ q e. ap (λ (z : Page). is_own n z.prev) (sym (that q e))
-        ∙ (ap (λ k. is_own k page.head.prev) (sym home) ∙ own);
+    tree = λ q e. ap (λ (z : Page). is_own n z.prev) (sym (that q e)) ∙ own;
   }

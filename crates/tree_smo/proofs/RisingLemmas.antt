@@ -37,17 +37,17 @@ one_higher t s e = let more : t.height + 1 ≡ suc t.height = omega arith in
     ∙ ap (λ n. record t { height = n }) more
 
 -- what is known when a raise is made in hand
-pub record RaiseCall (p : TreePass) (i under : ℕ) : Type 0 where
+pub record RaiseCall (p : TreePass) (i b under : ℕ) : Type 0 where
   pub known : IsKnown p
   pub fitted : IsFittedTree (view p)
   pub below : i < (shape_of_pass p).indexes
   pub few : (shape_of_pass p).pages ≤ 65536
-  pub held : HoldsStoreys (view p) i under
+  pub held : HoldsStoreys (view p) i b under
 
-abbrev pub raise_call : (p : TreePass) (i under : ℕ) → IsKnown p → IsFittedTree (view p)
+abbrev pub raise_call : (p : TreePass) (i b under : ℕ) → IsKnown p → IsFittedTree (view p)
     → i < (shape_of_pass p).indexes → (shape_of_pass p).pages ≤ 65536
-    → HoldsStoreys (view p) i under → RaiseCall p i under
-raise_call p i under known fitted below few held = record {
+    → HoldsStoreys (view p) i b under → RaiseCall p i b under
+raise_call p i b under known fitted below few held = record {
   known = known;
   fitted = fitted;
   below = below;
@@ -55,7 +55,7 @@ raise_call p i under known fitted below few held = record {
   held = held;
 }
 
-module _ (p : TreePass) (i under : ℕ) (c : RaiseCall p i under) where
+module _ (p : TreePass) (i b under : ℕ) (c : RaiseCall p i b under) where
   abbrev w : ForestState
   w = c.fitted.whole
 
@@ -65,7 +65,7 @@ module _ (p : TreePass) (i under : ℕ) (c : RaiseCall p i under) where
   abbrev fits : FitsTrees w (view p)
   fits = c.fitted.fits
 
-  abbrev h : HoldsStoreys (view p) i under
+  abbrev h : HoldsStoreys (view p) i b under
   h = c.held
 
   abbrev known : IsKnown p
@@ -78,14 +78,14 @@ module _ (p : TreePass) (i under : ℕ) (c : RaiseCall p i under) where
   page = h.can.page.page
 
   abbrev fresh : PageRows
-  fresh = outside_page page.head under
+  fresh = outside_page page.head h.number
 
-  pub apart : under ≢ i
-  apart = outside_apart (view p) under i i h.can.level h.fresh root page.head h.knows h.blank
-      h.can.knows_root h.can.page
+  pub apart : under ≢ b
+  apart = outside_apart (view p) under b i h.can.level h.fresh root page.head h.number h.knows
+      h.blank h.can.knows_root h.can.page
 
-  pub has_top : HasFrame p i root root
-  has_top = frame_has p known i root h.can.knows_root
+  pub has_top : HasFrame p b root root
+  has_top = frame_has p known b root h.can.knows_root
 
   pub has_low : HasFrame p under h.fresh h.fresh
   has_low = frame_has p known under h.fresh h.knows
@@ -93,14 +93,15 @@ module _ (p : TreePass) (i under : ℕ) (c : RaiseCall p i under) where
   below_it : i < w.shape.indexes
   below_it = subst (λ (s : Shape). i < s.indexes) (sym fits.shape) c.below
 
-  pub tells : TellsPage w i root page
-  tells = known_tells w law (view p) fits i root page h.can.knows_root h.can.page.paged
+  pub tells : TellsPage w root page
+  tells = known_tells w law (view p) fits b root page h.can.knows_root h.can.page.paged
 
   -- the root has no neighbours and no bounds, and its level is the tree's height
   whole_root : IsWholeTree i (heights_of w.objects i) (page_within page root.low root.high)
   whole_root = (roots_are_whole w.shape.indexes (fields_for w.shape) (heights_of w.objects)
       (maps_of w.lists) (pages_of w.shape w.objects) law.objects.pages).root i
-      (page_within page root.low root.high) below_it tells.is
+      (page_within page root.low root.high) below_it
+      (ap (pages_of w.shape w.objects) (sym h.can.number) ∙ tells.is)
 
   height_is : heights_of w.objects i ≡ h.can.tree.height
   height_is = ap height_of (fits.known (tree_id i)
@@ -108,7 +109,7 @@ module _ (p : TreePass) (i under : ℕ) (c : RaiseCall p i under) where
 
   -- which leaves room for one level more
   levels : suc (heights_of w.objects i) < 65536
-  levels = let more = levels_are_few w law i below_it under
+  levels = let more = levels_are_few w law i below_it h.number
       (page_within fresh h.fresh.low h.fresh.high)
       (known_tells w law (view p) fits under h.fresh fresh h.knows h.blank.page).is refl in
       let same = ap (λ (s : Shape). s.pages) fits.shape in
@@ -120,7 +121,7 @@ module _ (p : TreePass) (i under : ℕ) (c : RaiseCall p i under) where
 
   pub root_in : IsRootIn page root
   root_in = record {
-    index = whole_root.index ∙ sym tells.number;
+    index = whole_root.index ∙ sym h.can.number;
     prev = whole_root.prev;
     next = whole_root.next;
     low = no_bound root.low whole_root.low;
@@ -128,7 +129,7 @@ module _ (p : TreePass) (i under : ℕ) (c : RaiseCall p i under) where
   }
 
   -- the frames can be raised
-  pub suits_storeys : SuitsStoreys p i under
+  pub suits_storeys : SuitsStoreys p b under
   suits_storeys = record {
     apart = apart;
     top = root;

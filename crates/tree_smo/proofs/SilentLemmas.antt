@@ -4,7 +4,6 @@ use Rattle.std.specs.List.{AllByRecursion}
 use lib.ListN.{get_elem?}
 use Rattle.latch_law.specs.declared.knows.Reference.{Reference}
 use Rattle.latch_law.specs.declared.knows.Terms.{Terms}
-use Rattle.latch_space.specs.Has.{IsKnown}
 use Rattle.latch_space.specs.Passes.{view}
 use Rattle.tree_law.specs.TreeShape.{In}
 use Rattle.index_law.specs.Shape.{Shape}
@@ -16,10 +15,10 @@ use Rattle.call_law.specs.Spoken.{View}
 use Rattle.call_law.specs.Trace.{Added}
 use Rattle.call_law.proofs.TraceLemmas.{both_added}
 use Rattle.buffer_pool.specs.Calls.{Does, DoesSilently}
-use Rattle.buffer_pool.specs.Frames.{TakesFrame, GivesFrame}
+use Rattle.buffer_pool.specs.Frames.{GivesFrame}
 use Rattle.buffer_pool.specs.Hands.{LacksFrame}
-use Rattle.buffer_pool.proofs.AddedLemmas.{none_added, only_refused, only_given, held_adds, none_spares}
-use Rattle.buffer_pool.proofs.CallLemmas.{does_both, does_again, took_frame, gave_frame}
+use Rattle.buffer_pool.proofs.AddedLemmas.{none_added, only_given, held_adds, none_spares}
+use Rattle.buffer_pool.proofs.CallLemmas.{does_both, does_again, gave_frame}
 use Rattle.tree_smo.specs.Remakes.{IsAsBefore}
 
 module _ (p q : TreePass) (ks js : List ℕ)
@@ -65,63 +64,64 @@ in_left x [] ys among = absurd among
 in_left x (y ∷ xs) ys (inl e) = inl e
 in_left x (y ∷ xs) ys (inr among) = inr (in_left x xs ys among)
 
--- a frame is held while a call is made, and given back
-module _ (p q r s : TreePass) (n : ℕ) (known : IsKnown p) (took : TakesFrame p n q)
-    (gave : GivesFrame r n s) where
-  abbrev pub around_added : Added → Added
-  around_added a = both_added (both_added (only_refused took.refused) a)
-      (only_given (frame_id (shape_of_pass r) n) gave.taken (object.Frame gave.frame))
+pub in_right : {A : Type 0} (x : A) (xs ys : List A) → In x ys → In x (xs ++ ys)
+in_right x [] ys among = among
+in_right x (y ∷ xs) ys among = inr (in_right x xs ys among)
 
-  module _ (lacked : LacksFrame p n) (ids : Shape → List ℕ) (a : Added)
-      (does : Does q r (frame_id (shape_of_pass q) n ∷ ids (shape_of_pass q)) a) where
-    first : Does p q (frame_id (shape_of_pass p) n ∷ ids (shape_of_pass p))
-        (only_refused took.refused)
-    first = does_weaker p q (frame_id (shape_of_pass p) n ∷ [])
-        (frame_id (shape_of_pass p) n ∷ ids (shape_of_pass p)) (λ k apart. (apart.0, tt))
-        (only_refused took.refused) (took_frame p q known n took)
+-- a page is held while a call is made, and its frame given back
+module _ (p q r s : TreePass) (b : ℕ) (took : DoesSilently p q (frame_id (shape_of_pass p) b ∷ []))
+    (gave : GivesFrame r b s) where
+  abbrev pub around_added : Added → Added
+  around_added a = both_added (both_added took.added a)
+      (only_given (frame_id (shape_of_pass r) b) gave.taken (object.Frame gave.frame))
+
+  module _ (lacked : LacksFrame p b) (ids : Shape → List ℕ) (a : Added)
+      (does : Does q r (frame_id (shape_of_pass q) b ∷ ids (shape_of_pass q)) a) where
+    first : Does p q (frame_id (shape_of_pass p) b ∷ ids (shape_of_pass p)) took.added
+    first = does_weaker p q (frame_id (shape_of_pass p) b ∷ [])
+        (frame_id (shape_of_pass p) b ∷ ids (shape_of_pass p)) (λ k apart. (apart.0, tt))
+        took.added took.does
 
     here : shape_of_pass q ≡ shape_of_pass p
-    here = does_shape p q (frame_id (shape_of_pass p) n ∷ ids (shape_of_pass p))
-        (only_refused took.refused) first
+    here = does_shape p q (frame_id (shape_of_pass p) b ∷ ids (shape_of_pass p)) took.added first
 
-    two : Does p r (frame_id (shape_of_pass p) n ∷ ids (shape_of_pass p))
-        (both_added (only_refused took.refused) a)
-    two = does_both p q r (frame_id (shape_of_pass p) n ∷ ids (shape_of_pass p))
-        (only_refused took.refused) a first
-        (subst (λ (z : Shape). Does q r (frame_id z n ∷ ids z) a) here does)
+    two : Does p r (frame_id (shape_of_pass p) b ∷ ids (shape_of_pass p)) (both_added took.added a)
+    two = does_both p q r (frame_id (shape_of_pass p) b ∷ ids (shape_of_pass p)) took.added a first
+        (subst (λ (z : Shape). Does q r (frame_id z b ∷ ids z) a) here does)
 
     there : shape_of_pass r ≡ shape_of_pass p
-    there = does_shape p r (frame_id (shape_of_pass p) n ∷ ids (shape_of_pass p))
-        (both_added (only_refused took.refused) a) two
+    there = does_shape p r (frame_id (shape_of_pass p) b ∷ ids (shape_of_pass p))
+        (both_added took.added a) two
 
-    last : Does r s (frame_id (shape_of_pass p) n ∷ ids (shape_of_pass p))
-        (only_given (frame_id (shape_of_pass r) n) gave.taken (object.Frame gave.frame))
-    last = does_weaker r s (frame_id (shape_of_pass r) n ∷ [])
-        (frame_id (shape_of_pass p) n ∷ ids (shape_of_pass p))
-        (λ k apart. (λ e. apart.0 (e ∙ ap (λ (z : Shape). frame_id z n) there), tt))
-        (only_given (frame_id (shape_of_pass r) n) gave.taken (object.Frame gave.frame))
-        (gave_frame r s does.known n gave)
+    last : Does r s (frame_id (shape_of_pass p) b ∷ ids (shape_of_pass p))
+        (only_given (frame_id (shape_of_pass r) b) gave.taken (object.Frame gave.frame))
+    last = does_weaker r s (frame_id (shape_of_pass r) b ∷ [])
+        (frame_id (shape_of_pass p) b ∷ ids (shape_of_pass p))
+        (λ k apart. (λ e. apart.0 (e ∙ ap (λ (z : Shape). frame_id z b) there), tt))
+        (only_given (frame_id (shape_of_pass r) b) gave.taken (object.Frame gave.frame))
+        (gave_frame r s does.known b gave)
 
-    three : Does p s (frame_id (shape_of_pass p) n ∷ ids (shape_of_pass p)) (around_added a)
-    three = does_both p r s (frame_id (shape_of_pass p) n ∷ ids (shape_of_pass p))
-        (both_added (only_refused took.refused) a)
-        (only_given (frame_id (shape_of_pass r) n) gave.taken (object.Frame gave.frame)) two last
+    three : Does p s (frame_id (shape_of_pass p) b ∷ ids (shape_of_pass p)) (around_added a)
+    three = does_both p r s (frame_id (shape_of_pass p) b ∷ ids (shape_of_pass p))
+        (both_added took.added a)
+        (only_given (frame_id (shape_of_pass r) b) gave.taken (object.Frame gave.frame)) two last
 
     -- the hand is as before, beside the objects of the call
     pub does_around : Does p s (ids (shape_of_pass p)) (around_added a)
-    does_around = does_again p s (around_added a) (frame_id (shape_of_pass p) n)
+    does_around = does_again p s (around_added a) (frame_id (shape_of_pass p) b)
         (ids (shape_of_pass p)) three
-        (ap (λ (z : Shape). get_elem? (view s).held (frame_id z n))
-        (sym (does_shape p s (frame_id (shape_of_pass p) n ∷ ids (shape_of_pass p)) (around_added a)
+        (ap (λ (z : Shape). get_elem? (view s).held (frame_id z b))
+        (sym (does_shape p s (frame_id (shape_of_pass p) b ∷ ids (shape_of_pass p)) (around_added a)
         three)) ∙ (gave.lacks ∙ sym lacked))
 
   -- a reference of the call is among all that were added
   pub among_around : (x : Reference Object) (a : Added) → In x a.references
       → In x (around_added a).references
-  among_around x a among = in_left x a.references
-      (only_given (frame_id (shape_of_pass r) n) gave.taken (object.Frame gave.frame)).references
-      among
+  among_around x a among = in_left x (took.added.references ++ a.references)
+      (only_given (frame_id (shape_of_pass r) b) gave.taken (object.Frame gave.frame)).references
+      (in_right x took.added.references a.references among)
 
   -- and what was said is what the call said
   pub said_around : (a : Added) → (around_added a).said ≡ a.said
-  said_around a = append-nil a.said
+  said_around a = append-nil (took.added.said ++ a.said)
+      ∙ ap (λ qs. qs ++ a.said) took.silent

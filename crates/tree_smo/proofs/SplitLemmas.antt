@@ -1,5 +1,5 @@
 -- A planned split in hand is a split of the law, and is known once it is settled.
-use Rattle.std.proofs.Common.{◌≡◌, ◌≢◌, ℕ, true, false, ◌∷◌, sym, ap, subst, ◌∙◌, refl, Option, Some, None}
+use Rattle.std.proofs.Common.{◌≡◌, ◌≢◌, ℕ, true, false, ◌∷◌, sym, ap, subst, ◌∙◌, Option, Some, None}
 use Rattle.std.specs.List.{AllByRecursion}
 use Rattle.list_facts.proofs.Places.{same_some}
 use Rattle.latch_law.specs.Views.{without_seen}
@@ -25,10 +25,10 @@ use Rattle.buffer_pool.specs.NewPages.{outside_page}
 use Rattle.tree_smo.specs.declared.halves.SplitHands.{SplitHands}
 use Rattle.tree_smo.specs.declared.plans.SplitPlan.{SplitPlan}
 use Rattle.tree_smo.specs.Halves.{SplitsHalves, ChangesHalves}
-use Rattle.tree_smo.specs.Plans.{HoldsNext, HoldsPlan, blocks_of, next_ids, plan_ids, RelinksBehind, MakesSplit}
+use Rattle.tree_smo.specs.Plans.{HoldsNext, HoldsPlan, blocks_of, plan_ids, RelinksBehind, MakesSplit}
 use Rattle.tree_smo.specs.Remakes.{Remakes}
-use Rattle.tree_smo.proofs.LawfulLemmas.{that_page, outside_own}
-use Rattle.tree_smo.proofs.PartLemmas.{number_of, part_of}
+use Rattle.tree_smo.proofs.LawfulLemmas.{that_page, outside_own, one_block}
+use Rattle.tree_smo.proofs.PartLemmas.{part_of}
 use Rattle.tree_smo.proofs.PlanLemmas.{frames_of_plan}
 use Rattle.tree_smo.proofs.SettledLemmas.{whole_but, known_beyond, rests_beyond, settled_does, settled_count, settled_frame}
 use Rattle.tree_smo.proofs.BehindLemmas.{Behind, behind, shows_next, knows_next}
@@ -37,7 +37,7 @@ use Rattle.tree_smo.proofs.PlanLemmas.{SplitCall}
 
 module _ (p : TreePass) (plan : SplitPlan) (right : ℕ) (c : SplitCall p plan right) (m0 : TreePass)
     (changes : ChangesHalves p (blocks_of plan right) plan.cut.key.tuple m0) (m : TreePass)
-    (relinks : RelinksBehind m0 plan.head.next right m) where
+    (relinks : RelinksBehind m0 plan.next c.number m) where
   abbrev h : HoldsPlan (view p) plan
   h = c.held
 
@@ -53,8 +53,8 @@ module _ (p : TreePass) (plan : SplitPlan) (right : ℕ) (c : SplitCall p plan r
   abbrev changed : SplitsHalves p (blocks_of plan right) plan.cut.key.tuple was m0
   changed = halves p plan right c m0 changes
 
-  all : IsRemade p plan right c m0 changes m plan.head.next
-  all = remade p plan right c m0 changes m plan.head.next refl h.next relinks
+  all : IsRemade p plan right c m0 changes m plan.next
+  all = remade p plan right c m0 changes m plan.next h.next relinks
 
   fits_now : FitsTrees w (view m)
   fits_now = subst (FitsTrees w) (sym all.remakes.same_view) c.fitted.fits
@@ -74,7 +74,7 @@ module _ (p : TreePass) (plan : SplitPlan) (right : ℕ) (c : SplitCall p plan r
           (object.Frame changed.now.left, all.has.left.value),
           (
             (object.Frame changed.now.right, all.has.right.value),
-            shows_next m plan.head.index h.can.level plan.head.next right all.next,
+            shows_next m plan.head.index h.can.level plan.next plan.head.next c.number all.next,
           ),
         ),
       )
@@ -89,8 +89,8 @@ module _ (p : TreePass) (plan : SplitPlan) (right : ℕ) (c : SplitCall p plan r
   left_is = that_page h.can.low h.can.below.page cut_page h.can.below.paged
       changed.splits.cut.had
 
-  fresh_is : outside_page plan.head right ≡ cut_fresh
-  fresh_is = that_page c.fresh (outside_page plan.head right) cut_fresh c.blank.page
+  fresh_is : outside_page plan.head c.number ≡ cut_fresh
+  fresh_is = that_page c.fresh (outside_page plan.head c.number) cut_fresh c.blank.page
       changed.splits.cut.had_fresh
 
   up_is : h.can.above.page ≡ changed.splits.pointer.page
@@ -101,20 +101,23 @@ module _ (p : TreePass) (plan : SplitPlan) (right : ℕ) (c : SplitCall p plan r
   next_is = ap (λ (z : PageHead). z.next)
       (h.is.head h.can.below.page h.can.below.paged ∙ ap (λ (z : PageRows). z.head) left_is)
 
-  right_is : right ≡ cut_fresh.head.number
+  right_is : c.number ≡ cut_fresh.head.number
   right_is = ap (λ (z : PageRows). z.head.number) fresh_is
 
-  after : Behind m cut_page.head.next cut_fresh.head.number
-  after = subst (λ o. Behind m o cut_fresh.head.number) next_is
-      (subst (λ n. Behind m plan.head.next n) right_is
-      (behind m w law fits_now c.fresh plan.head.index h.can.level plan.head.next right
-      all.next))
+  after : Behind m plan.next cut_page.head.next cut_fresh.head.number
+  after = subst (λ o. Behind m plan.next o cut_fresh.head.number) next_is
+      (subst (λ n. Behind m plan.next plan.head.next n) right_is
+      (behind m w law fits_now c.fresh plan.head.index h.can.level plan.next plan.head.next
+      c.number all.next))
 
-  no_loop : (o : Option ℕ) → plan.head.next ≡ o
-      → HoldsNext (view p) plan.head.index h.can.level o → o ≢ Some right
-  no_loop None e held z = absurd cc
-  no_loop (Some n) e held z =
-      next_right p plan right c m0 changes n held.0 held.1 held.2 (same_some right n (sym z))
+  -- the page behind isn't the new one
+  no_loop : (o : Option ℕ) → HoldsNext (view p) plan.head.index h.can.level o plan.head.next
+      → plan.head.next ≢ Some c.number
+  no_loop None none z = absurd (cc (none, z))
+  no_loop (Some b) held z = next_right p plan right c m0 changes b held.0 held.1 held.2
+      (one_block w law (view p) c.fitted.fits right b c.fresh held.0
+      (outside_page plan.head c.number) held.2.page c.knows held.1 c.blank.page held.2.paged
+      (same_some c.number held.2.page.head.number (sym z ∙ held.3)))
 
   left_ids : (k : ℕ) → AllByRecursion (λ (j : ℕ). k ≢ j)
       (frame_ids (shape_of_pass m)
@@ -129,8 +132,7 @@ module _ (p : TreePass) (plan : SplitPlan) (right : ℕ) (c : SplitCall p plan r
       a.0,
       (
         a.1.0,
-        subst (λ o. AllByRecursion (λ (j : ℕ). k ≢ j)
-            (next_ids (shape_of_pass m) o)) (sym next_is) (after.ids k a.1.1.1),
+        after.ids k a.1.1.1,
       ),
     ),
   )
@@ -149,21 +151,20 @@ module _ (p : TreePass) (plan : SplitPlan) (right : ℕ) (c : SplitCall p plan r
     pointer = changed.splits.pointer;
     links = after.links;
     left = part_of m w law fits_now plan.child was.left changed.now.left all.has.left cut_page
-        changed.splits.cut.had cut_page.head.number refl false
-        (ap (λ (x : PageRows). is_own plan.child x.head.prev) (sym left_is)
+        changed.splits.cut.had cut_page.head.number false
+        (ap (λ (x : PageRows). is_own x.head.number x.head.prev) (sym left_is)
         ∙ h.can.below.tree);
     right = part_of m w law fits_now right was.right changed.now.right all.has.right cut_fresh
-        changed.splits.cut.had_fresh cut_fresh.head.number refl true
-        (ap (λ (x : PageRows). is_own right x.head.prev) (sym fresh_is)
-        ∙ outside_own plan.head right);
+        changed.splits.cut.had_fresh cut_fresh.head.number true
+        (ap (λ (x : PageRows). is_own x.head.number x.head.prev) (sym fresh_is)
+        ∙ outside_own plan.head c.number);
     up = part_of m w law fits_now plan.parent was.up changed.now.up all.has.up
         changed.splits.pointer.page changed.splits.pointer.had
-        changed.splits.pointer.page.head.number refl false
-        (ap (λ (x : PageRows). is_own plan.parent x.head.prev) (sym up_is)
+        changed.splits.pointer.page.head.number false
+        (ap (λ (x : PageRows). is_own x.head.number x.head.prev) (sym up_is)
         ∙ h.can.above.tree);
     beyond = after.part;
-    apart = λ e. no_loop plan.head.next refl h.next
-        (next_is ∙ (e ∙ ap Some (sym right_is)));
+    apart = λ e. no_loop plan.next h.next (next_is ∙ (e ∙ ap Some (sym right_is)));
     others = λ k x y becomes a. rests_of m (plan_ids (shape_of_pass m) plan right)
         (rests_beyond p m (plan_ids (shape_of_pass m) plan right) c.known now_ids) k x y becomes
         (left_ids k a);
@@ -181,6 +182,7 @@ module _ (p : TreePass) (plan : SplitPlan) (right : ℕ) (c : SplitCall p plan r
     splits = record {
       was = h;
       fresh = c.fresh;
+      number = c.number;
       blank = c.blank;
       now = changed.now;
       knows = record {
@@ -190,13 +192,12 @@ module _ (p : TreePass) (plan : SplitPlan) (right : ℕ) (c : SplitCall p plan r
       };
       cuts = changed.splits.cut;
       pointer = subst
-          (λ n. PutsPointer plan.child n h.can.up changed.now.up plan.cut.key.tuple)
-          (sym right_is)
-          (subst (λ n. PutsPointer n cut_fresh.head.number h.can.up changed.now.up
-          plan.cut.key.tuple)
-          (number_of m w law fits_now plan.child was.left changed.now.left all.has.left cut_page
-          changed.splits.cut.had) changed.splits.pointer);
-      next = knows_next m q did plan.head.index h.can.level plan.head.next right all.next;
+          (λ n. PutsPointer h.can.below.page.head.number n h.can.up changed.now.up
+          plan.cut.key.tuple) (sym right_is)
+          (subst (λ (z : PageRows). PutsPointer z.head.number cut_fresh.head.number h.can.up
+          changed.now.up plan.cut.key.tuple) (sym left_is) changed.splits.pointer);
+      next = knows_next m q did plan.head.index h.can.level plan.next plan.head.next c.number
+          all.next;
     };
     count = settled_count p m (plan_ids (shape_of_pass p) plan right) c.known all.remakes whole q
         did;

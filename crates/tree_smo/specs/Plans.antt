@@ -32,17 +32,18 @@ pub record IsPlanOf (f : Frame) (plan : SplitPlan) : Type 0 where
   pub limits : IsWithinLimits plan.cut.key.tuple
   pub next : IsNeighbour plan.head.next
 
--- the pass holds the frame of the page behind, which is one of the trees of this index and level,
--- where there is such a page
-abbrev pub HoldsNext : View → (i level : ℕ) → Option ℕ → Type 0
-HoldsNext v i level None = Unit {0}
-HoldsNext v i level (Some n) = (f : Frame) × KnowsFrame v n f × HasTreePage n f i level
+-- the pass holds the page behind, which has this number, in the frame of this block, as one of the
+-- trees of this index and level; or there is no such page
+abbrev pub HoldsNext : View → (i level : ℕ) → (block number : Option ℕ) → Type 0
+HoldsNext v i level None number = number ≡ None
+HoldsNext v i level (Some b) number = (f : Frame) × KnowsFrame v b f × (t : HasTreePage f i level)
+    × (number ≡ Some t.page.head.number)
 
 -- the pass holds all that the planned split changes but the right half
 pub record HoldsPlan (v : View) (plan : SplitPlan) : Type 0 where
   pub can : CanSplit v plan.parent plan.child plan.head.index
   pub is : IsPlanOf can.low plan
-  pub next : HoldsNext v plan.head.index can.level plan.head.next
+  pub next : HoldsNext v plan.head.index can.level plan.next plan.head.next
 
 -- the blocks of the parent, of the page that is split and of its right half
 abbrev pub blocks_of : SplitPlan → ℕ → SplitBlocks
@@ -51,52 +52,54 @@ blocks_of plan right = record { parent = plan.parent; child = plan.child; right 
 -- the block of the page behind, where there is one
 abbrev pub next_blocks : Option ℕ → List ℕ
 next_blocks None = []
-next_blocks (Some n) = n ∷ []
+next_blocks (Some b) = b ∷ []
 
 -- the number of its frame
 abbrev pub next_ids : Shape → Option ℕ → List ℕ
 next_ids shape None = []
-next_ids shape (Some n) = frame_id shape n ∷ []
+next_ids shape (Some b) = frame_id shape b ∷ []
 
 -- the numbers of the frames that a planned split changes
 abbrev pub plan_ids : Shape → SplitPlan → ℕ → List ℕ
 plan_ids shape plan right =
     frame_id shape plan.parent ∷ frame_id shape plan.child ∷ frame_id shape right
-    ∷ next_ids shape plan.head.next
+    ∷ next_ids shape plan.next
 
 -- the pass knows the frame of the page behind, where there is one
 abbrev pub KnowsNext : View → Option ℕ → Type 0
 KnowsNext v None = Unit {0}
-KnowsNext v (Some n) = (f : Frame) × KnowsFrame v n f
+KnowsNext v (Some b) = (f : Frame) × KnowsFrame v b f
 
 -- it has it in hand, as it is known, with a page
 abbrev pub HasNext : TreePass → Option ℕ → Type 0
 HasNext p None = Unit {0}
-HasNext p (Some n) = (f : Frame) × HasFrame p n f f × HasAPage f
+HasNext p (Some b) = (f : Frame) × HasFrame p b f f × HasAPage f
 
--- the frame in hand, which is known to be f, has another left neighbour
-pub record RelinksHeld (p : TreePass) (n right : ℕ) (f : Frame) (q : TreePass) : Type 0 where
+-- the page in the block's frame, which is known to be f, has the page `right` as its left neighbour
+pub record RelinksHeld (p : TreePass) (b right : ℕ) (f : Frame) (q : TreePass) : Type 0 where
   pub now : Frame
-  pub has : HasFrame q n f now
+  pub has : HasFrame q b f now
   pub relinks : Relinks right f now
-  pub remakes : Remakes p q (frame_id (shape_of_pass p) n ∷ [])
+  pub remakes : Remakes p q (frame_id (shape_of_pass p) b ∷ [])
 
 -- so it is with the page behind; where there is none, the pass is as before
 abbrev pub RelinksBehind : TreePass → Option ℕ → (right : ℕ) → TreePass → Type 0
 RelinksBehind p None right q = q ≡ p
-RelinksBehind p (Some n) right q = (f : Frame) → HasFrame p n f f → RelinksHeld p n right f q
+RelinksBehind p (Some b) right q = (f : Frame) → HasFrame p b f f → RelinksHeld p b right f q
 
--- the upper half of the rows of the child, as it was known, is in the right frame, and the parent
--- points to that
+-- the upper half of the rows of the child, as it was known, is on the page in the right frame, and
+-- the parent points to that
 pub record SplitsSo (v v' : View) (plan : SplitPlan) (right : ℕ) : Type 0 where
   pub was : HoldsPlan v plan
   pub fresh : Frame
-  pub blank : HasOutsidePage fresh plan.head right
+  pub number : ℕ
+  pub blank : HasOutsidePage fresh plan.head number
   pub now : SplitHands
   pub knows : KnowsHalves v' (blocks_of plan right) now
   pub cuts : CutsFrame was.can.low now.left fresh now.right plan.cut.key.tuple
-  pub pointer : PutsPointer plan.child right was.can.up now.up plan.cut.key.tuple
-  pub next : KnowsNext v' plan.head.next
+  pub pointer : PutsPointer was.can.below.page.head.number number was.can.up now.up
+      plan.cut.key.tuple
+  pub next : KnowsNext v' plan.next
 
 -- the pass held the right frame too, and has made the split
 pub record MakesSplit (p : TreePass) (plan : SplitPlan) (right : ℕ) (q : TreePass) : Type 0 where

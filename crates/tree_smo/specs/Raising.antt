@@ -14,31 +14,33 @@ use Rattle.buffer_pool.specs.Hands.{LacksFrame}
 use Rattle.buffer_pool.specs.NewPages.{HasOutsidePage}
 use Rattle.buffer_pool.specs.Pages.{HasTreePage}
 
--- the pass holds the tree of an index and its root, which has rows
-pub record CanRaise (v : View) (i : ℕ) : Type 0 where
+-- the pass holds the tree of an index and its root, which has rows, in the frame of the block b
+pub record CanRaise (v : View) (i b : ℕ) : Type 0 where
   pub tree : Tree
   pub root : Frame
   pub level : ℕ
   pub knows_tree : KnowsTree v i tree
-  pub knows_root : KnowsFrame v i root
-  pub page : HasTreePage i root i level
+  pub knows_root : KnowsFrame v b root
+  pub page : HasTreePage root i level
+  pub number : page.page.head.number ≡ i
   pub some : page.page.rows ≢ []
 
 -- all rows of the root are on a new page, in the frame `under`, which is held besides, and the
 -- root, a level higher, points to that alone
-pub record RaisesRoot (p : TreePass) (i under : ℕ) (q : TreePass) : Type 0 where
-  pub silently : DoesSilently p q (frame_id (shape_of_pass p) i
+pub record RaisesRoot (p : TreePass) (i b under : ℕ) (q : TreePass) : Type 0 where
+  pub silently : DoesSilently p q (frame_id (shape_of_pass p) b
       ∷ frame_id (shape_of_pass p) under ∷ tree_id i ∷ [])
-  pub was : CanRaise (view p) i
+  pub was : CanRaise (view p) i b
   pub lacked : LacksFrame p under
   pub head : PageHead
   pub fresh : Frame
-  pub blank : HasOutsidePage fresh head under
+  pub number : ℕ
+  pub blank : HasOutsidePage fresh head number
   pub tree : Tree
   pub root : Frame
   pub below : Frame
   pub knows_tree : KnowsTree (view q) i tree
-  pub knows_root : KnowsFrame (view q) i root
+  pub knows_root : KnowsFrame (view q) b root
   pub knows_below : KnowsFrame (view q) under below
   pub raises : RaisesFrame was.root root fresh below
   pub grows : tree ≡ record was.tree { height = suc was.tree.height }

@@ -32,9 +32,9 @@ pub record CanSplit (v : View) (parent child i : ℕ) : Type 0 where
   pub low : Frame
   pub knows_up : KnowsFrame v parent up
   pub knows_low : KnowsFrame v child low
-  pub above : HasTreePage parent up i (suc level)
-  pub below : HasTreePage child low i level
-  pub points : PointsAt above.page.rows child
+  pub above : HasTreePage up i (suc level)
+  pub below : HasTreePage low i level
+  pub points : PointsAt above.page.rows below.page.head.number
   pub room : load_of above.page.rows + most_for_pointer ≤ PAGE_ROOM
   pub two : 1 < length below.page.rows
 
@@ -48,7 +48,8 @@ pub record SplitsChild (p : TreePass) (parent child i right : ℕ) (q : TreePass
   pub at : FieldList
   pub head : PageHead
   pub fresh : Frame
-  pub blank : HasOutsidePage fresh head right
+  pub number : ℕ
+  pub blank : HasOutsidePage fresh head number
   pub up : Frame
   pub left : Frame
   pub new : Frame
@@ -56,5 +57,5 @@ pub record SplitsChild (p : TreePass) (parent child i right : ℕ) (q : TreePass
   pub knows_left : KnowsFrame (view q) child left
   pub knows_new : KnowsFrame (view q) right new
   pub cuts : CutsFrame was.low left fresh new at
-  pub pointer : PutsPointer child right was.up up at
+  pub pointer : PutsPointer was.below.page.head.number number was.up up at
   pub count : count q ≡ count p + 1

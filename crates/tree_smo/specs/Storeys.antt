@@ -19,8 +19,8 @@ abbrev pub storeys_ids : Shape → (root under : ℕ) → List ℕ
 storeys_ids shape root under = frame_id shape root ∷ frame_id shape under ∷ []
 
 -- the numbers of the two frames, and of the tree
-abbrev pub raise_ids : Shape → (root under : ℕ) → List ℕ
-raise_ids shape root under = frame_id shape root ∷ frame_id shape under ∷ tree_id root ∷ []
+abbrev pub raise_ids : Shape → (i root under : ℕ) → List ℕ
+raise_ids shape i root under = frame_id shape root ∷ frame_id shape under ∷ tree_id i ∷ []
 
 -- the two frames differ, are what they are known to be, and the rows of the first can go to the
 -- second
@@ -48,26 +48,27 @@ ChangesStoreys p root under q = (t b : Frame) → HasFrame p root t t → HasFra
     → RaisesStoreys p root under t b q
 
 -- the pass holds all that the raise of an index's root changes, the new page's frame with it
-pub record HoldsStoreys (v : View) (i under : ℕ) : Type 0 where
-  pub can : CanRaise v i
+pub record HoldsStoreys (v : View) (i root under : ℕ) : Type 0 where
+  pub can : CanRaise v i root
   pub fresh : Frame
+  pub number : ℕ
   pub knows : KnowsFrame v under fresh
-  pub blank : HasOutsidePage fresh can.page.page.head under
+  pub blank : HasOutsidePage fresh can.page.page.head number
 
 -- the root, as it was known, was raised over the new page, and its tree is one higher
-pub record RaisesSo (v v' : View) (i under : ℕ) : Type 0 where
-  pub was : HoldsStoreys v i under
+pub record RaisesSo (v v' : View) (i root under : ℕ) : Type 0 where
+  pub was : HoldsStoreys v i root under
   pub tree : Tree
   pub top : Frame
   pub low : Frame
   pub knows_tree : KnowsTree v' i tree
-  pub knows_top : KnowsFrame v' i top
+  pub knows_top : KnowsFrame v' root top
   pub knows_low : KnowsFrame v' under low
   pub raises : RaisesFrame was.can.root top was.fresh low
   pub grows : tree ≡ record was.can.tree { height = suc was.can.tree.height }
 
 -- the pass held the new page's frame too, and has made the raise
-pub record MakesRaise (p : TreePass) (i under : ℕ) (q : TreePass) : Type 0 where
-  pub silently : DoesSilently p q (raise_ids (shape_of_pass p) i under)
-  pub raises : RaisesSo (view p) (view q) i under
+pub record MakesRaise (p : TreePass) (i root under : ℕ) (q : TreePass) : Type 0 where
+  pub silently : DoesSilently p q (raise_ids (shape_of_pass p) i root under)
+  pub raises : RaisesSo (view p) (view q) i root under
   pub count : count q ≡ count p

@@ -2,6 +2,7 @@
 #![tactic(auto)]
 
 mod halves;
+mod numbers;
 mod plans;
 mod raising;
 mod relinking;
@@ -10,6 +11,7 @@ mod splitting;
 mod storeys;
 
 pub use halves::{SplitBlocks, SplitHands, halves_back, halves_out};
+pub use numbers::pages_are_numbered;
 pub use plans::head_of;
 pub use raising::raise_root;
 pub use relinking::relink_behind;

@@ -18,6 +18,8 @@ pub(crate) struct SplitPlan {
     pub(crate) head: PageHead,
     /// Where the page is cut.
     pub(crate) cut: Cut,
+    /// The block of the page behind, once that is held.
+    pub(crate) next: Option<u32>,
 }
 
 /// The head of the frame's page.

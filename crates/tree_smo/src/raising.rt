@@ -18,34 +18,35 @@ use forest_world::{ForestPass, ForestSpace};
 use std::alloc::Global;
 use std::sync::Wait;
 
-/// Moves all rows of an index's root to a new page, and answers its block, which is held besides.
-/// The root stays the page of the index's number, a level higher. After an error all is as before;
-/// `SpaceFull` comes where no page number was free.
+/// Moves all rows of an index's root, which is in the block `root`, to a new page, and answers that
+/// page's block, which is held besides. The root stays the page of the index's number, a level
+/// higher. After an error all is as before; `SpaceFull` comes where no page number was free.
 pub fn raise_root<R: Wait>(
     alloc: Global,
     space: &ForestSpace,
     pass: &mut ForestPass,
     index: u32,
+    root: u32,
     wait: &R,
 ) -> Result<u32, PoolError>
     requires own { IsForest space.now × IsPassOf space.now pass.old }
     requires index { index < (shape_of_pass pass.old).indexes }
     requires few { (shape_of_pass pass.old).pages ≤ 65536 }
-    requires held { CanRaise (view pass.old) index }
+    requires held { CanRaise (view pass.old) index root }
     requires known { IsKnown pass.old }
-    requires frames { HoldsNoFrameBut (view pass.old) (index ∷ []) }
+    requires frames { HoldsNoFrameBut (view pass.old) (root ∷ []) }
     requires pool { HoldsNoPool (view pass.old) }
     requires room { count pass.old + 2 ≤ 16 }
     ensures own { IsSamePass pass.old pass.new × IsPassOf space.now pass.new }
-    ensures ok { IfOk result (λ under. RaisesRoot pass.old index under pass.new) }
+    ensures ok { IfOk result (λ under. RaisesRoot pass.old index root under pass.new) }
     ensures full { result ≡ Err refused.SpaceFull → FindsNoneFree pass.old index pass.new }
     ensures memory { result ≡ Err refused.NoMemory → GetsNothing pass.old pass.new }
     ensures fits { IsFittedTree (view pass.new) }
 {
     pass.fits();
-    let head = head_of(frame(space, pass, index));
+    let head = head_of(frame(space, pass, root));
     let under = new_page(alloc, space, pass, head, wait)?;
-    match make_raise(alloc, space, pass, index, under) {
+    match make_raise(alloc, space, pass, index, root, under) {
         Ok(()) => Ok(under),
         Err(_) => {
             free_page(space, pass, under, wait);

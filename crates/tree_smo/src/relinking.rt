@@ -10,7 +10,8 @@ use buffer_pool::{frame_back, frame_out};
 use forest_world::{ForestPass, ForestSpace};
 use tree_restructure::relink_next;
 
-/// Gives the page behind another left neighbour, where there is such a page.
+/// Gives the page in the block `next` the page `right` as its left neighbour, where there is a page
+/// behind.
 pub fn relink_behind(space: &ForestSpace, pass: &mut ForestPass, next: Option<u32>, right: u32)
     requires own { IsForest space.now × IsPassOf space.now pass.old }
     requires held { HasNext pass.old next }

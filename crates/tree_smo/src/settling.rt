@@ -1,9 +1,10 @@
 //! A planned split is made in hand, and made known in one step.
-ghost use Rattle.std.specs.Prelude.{OnOk, OnErr};
+ghost use Rattle.std.specs.Prelude.{◌<◌, ◌≤◌, ◌^◌, ℕ, OnOk, OnErr};
 ghost use Rattle.latch_space.specs.Has.{IsKnown};
 ghost use Rattle.latch_space.specs.Passes.{view, IsSamePass};
 ghost use Rattle.latch_space.specs.Spaces.{IsPassOf};
 ghost use Rattle.forest_law.specs.declared.objects.Frame.{Frame};
+ghost use Rattle.forest_world.specs.Held.{shape_of_pass};
 ghost use Rattle.call_law.specs.Hands.{KnowsFrame};
 ghost use Rattle.buffer_pool.specs.Forests.{IsForest, IsFittedTree};
 ghost use Rattle.buffer_pool.specs.NewPages.{HasOutsidePage};
@@ -11,8 +12,9 @@ ghost use Rattle.tree_smo.specs.Plans.{HoldsPlan, MakesSplit};
 ghost use Rattle.tree_smo.specs.Remakes.{IsAsBefore};
 
 use crate::halves::{SplitBlocks, change_halves};
-use crate::plans::SplitPlan;
+use crate::plans::{SplitPlan, head_of};
 use crate::relinking::relink_behind;
+use buffer_pool::frame;
 use forest_world::{ForestPass, ForestSpace};
 use key_tuple::NoMemory;
 
@@ -27,7 +29,8 @@ pub(crate) fn make_split(
     requires own { IsForest space.now × IsPassOf space.now pass.old }
     requires held { HoldsPlan (view pass.old) plan }
     requires blank { (f : Frame) × KnowsFrame (view pass.old) right f
-        × HasOutsidePage f plan.head right }
+        × (n : ℕ) × HasOutsidePage f plan.head n }
+    requires few { (shape_of_pass pass.old).pages < 2 ^ 32 }
     requires known { IsKnown pass.old }
     ensures own { IsSamePass pass.old pass.new × IsPassOf space.now pass.new }
     ensures ok { OnOk result (MakesSplit pass.old plan right pass.new) }
@@ -38,9 +41,11 @@ pub(crate) fn make_split(
     let SplitPlan {
         parent,
         child,
-        head,
+        head: _,
         cut,
+        next,
     } = plan;
+    let number = head_of(frame(space, pass, right)).number;
     change_halves(
         space,
         pass,
@@ -51,7 +56,7 @@ pub(crate) fn make_split(
         },
         cut,
     )?;
-    relink_behind(space, pass, head.next, right);
+    relink_behind(space, pass, next, number);
     space.settle(pass);
     Ok(())
 }

@@ -1,9 +1,10 @@
 //! A page is split under its parent.
-ghost use Rattle.std.specs.Prelude.{◌≡◌, ◌+◌, ◌≤◌, [], ◌∷◌, Err, IfOk};
+ghost use Rattle.std.specs.Prelude.{◌≡◌, ◌+◌, ◌<◌, ◌≤◌, ◌^◌, [], ◌∷◌, None, Err, IfOk};
 ghost use Rattle.latch_space.specs.Has.{IsKnown};
 ghost use Rattle.latch_space.specs.Passes.{view, count, IsSamePass};
 ghost use Rattle.latch_space.specs.Spaces.{IsPassOf};
 ghost use Rattle.forest_law.specs.declared.objects.Frame.{Frame};
+ghost use Rattle.forest_world.specs.Held.{shape_of_pass};
 ghost use Rattle.call_law.specs.Hands.{KnowsFrame, HoldsNoFrameBut, HoldsNoPool};
 ghost use Rattle.buffer_pool.specs.declared.error.PoolError.TheVariants as refused;
 ghost use Rattle.buffer_pool.specs.Calls.{GetsNothing};
@@ -12,9 +13,10 @@ ghost use Rattle.buffer_pool.specs.NewPages.{FindsNoneFree};
 ghost use Rattle.tree_smo.specs.Plans.{IsPlanOf, HoldsPlan, next_blocks, SplitsBeside};
 ghost use Rattle.tree_smo.specs.Splitting.{CanSplit, SplitsChild};
 
+use crate::numbers::pages_are_numbered;
 use crate::plans::{SplitPlan, head_of};
 use crate::settling::make_split;
-use buffer_pool::{PoolError, frame, free_page, give_back, new_page, take_frame};
+use buffer_pool::{PoolError, frame, free_page, give_back, new_page, page_in};
 use forest_world::{ForestPass, ForestSpace};
 use std::alloc::Global;
 use std::sync::Wait;
@@ -45,6 +47,7 @@ pub fn split_child<R: Wait>(
     ensures fits { IsFittedTree (view pass.new) }
 {
     pass.fits();
+    pages_are_numbered(space, pass);
     let low = frame(space, pass, child);
     let head = head_of(low);
     let cut = match find_cut(alloc, low) {
@@ -61,6 +64,7 @@ pub fn split_child<R: Wait>(
             child,
             head,
             cut,
+            next: None,
         },
         wait,
     )
@@ -77,9 +81,11 @@ fn split_planned<R: Wait>(
     requires own { IsForest space.now × IsPassOf space.now pass.old }
     requires held { (can : CanSplit (view pass.old) plan.parent plan.child plan.head.index)
         × IsPlanOf can.low plan }
+    requires next { plan.next ≡ None }
     requires known { IsKnown pass.old }
     requires frames { HoldsNoFrameBut (view pass.old) (plan.parent ∷ plan.child ∷ []) }
     requires pool { HoldsNoPool (view pass.old) }
+    requires few { (shape_of_pass pass.old).pages < 2 ^ 32 }
     requires room { count pass.old + 3 ≤ 16 }
     ensures own { IsSamePass pass.old pass.new × IsPassOf space.now pass.new }
     ensures ok { IfOk result
@@ -93,9 +99,13 @@ fn split_planned<R: Wait>(
     match plan.head.next {
         None => split_beside(alloc, space, pass, plan, wait),
         Some(next) => {
-            take_frame(space, pass, next, wait);
+            let behind = page_in(space, pass, next, wait);
+            let plan = SplitPlan {
+                next: Some(behind),
+                ..plan
+            };
             let made = split_beside(alloc, space, pass, plan, wait);
-            give_back(space, pass, next);
+            give_back(space, pass, behind);
             made
         }
     }
@@ -113,8 +123,9 @@ fn split_beside<R: Wait>(
     requires held { HoldsPlan (view pass.old) plan }
     requires known { IsKnown pass.old }
     requires frames { HoldsNoFrameBut (view pass.old)
-        (plan.parent ∷ plan.child ∷ next_blocks plan.head.next) }
+        (plan.parent ∷ plan.child ∷ next_blocks plan.next) }
     requires pool { HoldsNoPool (view pass.old) }
+    requires few { (shape_of_pass pass.old).pages < 2 ^ 32 }
     requires room { count pass.old + 2 ≤ 16 }
     ensures own { IsSamePass pass.old pass.new × IsPassOf space.now pass.new }
     ensures ok { IfOk result (λ right. SplitsBeside pass.old plan right pass.new) }

@@ -14,27 +14,28 @@ use key_tuple::NoMemory;
 use std::alloc::Global;
 use tree_restructure::raise_frames;
 
-/// Raises an index's root in hand over the new page of the block `under`, and makes that known with
-/// the tree's height. After `NoMemory` all is as before.
+/// Raises an index's root, in the frame of the block `root`, over the new page in that of the block
+/// `under`, and makes that known with the tree's height. After `NoMemory` all is as before.
 pub(crate) fn make_raise(
     alloc: Global,
     space: &ForestSpace,
     pass: &mut ForestPass,
     index: u32,
+    root: u32,
     under: u32,
 ) -> Result<(), NoMemory>
     requires own { IsForest space.now × IsPassOf space.now pass.old }
     requires index { index < (shape_of_pass pass.old).indexes }
     requires few { (shape_of_pass pass.old).pages ≤ 65536 }
-    requires held { HoldsStoreys (view pass.old) index under }
+    requires held { HoldsStoreys (view pass.old) index root under }
     requires known { IsKnown pass.old }
     ensures own { IsSamePass pass.old pass.new × IsPassOf space.now pass.new }
-    ensures ok { OnOk result (MakesRaise pass.old index under pass.new) }
+    ensures ok { OnOk result (MakesRaise pass.old index root under pass.new) }
     ensures err { OnErr result (IsAsBefore pass.old pass.new) }
     ensures fits { IsFittedTree (view pass.new) }
 {
     pass.fits();
-    change_storeys(alloc, space, pass, index, under)?;
+    change_storeys(alloc, space, pass, root, under)?;
     let old = tree(space, pass, index);
     let height = old.height + 1;
     change_tree(space, pass, index, Tree { height, ..old });

@@ -1,8 +1,7 @@
-use Rattle.std.proofs.Common.{◌≡◌, [], ◌∷◌, true, false, ap, subst, Err, arith}
+use Rattle.std.proofs.Common.{◌≡◌, [], ◌∷◌, true, false, ap, Err, arith}
 use Rattle.latch_space.specs.Passes.{view}
-use Rattle.call_law.specs.Hands.{KnowsFrame}
 use Rattle.buffer_pool.proofs.CallLemmas.{frame_has}
-use Rattle.tree_growth.specs.Ways.{IsGoingDown, ArrivesWithRoom, StopsOnWay, GrowsChild}
+use Rattle.tree_growth.specs.Ways.{ArrivesWithRoom, StopsOnWay, GrowsChild}
 use Rattle.tree_growth.proofs.AddLemmas.{goes_nowhere, stops_after}
 use Rattle.tree_growth.proofs.HandLemmas.{no_frame_but, no_pool}
 use Rattle.tree_growth.proofs.RefusalLemmas.{is_refused, stops_one}
@@ -32,9 +31,7 @@ raise_root-requires-clause-held g c =
 pub raise_root-requires-clause-frames : goal.raise_root-requires-clause-frames
 raise_root-requires-clause-frames g c =
     no_frame_but c.args.space.now c.args.pass.now c.requires.own.0 c.requires.own.1 c.args.index
-    c.args.key.now.tuple (c.args.index ∷ [])
-    (subst (λ b. IsGoingDown c.args.pass.now c.args.index c.args.key.now.tuple (b ∷ []))
-    c.requires.root c.requires.way)
+    c.args.key.now.tuple (c.args.root.block ∷ []) c.requires.way
 
 pub raise_root-requires-clause-pool : goal.raise_root-requires-clause-pool
 raise_root-requires-clause-pool g c =
@@ -44,54 +41,48 @@ raise_root-requires-clause-pool g c =
 pub grow_child-requires-clause-way : goal.grow_child-requires-clause-way
 grow_child-requires-clause-way g c =
     way_raised c.args.pass.now c.raise_root.new.pass c.args.index c.args.key.now.tuple
-    c.in-Ok.under
-    (subst (λ b. IsGoingDown c.args.pass.now c.args.index c.args.key.now.tuple (b ∷ []))
-    c.requires.root c.requires.way) c.in-Ok.ensures.ok
+    c.args.root.block c.in-Ok.under c.requires.way c.in-Ok.ensures.ok
 
 pub grow_child-requires-clause-held : goal.grow_child-requires-clause-held
 grow_child-requires-clause-held g c =
     under_held c.args.pass.now c.raise_root.new.pass c.args.index c.args.key.now.tuple
-    c.in-Ok.under
-    (subst (λ b. IsGoingDown c.args.pass.now c.args.index c.args.key.now.tuple (b ∷ []))
-    c.requires.root c.requires.way) c.in-Ok.ensures.ok c.in-Ok.ensures.fits
+    c.args.root.block c.in-Ok.under c.requires.way c.in-Ok.ensures.ok c.in-Ok.ensures.fits
 
 pub give_back-requires-clause-held : goal.give_back-requires-clause-held
 give_back-requires-clause-held g c =
     let p = c.args.pass.now in let q = c.raise_root.new.pass in let held = c.requires.held in
-    let refused = is_refused p q c.args.index c.args.key.now.tuple (c.args.index ∷ [])
-    (subst (λ b. IsGoingDown p c.args.index c.args.key.now.tuple (b ∷ [])) c.requires.root
-    c.requires.way) c.in-Err.error
+    let refused = is_refused p q c.args.index c.args.key.now.tuple
+    (c.args.root.block ∷ []) c.requires.way c.in-Err.error
     (λ e. c.in-Err.ensures.full (ap Err e)) (λ e. c.in-Err.ensures.memory (ap Err e)) in (
       held.frame,
-      frame_has q refused.way.known c.args.index held.frame
-          (refused.frames c.args.index held.frame
-          (subst (λ b. KnowsFrame (view p) b held.frame) c.requires.root held.knows)),
+      frame_has q refused.way.known c.args.root.block held.frame
+          (refused.frames c.args.root.block held.frame held.knows),
     )
 
 pub returns-in-Ok-clause-ok : goal.returns-in-Ok-clause-ok
 returns-in-Ok-clause-ok g c =
     let p = c.args.pass.now in let q = c.raise_root.new.pass in let r = c.grow_child.new.pass in
     let i = c.args.index in let key = c.args.key.now.tuple in let need = c.args.need in
-    let way = subst (λ b. IsGoingDown p i key (b ∷ [])) c.requires.root c.requires.way in
-    ok_more (λ at. GrowsChild q i c.in-Ok.under i key need at r)
+    let way = c.requires.way in let b = c.args.root.block in
+    ok_more (λ at. GrowsChild q b c.in-Ok.under i key need at r)
     (λ at. ArrivesWithRoom p i key need at r) c.grow_child.result
-    (λ at. grows_raised p q r i key need c.in-Ok.under way c.in-Ok.ensures.ok at)
+    (λ at. grows_raised p q r i key need b c.in-Ok.under way c.in-Ok.ensures.ok at)
     c.grow_child.ensures.ok
 
 pub returns-in-Ok-clause-err : goal.returns-in-Ok-clause-err
 returns-in-Ok-clause-err g c =
     let p = c.args.pass.now in let q = c.raise_root.new.pass in let r = c.grow_child.new.pass in
     let i = c.args.index in let key = c.args.key.now.tuple in
-    let way = subst (λ b. IsGoingDown p i key (b ∷ [])) c.requires.root c.requires.way in
+    let way = c.requires.way in let b = c.args.root.block in
     err_more (λ e. StopsOnWay q i key e r) (λ e. StopsOnWay p i key e r) c.grow_child.result
     (λ e. stops_after p q r i key e
-    (goes_raised p q i key c.in-Ok.under way c.in-Ok.ensures.ok)) c.grow_child.ensures.err
+    (goes_raised p q i key b c.in-Ok.under way c.in-Ok.ensures.ok)) c.grow_child.ensures.err
 
 pub returns-in-Err-clause-err : goal.returns-in-Err-clause-err
 returns-in-Err-clause-err g c =
     let p = c.args.pass.now in let q = c.raise_root.new.pass in let r = c.give_back.new.pass in
     let i = c.args.index in let key = c.args.key.now.tuple in
-    let way = subst (λ b. IsGoingDown p i key (b ∷ [])) c.requires.root c.requires.way in
-    let refused = is_refused p q i key (i ∷ []) way c.in-Err.error
+    let way = c.requires.way in let b = c.args.root.block in
+    let refused = is_refused p q i key (b ∷ []) way c.in-Err.error
     (λ e. c.in-Err.ensures.full (ap Err e)) (λ e. c.in-Err.ensures.memory (ap Err e)) in
-    stops_one p q r i key i c.in-Err.error refused c.give_back.ensures.gave
+    stops_one p q r i key b c.in-Err.error refused c.give_back.ensures.gave

@@ -1,5 +1,6 @@
 use Rattle.std.proofs.Common.{[], ◌∷◌}
 use Rattle.buffer_pool.proofs.CallLemmas.{frame_has}
+use Rattle.tree_shrinking.specs.Pairs.{pair_in}
 use Rattle.tree_growth.proofs.HandLemmas.{no_frame_but, no_pool}
 use Rattle.tree_shrinking.proofs.JoinedLemmas.{way_joined, holds_joined}
 use Rattle.tree_shrinking.proofs.JoinLemmas.{back_after, pair_still, taken_back, failed_back}
@@ -9,88 +10,96 @@ use Rattle.tree_shrinking.proofs.WayLemmas.{to_both}
 use Rattle.tree_shrinking.proofs.joining.join_pair.Goals as goal
 
 pub are_to_join-requires-clause-left : goal.are_to_join-requires-clause-left
-are_to_join-requires-clause-left g c = let took = c.take_pair.ensures.took in
+are_to_join-requires-clause-left g c = let took = c.take_pair-left.ensures.took in
     let h = took.held in
-    paged_frame c.take_pair.new.pass took.to.way.known c.args.pair.left c.args.index h.level h.lower
+    paged_frame c.take_pair-left.new.pass took.to.way.known c.take_pair-left.result.0 c.args.index h.level h.lower
     h.knows_left h.is_left
 
 pub are_to_join-requires-clause-right : goal.are_to_join-requires-clause-right
-are_to_join-requires-clause-right g c = let took = c.take_pair.ensures.took in
+are_to_join-requires-clause-right g c = let took = c.take_pair-left.ensures.took in
     let h = took.held in
-    paged_frame c.take_pair.new.pass took.to.way.known c.args.pair.right c.args.index h.level
+    paged_frame c.take_pair-left.new.pass took.to.way.known c.take_pair-left.result.1 c.args.index h.level
     h.upper h.knows_right h.is_right
 
 pub returns-then-not-are_to_join-clause-back : goal.returns-then-not-are_to_join-clause-back
 returns-then-not-are_to_join-clause-back g c =
-    taken_back c.args.pass.now c.take_pair.new.pass c.give_pair_back.new.pass c.args.pair
-    c.args.index c.args.key.now.tuple c.take_pair.ensures.took c.give_pair_back.ensures.gave.to
+    taken_back c.args.pass.now c.take_pair-left.new.pass c.give_pair_back.new.pass
+    (pair_in c.args.parent c.args.asked c.take_pair-left.result.0 c.take_pair-left.result.1)
+    c.args.asked c.args.index c.args.key.now.tuple c.take_pair-left.ensures.took c.give_pair_back.ensures.gave.to
     c.give_pair_back.ensures.gave.still
 
 pub returns-then-not-are_to_join-clause-apart : goal.returns-then-not-are_to_join-clause-apart
 returns-then-not-are_to_join-clause-apart g c e =
-    let took = c.take_pair.ensures.took in let h = took.held in let q = c.take_pair.new.pass in
-    leaves_pair c.args.pass.now q c.give_pair_back.new.pass c.args.pair c.args.index
-    c.args.key.now.tuple took c.give_pair_back.ensures.gave
+    let took = c.take_pair-left.ensures.took in let h = took.held in let q = c.take_pair-left.new.pass in
+    leaves_pair c.args.pass.now q c.give_pair_back.new.pass c.args.parent c.args.asked
+    c.take_pair-left.result.0 c.take_pair-left.result.1 c.args.index c.args.key.now.tuple took c.give_pair_back.ensures.gave
     (c.are_to_join.ensures.no h.lower h.upper h.is_left.page h.is_right.page
-    (frame_has q took.to.way.known c.args.pair.left h.lower h.knows_left)
-    (frame_has q took.to.way.known c.args.pair.right h.upper h.knows_right) h.is_left.paged
+    (frame_has q took.to.way.known c.take_pair-left.result.0 h.lower h.knows_left)
+    (frame_has q took.to.way.known c.take_pair-left.result.1 h.upper h.knows_right) h.is_left.paged
     h.is_right.paged c.if-not-are_to_join.true)
 
 pub merge_children-requires-clause-held : goal.merge_children-requires-clause-held
-merge_children-requires-clause-held g c = let took = c.take_pair.ensures.took in
-    let h = took.held in let q = c.take_pair.new.pass in
-    can_merge q c.args.pair c.args.index h
+merge_children-requires-clause-held g c = let took = c.take_pair-left.ensures.took in
+    let h = took.held in let q = c.take_pair-left.new.pass in
+    can_merge q
+    (pair_in c.args.parent c.args.asked c.take_pair-left.result.0 c.take_pair-left.result.1)
+    c.args.index h
     (c.are_to_join.ensures.yes h.lower h.upper h.is_left.page h.is_right.page
-    (frame_has q took.to.way.known c.args.pair.left h.lower h.knows_left)
-    (frame_has q took.to.way.known c.args.pair.right h.upper h.knows_right) h.is_left.paged
+    (frame_has q took.to.way.known c.take_pair-left.result.0 h.lower h.knows_left)
+    (frame_has q took.to.way.known c.take_pair-left.result.1 h.upper h.knows_right) h.is_left.paged
     h.is_right.paged c.if-not-are_to_join.false)
 
 pub merge_children-requires-clause-frames : goal.merge_children-requires-clause-frames
 merge_children-requires-clause-frames g c =
-    no_frame_but c.args.space.now c.take_pair.new.pass c.requires.own.0
-    c.take_pair.ensures.own.1 c.args.index c.args.key.now.tuple
-    (c.args.pair.parent ∷ c.args.pair.left ∷ c.args.pair.right ∷ [])
-    c.take_pair.ensures.took.to.way
+    no_frame_but c.args.space.now c.take_pair-left.new.pass c.requires.own.0
+    c.take_pair-left.ensures.own.1 c.args.index c.args.key.now.tuple
+    (c.args.parent ∷ c.take_pair-left.result.0 ∷ c.take_pair-left.result.1 ∷ [])
+    c.take_pair-left.ensures.took.to.way
 
 pub merge_children-requires-clause-pool : goal.merge_children-requires-clause-pool
 merge_children-requires-clause-pool g c =
-    no_pool c.args.space.now c.take_pair.new.pass c.requires.own.0
-    c.take_pair.ensures.own.1 c.args.index c.args.key.now.tuple
-    (c.args.pair.parent ∷ c.args.pair.left ∷ c.args.pair.right ∷ [])
-    c.take_pair.ensures.took.to.way
+    no_pool c.args.space.now c.take_pair-left.new.pass c.requires.own.0
+    c.take_pair-left.ensures.own.1 c.args.index c.args.key.now.tuple
+    (c.args.parent ∷ c.take_pair-left.result.0 ∷ c.take_pair-left.result.1 ∷ [])
+    c.take_pair-left.ensures.took.to.way
 
 pub lift_only-requires-clause-way : goal.lift_only-requires-clause-way
 lift_only-requires-clause-way g c =
-    (way_joined c.take_pair.new.pass c.merge_children.new.pass c.args.pair.parent c.args.pair.left
-    c.args.pair.right c.args.index c.args.key.now.tuple c.take_pair.ensures.fits
-    c.take_pair.ensures.took.to.way c.in-Ok.ensures.ok).way
+    (way_joined c.take_pair-left.new.pass c.merge_children.new.pass c.args.parent c.take_pair-left.result.0
+    c.take_pair-left.result.1 c.args.index c.args.key.now.tuple c.take_pair-left.ensures.fits
+    c.take_pair-left.ensures.took.to.way c.in-Ok.ensures.ok).way
 
 pub lift_only-requires-clause-held : goal.lift_only-requires-clause-held
 lift_only-requires-clause-held g c =
-    holds_joined c.take_pair.new.pass c.merge_children.new.pass c.args.pair.parent c.args.pair.left
-    c.args.pair.right c.args.index c.args.key.now.tuple c.take_pair.ensures.fits
-    c.take_pair.ensures.took.to.way c.in-Ok.ensures.ok c.loads_add_up.ensures
+    holds_joined c.take_pair-left.new.pass c.merge_children.new.pass c.args.parent c.take_pair-left.result.0
+    c.take_pair-left.result.1 c.args.index c.args.key.now.tuple c.take_pair-left.ensures.fits
+    c.take_pair-left.ensures.took.to.way c.in-Ok.ensures.ok c.loads_add_up.ensures
 
 pub give_pair_back-requires-in-Err-clause-held : goal.give_pair_back-requires-in-Err-clause-held
 give_pair_back-requires-in-Err-clause-held g c =
-    pair_still c.take_pair.new.pass c.merge_children.new.pass c.args.pair c.args.index
-    c.in-Err.ensures.memory c.take_pair.ensures.took.held
+    pair_still c.take_pair-left.new.pass c.merge_children.new.pass
+    (pair_in c.args.parent c.args.asked c.take_pair-left.result.0 c.take_pair-left.result.1)
+    c.args.index
+    c.in-Err.ensures.memory c.take_pair-left.ensures.took.held
 
 pub returns-in-Ok-clause-back : goal.returns-in-Ok-clause-back
 returns-in-Ok-clause-back g c =
-    let p = c.args.pass.now in let q = c.take_pair.new.pass in let r = c.merge_children.new.pass in
-    let pair = c.args.pair in let i = c.args.index in let key = c.args.key.now.tuple in
+    let p = c.args.pass.now in let q = c.take_pair-left.new.pass in let r = c.merge_children.new.pass in
+    let pair = pair_in c.args.parent c.args.asked c.take_pair-left.result.0
+    c.take_pair-left.result.1 in let i = c.args.index in let key = c.args.key.now.tuple in
     back_after p r c.lift_only.new.pass pair.parent i key (pair.parent ∷ pair.left ∷ [])
     (to_both p q r i key (pair.parent ∷ pair.left ∷ pair.right ∷ []) (pair.parent ∷ pair.left ∷ [])
-    c.take_pair.ensures.took.to
-    (way_joined q r pair.parent pair.left pair.right i key c.take_pair.ensures.fits
-    c.take_pair.ensures.took.to.way c.in-Ok.ensures.ok)) c.lift_only.ensures.back
+    c.take_pair-left.ensures.took.to
+    (way_joined q r pair.parent pair.left pair.right i key c.take_pair-left.ensures.fits
+    c.take_pair-left.ensures.took.to.way c.in-Ok.ensures.ok)) c.lift_only.ensures.back
 
 pub returns-in-Err-clause-back : goal.returns-in-Err-clause-back
 returns-in-Err-clause-back g c =
-    failed_back c.args.pass.now c.take_pair.new.pass c.merge_children.new.pass
-    c.give_pair_back-in-Err.new.pass c.args.pair c.args.index c.args.key.now.tuple
-    c.take_pair.ensures.took c.in-Err.ensures.memory c.give_pair_back-in-Err.ensures.gave.to
+    failed_back c.args.pass.now c.take_pair-left.new.pass c.merge_children.new.pass
+    c.give_pair_back-in-Err.new.pass
+    (pair_in c.args.parent c.args.asked c.take_pair-left.result.0 c.take_pair-left.result.1)
+    c.args.asked c.args.index c.args.key.now.tuple
+    c.take_pair-left.ensures.took c.in-Err.ensures.memory c.give_pair_back-in-Err.ensures.gave.to
     c.give_pair_back-in-Err.ensures.gave.still
 
 pub returns-in-Ok-clause-apart : goal.returns-in-Ok-clause-apart
@@ -98,6 +107,8 @@ returns-in-Ok-clause-apart g c e = absurd (c.lift_only.ensures.merged e)
 
 pub returns-in-Ok-clause-freed : goal.returns-in-Ok-clause-freed
 returns-in-Ok-clause-freed g c e =
-    frees_pair c.args.pass.now c.take_pair.new.pass c.merge_children.new.pass
-    c.lift_only.new.pass c.args.pair c.args.index c.args.key.now.tuple c.take_pair.ensures.fits
-    c.take_pair.ensures.took c.in-Ok.ensures.ok c.lift_only.ensures.back
+    frees_pair c.args.pass.now c.take_pair-left.new.pass c.merge_children.new.pass
+    c.lift_only.new.pass
+    (pair_in c.args.parent c.args.asked c.take_pair-left.result.0 c.take_pair-left.result.1)
+    c.args.asked c.args.index c.args.key.now.tuple c.take_pair-left.ensures.fits
+    c.take_pair-left.ensures.took c.in-Ok.ensures.ok c.lift_only.ensures.back

@@ -4,8 +4,8 @@ use Rattle.tree_growth.proofs.HandLemmas.{no_pool}
 use Rattle.tree_shrinking.proofs.OnlyLemmas.{back_given, back_failed, can_lift, back_lifted}
 use Rattle.tree_shrinking.proofs.joining.lift_only.Goals as goal
 
-pub returns-then-parent-index-clause-back : goal.returns-then-parent-index-clause-back
-returns-then-parent-index-clause-back g c =
+pub returns-then-number_in-index-clause-back : goal.returns-then-number_in-index-clause-back
+returns-then-number_in-index-clause-back g c =
     back_given c.args.pass.now c.args.parent c.args.child c.args.index c.args.key.now.tuple
     c.requires.way c.requires.held c.give_back.new.pass c.give_back.ensures.gave
 
@@ -14,8 +14,11 @@ lift-requires-clause-held g c = let h = c.requires.held in let p = c.args.pass.n
     let counted = c.count_in.ensures h.up h.above.page
     (frame_has p c.requires.way.known c.args.parent h.up h.knows_up) h.above.paged in
     let few = c.if-count_in-gt1.false in
+    let number = c.number_in.ensures h.up h.above.page
+    (frame_has p c.requires.way.known c.args.parent h.up h.knows_up) h.above.paged in
+    let root = c.if-number_in-index.false in
     can_lift p c.args.parent c.args.child c.args.index c.args.key.now.tuple c.requires.way h
-    c.if-parent-index.false (omega (arith, counted, few))
+    (omega (arith, number, root)) (omega (arith, counted, few))
 
 pub lift-requires-clause-pool : goal.lift-requires-clause-pool
 lift-requires-clause-pool g c =
@@ -25,7 +28,7 @@ lift-requires-clause-pool g c =
 pub returns-in-Ok-clause-back : goal.returns-in-Ok-clause-back
 returns-in-Ok-clause-back g c =
     back_lifted c.args.pass.now c.args.parent c.args.child c.args.index c.args.key.now.tuple
-    c.requires.way c.requires.held c.if-parent-index.false c.lift.new.pass c.in-Ok.ensures.ok
+    c.requires.way c.requires.held c.lift.new.pass c.in-Ok.ensures.ok
 
 pub returns-in-Err-clause-back : goal.returns-in-Err-clause-back
 returns-in-Err-clause-back g c =

@@ -10,5 +10,5 @@ returns-in_err-sink_root-clause-memory g c = on_err_weaker c.from_residual.resul
 
 pub free_page-requires-clause-pool : goal.free_page-requires-clause-pool
 free_page-requires-clause-pool g c =
-    no_pool_sunk c.args.pass.now c.sink_root.new.pass c.args.index c.args.child
+    no_pool_sunk c.args.pass.now c.sink_root.new.pass c.args.index c.args.root c.args.child
     c.in_ok-sink_root.ensures.ok c.requires.pool

@@ -1,7 +1,17 @@
 use Rattle.std.proofs.Common.{◌∙◌}
 use Rattle.std.proofs.lemmas.Result.{on_ok_weaker, on_err_weaker}
-use Rattle.tree_shrinking.proofs.MergeNextLemmas.{nothing_made, right_page, next_read, holds_last, pair_last, next_there, next_lacked, next_taken, merge_held, next_held, nothing_around, pair_around}
+use Rattle.buffer_pool.proofs.CallLemmas.{frame_has}
+use Rattle.buffer_pool.proofs.SpaceLemmas.{objects_of}
+use Rattle.tree_shrinking.proofs.MergeNextLemmas.{nothing_made, right_page, next_read, holds_last, pair_last, next_live, next_other, next_taken, merge_held, next_held, nothing_around, pair_around}
 use Rattle.tree_shrinking.proofs.merging.merge_pair.Goals as goal
+
+pub frame-requires-clause-held : goal.frame-requires-clause-held
+frame-requires-clause-held g c = (
+  c.requires.held.upper,
+  c.requires.held.upper,
+  frame_has c.args.pass.now c.requires.known c.args.at.right c.requires.held.upper
+      c.requires.held.knows_right,
+)
 
 pub head_of-requires : goal.head_of-requires
 head_of-requires g c = right_page c.args.pass.now c.requires.known c.args.at c.args.index
@@ -13,41 +23,43 @@ make_merge-requires-clause-held g c = let p = c.args.pass.now in
     (next_read p c.requires.known c.args.at c.args.index c.requires.held c.frame.result.now
     c.frame.ensures c.head_of.result c.head_of.ensures.head ∙ c.in-None.is)
 
-pub take_frame-requires-clause-there : goal.take_frame-requires-clause-there
-take_frame-requires-clause-there g c = let p = c.args.pass.now in let f = c.fits.ensures in
-    next_there p c.args.at c.args.index c.requires.held c.in-Some.next
-    (next_read p c.requires.known c.args.at c.args.index c.requires.held c.frame.result.now
-    c.frame.ensures c.head_of.result c.head_of.ensures.head ∙ c.in-Some.is) f.whole f.is_lawful
-    f.fits
+pub page_in-behind-requires-clause-live : goal.page_in-behind-requires-clause-live
+page_in-behind-requires-clause-live g c = let p = c.args.pass.now in
+    next_live p c.args.at c.args.index c.requires.held c.in-Some.next
+    (next_read p c.requires.known c.args.at c.args.index c.requires.held
+    c.frame.result.now c.frame.ensures c.head_of.result c.head_of.ensures.head ∙ c.in-Some.is)
 
-pub take_frame-requires-clause-lacks : goal.take_frame-requires-clause-lacks
-take_frame-requires-clause-lacks g c = let p = c.args.pass.now in let f = c.fits.ensures in
-    next_lacked p c.args.at c.args.index c.requires.held c.in-Some.next
-    (next_read p c.requires.known c.args.at c.args.index c.requires.held c.frame.result.now
-    c.frame.ensures c.head_of.result c.head_of.ensures.head ∙ c.in-Some.is) f.whole f.is_lawful
-    f.fits c.requires.frames
+pub page_in-behind-requires-clause-others : goal.page_in-behind-requires-clause-others
+page_in-behind-requires-clause-others g c = let p = c.args.pass.now in
+    next_other p c.args.at c.args.index c.requires.held c.in-Some.next
+    (next_read p c.requires.known c.args.at c.args.index c.requires.held
+    c.frame.result.now c.frame.ensures c.head_of.result c.head_of.ensures.head ∙ c.in-Some.is)
+    c.fits.ensures (objects_of c.args.space.now p c.requires.own.0 c.requires.own.1)
+    c.requires.frames
 
 pub make_merge-made-requires-clause-held : goal.make_merge-made-requires-clause-held
-make_merge-made-requires-clause-held g c = let p = c.args.pass.now in
-    let n = c.in-Some.next in let q = c.take_frame.new.pass in
-    merge_held p c.args.at c.args.index n q (next_taken p c.args.at c.args.index n q
-    c.requires.held (next_read p c.requires.known c.args.at c.args.index c.requires.held
+make_merge-made-requires-clause-held g c = let p = c.args.pass.now in let n = c.in-Some.next in
+    let b = c.page_in-behind.result in let q = c.page_in-behind.new.pass in
+    merge_held p c.args.at c.args.index n b q
+    (next_taken p c.args.at c.args.index n b q c.requires.held
+    (next_read p c.requires.known c.args.at c.args.index c.requires.held
     c.frame.result.now c.frame.ensures c.head_of.result c.head_of.ensures.head ∙ c.in-Some.is)
-    c.requires.known c.fits.ensures c.requires.frames c.take_frame.ensures.took)
+    c.page_in-behind.ensures.took c.page_in-behind.ensures.fits)
 
 pub give_back-requires-clause-held : goal.give_back-requires-clause-held
-give_back-requires-clause-held g c = let p = c.args.pass.now in
-    let n = c.in-Some.next in let q = c.take_frame.new.pass in
-    next_held p c.args.at c.args.index n q (next_taken p c.args.at c.args.index n q
-    c.requires.held (next_read p c.requires.known c.args.at c.args.index c.requires.held
+give_back-requires-clause-held g c = let p = c.args.pass.now in let n = c.in-Some.next in
+    let b = c.page_in-behind.result in let q = c.page_in-behind.new.pass in
+    next_held p c.args.at c.args.index n b q
+    (next_taken p c.args.at c.args.index n b q c.requires.held
+    (next_read p c.requires.known c.args.at c.args.index c.requires.held
     c.frame.result.now c.frame.ensures c.head_of.result c.head_of.ensures.head ∙ c.in-Some.is)
-    c.requires.known c.fits.ensures c.requires.frames c.take_frame.ensures.took)
+    c.page_in-behind.ensures.took c.page_in-behind.ensures.fits)
     c.make_merge-made.new.pass c.make_merge-made.result c.make_merge-made.ensures.ok
     c.make_merge-made.ensures.err
 
 pub returns-in-None-clause-ok : goal.returns-in-None-clause-ok
 returns-in-None-clause-ok g c = on_ok_weaker c.make_merge.result
-    (pair_last c.args.pass.now c.make_merge.new.pass c.args.at c.args.index c.fits.ensures)
+    (pair_last c.args.pass.now c.make_merge.new.pass c.args.at c.args.index)
     c.make_merge.ensures.ok
 
 pub returns-in-None-clause-memory : goal.returns-in-None-clause-memory
@@ -55,23 +67,25 @@ returns-in-None-clause-memory g c = on_err_weaker c.make_merge.result
     (nothing_made c.args.pass.now c.make_merge.new.pass) c.make_merge.ensures.err
 
 pub returns-in-Some-clause-ok : goal.returns-in-Some-clause-ok
-returns-in-Some-clause-ok g c = let p = c.args.pass.now in
-    let n = c.in-Some.next in let q = c.take_frame.new.pass in
+returns-in-Some-clause-ok g c = let p = c.args.pass.now in let n = c.in-Some.next in
+    let b = c.page_in-behind.result in let q = c.page_in-behind.new.pass in
     on_ok_weaker c.make_merge-made.result
-    (pair_around p c.args.at c.args.index n q (next_taken p c.args.at c.args.index n q
-    c.requires.held (next_read p c.requires.known c.args.at c.args.index c.requires.held
+    (pair_around p c.args.at c.args.index n b q
+    (next_taken p c.args.at c.args.index n b q c.requires.held
+    (next_read p c.requires.known c.args.at c.args.index c.requires.held
     c.frame.result.now c.frame.ensures c.head_of.result c.head_of.ensures.head ∙ c.in-Some.is)
-    c.requires.known c.fits.ensures c.requires.frames c.take_frame.ensures.took)
-    c.make_merge-made.new.pass c.give_back.new.pass c.give_back.ensures.gave
-    c.take_frame.ensures.fits) c.make_merge-made.ensures.ok
+    c.page_in-behind.ensures.took c.page_in-behind.ensures.fits)
+    c.make_merge-made.new.pass c.give_back.new.pass c.give_back.ensures.gave)
+    c.make_merge-made.ensures.ok
 
 pub returns-in-Some-clause-memory : goal.returns-in-Some-clause-memory
-returns-in-Some-clause-memory g c = let p = c.args.pass.now in
-    let n = c.in-Some.next in let q = c.take_frame.new.pass in
+returns-in-Some-clause-memory g c = let p = c.args.pass.now in let n = c.in-Some.next in
+    let b = c.page_in-behind.result in let q = c.page_in-behind.new.pass in
     on_err_weaker c.make_merge-made.result
-    (nothing_around p c.args.at c.args.index n q (next_taken p c.args.at c.args.index n q
-    c.requires.held (next_read p c.requires.known c.args.at c.args.index c.requires.held
+    (nothing_around p c.args.at c.args.index n b q
+    (next_taken p c.args.at c.args.index n b q c.requires.held
+    (next_read p c.requires.known c.args.at c.args.index c.requires.held
     c.frame.result.now c.frame.ensures c.head_of.result c.head_of.ensures.head ∙ c.in-Some.is)
-    c.requires.known c.fits.ensures c.requires.frames c.take_frame.ensures.took)
+    c.page_in-behind.ensures.took c.page_in-behind.ensures.fits)
     c.make_merge-made.new.pass c.give_back.new.pass c.give_back.ensures.gave)
     c.make_merge-made.ensures.err

@@ -1,42 +1,39 @@
 use Rattle.std.proofs.Common.{sym, ap, subst, Err}
 use Rattle.buffer_pool.specs.NewPages.{FindsNoneFree}
-use Rattle.buffer_pool.proofs.SpaceLemmas.{objects_of}
 use Rattle.tree_smo.proofs.BesideLemmas.{holds_outside, no_pool, gets_nothing}
-use Rattle.tree_smo.proofs.RootLemmas.{root_page, index_is, index_there, root_fields, root_got, root_pages, storeys_held, raises_root}
+use Rattle.tree_smo.proofs.RootLemmas.{root_page, index_is, index_there, root_fields, root_got, storeys_held, raises_root}
 use Rattle.tree_smo.proofs.raising.raise_root.Goals as goal
 
 pub head_of-head-requires : goal.head_of-head-requires
 head_of-head-requires g c =
-    root_page c.args.pass.now c.requires.known c.args.index c.requires.held c.frame.result.now
-    c.frame.ensures
+    root_page c.args.pass.now c.requires.known c.args.index c.args.root c.requires.held
+    c.frame.result.now c.frame.ensures
 
 pub new_page-requires-clause-index : goal.new_page-requires-clause-index
 new_page-requires-clause-index g c =
-    index_there c.args.pass.now c.requires.known c.args.index c.requires.held c.frame.result.now
-    c.frame.ensures c.head_of-head.result c.head_of-head.ensures.head c.requires.index
+    index_there c.args.pass.now c.requires.known c.args.index c.args.root c.requires.held
+    c.frame.result.now c.frame.ensures c.head_of-head.result c.head_of-head.ensures.head
+    c.requires.index
 
 pub new_page-requires-clause-fields : goal.new_page-requires-clause-fields
 new_page-requires-clause-fields g c = let f = c.fits.ensures in
-    root_fields c.args.pass.now c.requires.known c.args.index c.requires.held c.frame.result.now
-    c.frame.ensures c.head_of-head.result c.head_of-head.ensures.head f.whole f.is_lawful f.fits
-
-pub new_page-requires-clause-pages : goal.new_page-requires-clause-pages
-new_page-requires-clause-pages g c = let own = c.requires.own in
-    root_pages c.args.pass.now c.args.index c.requires.held
-    (objects_of c.args.space.now c.args.pass.now own.0 own.1) c.requires.frames
+    root_fields c.args.pass.now c.requires.known c.args.index c.args.root c.requires.held
+    c.frame.result.now c.frame.ensures c.head_of-head.result c.head_of-head.ensures.head
+    f.whole f.is_lawful f.fits
 
 pub returns-in_err-under-clause-full : goal.returns-in_err-under-clause-full
 returns-in_err-under-clause-full g c = λ e. let r = rw e at c.from_residual.ensures in
     subst (λ i. FindsNoneFree c.args.pass.now i c.new_page.new.pass)
-    (index_is c.args.pass.now c.requires.known c.args.index c.requires.held c.frame.result.now
-    c.frame.ensures c.head_of-head.result c.head_of-head.ensures.head)
+    (index_is c.args.pass.now c.requires.known c.args.index c.args.root c.requires.held
+    c.frame.result.now c.frame.ensures c.head_of-head.result c.head_of-head.ensures.head)
     (c.in_err-under.ensures.full (ap Err (sym r.1)))
 
 pub make_raise-requires-clause-held : goal.make_raise-requires-clause-held
 make_raise-requires-clause-held g c = let p = c.args.pass.now in
-    storeys_held p c.new_page.new.pass c.args.index c.in_ok-under.under c.requires.held
-    (root_got p c.requires.known c.args.index c.requires.held c.frame.result.now c.frame.ensures
-    c.head_of-head.result c.head_of-head.ensures.head c.in_ok-under.under c.new_page.new.pass
+    storeys_held p c.new_page.new.pass c.args.index c.args.root c.in_ok-under.under c.requires.held
+    (root_got p c.requires.known c.args.index c.args.root c.requires.held
+    c.frame.result.now c.frame.ensures c.head_of-head.result c.head_of-head.ensures.head
+    c.in_ok-under.under c.new_page.new.pass
     c.in_ok-under.ensures.ok) c.requires.index
 
 pub free_page-requires-clause-held : goal.free_page-requires-clause-held
@@ -51,9 +48,10 @@ free_page-requires-clause-pool g c =
 
 pub returns-in-Ok-clause-ok : goal.returns-in-Ok-clause-ok
 returns-in-Ok-clause-ok g c = let p = c.args.pass.now in
-    raises_root p c.new_page.new.pass c.args.index c.in_ok-under.under c.requires.held
-    (root_got p c.requires.known c.args.index c.requires.held c.frame.result.now c.frame.ensures
-    c.head_of-head.result c.head_of-head.ensures.head c.in_ok-under.under c.new_page.new.pass
+    raises_root p c.new_page.new.pass c.args.index c.args.root c.in_ok-under.under c.requires.held
+    (root_got p c.requires.known c.args.index c.args.root c.requires.held
+    c.frame.result.now c.frame.ensures c.head_of-head.result c.head_of-head.ensures.head
+    c.in_ok-under.under c.new_page.new.pass
     c.in_ok-under.ensures.ok) c.requires.index c.make_raise.new.pass c.in-Ok.ensures.ok
 
 pub returns-in-Err-clause-memory : goal.returns-in-Err-clause-memory

@@ -1,6 +1,5 @@
 use Rattle.std.proofs.Common.{refl, sym, ap, Err}
-use Rattle.buffer_pool.proofs.SpaceLemmas.{objects_of}
-use Rattle.tree_smo.proofs.BesideLemmas.{index_below, fields_are, holds_pages, plan_still, holds_outside, no_pool, splits_beside, gets_nothing}
+use Rattle.tree_smo.proofs.BesideLemmas.{index_below, fields_are, plan_still, holds_outside, no_pool, splits_beside, gets_nothing}
 use Rattle.tree_smo.proofs.splitting.split_beside.Goals as goal
 
 pub new_page-requires-clause-index : goal.new_page-requires-clause-index
@@ -10,11 +9,6 @@ new_page-requires-clause-index g c = let f = c.fits.ensures in
 pub new_page-requires-clause-fields : goal.new_page-requires-clause-fields
 new_page-requires-clause-fields g c = let f = c.fits.ensures in
     fields_are c.args.pass.now f.whole f.is_lawful f.fits c.args.plan c.requires.held
-
-pub new_page-requires-clause-pages : goal.new_page-requires-clause-pages
-new_page-requires-clause-pages g c = let own = c.requires.own in
-    holds_pages c.args.pass.now c.args.plan c.requires.held
-    (objects_of c.args.space.now c.args.pass.now own.0 own.1) c.requires.frames
 
 pub returns-in_err-right-clause-full : goal.returns-in_err-right-clause-full
 returns-in_err-right-clause-full g c = λ e. let r = rw e at c.from_residual.ensures in
@@ -27,7 +21,7 @@ make_split-requires-clause-held g c =
 
 pub make_split-requires-clause-blank : goal.make_split-requires-clause-blank
 make_split-requires-clause-blank g c = let got = c.in_ok-right.ensures.ok in
-    (got.frame, got.knows, got.has)
+    (got.frame, got.knows, got.number, got.has)
 
 pub free_page-requires-clause-held : goal.free_page-requires-clause-held
 free_page-requires-clause-held g c =

@@ -5,64 +5,67 @@ use Rattle.tree_smo.proofs.storeys.make_raise.Goals as goal
 
 pub change_storeys-requires-clause-suits : goal.change_storeys-requires-clause-suits
 change_storeys-requires-clause-suits c = let p = c.args.pass.now in
-    suits_storeys p c.args.index c.args.under (raise_call p c.args.index c.args.under
-    c.requires.known c.fits.ensures c.requires.index c.requires.few c.requires.held)
+    let call = raise_call p c.args.index c.args.root c.args.under c.requires.known
+    c.fits.ensures c.requires.index c.requires.few c.requires.held in
+    suits_storeys p c.args.index c.args.root c.args.under call
 
 pub tree-old-requires-clause-held : goal.tree-old-requires-clause-held
 tree-old-requires-clause-held c = let p = c.args.pass.now in
+    let call = raise_call p c.args.index c.args.root c.args.under c.requires.known
+    c.fits.ensures c.requires.index c.requires.few c.requires.held in
     let t = c.requires.held.can.tree in
-    let there = tree_there p c.args.index c.args.under (raise_call p c.args.index c.args.under
-    c.requires.known c.fits.ensures c.requires.index c.requires.few c.requires.held)
+    let there = tree_there p c.args.index c.args.root c.args.under call
     c.change_storeys.new.pass c.in_ok-change_storeys.ensures.ok in (t, t, there)
 
 pub change_tree-requires-clause-held : goal.change_tree-requires-clause-held
 change_tree-requires-clause-held c = let p = c.args.pass.now in
+    let call = raise_call p c.args.index c.args.root c.args.under c.requires.known
+    c.fits.ensures c.requires.index c.requires.few c.requires.held in
     let t = c.requires.held.can.tree in
-    let there = tree_there p c.args.index c.args.under (raise_call p c.args.index c.args.under
-    c.requires.known c.fits.ensures c.requires.index c.requires.few c.requires.held)
+    let there = tree_there p c.args.index c.args.root c.args.under call
     c.change_storeys.new.pass c.in_ok-change_storeys.ensures.ok in (t, t, there)
 
 pub overflow_add-height : goal.overflow_add-height
 overflow_add-height c = let p = c.args.pass.now in let t = c.requires.held.can.tree in
-    let there = tree_there p c.args.index c.args.under (raise_call p c.args.index c.args.under
-    c.requires.known c.fits.ensures c.requires.index c.requires.few c.requires.held)
+    let call = raise_call p c.args.index c.args.root c.args.under c.requires.known
+    c.fits.ensures c.requires.index c.requires.few c.requires.held in
+    let there = tree_there p c.args.index c.args.root c.args.under call
     c.change_storeys.new.pass c.in_ok-change_storeys.ensures.ok in
-    let room = height_fits p c.args.index c.args.under (raise_call p c.args.index c.args.under
-    c.requires.known c.fits.ensures c.requires.index c.requires.few c.requires.held)
+    let room = height_fits p c.args.index c.args.root c.args.under call
     c.tree-old.result (c.tree-old.ensures t t there) in omega (arith, room)
 
 pub settle-requires-clause-whole : goal.settle-requires-clause-whole
 settle-requires-clause-whole c = let p = c.args.pass.now in let t = c.requires.held.can.tree in
-    let there = tree_there p c.args.index c.args.under (raise_call p c.args.index c.args.under
-    c.requires.known c.fits.ensures c.requires.index c.requires.few c.requires.held)
+    let call = raise_call p c.args.index c.args.root c.args.under c.requires.known
+    c.fits.ensures c.requires.index c.requires.few c.requires.held in
+    let there = tree_there p c.args.index c.args.root c.args.under call
     c.change_storeys.new.pass c.in_ok-change_storeys.ensures.ok in
     let old = c.tree-old.result in
-    whole p c.args.index c.args.under (raise_call p c.args.index c.args.under
-    c.requires.known c.fits.ensures c.requires.index c.requires.few c.requires.held)
+    whole p c.args.index c.args.root c.args.under call
     c.change_storeys.new.pass c.in_ok-change_storeys.ensures.ok
     (record old { height = old.height + 1 }) (one_higher t old (c.tree-old.ensures t t there))
     c.change_tree.new.pass c.change_tree.ensures.changed
 
 pub settle-requires-clause-rule : goal.settle-requires-clause-rule
 settle-requires-clause-rule c = let p = c.args.pass.now in let t = c.requires.held.can.tree in
-    let there = tree_there p c.args.index c.args.under (raise_call p c.args.index c.args.under
-    c.requires.known c.fits.ensures c.requires.index c.requires.few c.requires.held)
+    let call = raise_call p c.args.index c.args.root c.args.under c.requires.known
+    c.fits.ensures c.requires.index c.requires.few c.requires.held in
+    let there = tree_there p c.args.index c.args.root c.args.under call
     c.change_storeys.new.pass c.in_ok-change_storeys.ensures.ok in
     let old = c.tree-old.result in
-    follows p c.args.index c.args.under (raise_call p c.args.index c.args.under
-    c.requires.known c.fits.ensures c.requires.index c.requires.few c.requires.held)
+    follows p c.args.index c.args.root c.args.under call
     c.change_storeys.new.pass c.in_ok-change_storeys.ensures.ok
     (record old { height = old.height + 1 }) (one_higher t old (c.tree-old.ensures t t there))
     c.change_tree.new.pass c.change_tree.ensures.changed
 
 pub returns-clause-ok : goal.returns-clause-ok
 returns-clause-ok c = let p = c.args.pass.now in let t = c.requires.held.can.tree in
-    let there = tree_there p c.args.index c.args.under (raise_call p c.args.index c.args.under
-    c.requires.known c.fits.ensures c.requires.index c.requires.few c.requires.held)
+    let call = raise_call p c.args.index c.args.root c.args.under c.requires.known
+    c.fits.ensures c.requires.index c.requires.few c.requires.held in
+    let there = tree_there p c.args.index c.args.root c.args.under call
     c.change_storeys.new.pass c.in_ok-change_storeys.ensures.ok in
     let old = c.tree-old.result in
-    makes_raise p c.args.index c.args.under (raise_call p c.args.index c.args.under
-    c.requires.known c.fits.ensures c.requires.index c.requires.few c.requires.held)
+    makes_raise p c.args.index c.args.root c.args.under call
     c.change_storeys.new.pass c.in_ok-change_storeys.ensures.ok
     (record old { height = old.height + 1 }) (one_higher t old (c.tree-old.ensures t t there))
     c.change_tree.new.pass c.change_tree.ensures.changed c.settle.new.pass
