@@ -87,7 +87,7 @@ module _ (p p1 p2 : TreePass) (b : ℕ) (frame now : Frame) (out : TakesOut p b 
         λ e. differs (e ∙ ap (λ (v : View). frame_id v.terms.shape b) (sym same_view)) in
         let same = swapped_others j ne in same.1 ∙ holds.rest j x ne (sym same.0 ∙ held));
     one = back.count ∙ (out.count ∙ holds.one);
-    leaf = subst (λ (v : View). IsLeafOf v.terms.shape b i key f) (sym same_view) holds.leaf;
+    leaf = subst (λ (v : View). IsLeafOf v.terms.shape i key f) (sym same_view) holds.leaf;
   }
 
   module _ (i : ℕ) (key : FieldList) (value : List ℕ) where

@@ -1,5 +1,5 @@
 -- What a del leaves behind, with merges after its answer or without.
-use Rattle.std.proofs.Common.{◌≡◌, inl, inr, ℕ, zero, ◌+◌, ◌-◌, ◌≤◌, Option, Some, None, List, [], ◌∷◌, ◌++◌, append-nil, length, length-append, take, sym, ap, subst, ◌∙◌, refl, arith, Contains}
+use Rattle.std.proofs.Common.{◌≡◌, inl, inr, ℕ, zero, ◌-◌, ◌≤◌, Option, Some, None, [], ◌++◌, append-nil, length, length-append, take, sym, ap, subst, ◌∙◌, refl, arith, Contains}
 use Rattle.std.proofs.lemmas.List.{length-map}
 use mathlib.Core.List.{map-append}
 use mathlib.Core.Option.{some}
@@ -27,13 +27,14 @@ use Rattle.call_law.specs.Spoken.{View, spoken}
 use Rattle.call_law.specs.Trace.{Added, Adds, AreGivenAt, fulls}
 use Rattle.call_law.proofs.TraceLemmas.{both_added, adds_both, given_both}
 use Rattle.buffer_pool.specs.Frames.{GivesFrame}
+use Rattle.buffer_pool.specs.Pages.{HasNumber}
 use Rattle.forest_world.specs.Held.{TreePass}
 use Rattle.tree_descent.specs.declared.descending.Leaf.{Leaf}
 use Rattle.tree_descent.specs.Descents.{Descends}
 use Rattle.tree_growth.specs.Growing.{GrowsSilently}
 use Rattle.index_engine.specs.Says.{SaysOnce}
 use Rattle.index_engine.specs.Traces.{TellsByLeaf, TellsOfDel, HasLightPage, SeesEach}
-use Rattle.index_engine.proofs.TellLemmas.{ends_all, tells_by_leaf}
+use Rattle.index_engine.proofs.TellLemmas.{leaf_number, ends_all, tells_by_leaf}
 
 -- the answer to a word that a change was made
 pub answer_done : (ask : Ask) (told : Told) (row : Pair) (answer : Answer)
@@ -123,13 +124,14 @@ del_ends v v' i key told tells = record {
 -- and one after which light pages were merged
 pub del_merges : (p p0 p1 p2 p3 : TreePass) (i : ℕ) (key : FieldList) (leaf : Leaf)
     (went : Descends p i mode.Ge key leaf p0) (gave : GivesFrame p1 leaf.block p2) (told : Told)
+    → HasNumber gave.frame (leaf_number p p0 p1 p2 i key leaf went gave)
     → SaysOnce (view p0) (view p1) i (Make (Del key)) told (lent_row None)
     → told.reply ≡ words.Ok → HasLightPage gave.frame → SeesEach (view p2) i
     → GrowsSilently p2 p3 → TellsOfDel (view p) (view p3) i key told
 unfolding once_then_more tells_by_leaf ends_all
-del_merges p p0 p1 p2 p3 i key leaf went gave told says ok light seen merged =
+del_merges p p0 p1 p2 p3 i key leaf went gave told has says ok light seen merged =
     let ask = Make (Del key) in
-    let tells = tells_by_leaf p p0 p1 p2 i key leaf went gave ask told (lent_row None) says in
+    let tells = tells_by_leaf p p0 p1 p2 i key leaf went gave ask told (lent_row None) has says in
     let done = answer_done ask told (lent_row None) tells.tells.answer ok
     tells.tells.is_told.is in
     record {
@@ -144,5 +146,5 @@ del_merges p p0 p1 p2 p3 i key leaf went gave told says ok light seen merged =
       later = merged.added.references;
       added = refl;
       ends = tells.ends;
-      trees = inr (record { frame = gave.frame; is = refl; light = light });
+      trees = inr light;
     }

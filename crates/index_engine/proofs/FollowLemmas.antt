@@ -1,5 +1,5 @@
 -- A change of the held leaf follows, whether it was made or is to be made.
-use Rattle.std.proofs.Common.{◌≡◌, ◌≢◌, ℕ, List, set, sym, ap, subst, ◌∙◌, refl, Option, Some}
+use Rattle.std.proofs.Common.{◌≡◌, ◌≢◌, ℕ, List, set, sym, ap, subst, ◌∙◌, Option, Some}
 use mathlib.Core.Option.{some, some-injective}
 use lib.ListN.{get_elem?}
 use Rattle.key_tuple.specs.Order.{FieldList}
@@ -79,15 +79,19 @@ module _ (p : TreePass) (b : ℕ) where
       head_is = ap (λ (r : PageRows). r.head)
           (same_some makes.page holds.leaf.page.is.page (sym makes.had ∙ holds.leaf.page.is.paged))
 
+      -- and its number
+      abbrev number : ℕ
+      number = holds.leaf.page.is.page.head.number
+
       -- the page after the change
       after_is : page_within makes.new g.low g.high ≡ after
       after_is k =
           page_within (record { head = makes.head k; rows = makes.new.rows }) (makes.low k)
           (makes.high k)
 
-      allows : AllowsChange b before i change
+      allows : AllowsChange number before i change
       allows = let is = holds.leaf.page.is in record {
-        tree = ap (λ (h : PageHead). is_own b h.prev) head_is ∙ is.tree;
+        tree = ap (λ (h : PageHead). is_own number h.prev) head_is ∙ is.tree;
         index = ap (λ (h : PageHead). h.index) head_is ∙ is.index;
         leaf = ap (λ (h : PageHead). h.level) head_is ∙ is.at_level;
         inside = ap (λ k. within (low_of f) (high_of f) (At k)) about ∙ holds.leaf.inside;
@@ -98,7 +102,7 @@ module _ (p : TreePass) (b : ℕ) where
           (at : get_elem? vs leaf_id ≡ some (Some (object.Frame g)))
           (same : (j : ℕ) → j ≢ leaf_id → get_elem? vs j ≡ get_elem? (values p) j) where
         step_is : MakesFrameStep (shape_of_pass p) (knowns (view p).held) vs
-            (frame_step hand b before after)
+            (frame_step hand number before after)
         step_is = let held = holds.has.held in record {
           becomes = (
             known_at (view p).held leaf_id (holding held.0 (object.Frame f)) held.1,
@@ -107,16 +111,15 @@ module _ (p : TreePass) (b : ℕ) where
           had = record {
             rows = makes.page;
             paged = makes.had;
-            number = ap (λ (h : PageHead). h.number) head_is ∙ holds.leaf.number;
+            number = ap (λ (h : PageHead). h.number) head_is;
             is = ap (λ o. page_if o f.low f.high) makes.had;
           };
           has = record {
             rows = makes.new;
             paged = makes.has;
-            number = ap (λ (h : PageHead). h.number) (makes.head ∙ head_is) ∙ holds.leaf.number;
+            number = ap (λ (h : PageHead). h.number) (makes.head ∙ head_is);
             is = ap (λ o. page_if o g.low g.high) makes.has ∙ ap Some after_is;
           };
-          home = refl;
           order = subst (IsOrderly (fields_for (shape_of_pass p))) after_is makes.order;
         }
 
@@ -136,11 +139,11 @@ module _ (p : TreePass) (b : ℕ) where
             → Follows (shape_of_pass p) (knowns (view p).held) vs (Some (i, deed))
         leaf_follows deed is = row_follows (shape_of_pass p) (knowns (view p).held) vs (i, deed)
             (record {
-              number = b;
+              number = number;
               hand = hand;
               page = before;
               rows = makes.new.rows;
-              allows = subst (AllowsChange b before i) (sym is) allows;
+              allows = subst (AllowsChange number before i) (sym is) allows;
               changes = subst
                   (λ c. ChangesRow c makes.page.rows makes.new.rows f.clock g.clock) (sym is)
                   makes.changes;

@@ -20,12 +20,11 @@ use Rattle.forest_law.specs.declared.objects.Object.TheVariants as object
 use Rattle.forest_law.specs.Numbers.{frame_id}
 use Rattle.forest_law.specs.Objects.{IsFrameOf}
 use Rattle.forest_law.specs.State.{ForestState, fields_for}
-use Rattle.forest_law.proofs.FramePageLemmas.{frames_tell_pages}
 use Rattle.forest_law.proofs.ObjectLemmas.{same_frame}
 use Rattle.forest_world.specs.Held.{TreePass, shape_of_pass, HasFrame}
 use Rattle.call_law.specs.Hands.{KnowsFrame}
 use Rattle.call_law.specs.Spoken.{View}
-use Rattle.buffer_pool.specs.Forests.{FitsTrees, IsFittedTree}
+use Rattle.buffer_pool.specs.Forests.{FitsTrees}
 use Rattle.buffer_pool.specs.Frames.{GivesFrame}
 use Rattle.buffer_pool.proofs.CallLemmas.{frame_has}
 use Rattle.buffer_pool.proofs.FrameLemmas.{one_held}
@@ -60,8 +59,8 @@ high_fields : (n m : ℕ) (o : Option FieldList) → n ≡ m → HasFields n o
 high_fields n m None e has = tt
 high_fields n m (Some k) e has = has ∙ e
 
-module _ (shape : Shape) (b i : ℕ) (key : FieldList) (f : Frame)
-    (page : IsPageFor shape b f i 0 (cut_in shape i mode.Ge key))
+module _ (shape : Shape) (i : ℕ) (key : FieldList) (f : Frame)
+    (page : IsPageFor shape f i 0 (cut_in shape i mode.Ge key))
     (as_many : length key ≡ fields_for shape i) where
   -- the page's keys have as many fields as those of the index
   pub page_fields : page.is.page.head.fields ≡ fields_for shape i
@@ -74,25 +73,15 @@ module _ (shape : Shape) (b i : ℕ) (key : FieldList) (f : Frame)
       (high_fields page.is.page.head.fields (fields_for shape i) _ page_fields page.order.high)
       (record { at_low = page.within.low; at_high = page.within.high })
 
--- a page of the trees that is held has its block's number
-pub page_number : (v : View) (b i : ℕ) (key : FieldList) (f : Frame)
-    → (page : IsPageFor v.terms.shape b f i 0 (cut_in v.terms.shape i mode.Ge key))
-    → KnowsFrame v b f → IsFittedTree v → page.is.page.head.number ≡ b
-page_number v b i key f page knows fitted =
-    let there = frame_there v b f knows fitted.whole fitted.fits in
-    let tells = frames_tell_pages fitted.whole fitted.is_lawful b f page.is.page there
-    page.is.paged in
-    tells.number
-
 -- a leaf to which a way led is held alone
 pub fresh_leaf : (p q : TreePass) (i : ℕ) (key : FieldList) (leaf : Leaf)
-    → Descends p i mode.Ge key leaf q → IsFittedTree (view q) → count p ≡ 0
+    → Descends p i mode.Ge key leaf q → count p ≡ 0
     → length key ≡ fields_for (shape_of_pass p) i → HoldsFresh q leaf.block i key leaf.spot
-fresh_leaf p q i key leaf went fitted none fits =
+fresh_leaf p q i key leaf went none fits =
     let same = went.silently.does.adds.numbers.terms in
     let known = went.silently.does.known in
     let is = subst
-    (λ (t : Terms Shape). IsLeafFor t.shape leaf.block went.frame i mode.Ge key leaf.spot)
+    (λ (t : Terms Shape). IsLeafFor t.shape went.frame i mode.Ge key leaf.spot)
     (sym same) went.is in
     let as_many = fits ∙ ap (λ (t : Terms Shape). fields_for t.shape i) (sym same) in
     record {
@@ -103,14 +92,13 @@ fresh_leaf p q i key leaf went fitted none fits =
         one = went.count ∙ ap (λ n. n + 1) none;
         leaf = record {
           page = is.page;
-          number = page_number (view q) leaf.block i key went.frame is.page went.knows fitted;
-          inside = key_inside (shape_of_pass q) leaf.block i key went.frame is.page as_many;
+          inside = key_inside (shape_of_pass q) i key went.frame is.page as_many;
         };
       };
       finds = record {
         level = is.page.is.at_level;
         fields = as_many
-            ∙ sym (page_fields (shape_of_pass q) leaf.block i key went.frame is.page as_many);
+            ∙ sym (page_fields (shape_of_pass q) i key went.frame is.page as_many);
         finds = is.finds;
       };
     }
@@ -132,5 +120,5 @@ leaf_again p q b i key f g same terms holds = record {
       (λ j h differs held. ap (λ vs. get_elem? vs j) same.values
       ∙ holds.rest j h differs (ap (λ hs. get_elem? hs j) (sym same.held) ∙ held));
   one = same.count ∙ holds.one;
-  leaf = subst (λ (t : Terms Shape). IsLeafOf t.shape b i key f) (sym terms) holds.leaf;
+  leaf = subst (λ (t : Terms Shape). IsLeafOf t.shape i key f) (sym terms) holds.leaf;
 }

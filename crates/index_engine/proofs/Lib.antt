@@ -1,3 +1,4 @@
+pub mod KnownLemmas
 pub mod HoldLemmas
 pub mod SeenLemmas
 pub mod RightLemmas
@@ -9,6 +10,7 @@ pub mod CommitLemmas
 pub mod ChangeLemmas
 pub mod SettingLemmas
 pub mod RowLemmas
+pub mod FrameTraceLemmas
 pub mod TellLemmas
 pub mod WayLemmas
 pub mod RoomLemmas

@@ -1,6 +1,6 @@
 -- What the leaves on the way of a seek tell of its index's map.
-use Rattle.std.proofs.Common.{◌≡◌, ◌⊎◌, inl, inr, ℕ, ◌++◌, ◌∷◌, Bool, true, false, length, length-append, append_assoc, append-nil, List, [], Option, Some, None, refl, sym, ap, subst, ◌∙◌, arith}
-use mathlib.Core.Option.{some, some-injective}
+use Rattle.std.proofs.Common.{◌≡◌, ℕ, Bool, Option, Some, None, refl, sym, ap, subst, ◌∙◌}
+use mathlib.Core.Option.{some}
 use lib.ListN.{get_elem?}
 use Rattle.key_tuple.specs.KeyPlace.{KeyPlace, cut_of}
 use Rattle.key_tuple.specs.Order.{FieldList}
@@ -9,14 +9,10 @@ use Rattle.key_tuple.specs.declared.mode.Mode.{Mode}
 use Rattle.key_tuple.specs.declared.mode.Mode.TheVariants.{Ge, G, Le, L}
 use Rattle.latch_law.specs.Views.{holding}
 use Rattle.map_history.specs.Map.{Pair, Map, map_after}
-use Rattle.map_history.specs.Operation.{Seek}
-use Rattle.map_history.specs.Reply.{MapReply, first_after, last_before, row_reply, sought, reply_of}
+use Rattle.map_history.specs.Reply.{first_after, last_before, row_reply, sought}
 use Rattle.map_history.specs.declared.reply.Reply.TheVariants as words
-use Rattle.map_history.specs.Told.{Says}
 use Rattle.tree_law.specs.Pages.{Page}
 use Rattle.tree_law.specs.SearchLaws.{WalksRight, WalksLeft, WalksFrom}
-use Rattle.index_law.specs.Answers.{speaks_at}
-use Rattle.index_law.specs.Shape.{Shape}
 use Rattle.index_law.specs.State.{Entries, changes}
 use Rattle.forest_law.specs.declared.objects.Frame.{Frame}
 use Rattle.forest_law.specs.declared.objects.Object.TheVariants as object
@@ -32,7 +28,7 @@ use Rattle.tree_facts.proofs.LeafLemmas.{leaves_lead_walks}
 use Rattle.tree_neighbours.specs.declared.side.Side.{Side}
 use Rattle.tree_neighbours.specs.declared.side.Side.TheVariants.{Left, Right}
 use Rattle.tree_neighbours.specs.Sides.{side_of, page_on, Meets}
-use Rattle.index_engine.specs.Seeks.{near_of, far_of, NothingUpTo, NoneBeyond, HasNextBeyond, HasKnown, PassesNothing, CanTell, SawNothing}
+use Rattle.index_engine.specs.Seeks.{near_of, far_of, NothingUpTo, NoneBeyond, HasNextBeyond, HasKnown, PassesNothing, CanTell}
 
 -- the walk on this side
 abbrev Walks : Side → (position cut : KeyPlace → Bool) → Map → Page → Type 0
@@ -60,7 +56,7 @@ walks_of fields map page G tuple walks = walks.sought_right G tuple
 walks_of fields map page Le tuple walks = walks.sought_left Le tuple
 walks_of fields map page L tuple walks = walks.sought_left L tuple
 
-module _ (f : Frame) (b i : ℕ) (is : HasTreePage b f i 0) (position cut : KeyPlace → Bool)
+module _ (f : Frame) (i : ℕ) (is : HasTreePage f i 0) (position cut : KeyPlace → Bool)
     (map : Map) where
   abbrev this : Page
   this = page_within is.page f.low f.high
@@ -112,7 +108,7 @@ frame_in v b f knows w has = ap (λ s. get_elem? w.objects (frame_id s b)) has.s
     ∙ has.known (frame_id v.terms.shape b) (holding knows.0 (object.Frame f)) knows.1
 
 module _ (v : View) (i : ℕ) (mode : Mode) (tuple : FieldList) (b : ℕ) (f : Frame)
-    (knows : KnowsFrame v b f) (is : HasTreePage b f i 0) where
+    (knows : KnowsFrame v b f) (is : HasTreePage f i 0) where
   abbrev side : Side
   side = side_of mode
 
@@ -141,7 +137,7 @@ module _ (v : View) (i : ℕ) (mode : Mode) (tuple : FieldList) (b : ℕ) (f : F
   pub begins : (bound : Option ℕ) → HasCutWithin f (cut_in v.terms.shape i mode tuple)
       → PassesNothing v i mode tuple bound (near_of side f)
   begins bound within w law has xs listed speaks =
-      walk_begins f b i is (cut_in v.terms.shape i mode tuple) cut (map_after (changes xs)) side
+      walk_begins f i is (cut_in v.terms.shape i mode tuple) cut (map_after (changes xs)) side
       (walks_here w law has xs listed) within
 
   module _ (bound : Option ℕ) where
@@ -149,7 +145,7 @@ module _ (v : View) (i : ℕ) (mode : Mode) (tuple : FieldList) (b : ℕ) (f : F
     pub goes_on : PassesNothing v i mode tuple bound (near_of side f)
         → NoneBeyond side cut is.page.rows → PassesNothing v i mode tuple bound (far_of side f)
     goes_on none empty w law has xs listed speaks =
-        walk_on f b i is (cut_in v.terms.shape i mode tuple) cut (map_after (changes xs)) side
+        walk_on f i is (cut_in v.terms.shape i mode tuple) cut (map_after (changes xs)) side
         (walks_here w law has xs listed) (none w law has xs listed speaks) empty
 
     -- the row that counts may be told
@@ -159,7 +155,7 @@ module _ (v : View) (i : ℕ) (mode : Mode) (tuple : FieldList) (b : ℕ) (f : F
     finds none pair found w law has xs listed speaks =
         ap (λ o. Some (row_reply o)) (sym
         (sought_beyond mode tuple (map_after (changes xs))
-        ∙ walk_finds f b i is (cut_in v.terms.shape i mode tuple) cut (map_after (changes xs))
+        ∙ walk_finds f i is (cut_in v.terms.shape i mode tuple) cut (map_after (changes xs))
         side (walks_here w law has xs listed) (none w law has xs listed speaks) pair found))
 
     -- and where the last leaf has none, that there is none
@@ -168,7 +164,7 @@ module _ (v : View) (i : ℕ) (mode : Mode) (tuple : FieldList) (b : ℕ) (f : F
     ends none last pair w law has xs listed speaks =
         ap (λ o. Some (row_reply o)) (sym
         (sought_beyond mode tuple (map_after (changes xs))
-        ∙ walk_ends f b i is (cut_in v.terms.shape i mode tuple) cut (map_after (changes xs))
+        ∙ walk_ends f i is (cut_in v.terms.shape i mode tuple) cut (map_after (changes xs))
         side (walks_here w law has xs listed) last (none w law has xs listed speaks)))
 
 -- nothing comes before the leaf beside

@@ -84,8 +84,8 @@ pub found_new : (f : Frame) (key : FieldList) (spot : Spot) (o : Option ℕ) →
 found_new f key spot (Some place) found none = absurd cc
 found_new f key spot None found none = found
 
-module _ (shape : Shape) (b i : ℕ) (key : FieldList) (f : Frame)
-    (leaf : IsLeafOf shape b i key f) where
+module _ (shape : Shape) (i : ℕ) (key : FieldList) (f : Frame)
+    (leaf : IsLeafOf shape i key f) where
   -- the leaf's page, by the frame
   page_is : (page : PageRows) → f.page ≡ Some page → leaf.page.is.page ≡ page
   page_is page paged = same_some leaf.page.is.page page (sym leaf.page.is.paged ∙ paged)

@@ -1,5 +1,5 @@
 -- What was seen of a list on the way of a seek, and what a state has that fits a pass.
-use Rattle.std.proofs.Common.{◌≡◌, ℕ, ◌<◌, ◌++◌, Bool, true, eqb, length, length-append, append_assoc, append-nil, List, [], ◌∷◌, Option, Some, None, refl, sym, ap, subst, ◌∙◌, arith}
+use Rattle.std.proofs.Common.{◌≡◌, ℕ, ◌<◌, ◌++◌, true, length, length-append, append_assoc, append-nil, [], ◌∷◌, Option, Some, sym, ap, subst, ◌∙◌, arith}
 use Rattle.std.proofs.lemmas.Bool.{eqb-true}
 use mathlib.Core.Option.{some, some-injective}
 use lib.ListN.{get_elem?}

@@ -1,27 +1,17 @@
 -- What a seek has in hand along its way.
-use Rattle.std.proofs.Common.{◌≡◌, ◌≢◌, inl, inr, ℕ, ◌+◌, ◌<◌, List, [], ◌∷◌, length, sym, ap, subst, ◌∙◌, arith, refl, Option, Some, None}
+use Rattle.std.proofs.Common.{◌≡◌, ◌≢◌, inl, inr, ℕ, ◌<◌, List, ◌∷◌, length, sym, ap, subst, ◌∙◌, arith, None}
 use Rattle.std.specs.List.{AllByRecursion}
 use Rattle.std.proofs.lemmas.Bool.{cases_eq}
-use mathlib.Core.Option.{some, some-injective}
+use mathlib.Core.Option.{some}
 use lib.ListN.{get_elem?}
-use Rattle.list_facts.proofs.Places.{same_some}
-use Rattle.key_tuple.specs.Order.{FieldList}
-use Rattle.key_tuple.specs.declared.mode.Mode.{Mode}
-use Rattle.latch_law.specs.declared.knows.Holding.{Holding}
 use Rattle.latch_law.specs.declared.knows.Terms.{Terms}
-use Rattle.latch_law.specs.Views.{holding}
-use Rattle.latch_space.specs.Has.{SameHands, IsKnown}
+use Rattle.latch_space.specs.Has.{SameHands}
 use Rattle.latch_space.specs.Passes.{view, count}
-use Rattle.index_page.specs.Page.{PageRows}
 use Rattle.index_law.specs.Shape.{Shape}
 use Rattle.forest_law.specs.declared.objects.Frame.{Frame}
-use Rattle.forest_law.specs.declared.objects.Object.{Object}
-use Rattle.forest_law.specs.declared.objects.Object.TheVariants as object
 use Rattle.forest_law.specs.Numbers.{pool_id, frame_id, frames_of}
-use Rattle.forest_law.proofs.ObjectLemmas.{same_frame}
 use Rattle.forest_world.specs.Held.{TreePass, shape_of_pass}
-use Rattle.call_law.specs.Hands.{KnowsFrame, HoldsNoFrameBut, HoldsNoPool, HoldsTheRest}
-use Rattle.call_law.specs.Spoken.{View}
+use Rattle.call_law.specs.Hands.{KnowsFrame}
 use Rattle.buffer_pool.specs.Calls.{DoesSilently}
 use Rattle.buffer_pool.specs.Frames.{GivesFrame}
 use Rattle.buffer_pool.specs.Hands.{HoldsKnownFrame}
@@ -29,29 +19,15 @@ use Rattle.buffer_pool.specs.Pages.{HasTreePage}
 use Rattle.tree_law.specs.Pages.{IsOrderly}
 use Rattle.forest_law.specs.State.{page_within, fields_for}
 use Rattle.tree_descent.specs.Ways.{HoldsPage}
-use Rattle.buffer_pool.proofs.AddedLemmas.{rest_but_one}
 use Rattle.buffer_pool.proofs.CallLemmas.{frame_has, gave_frame}
 use Rattle.index_engine.specs.SeekHands.{HoldsLeavesAlone}
+use Rattle.index_engine.proofs.KnownLemmas.{gave_known, knows_same}
 
--- one frame is known of a block
-pub one_frame : (v : View) (b : ℕ) (f g : Frame) → KnowsFrame v b f → KnowsFrame v b g → f ≡ g
-one_frame v b f g first second = same_frame f g
-    (ap (λ (h : Holding Object). h.known)
-    (same_some (holding first.0 (object.Frame f)) (holding second.0 (object.Frame g))
-    (some-injective (Some (holding first.0 (object.Frame f)))
-    (Some (holding second.0 (object.Frame g))) (sym first.1 ∙ second.1))))
-
--- what is given back of a block is the frame that it was known to have
-pub gave_known : (p q : TreePass) (b : ℕ) (f : Frame) → KnowsFrame (view p) b f
-    → (gave : GivesFrame p b q) → f ≡ gave.frame
-gave_known p q b f knows gave =
-    one_frame (view p) b f gave.frame knows (gave.taken, gave.held)
-
--- so it has the same page
+-- what is given back of a block has the page that it was known to have
 pub gave_page : (p q : TreePass) (b i : ℕ) (f : Frame) → KnowsFrame (view p) b f
-    → HasTreePage b f i 0 → (gave : GivesFrame p b q) → HasTreePage b gave.frame i 0
+    → HasTreePage f i 0 → (gave : GivesFrame p b q) → HasTreePage gave.frame i 0
 gave_page p q b i f knows is gave =
-    subst (λ g. HasTreePage b g i 0) (gave_known p q b f knows gave) is
+    subst (λ g. HasTreePage g i 0) (gave_known p q b f knows gave) is
 
 module _ (p q : TreePass) where
   -- what is held after a call that takes frames
@@ -104,16 +80,7 @@ module _ (p q : TreePass) where
     count = same.count ∙ only.count;
   }
 
-  -- a frame is known still
-  pub knows_same : (b : ℕ) (f : Frame) → (view q).held ≡ (view p).held
-      → (view q).terms ≡ (view p).terms → KnowsFrame (view p) b f → KnowsFrame (view q) b f
-  knows_same b f held terms knows = (
-    knows.0,
-    ap (λ (t : Terms Shape). get_elem? (view q).held (frame_id t.shape b)) terms
-        ∙ (ap (λ hs. get_elem? hs (frame_id (shape_of_pass p) b)) held ∙ knows.1),
-  )
-
-  -- and so it is where another one is given back
+  -- a frame is known still where another one is given back
   pub knows_gave : (b c : ℕ) (f : Frame) → c ≢ b → GivesFrame p b q → KnowsFrame (view p) c f
       → KnowsFrame (view q) c f
   knows_gave b c f ne gave knows = (

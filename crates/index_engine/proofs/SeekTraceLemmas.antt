@@ -1,5 +1,5 @@
 -- What the parts of a seek add, one behind the other.
-use Rattle.std.proofs.Common.{◌≡◌, ℕ, List, [], ◌∷◌, ◌++◌, append_assoc, append-nil, sym, ap, subst, ◌∙◌, refl, Option, Some, None}
+use Rattle.std.proofs.Common.{◌≡◌, ℕ, List, [], ◌∷◌, ◌++◌, append_assoc, sym, ap, subst, ◌∙◌, refl, Option, Some, None}
 use Rattle.std.specs.List.{AllByRecursion}
 use Rattle.list_facts.proofs.Each.{each_append}
 use Rattle.key_tuple.specs.Order.{FieldList}
@@ -13,23 +13,27 @@ use Rattle.map_history.specs.declared.reply.Told.{Told}
 use Rattle.map_history.specs.Map.{Pair}
 use Rattle.map_history.specs.Operation.{Ask, Seek}
 use Rattle.index_law.specs.Shape.{Shape}
+use Rattle.forest_law.specs.declared.objects.Frame.{Frame}
 use Rattle.forest_law.specs.declared.objects.Object.{Object}
 use Rattle.forest_law.specs.declared.objects.Object.TheVariants as object
 use Rattle.forest_law.specs.Numbers.{frame_id}
 use Rattle.forest_world.specs.Held.{TreePass, shape_of_pass}
 use Rattle.call_law.specs.Once.{IsQuiet}
 use Rattle.call_law.specs.Spoken.{View}
-use Rattle.call_law.specs.Trace.{Added, Adds, IsOnlySaid, IsNoTree, SparesTrees}
+use Rattle.call_law.specs.Hands.{KnowsFrame}
+use Rattle.call_law.specs.Trace.{Added, Adds, IsOnlySaid, IsNoTree, SparesTrees, frame_references}
 use Rattle.call_law.proofs.TraceLemmas.{both_added, quiet_of, quiet_both, quiet_then_once, once_then_silent}
 use Rattle.buffer_pool.specs.Calls.{DoesSilently}
 use Rattle.buffer_pool.specs.Frames.{GivesFrame}
-use Rattle.buffer_pool.specs.Pages.{HasTreePage}
+use Rattle.buffer_pool.specs.Pages.{HasNumber, HasTreePage}
 use Rattle.buffer_pool.proofs.AddedLemmas.{none_added, only_given, held_adds, gave_adds, frame_no_tree, given_spares, none_spares, spares_both}
 use Rattle.tree_neighbours.specs.declared.pairs.LeafPair.{LeafPair}
 use Rattle.tree_neighbours.specs.Pairs.{DescendsPair}
 use Rattle.index_engine.specs.Says.{OnlyLooks}
 use Rattle.index_engine.specs.SeekSteps.{SaysIf, Answered, PassesLeaves, EndsSeek, EndsFromLeaf, TriesSeek, TriesInVain}
 use Rattle.index_engine.specs.SeekTraces.{IsLeafReference, BeginOnLeaf, EndsOnLeaves, TellsOfSeek}
+use Rattle.index_engine.proofs.FrameTraceLemmas.{frames_both, said_frames}
+use Rattle.index_engine.proofs.KnownLemmas.{one_frame, gave_known, page_number, one_number}
 use Rattle.index_engine.proofs.TellLemmas.{said_spares}
 
 module _ (i : ℕ) (ask : Ask) (row : Pair) where
@@ -86,23 +90,26 @@ module _ (shape : Shape) (i : ℕ) where
   abbrev AreLeaves : List (Reference Object) → Type 0
   AreLeaves qs = AllByRecursion (IsLeafReference shape i) qs
 
-  leaves_both : (qs rs : List (Reference Object)) → AreLeaves qs → AreLeaves rs
-      → AreLeaves (qs ++ rs)
-  leaves_both qs rs first second = each_append (IsLeafReference shape i) qs rs first second
+  leaves_both : (qs rs : List (Reference Object)) → AreLeaves (frame_references qs)
+      → AreLeaves (frame_references rs) → AreLeaves (frame_references (qs ++ rs))
+  leaves_both qs rs first second = subst AreLeaves (sym (frames_both qs rs))
+      (each_append (IsLeafReference shape i) (frame_references qs) (frame_references rs) first
+      second)
 
-  no_leaves : (qs : List (Reference Object)) → qs ≡ [] → AreLeaves qs
+  no_leaves : (qs : List (Reference Object)) → frame_references qs ≡ []
+      → AreLeaves (frame_references qs)
   no_leaves qs none = subst AreLeaves (sym none) tt
 
   -- a look, and what was taken, pass no leaf
   pub looks_pass : (v v' : View) → OnlyLooks v v' i → PassesLeaves shape v v' i
   looks_pass v v' looks = record {
     quiet = looks.quiet;
-    leaves = no_leaves looks.quiet.added.references looks.only.references;
+    leaves = no_leaves looks.quiet.added.references (said_frames looks.quiet.added looks.only);
     spares = said_spares shape looks.quiet.added looks.only;
   }
 
   pub takes_pass : (p q : TreePass) (ks : List ℕ) → shape_of_pass p ≡ shape
-      → (silently : DoesSilently p q ks) → silently.added.references ≡ []
+      → (silently : DoesSilently p q ks) → frame_references silently.added.references ≡ []
       → PassesLeaves shape (view p) (view q) i
   unfolding quiet_of
   takes_pass p q ks is silently none = record {
@@ -176,12 +183,19 @@ module _ (shape : Shape) (i : ℕ) where
         ≡ reference (frame_id shape b) gave.taken (object.Frame gave.frame) ∷ []
     back_is = ap (λ s. reference (frame_id s b) gave.taken (object.Frame gave.frame) ∷ []) same
 
-    back_leaf : HasTreePage b gave.frame i 0 → AreLeaves back.references
+    -- it is the one frame behind what was only said
+    said_then_back : (a : Added) → IsOnlySaid a
+        → frame_references (a.references ++ back.references)
+        ≡ reference (frame_id shape b) gave.taken (object.Frame gave.frame) ∷ []
+    said_then_back a only = frames_both a.references back.references
+        ∙ (ap (λ z. z ++ back.references) (said_frames a only) ∙ back_is)
+
+    back_leaf : HasTreePage gave.frame i 0 → AreLeaves (frame_references back.references)
     back_leaf page = subst AreLeaves (sym back_is)
         (record { block = b; taken = gave.taken; frame = gave.frame; is = refl; page = page }, tt)
 
     -- that passed a leaf
-    pub gave_passes : HasTreePage b gave.frame i 0 → PassesLeaves shape (view p) (view q) i
+    pub gave_passes : HasTreePage gave.frame i 0 → PassesLeaves shape (view p) (view q) i
     unfolding quiet_of
     gave_passes page = record {
       quiet = quiet_of (view p) (view q) i back back_adds refl;
@@ -192,31 +206,38 @@ module _ (shape : Shape) (i : ℕ) where
     module _ (mode : Mode) (tuple : FieldList) (o : Option Told) (row : Pair) where
       -- it was answered as is told before
       pub said_then_gave : (v : View) → SaysIf v (view p) i (Seek mode tuple) o row
-          → HasTreePage b gave.frame i 0 → EndsSeek shape v (view q) i mode tuple o row
+          → HasTreePage gave.frame i 0 → EndsSeek shape v (view q) i mode tuple o row
       said_then_gave v says page =
           let added = said_added i (Seek mode tuple) row v (view p) o says in record {
             added = both_added added.0 back;
             answered = answered_silent i (Seek mode tuple) row v (view p) (view q) o added.0 back
                 added.1 back_adds refl back_seen;
             leaves = leaves_both added.0.references back.references
-                (no_leaves added.0.references added.2.references) (back_leaf page);
+                (no_leaves added.0.references (said_frames added.0 added.2)) (back_leaf page);
             spares = spares_both shape added.0 back (said_spares shape added.0 added.2)
                 back_spares;
           }
 
-      -- and this was the first leaf
+      -- and this was the first leaf, which was known so before
       pub said_then_first : (v : View) → SaysIf v (view p) i (Seek mode tuple) o row
+          → (f : Frame) (n : ℕ) → HasNumber f n → KnowsFrame v b f → KnowsFrame (view p) b f
           → EndsFromLeaf shape v (view q) b i mode tuple o row
-      said_then_first v says =
+      said_then_first v says f n has before knows =
           let added = said_added i (Seek mode tuple) row v (view p) o says in record {
             added = both_added added.0 back;
             answered = answered_silent i (Seek mode tuple) row v (view p) (view q) o added.0 back
                 added.1 back_adds refl back_seen;
+            number = n;
+            frame = f;
+            knows = before;
+            has = has;
             begin = record {
+              block = b;
               taken = gave.taken;
-              released = object.Frame gave.frame;
+              leaf = gave.frame;
               beside = [];
-              is = ap (λ z. z ++ back.references) added.2.references ∙ back_is;
+              is = said_then_back added.0 added.2;
+              has = subst (λ z. HasNumber z n) (gave_known p q b f knows gave) has;
               each = tt;
             };
             spares = spares_both shape added.0 back (said_spares shape added.0 added.2)
@@ -225,17 +246,25 @@ module _ (shape : Shape) (i : ℕ) where
 
       -- a leaf beside the first one was given back last
       pub first_then_gave : (v : View) (c : ℕ) → EndsFromLeaf shape v (view p) c i mode tuple o row
-          → HasTreePage b gave.frame i 0 → EndsFromLeaf shape v (view q) c i mode tuple o row
+          → HasTreePage gave.frame i 0 → EndsFromLeaf shape v (view q) c i mode tuple o row
       first_then_gave v c ends page = record {
         added = both_added ends.added back;
         answered = answered_silent i (Seek mode tuple) row v (view p) (view q) o ends.added back
             ends.answered back_adds refl back_seen;
+        number = ends.number;
+        frame = ends.frame;
+        knows = ends.knows;
+        has = ends.has;
         begin = record {
+          block = ends.begin.block;
           taken = ends.begin.taken;
-          released = ends.begin.released;
+          leaf = ends.begin.leaf;
           beside = ends.begin.beside ++ back.references;
-          is = ap (λ z. z ++ back.references) ends.begin.is;
-          each = leaves_both ends.begin.beside back.references ends.begin.each (back_leaf page);
+          is = frames_both ends.added.references back.references
+              ∙ ap (λ z. z ++ back.references) ends.begin.is;
+          has = ends.begin.has;
+          each = each_append (IsLeafReference shape i) ends.begin.beside back.references
+              ends.begin.each (back_leaf page);
         };
         spares = spares_both shape ends.added back ends.spares back_spares;
       }
@@ -243,20 +272,30 @@ module _ (shape : Shape) (i : ℕ) where
       -- the first leaf was given back after a look, and then the seek went on
       pub first_then_on : (v v' : View) → OnlyLooks v (view p) i
           → EndsSeek shape (view q) v' i mode tuple o row
+          → (f : Frame) (n : ℕ) → HasNumber f n → KnowsFrame v b f → KnowsFrame (view p) b f
           → EndsFromLeaf shape v v' b i mode tuple o row
       unfolding quiet_of quiet_both
-      first_then_on v v' looks ends = let quiet = quiet_both v (view p) (view q) i looks.quiet
+      first_then_on v v' looks ends f n has before knows =
+          let quiet = quiet_both v (view p) (view q) i looks.quiet
           (quiet_of (view p) (view q) i back back_adds refl) in
           record {
             added = both_added (both_added looks.quiet.added back) ends.added;
             answered = quiet_answered i (Seek mode tuple) row v (view q) v' quiet o ends.added
                 ends.answered;
+            number = n;
+            frame = f;
+            knows = before;
+            has = has;
             begin = record {
+              block = b;
               taken = gave.taken;
-              released = object.Frame gave.frame;
-              beside = ends.added.references;
-              is = ap (λ z. z ++ ends.added.references)
-                  (ap (λ z. z ++ back.references) looks.only.references ∙ back_is);
+              leaf = gave.frame;
+              beside = frame_references ends.added.references;
+              is = frames_both (looks.quiet.added.references ++ back.references)
+                  ends.added.references
+                  ∙ ap (λ z. z ++ frame_references ends.added.references)
+                  (said_then_back looks.quiet.added looks.only);
+              has = subst (λ z. HasNumber z n) (gave_known p q b f knows gave) has;
               each = ends.leaves;
             };
             spares = spares_both shape (both_added looks.quiet.added back) ends.added
@@ -272,6 +311,10 @@ pub tries_pair : (p q : TreePass) (v' : View) (i : ℕ) (mode : Mode) (tuple : F
 unfolding quiet_of
 tries_pair p q v' i mode tuple pair o row went ends = let way = went.silently.added in
     let quiet = quiet_of (view p) (view q) i way went.silently.does.adds went.silently.silent in
+    let found = page_number went.frame i 0 went.is.page.is in
+    let same = one_frame (view q) pair.leaf.block ends.frame went.frame ends.knows went.knows in
+    let number = one_number went.frame ends.number went.is.page.is.page.head.number
+    (subst (λ f. HasNumber f ends.number) same ends.has) found in
     record {
       added = both_added way ends.added;
       answered = quiet_answered i (Seek mode tuple) row (view p) (view q) v' quiet o ends.added
@@ -279,11 +322,13 @@ tries_pair p q v' i mode tuple pair o row went ends = let way = went.silently.ad
       ends = record {
         vain = went.path.vain;
         path = went.path.path;
-        leaves = ends.added.references;
-        block = pair.leaf.block;
-        is = ap (λ z. z ++ ends.added.references) went.path.references;
+        leaves = frame_references ends.added.references;
+        number = went.is.page.is.page.head.number;
+        is = frames_both way.references ends.added.references
+            ∙ ap (λ z. z ++ frame_references ends.added.references) went.path.references;
         leads = went.path.leads;
-        begin = ends.begin;
+        begin = subst (λ n. BeginOnLeaf (shape_of_pass p) i n
+            (frame_references ends.added.references)) number ends.begin;
       };
       spares = spares_both (shape_of_pass p) way ends.added went.silently.does.spares ends.spares;
     }
@@ -334,23 +379,25 @@ module _ (v v0 v1 : View) (i : ℕ) (vain : TriesInVain v v0 i) where
     -- the tries before were in vain, and this one is answered
     pub vain_then_tells : TellsOfSeek v v1 i mode tuple told row
     unfolding quiet_then_once
-    vain_then_tells = let ends = last_ends in let vain_refs = vain.quiet.added.references in record {
-      tells = record {
-        answer = tries.answered.0.answer;
-        is_told = tries.answered.0.is_told;
-        once = quiet_then_once i (Seek mode tuple) tries.answered.0.answer v v0 v1 vain.quiet
-            tries.answered.0.once;
-      };
-      ends = record {
-        vain = vain_refs ++ ends.vain;
-        path = ends.path;
-        leaves = ends.leaves;
-        block = ends.block;
-        is = ap (λ z. vain_refs ++ z) ends.is
-            ∙ (sym (append_assoc vain_refs (ends.vain ++ ends.path) ends.leaves)
-            ∙ ap (λ z. z ++ ends.leaves) (sym (append_assoc vain_refs ends.vain ends.path)));
-        leads = ends.leads;
-        begin = ends.begin;
-      };
-      spares = spares_both v.terms.shape vain.quiet.added last vain.spares last_spares;
-    }
+    vain_then_tells = let ends = last_ends in
+        let fore = frame_references vain.quiet.added.references in record {
+          tells = record {
+            answer = tries.answered.0.answer;
+            is_told = tries.answered.0.is_told;
+            once = quiet_then_once i (Seek mode tuple) tries.answered.0.answer v v0 v1 vain.quiet
+                tries.answered.0.once;
+          };
+          ends = record {
+            vain = fore ++ ends.vain;
+            path = ends.path;
+            leaves = ends.leaves;
+            number = ends.number;
+            is = frames_both vain.quiet.added.references last.references
+                ∙ (ap (λ z. fore ++ z) ends.is
+                ∙ (sym (append_assoc fore (ends.vain ++ ends.path) ends.leaves)
+                ∙ ap (λ z. z ++ ends.leaves) (sym (append_assoc fore ends.vain ends.path))));
+            leads = ends.leads;
+            begin = ends.begin;
+          };
+          spares = spares_both v.terms.shape vain.quiet.added last vain.spares last_spares;
+        }

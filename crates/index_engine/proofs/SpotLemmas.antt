@@ -1,5 +1,5 @@
 -- The row of a mode by the spot of its search.
-use Rattle.std.proofs.Common.{◌≡◌, ℕ, Bool, true, false, List, [], ◌∷◌, ◌++◌, append_assoc, append-nil, sym, ap, subst, ◌∙◌, refl, Option, Some, None}
+use Rattle.std.proofs.Common.{◌≡◌, ℕ, Bool, false, List, [], ◌∷◌, ◌++◌, append_assoc, append-nil, sym, ap, subst, ◌∙◌, refl, Option, Some, None}
 use Rattle.std.specs.List.{AllByRecursion}
 use Rattle.key_tuple.specs.KeyPlace.{At, cut_of}
 use Rattle.key_tuple.specs.Order.{FieldList}
@@ -11,7 +11,7 @@ use Rattle.index_page.specs.Rows.{Row, Bytes, find_row, first_of_rows, last_row_
 use Rattle.index_page.specs.Search.{AllOut, AllIn, Finds}
 use Rattle.tree_neighbours.specs.declared.side.Side.{Side}
 use Rattle.tree_neighbours.specs.declared.side.Side.TheVariants.{Left, Right}
-use Rattle.tree_neighbours.specs.Sides.{side_of, row_on}
+use Rattle.tree_neighbours.specs.Sides.{row_on}
 use Rattle.index_engine.specs.Seeks.{NoneBeyond, HasNextBeyond}
 
 -- some rows end with their last

@@ -1,15 +1,12 @@
 -- How a seek stands on the leaves in its hand.
-use Rattle.std.proofs.Common.{◌≡◌, ◌≢◌, ◌⊎◌, inl, inr, ℕ, ◌+◌, Bool, true, false, List, [], ◌∷◌, length, cond, sym, ap, subst, ◌∙◌, arith, refl, Option, Some, None, IsSome}
+use Rattle.std.proofs.Common.{◌≡◌, ◌⊎◌, inl, inr, ℕ, ◌+◌, Bool, true, false, [], ◌∷◌, length, cond, sym, ap, subst, arith, refl, Option, Some, None, IsSome}
 use Rattle.key_tuple.specs.Order.{FieldList}
 use Rattle.key_tuple.specs.declared.mode.Mode.{Mode}
 use Rattle.latch_law.specs.declared.knows.Terms.{Terms}
-use Rattle.latch_space.specs.Has.{SameHands}
 use Rattle.latch_space.specs.Passes.{view, count}
-use Rattle.map_history.specs.declared.reply.Reply.{Reply}
 use Rattle.map_history.specs.declared.reply.Reply.TheVariants as words
 use Rattle.map_history.specs.Map.{Pair}
 use Rattle.index_page.specs.declared.spot.Spot.{Spot}
-use Rattle.index_page.specs.Page.{PageRows}
 use Rattle.index_law.specs.Shape.{Shape}
 use Rattle.forest_law.specs.declared.objects.Frame.{Frame}
 use Rattle.forest_law.specs.Numbers.{frame_id}
@@ -19,14 +16,15 @@ use Rattle.tree_descent.specs.declared.descending.Leaf.{Leaf}
 use Rattle.tree_descent.specs.Leaves.{IsLeafFor}
 use Rattle.tree_descent.specs.Ways.{HoldsPage}
 use Rattle.tree_neighbours.specs.declared.pairs.LeafPair.{LeafPair}
-use Rattle.tree_neighbours.specs.Neighbours.{IsLeafBeside, TakesBeside, IsLastOn}
-use Rattle.tree_neighbours.specs.Pairs.{HoldsBeside, HoldsOther, frames_at, DescendsPair}
+use Rattle.tree_neighbours.specs.Neighbours.{IsLeafBeside}
+use Rattle.tree_neighbours.specs.Pairs.{HoldsOther, frames_at, DescendsPair}
 use Rattle.tree_neighbours.specs.Sides.{side_of, row_on, page_on}
-use Rattle.index_engine.specs.Seeks.{TellsRow, CanTell, PassesNothing, SawNothing, near_of, far_of}
+use Rattle.index_engine.specs.Seeks.{TellsRow, CanTell, PassesNothing, SawNothing, far_of}
 use Rattle.index_engine.specs.SeekHands.{HoldsLeavesAlone, blocks_at, blocks_of_pair, HoldsLast, HoldsBothLeaves, StandsOn, SawPast}
 use Rattle.index_engine.proofs.PassingLemmas.{begins, goes_on, finds, ends, passes_over}
 use Rattle.index_engine.proofs.SawLemmas.{saw_passes}
-use Rattle.index_engine.proofs.SeekHandLemmas.{only_then, one_frame, frames_apart}
+use Rattle.index_engine.proofs.KnownLemmas.{one_frame}
+use Rattle.index_engine.proofs.SeekHandLemmas.{only_then, frames_apart}
 use Rattle.index_engine.proofs.SpotLemmas.{none_on}
 
 -- where both leaves are held, nothing comes before the second one
@@ -99,8 +97,8 @@ past_passes p b i n mode tuple f past holds = saw_passes i n mode tuple
     (one_frame (view p) b past.frame holds.frame past.knows holds.knows) past.saw)
 
 -- the leaf without another one, and what it is
-abbrev LastLeaf : Shape → ℕ → Frame → ℕ → Mode → FieldList → Spot → Type 0
-LastLeaf shape b f i mode tuple spot = (is : IsLeafFor shape b f i mode tuple spot)
+abbrev LastLeaf : Shape → Frame → ℕ → Mode → FieldList → Spot → Type 0
+LastLeaf shape f i mode tuple spot = (is : IsLeafFor shape f i mode tuple spot)
     × (IsSome (row_on (side_of mode) spot) ⊎ (page_on (side_of mode) is.page.is.page ≡ None))
 
 module _ (p q : TreePass) (i : ℕ) (mode : Mode) (tuple : FieldList) (pair : LeafPair)
@@ -141,7 +139,7 @@ module _ (p q : TreePass) (i : ℕ) (mode : Mode) (tuple : FieldList) (pair : Le
   pub went_last : HoldsLeavesAlone q (blocks_of_pair pair) → pair.other ≡ None
       → HoldsLast q i mode tuple pair.leaf
   went_last only none = let leaf = subst
-      (λ s. LastLeaf s pair.leaf.block went.frame i mode tuple pair.leaf.spot) same_shape (
+      (λ s. LastLeaf s went.frame i mode tuple pair.leaf.spot) same_shape (
         went.is,
         subst (λ o. HoldsOther p q pair.leaf.block i (side_of mode) went.frame
             went.is.page.is.page pair.leaf.spot o) none went.other,
@@ -165,7 +163,7 @@ module _ (p q : TreePass) (i : ℕ) (mode : Mode) (tuple : FieldList) (pair : Le
         only = subst (λ o. HoldsLeavesAlone q (pair.leaf.block ∷ blocks_at o)) some only;
         frame = went.frame;
         knows = went.knows;
-        is = subst (λ s. IsLeafFor s pair.leaf.block went.frame i mode tuple pair.leaf.spot)
+        is = subst (λ s. IsLeafFor s went.frame i mode tuple pair.leaf.spot)
             same_shape went.is;
         none = other.0;
         next = other.1.frame;

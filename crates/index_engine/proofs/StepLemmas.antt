@@ -1,11 +1,11 @@
 -- How a walk goes from a leaf to the next.
-use Rattle.std.proofs.Common.{◌≡◌, ◌≢◌, ℕ, ◌+◌, List, [], ◌∷◌, length, sym, ap, subst, ◌∙◌, arith, refl, Option, Some, None}
+use Rattle.std.proofs.Common.{◌≡◌, ◌≢◌, ℕ, [], ◌∷◌, sym, ap, subst, ◌∙◌, arith, refl, Option, Some, None}
 use lib.ListN.{get_elem?}
 use Rattle.key_tuple.specs.Order.{FieldList}
 use Rattle.key_tuple.specs.declared.mode.Mode.{Mode}
 use Rattle.latch_law.specs.declared.knows.Terms.{Terms}
 use Rattle.latch_space.specs.Has.{SameHands}
-use Rattle.latch_space.specs.Passes.{view, count}
+use Rattle.latch_space.specs.Passes.{view}
 use Rattle.map_history.specs.declared.reply.Reply.TheVariants as words
 use Rattle.map_history.specs.declared.reply.Told.{Told}
 use Rattle.map_history.specs.Map.{Pair}
@@ -13,7 +13,7 @@ use Rattle.map_history.specs.Operation.{Seek}
 use Rattle.tree_law.specs.Pages.{IsOrderly}
 use Rattle.index_law.specs.Shape.{Shape}
 use Rattle.forest_law.specs.declared.objects.Frame.{Frame}
-use Rattle.forest_law.specs.Numbers.{pool_id, frame_id}
+use Rattle.forest_law.specs.Numbers.{frame_id}
 use Rattle.forest_law.specs.State.{page_within, fields_for}
 use Rattle.forest_world.specs.Held.{TreePass, shape_of_pass}
 use Rattle.call_law.specs.Hands.{KnowsFrame}
@@ -22,17 +22,18 @@ use Rattle.buffer_pool.specs.Frames.{GivesFrame}
 use Rattle.buffer_pool.proofs.AddedLemmas.{sees_same}
 use Rattle.tree_descent.specs.Ways.{HoldsPage}
 use Rattle.tree_neighbours.specs.Neighbours.{TakesBeside, IsLastOn, IsBusyOn}
-use Rattle.tree_neighbours.specs.Sides.{side_of, page_on}
+use Rattle.tree_neighbours.specs.Sides.{side_of}
 use Rattle.index_engine.specs.declared.seek_call.Stand.{Stand}
 use Rattle.index_engine.specs.declared.seek_call.Stand.TheVariants.{On, Ends}
 use Rattle.index_engine.specs.declared.seek_call.Walk.{Walk}
 use Rattle.index_engine.specs.Says.{OnlyLooks}
-use Rattle.index_engine.specs.Seeks.{CanTell, PassesNothing, SawNothing, far_of}
+use Rattle.index_engine.specs.Seeks.{CanTell, SawNothing, far_of}
 use Rattle.index_engine.specs.SeekHands.{HoldsLeavesAlone, StandsOn, SawPast, WalksAt}
 use Rattle.index_engine.specs.SeekSteps.{SaysIf, PassesLeaves, EndsSeek, WalksThen}
 use Rattle.index_engine.proofs.PassingLemmas.{ends, passes_over}
 use Rattle.index_engine.proofs.SawLemmas.{saw_more, saw_passes}
-use Rattle.index_engine.proofs.SeekHandLemmas.{one_frame, gave_page, only_then, only_gave, only_same, knows_gave, page_same, page_gave, frames_apart}
+use Rattle.index_engine.proofs.KnownLemmas.{one_frame}
+use Rattle.index_engine.proofs.SeekHandLemmas.{gave_page, only_then, only_gave, only_same, knows_gave, page_same, page_gave, frames_apart}
 use Rattle.index_engine.proofs.SeekTraceLemmas.{looks_pass, takes_pass, passes_both, passes_then, passes_end, gave_passes, said_then_gave}
 
 -- a walk stands on the block's leaf
@@ -128,14 +129,14 @@ module _ (p : TreePass) (i : ℕ) (mode : Mode) (tuple : FieldList) (walk : Walk
   -- another pass holds the next one
   module _ (q : TreePass) (busy : IsBusyOn p b i (side_of mode) q) where
     pub busy_only : HoldsLeavesAlone q (b ∷ [])
-    busy_only = only_then p q (b ∷ []) (b ∷ []) [] walks.only busy.got.silently
-        (λ c apart. (apart, tt)) tt (busy.got.count ∙ walks.only.count)
+    busy_only = only_then p q (b ∷ []) (b ∷ []) [] walks.only busy.refused.got.silently
+        (λ c apart. (apart, tt)) tt (busy.refused.got.count ∙ walks.only.count)
 
     pub busy_knows : KnowsFrame (view q) b walks.holds.frame
-    busy_knows = let same = busy.got.silently.does.adds.numbers.terms in (
+    busy_knows = let same = busy.refused.got.silently.does.adds.numbers.terms in (
       walks.holds.knows.0,
       ap (λ (t : Terms Shape). get_elem? (view q).held (frame_id t.shape b)) same
-          ∙ (busy.got.silently.does.rest (frame_id (shape_of_pass p) b) tt
+          ∙ (busy.refused.got.silently.does.rest (frame_id (shape_of_pass p) b) tt
           ∙ walks.holds.knows.1),
     )
 
@@ -143,9 +144,9 @@ module _ (p : TreePass) (i : ℕ) (mode : Mode) (tuple : FieldList) (walk : Walk
         → EndsSeek (shape_of_pass p) (view p) (view r) i mode tuple None row
     busy_ends r row gave = passes_end (shape_of_pass p) i mode tuple (view p) (view r) row
         (passes_both (shape_of_pass p) i (view p) (view q) (view r)
-        (takes_pass (shape_of_pass p) i p q [] refl busy.got.silently busy.none)
+        (takes_pass (shape_of_pass p) i p q [] refl busy.refused.got.silently busy.refused.none)
         (gave_passes (shape_of_pass p) i q r b
-        (ap (λ (t : Terms Shape). t.shape) busy.got.silently.does.adds.numbers.terms) gave
+        (ap (λ (t : Terms Shape). t.shape) busy.refused.got.silently.does.adds.numbers.terms) gave
         (gave_page q r b i walks.holds.frame busy_knows walks.holds.is gave)))
 
   -- the next one is held

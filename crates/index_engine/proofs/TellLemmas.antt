@@ -1,5 +1,5 @@
 -- What a whole call leaves behind: a leaf was held, something was said, and it was given back.
-use Rattle.std.proofs.Common.{◌≡◌, ℕ, [], ◌∷◌, ◌++◌, append-nil, sym, ap, subst, ◌∙◌, refl}
+use Rattle.std.proofs.Common.{◌≡◌, ℕ, List, [], ◌∷◌, ◌++◌, append-nil, sym, ap, subst, ◌∙◌, refl}
 use Rattle.std.specs.List.{AllByRecursion}
 use Rattle.key_tuple.specs.Order.{FieldList}
 use Rattle.key_tuple.specs.declared.mode.Mode.TheVariants as mode
@@ -8,6 +8,7 @@ use Rattle.latch_law.specs.declared.knows.Refusal.{Refusal}
 use Rattle.latch_law.specs.declared.knows.Terms.{Terms}
 use Rattle.latch_law.specs.Views.{holding}
 use Rattle.latch_law.specs.Whole.{reference}
+use Rattle.latch_space.specs.Has.{SameHands}
 use Rattle.latch_space.specs.Passes.{view}
 use Rattle.map_history.specs.declared.reply.Told.{Told}
 use Rattle.map_history.specs.Map.{Pair, MapChange}
@@ -15,20 +16,26 @@ use Rattle.map_history.specs.Operation.{Ask, Make}
 use Rattle.map_history.specs.Reply.{Done}
 use Rattle.map_history.specs.Report.{Replied, dashes}
 use Rattle.index_law.specs.Shape.{Shape}
+use Rattle.forest_law.specs.declared.objects.Frame.{Frame}
 use Rattle.forest_law.specs.declared.objects.Object.{Object}
 use Rattle.forest_law.specs.declared.objects.Object.TheVariants as object
 use Rattle.forest_law.specs.Numbers.{frame_id}
 use Rattle.forest_world.specs.Held.{TreePass, shape_of_pass}
 use Rattle.call_law.specs.Spoken.{View}
-use Rattle.call_law.specs.Trace.{Added, Adds, IsOnlySaid, IsNoTree, SparesTrees}
+use Rattle.call_law.specs.Trace.{Added, Adds, IsOnlySaid, IsNoTree, SparesTrees, frame_references}
 use Rattle.call_law.proofs.TraceLemmas.{both_added, quiet_of, quiet_both, quiet_then_once, once_then_silent, only_both}
 use Rattle.buffer_pool.specs.Frames.{GivesFrame}
+use Rattle.buffer_pool.specs.Pages.{HasNumber}
 use Rattle.buffer_pool.proofs.AddedLemmas.{only_given, gave_adds, frame_no_tree, given_spares, spares_both}
 use Rattle.tree_descent.specs.declared.descending.Leaf.{Leaf}
 use Rattle.tree_descent.specs.Descents.{Descends}
 use Rattle.index_engine.specs.Commits.{IsCommitted}
-use Rattle.index_engine.specs.Says.{SaysOnce, OnlyLooks, told_made}
+use Rattle.index_engine.specs.Holds.{HoldsLeaf}
+use Rattle.index_engine.specs.Says.{SaysOnce, OnlyLooks, AnswersHolding, told_made}
 use Rattle.index_engine.specs.Traces.{EndsOnLeaf, TellsByLeaf}
+use Rattle.index_engine.proofs.FrameTraceLemmas.{frames_both}
+use Rattle.index_engine.proofs.HoldLemmas.{frame_again}
+use Rattle.index_engine.proofs.KnownLemmas.{gave_known, knows_same, page_number, number_stays}
 
 -- nothing was answered, and then nothing
 pub looks_both : (v v0 v1 : View) (i : ℕ) → OnlyLooks v v0 i → OnlyLooks v0 v1 i
@@ -73,6 +80,20 @@ says_made p q i change row told point is written =
       placed = λ e. cc;
     })
 
+-- where a leaf is held and something is said of it, it is held still
+pub said_holding : (p q : TreePass) (b i : ℕ) (key : FieldList) (f : Frame) (ask : Ask)
+    (told : Told) (row : Pair) → HoldsLeaf p b i key f f → SameHands p q
+    → SaysOnce (view p) (view q) i ask told row → AnswersHolding p q b i ask told row
+said_holding p q b i key f ask told row holds same says = record {
+  says = says;
+  holds = record {
+    frame = f;
+    has = frame_again p q b f f same says.once.adds.numbers.terms holds.has;
+    one = same.count ∙ holds.one;
+  };
+  number = number_stays (view p) b f holds.has.held;
+}
+
 -- what was only said spares the trees
 pub said_spares : (shape : Shape) (s : Added) → IsOnlySaid s → SparesTrees shape s
 said_spares shape s only = record {
@@ -86,6 +107,27 @@ module _ (p p0 p1 p2 : TreePass) (i : ℕ) (key : FieldList) (leaf : Leaf)
     (went : Descends p i mode.Ge key leaf p0) (gave : GivesFrame p1 leaf.block p2) where
   abbrev pub shape : Shape
   shape = shape_of_pass p
+
+  -- the number of the leaf's page, as it was found
+  abbrev pub leaf_number : ℕ
+  leaf_number = went.is.page.is.page.head.number
+
+  -- it is so still where the hand stays
+  pub number_kept : SameHands p0 p1 → (view p1).terms ≡ (view p0).terms
+      → HasNumber gave.frame leaf_number
+  number_kept same terms = subst (λ f. HasNumber f leaf_number)
+      (gave_known p1 p2 leaf.block went.frame
+      (knows_same p0 p1 leaf.block went.frame same.held terms went.knows) gave)
+      (page_number went.frame i 0 went.is.page.is)
+
+  -- and where an answer was given
+  pub number_answered : (ask : Ask) (told : Told) (row : Pair)
+      → AnswersHolding p0 p1 leaf.block i ask told row → HasNumber gave.frame leaf_number
+  number_answered ask told row answers = let held = answers.holds in
+      subst (λ f. HasNumber f leaf_number)
+      (gave_known p1 p2 leaf.block held.frame held.has.held gave)
+      (answers.number went.frame leaf_number went.knows
+      (page_number went.frame i 0 went.is.page.is))
 
   -- what the descent added, and the reference to the leaf
   abbrev pub way : Added
@@ -110,32 +152,45 @@ module _ (p p0 p1 p2 : TreePass) (i : ℕ) (key : FieldList) (leaf : Leaf)
         (given_spares (shape_of_pass p1) (frame_id (shape_of_pass p1) leaf.block) gave.taken
         (object.Frame gave.frame) (frame_no_tree (shape_of_pass p1) leaf.block)))
 
+    -- the references are those of the descent, and the leaf's
     pub references_are : all_added.references
-        ≡ (went.path.vain ++ went.path.path)
+        ≡ way.references
         ++ reference (frame_id shape leaf.block) gave.taken (object.Frame gave.frame) ∷ []
     references_are = ap (λ z. z ++ back.references)
-        (ap (λ z. way.references ++ z) only.references
-        ∙ (append-nil way.references ∙ went.path.references))
-        ∙ ap (λ (t : Terms Shape). (went.path.vain ++ went.path.path)
+        (ap (λ z. way.references ++ z) only.references ∙ append-nil way.references)
+        ∙ ap (λ (t : Terms Shape). way.references
         ++ reference (frame_id t.shape leaf.block) gave.taken (object.Frame gave.frame) ∷ []) terms
 
-    unfoldable pub ends_all : EndsOnLeaf shape i key all_added.references
-    ends_all = record {
+    -- and so are those of frames, by the descent's path
+    pub frames_are : frame_references all_added.references
+        ≡ (went.path.vain ++ went.path.path)
+        ++ reference (frame_id shape leaf.block) gave.taken (object.Frame gave.frame) ∷ []
+    frames_are =
+        let last = reference (frame_id shape leaf.block) gave.taken (object.Frame gave.frame)
+        ∷ [] in
+        ap (λ (z : List (Reference Object)). frame_references z) references_are
+        ∙ (frames_both way.references last ∙ ap (λ z. z ++ last) went.path.references)
+
+    unfoldable pub ends_all : HasNumber gave.frame leaf_number
+        → EndsOnLeaf shape i key all_added.references
+    ends_all has = record {
       vain = went.path.vain;
       path = went.path.path;
       block = leaf.block;
       taken = gave.taken;
-      released = object.Frame gave.frame;
-      is = references_are;
+      leaf = gave.frame;
+      is = frames_are;
+      number = leaf_number;
+      has = has;
       leads = went.path.leads;
     }
 
   -- the answer was told by that leaf
   unfoldable pub tells_by_leaf : (ask : Ask) (told : Told) (row : Pair)
-      → SaysOnce (view p0) (view p1) i ask told row
+      → HasNumber gave.frame leaf_number → SaysOnce (view p0) (view p1) i ask told row
       → TellsByLeaf (view p) (view p2) i key ask told row
   unfolding quiet_of quiet_then_once once_then_silent
-  tells_by_leaf ask told row says =
+  tells_by_leaf ask told row has says =
       let terms = says.once.adds.numbers.terms ∙ went.silently.does.adds.numbers.terms in
       let quiet = quiet_of (view p) (view p0) i way went.silently.does.adds went.silently.silent in
       let once = quiet_then_once i ask says.answer (view p) (view p0) (view p1) quiet says.once in
@@ -146,6 +201,6 @@ module _ (p p0 p1 p2 : TreePass) (i : ℕ) (key : FieldList) (leaf : Leaf)
           once = once_then_silent i ask says.answer (view p) (view p1) (view p2) back once
               back_adds refl (ap (λ (z : View). z.seen) gave.view);
         };
-        ends = ends_all says.once.added says.only terms;
+        ends = ends_all says.once.added says.only terms has;
         spares = spares_all says.once.added says.only terms;
       }

@@ -1,6 +1,5 @@
 -- A seek's reply is the one that is told, where it speaks.
-use Rattle.std.proofs.Common.{◌≡◌, ◌≢◌, ℕ, Bool, true, false, cond, List, [], ◌∷◌, ◌++◌, ◌-◌, length, set, sym, ap, subst, ◌∙◌, arith, refl, Option, Some, None, Contains}
-use lib.ListN.{get_elem?}
+use Rattle.std.proofs.Common.{◌≡◌, ◌≢◌, ℕ, true, false, cond, [], ◌∷◌, ◌++◌, ◌-◌, length, set, sym, ap, subst, ◌∙◌, arith, refl, Option, Some, None, Contains}
 use Rattle.key_tuple.specs.Order.{FieldList}
 use Rattle.key_tuple.specs.declared.mode.Mode.{Mode}
 use Rattle.latch_law.specs.declared.knows.Statement.TheVariants as what
@@ -11,24 +10,22 @@ use Rattle.map_history.specs.declared.reply.Reply.{Reply}
 use Rattle.map_history.specs.declared.reply.Reply.TheVariants as words
 use Rattle.map_history.specs.declared.columns.How.TheVariants as how
 use Rattle.map_history.specs.declared.columns.Note.TheVariants as note
-use Rattle.map_history.specs.declared.reply.Told.{Told}
 use Rattle.map_history.specs.Map.{Pair, Map, map_after}
 use Rattle.map_history.specs.Operation.{Ask, Seek}
-use Rattle.map_history.specs.Reply.{MapReply, Row, Done, Absent, row_reply, sought, reply_of}
-use Rattle.map_history.specs.Report.{Answer, Replied, dashes}
+use Rattle.map_history.specs.Reply.{MapReply, Done, row_reply, sought, reply_of}
+use Rattle.map_history.specs.Report.{Replied, dashes}
 use Rattle.map_history.specs.LegalReport.{Mark, is_done, may_reply}
 use Rattle.map_history.specs.Told as tells
-use Rattle.index_law.specs.Answers.{Word, Gives, Saying, Look, Replies, speaks_at}
-use Rattle.index_law.specs.Meanings.{reply_word, gives, said_word}
+use Rattle.index_law.specs.Answers.{Word, Gives, Saying, Replies, speaks_at}
+use Rattle.index_law.specs.Meanings.{reply_word, said_word}
 use Rattle.index_law.specs.Rightness.{IsRight, IsSaid, IsWord, map_at}
 use Rattle.index_law.specs.State.{Entries, changes}
 use Rattle.forest_law.specs.Law.{IsLawful}
 use Rattle.forest_law.specs.References.{IsReference}
 use Rattle.forest_law.specs.State.{ForestState}
 use Rattle.call_law.specs.Once.{IsRightBy, AnswersOnce}
-use Rattle.call_law.specs.Spoken.{View, OwnAnswer, Spoken, printed_word, spoken_saying}
+use Rattle.call_law.specs.Spoken.{View, OwnAnswer, printed_word, spoken_saying}
 use Rattle.call_law.specs.Trace.{full_places}
-use Rattle.buffer_pool.specs.Forests.{FitsTrees}
 use Rattle.buffer_pool.proofs.AddedLemmas.{only_said, read_adds}
 use Rattle.index_engine.specs.Says.{SaysOnce, OnlyLooks}
 use Rattle.index_engine.specs.Seeks.{CanTell}

@@ -12,14 +12,16 @@ use Rattle.tree_law.proofs.ListLemmas.{In-append_left, In-append_right}
 use Rattle.index_law.specs.Meanings.{lent_row}
 use Rattle.index_law.specs.Shape.{Shape}
 use Rattle.forest_law.specs.declared.objects.Object.{Object}
+use Rattle.forest_law.specs.declared.objects.Object.TheVariants as object
 use Rattle.forest_law.specs.Numbers.{frame_id}
 use Rattle.call_law.specs.Once.{IsQuiet}
 use Rattle.call_law.specs.Spoken.{View}
-use Rattle.call_law.specs.Trace.{Added, SparesTrees}
+use Rattle.call_law.specs.Trace.{Added, SparesTrees, frame_references}
 use Rattle.call_law.proofs.TraceLemmas.{both_added, quiet_both, quiet_then_once, quiet_of}
 use Rattle.buffer_pool.proofs.AddedLemmas.{none_added, held_adds, none_spares, spares_both}
 use Rattle.index_engine.specs.Writes.{LacksPage, TellsGrowth, TriesWrite}
 use Rattle.index_engine.specs.Traces.{EndsOnLeaf, LackedRoom, TellsOfWrite, GivesUp}
+use Rattle.index_engine.proofs.FrameTraceLemmas.{frames_both}
 
 -- nothing was tried yet
 pub nothing_yet : (v : View) (i : ℕ) (key : FieldList) (value : List ℕ) → GivesUp v v i key value
@@ -34,15 +36,19 @@ module _ (shape : Shape) (i : ℕ) (key : FieldList) where
   ends_behind : (rs qs : List (Reference Object)) → EndsOnLeaf shape i key qs
       → EndsOnLeaf shape i key (rs ++ qs)
   ends_behind rs qs e =
-      let last = reference (frame_id shape e.block) e.taken e.released ∷ [] in record {
-        vain = rs ++ e.vain;
+      let last = reference (frame_id shape e.block) e.taken (object.Frame e.leaf) ∷ [] in
+      let fore = frame_references rs in record {
+        vain = fore ++ e.vain;
         path = e.path;
         block = e.block;
         taken = e.taken;
-        released = e.released;
-        is = ap (λ z. rs ++ z) e.is
-            ∙ (sym (append_assoc rs (e.vain ++ e.path) last)
-            ∙ ap (λ z. z ++ last) (sym (append_assoc rs e.vain e.path)));
+        leaf = e.leaf;
+        is = frames_both rs qs
+            ∙ (ap (λ z. fore ++ z) e.is
+            ∙ (sym (append_assoc fore (e.vain ++ e.path) last)
+            ∙ ap (λ z. z ++ last) (sym (append_assoc fore e.vain e.path))));
+        number = e.number;
+        has = e.has;
         leads = e.leads;
       }
 

@@ -1,5 +1,5 @@
 -- What a try of a put leaves behind that went down to a leaf and wasn't answered there.
-use Rattle.std.proofs.Common.{◌≡◌, ◌≢◌, inl, inr, ℕ, ◌+◌, ◌<◌, ◌++◌, List, sym, ap, subst, ◌∙◌, refl, Result, Ok, Err, IfOk, IfErr}
+use Rattle.std.proofs.Common.{◌≡◌, ◌≢◌, inl, inr, ℕ, ◌+◌, ◌<◌, List, sym, subst, ◌∙◌, refl, Result, Ok, Err, IfOk, IfErr}
 use Rattle.key_tuple.specs.Order.{FieldList}
 use Rattle.key_tuple.specs.declared.mode.Mode.TheVariants as mode
 use Rattle.latch_law.specs.declared.knows.Terms.{Terms}
@@ -18,7 +18,6 @@ use Rattle.tree_law.specs.TreeShape.{In}
 use Rattle.tree_law.proofs.ListLemmas.{In-append_right}
 use Rattle.index_law.specs.Shape.{Shape}
 use Rattle.forest_law.specs.declared.objects.Frame.{Frame}
-use Rattle.forest_law.specs.declared.objects.Object.{Object}
 use Rattle.forest_law.specs.declared.objects.Object.TheVariants as object
 use Rattle.forest_law.specs.Numbers.{frame_id}
 use Rattle.forest_world.specs.Held.{TreePass, shape_of_pass}
@@ -60,9 +59,9 @@ known_then p q b i key value ask row (Err e) answers refuses = record {
 }
 
 -- the page of a frame with the key's position, on which the row has too little room
-abbrev IsFullLeaf : Shape → ℕ → ℕ → FieldList → List ℕ → Frame → Type 0
-IsFullLeaf shape b i key value f =
-    (page : IsPageFor shape b f i 0 (cut_in shape i mode.Ge key))
+abbrev IsFullLeaf : Shape → ℕ → FieldList → List ℕ → Frame → Type 0
+IsFullLeaf shape i key value f =
+    (page : IsPageFor shape f i 0 (cut_in shape i mode.Ge key))
     × (PAGE_ROOM < load_of page.is.page.rows + charge_of key (Bytes value))
 
 module _ (p p0 p1 p2 : TreePass) (i : ℕ) (key : FieldList) (value : List ℕ) (leaf : Leaf)
@@ -91,10 +90,10 @@ module _ (p p0 p1 p2 : TreePass) (i : ℕ) (key : FieldList) (value : List ℕ) 
 
   module _ (f : Frame) (holds : HoldsLeaf p1 leaf.block i key f f)
       (full : PAGE_ROOM < load_of holds.leaf.page.is.page.rows + charge_of key (Bytes value)) where
-    full_leaf : IsFullLeaf (shape_of_pass p) leaf.block i key value gave.frame
+    full_leaf : IsFullLeaf (shape_of_pass p) i key value gave.frame
     full_leaf = subst
-        (λ (t : Terms Shape). IsFullLeaf t.shape leaf.block i key value gave.frame) terms_are
-        (subst (IsFullLeaf (shape_of_pass p1) leaf.block i key value)
+        (λ (t : Terms Shape). IsFullLeaf t.shape i key value gave.frame) terms_are
+        (subst (IsFullLeaf (shape_of_pass p1) i key value)
         (gave_is p1 p2 leaf.block f holds.has gave)
         (holds.leaf.page, full))
 
@@ -111,7 +110,7 @@ module _ (p p0 p1 p2 : TreePass) (i : ℕ) (key : FieldList) (value : List ℕ) 
               (object.Frame gave.frame)))
               (sym (references_are p p0 p1 p2 i key leaf went gave looks.quiet.added looks.only
               terms_are))
-              (In-append_right _ (went.path.vain ++ went.path.path) _ (inl refl));
+              (In-append_right _ went.silently.added.references _ (inl refl));
           page = full_leaf.0;
           full = full_leaf.1;
         }

@@ -10,15 +10,16 @@ use Rattle.index_law.specs.Shape.{Shape}
 use Rattle.forest_law.specs.declared.objects.Frame.{Frame}
 use Rattle.forest_law.specs.Numbers.{frame_id}
 use Rattle.forest_world.specs.Held.{TreePass, shape_of_pass, HasFrame}
+use Rattle.call_law.specs.Hands.{KnowsFrame}
+use Rattle.call_law.specs.Spoken.{View}
+use Rattle.buffer_pool.specs.Pages.{HasNumber}
 use Rattle.leaf_rows.specs.Finding.{HasSpot}
 use Rattle.tree_facts.specs.TreeFrames.{low_of, high_of}
 use Rattle.tree_descent.specs.Leaves.{cut_in, IsPageFor}
 
--- the block's frame has the leaf of the index that has the key's position, and the key is in its
--- bounds
-pub record IsLeafOf (shape : Shape) (b i : ℕ) (key : FieldList) (f : Frame) : Type 0 where
-  pub page : IsPageFor shape b f i 0 (cut_in shape i mode.Ge key)
-  pub number : page.is.page.head.number ≡ b
+-- the frame has the leaf of the index that has the key's position, and the key is in its bounds
+pub record IsLeafOf (shape : Shape) (i : ℕ) (key : FieldList) (f : Frame) : Type 0 where
+  pub page : IsPageFor shape f i 0 (cut_in shape i mode.Ge key)
   pub inside : within (low_of f) (high_of f) (At key) ≡ true
 
 -- the pass holds that leaf alone, which is known to be f and now is g
@@ -26,13 +27,17 @@ pub record HoldsLeaf (p : TreePass) (b i : ℕ) (key : FieldList) (f g : Frame) 
   pub has : HasFrame p b f g
   pub rest : IsKnownBut p (frame_id (shape_of_pass p) b)
   pub one : count p ≡ 1
-  pub leaf : IsLeafOf (shape_of_pass p) b i key f
+  pub leaf : IsLeafOf (shape_of_pass p) i key f
 
 -- it holds the leaf as it is known to be, and the key belongs at the spot
 pub record HoldsFresh (p : TreePass) (b i : ℕ) (key : FieldList) (spot : Spot) : Type 0 where
   pub frame : Frame
   pub holds : HoldsLeaf p b i key frame frame
   pub finds : HasSpot holds.leaf.page.is.page key spot
+
+-- the frame has a page of the number that the page in the block's frame was known to have
+abbrev pub KeepsNumber : View → ℕ → Frame → Type 0
+KeepsNumber v b g = (f : Frame) (n : ℕ) → KnowsFrame v b f → HasNumber f n → HasNumber g n
 
 -- it holds the block's frame alone, which is what it is known to be
 pub record HoldsKnown (p : TreePass) (b : ℕ) : Type 0 where

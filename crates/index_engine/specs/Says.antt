@@ -23,7 +23,7 @@ use Rattle.forest_world.specs.Held.{TreePass}
 use Rattle.call_law.specs.Once.{IsQuiet, AnswersOnce}
 use Rattle.call_law.specs.Spoken.{View}
 use Rattle.call_law.specs.Trace.{IsOnlySaid}
-use Rattle.index_engine.specs.Holds.{HoldsLeaf, HoldsKnown}
+use Rattle.index_engine.specs.Holds.{HoldsLeaf, HoldsKnown, KeepsNumber}
 use Rattle.index_engine.specs.Tells.{HasKeyOf, IsTold}
 
 -- the list of the index was seen with as many changes as it may have
@@ -77,11 +77,12 @@ pub record OnlyLooks (v v' : View) (i : ℕ) : Type 0 where
   pub quiet : IsQuiet v v' i
   pub only : IsOnlySaid quiet.added
 
--- the pass has answered once, and holds the leaf as it is known to be
+-- the pass has answered once, and holds the leaf as it is known to be, of the same number
 pub record AnswersHolding (p q : TreePass) (b i : ℕ) (ask : Ask) (told : Told)
     (row : Pair) : Type 0 where
   pub says : SaysOnce (view p) (view q) i ask told row
   pub holds : HoldsKnown q b
+  pub number : KeepsNumber (view p) b holds.frame
 
 -- what is told of a change that was made at the point
 abbrev pub told_made : ℕ → Told

@@ -4,9 +4,6 @@ use Rattle.key_tuple.specs.Order.{FieldList}
 use Rattle.key_tuple.specs.declared.mode.Mode.{Mode}
 use Rattle.latch_space.specs.Has.{IsKnown}
 use Rattle.latch_space.specs.Passes.{view, count}
-use Rattle.index_page.specs.declared.spot.Spot.{Spot}
-use Rattle.index_page.specs.Page.{PageRows}
-use Rattle.index_law.specs.Shape.{Shape}
 use Rattle.forest_law.specs.declared.objects.Frame.{Frame}
 use Rattle.forest_world.specs.Held.{TreePass, shape_of_pass}
 use Rattle.call_law.specs.Hands.{KnowsFrame, HoldsNoFrameBut, HoldsNoPool}
@@ -43,7 +40,7 @@ pub record HoldsLast (p : TreePass) (i : ℕ) (mode : Mode) (tuple : FieldList)
   pub only : HoldsLeavesAlone p (leaf.block ∷ [])
   pub frame : Frame
   pub knows : KnowsFrame (view p) leaf.block frame
-  pub is : IsLeafFor (shape_of_pass p) leaf.block frame i mode tuple leaf.spot
+  pub is : IsLeafFor (shape_of_pass p) frame i mode tuple leaf.spot
   pub last : IsSome (row_on (side_of mode) leaf.spot)
       ⊎ (page_on (side_of mode) is.page.is.page ≡ None)
 
@@ -54,7 +51,7 @@ pub record HoldsBothLeaves (p : TreePass) (i : ℕ) (mode : Mode) (tuple : Field
   pub only : HoldsLeavesAlone p (leaf.block ∷ m ∷ [])
   pub frame : Frame
   pub knows : KnowsFrame (view p) leaf.block frame
-  pub is : IsLeafFor (shape_of_pass p) leaf.block frame i mode tuple leaf.spot
+  pub is : IsLeafFor (shape_of_pass p) frame i mode tuple leaf.spot
   pub none : row_on (side_of mode) leaf.spot ≡ None
   pub next : Frame
   pub knows_next : KnowsFrame (view p) m next

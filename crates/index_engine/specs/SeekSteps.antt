@@ -9,13 +9,15 @@ use Rattle.map_history.specs.declared.reply.Told.{Told}
 use Rattle.map_history.specs.Map.{Pair}
 use Rattle.map_history.specs.Operation.{Ask, Seek}
 use Rattle.index_law.specs.Shape.{Shape}
+use Rattle.forest_law.specs.declared.objects.Frame.{Frame}
 use Rattle.forest_world.specs.Held.{TreePass, shape_of_pass}
+use Rattle.call_law.specs.Hands.{KnowsFrame}
 use Rattle.call_law.specs.Once.{IsQuiet}
 use Rattle.call_law.specs.Spoken.{View}
-use Rattle.call_law.specs.Trace.{Added, SparesTrees}
+use Rattle.call_law.specs.Trace.{Added, SparesTrees, frame_references}
+use Rattle.buffer_pool.specs.Pages.{HasNumber}
 use Rattle.index_engine.specs.declared.seek_call.Stand.{Stand}
 use Rattle.index_engine.specs.declared.seek_call.Stand.TheVariants.{On, Ends}
-use Rattle.index_engine.specs.declared.seek_call.Walk.{Walk}
 use Rattle.index_engine.specs.Says.{SaysOnce, OnlyLooks}
 use Rattle.index_engine.specs.Seeks.{PassesNothing, SawNothing}
 use Rattle.index_engine.specs.SeekHands.{SawPast, WalksAt}
@@ -48,10 +50,10 @@ Answered v v' i ask None row added = (quiet : IsQuiet v v' i) × (quiet.added �
 Answered v v' i ask (Some told) row added =
     (tells : TellsOnce v v' i ask told row) × (tells.once.added ≡ added)
 
--- leaves of the index were given back and no tree was taken, and nothing was answered
+-- no frames but leaves of the index were given back, no tree was taken, and nothing was answered
 pub record PassesLeaves (shape : Shape) (v v' : View) (i : ℕ) : Type 0 where
   pub quiet : IsQuiet v v' i
-  pub leaves : AllByRecursion (IsLeafReference shape i) quiet.added.references
+  pub leaves : AllByRecursion (IsLeafReference shape i) (frame_references quiet.added.references)
   pub spares : SparesTrees shape quiet.added
 
 -- the same, and the operation was answered if an answer is told
@@ -59,15 +61,19 @@ pub record EndsSeek (shape : Shape) (v v' : View) (i : ℕ) (mode : Mode) (tuple
     (told : Option Told) (row : Pair) : Type 0 where
   pub added : Added
   pub answered : Answered v v' i (Seek mode tuple) told row added
-  pub leaves : AllByRecursion (IsLeafReference shape i) added.references
+  pub leaves : AllByRecursion (IsLeafReference shape i) (frame_references added.references)
   pub spares : SparesTrees shape added
 
--- the same, and the first of the leaves was that in the block
+-- the same, and the first of the leaves was that in the block, as it was known
 pub record EndsFromLeaf (shape : Shape) (v v' : View) (b i : ℕ) (mode : Mode) (tuple : FieldList)
     (told : Option Told) (row : Pair) : Type 0 where
   pub added : Added
   pub answered : Answered v v' i (Seek mode tuple) told row added
-  pub begin : BeginOnLeaf shape i b added.references
+  pub number : ℕ
+  pub frame : Frame
+  pub knows : KnowsFrame v b frame
+  pub has : HasNumber frame number
+  pub begin : BeginOnLeaf shape i number (frame_references added.references)
   pub spares : SparesTrees shape added
 
 -- one try of a seek: a way led to the leaves, and it was answered if an answer is told

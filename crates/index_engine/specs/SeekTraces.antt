@@ -14,8 +14,8 @@ use Rattle.forest_law.specs.declared.objects.Object.{Object}
 use Rattle.forest_law.specs.declared.objects.Object.TheVariants as object
 use Rattle.forest_law.specs.Numbers.{frame_id}
 use Rattle.call_law.specs.Spoken.{View}
-use Rattle.call_law.specs.Trace.{SparesTrees}
-use Rattle.buffer_pool.specs.Pages.{HasTreePage}
+use Rattle.call_law.specs.Trace.{SparesTrees, frame_references}
+use Rattle.buffer_pool.specs.Pages.{HasNumber, HasTreePage}
 use Rattle.tree_descent.specs.Leaves.{cut_in}
 use Rattle.tree_descent.specs.Paths.{LeadFromRoot}
 use Rattle.index_engine.specs.Tells.{TellsOnce}
@@ -26,27 +26,29 @@ pub record IsLeafReference (shape : Shape) (i : ℕ) (q : Reference Object) : Ty
   pub taken : Object
   pub frame : Frame
   pub is : q ≡ reference (frame_id shape block) taken (object.Frame frame)
-  pub page : HasTreePage block frame i 0
+  pub page : HasTreePage frame i 0
 
--- the references of the leaf in the block, and then of leaves beside it
-pub record BeginOnLeaf (shape : Shape) (i block : ℕ) (qs : List (Reference Object)) : Type 0 where
+-- the references of the leaf of this number, and then of leaves beside it
+pub record BeginOnLeaf (shape : Shape) (i number : ℕ) (qs : List (Reference Object)) : Type 0 where
+  pub block : ℕ
   pub taken : Object
-  pub released : Object
+  pub leaf : Frame
   pub beside : List (Reference Object)
-  pub is : qs ≡ reference (frame_id shape block) taken released ∷ beside
+  pub is : qs ≡ reference (frame_id shape block) taken (object.Frame leaf) ∷ beside
+  pub has : HasNumber leaf number
   pub each : AllByRecursion (IsLeafReference shape i) beside
 
--- the last references lead from the root to the leaf with the tuple's position, and go on over
--- leaves beside it; those before are of ways that were left
+-- of the references of frames the last lead from the root to the leaf with the tuple's position,
+-- and go on over leaves beside it; those before are of ways that were left
 pub record EndsOnLeaves (shape : Shape) (i : ℕ) (mode : Mode) (tuple : FieldList)
     (qs : List (Reference Object)) : Type 0 where
   pub vain : List (Reference Object)
   pub path : List (Reference Object)
   pub leaves : List (Reference Object)
-  pub block : ℕ
-  pub is : qs ≡ vain ++ path ++ leaves
-  pub leads : LeadFromRoot shape (cut_in shape i mode tuple) i 0 block path
-  pub begin : BeginOnLeaf shape i block leaves
+  pub number : ℕ
+  pub is : frame_references qs ≡ vain ++ path ++ leaves
+  pub leads : LeadFromRoot shape (cut_in shape i mode tuple) i 0 number path
+  pub begin : BeginOnLeaf shape i number leaves
 
 -- the answer was told by leaves to which a way led, and no tree was taken
 pub record TellsOfSeek (v v' : View) (i : ℕ) (mode : Mode) (tuple : FieldList) (told : Told)

@@ -24,23 +24,27 @@ use Rattle.forest_law.specs.declared.objects.Object.TheVariants as object
 use Rattle.forest_law.specs.Numbers.{frame_id}
 use Rattle.call_law.specs.Once.{IsQuiet}
 use Rattle.call_law.specs.Spoken.{View}
-use Rattle.call_law.specs.Trace.{SparesTrees}
+use Rattle.call_law.specs.Trace.{SparesTrees, frame_references}
+use Rattle.buffer_pool.specs.Pages.{HasNumber}
 use Rattle.tree_descent.specs.Leaves.{cut_in, IsPageFor}
 use Rattle.tree_descent.specs.Paths.{LeadFromRoot}
 use Rattle.tree_shrinking.specs.declared.TheConstants.{LIGHT_LOAD}
 use Rattle.index_engine.specs.Tells.{TellsOnce}
 
--- the last references lead from the root to a leaf, and the last is the leaf's; those before are of
--- ways that were left
+-- of the references of frames the last lead from the root to a leaf, and the last is the leaf's;
+-- those before are of ways that were left
 pub record EndsOnLeaf (shape : Shape) (i : ℕ) (key : FieldList) (qs : List (Reference Object))
     : Type 0 where
   pub vain : List (Reference Object)
   pub path : List (Reference Object)
   pub block : ℕ
   pub taken : Object
-  pub released : Object
-  pub is : qs ≡ vain ++ path ++ reference (frame_id shape block) taken released ∷ []
-  pub leads : LeadFromRoot shape (cut_in shape i mode.Ge key) i 0 block path
+  pub leaf : Frame
+  pub is : frame_references qs
+      ≡ vain ++ path ++ reference (frame_id shape block) taken (object.Frame leaf) ∷ []
+  pub number : ℕ
+  pub has : HasNumber leaf number
+  pub leads : LeadFromRoot shape (cut_in shape i mode.Ge key) i 0 number path
 
 -- one of the references is of the leaf that has the key's position, which had no room for the row
 pub record LackedRoom (shape : Shape) (i : ℕ) (key : FieldList) (value : List ℕ)
@@ -49,7 +53,7 @@ pub record LackedRoom (shape : Shape) (i : ℕ) (key : FieldList) (value : List 
   pub taken : Object
   pub leaf : Frame
   pub among : In (reference (frame_id shape block) taken (object.Frame leaf)) qs
-  pub page : IsPageFor shape block leaf i 0 (cut_in shape i mode.Ge key)
+  pub page : IsPageFor shape leaf i 0 (cut_in shape i mode.Ge key)
   pub full : PAGE_ROOM < load_of page.is.page.rows + charge_of key (Bytes value)
 
 -- the answer was told by a leaf to which a way led, and no tree was taken
@@ -87,14 +91,8 @@ pub record HasLightPage (frame : Frame) : Type 0 where
   pub paged : frame.page ≡ Some page
   pub light : load_of page.rows < LIGHT_LOAD
 
--- the object is a frame whose page is light
-pub record IsLightFrame (o : Object) : Type 0 where
-  pub frame : Frame
-  pub is : o ≡ object.Frame frame
-  pub light : HasLightPage frame
-
--- the answer of a del was told by a leaf to which a way led; and nothing was done after that, and no
--- tree was taken, unless the leaf was light when it was given back
+-- the answer of a del was told by a leaf to which a way led; and nothing was done after that, and
+-- no tree was taken, unless the leaf was light when it was given back
 pub record TellsOfDel (v v' : View) (i : ℕ) (key : FieldList) (told : Told) : Type 0 where
   pub tells : TellsOnce v v' i (Make (Del key)) told (lent_row None)
   pub way : List (Reference Object)
@@ -102,4 +100,4 @@ pub record TellsOfDel (v v' : View) (i : ℕ) (key : FieldList) (told : Told) : 
   pub added : tells.once.added.references ≡ way ++ later
   pub ends : EndsOnLeaf v.terms.shape i key way
   pub trees : ((later ≡ []) × SparesTrees v.terms.shape tells.once.added)
-      ⊎ IsLightFrame ends.released
+      ⊎ HasLightPage ends.leaf

@@ -1,4 +1,4 @@
-use Rattle.std.proofs.Common.{◌∙◌, sym, ap, Some}
+use Rattle.std.proofs.Common.{◌∙◌, sym, ap}
 use Rattle.index_page.specs.Rows.{Bytes}
 use Rattle.tree_neighbours.specs.Sides.{side_of}
 use Rattle.index_engine.proofs.SpotLemmas.{next_on}

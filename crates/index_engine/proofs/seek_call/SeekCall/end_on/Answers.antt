@@ -1,4 +1,4 @@
-use Rattle.std.proofs.Common.{◌≡◌, [], ◌∷◌, ◌∙◌, sym, ap, subst, None}
+use Rattle.std.proofs.Common.{[], ◌∷◌, ◌∙◌, sym, ap, subst, None}
 use Rattle.latch_law.specs.declared.knows.Terms.{Terms}
 use Rattle.latch_space.specs.Passes.{view}
 use Rattle.index_page.specs.Page.{PageRows}
@@ -7,9 +7,9 @@ use Rattle.index_law.specs.Shape.{Shape}
 use Rattle.forest_law.specs.declared.objects.Frame.{Frame}
 use Rattle.forest_world.specs.Held.{shape_of_pass}
 use Rattle.buffer_pool.proofs.CallLemmas.{frame_has}
-use Rattle.tree_descent.proofs.PageLemmas.{same_page}
 use Rattle.index_engine.specs.Seeks.{TellsRow, CanTell}
-use Rattle.index_engine.proofs.SeekHandLemmas.{only_same, only_gave, knows_same, may_leave}
+use Rattle.index_engine.proofs.KnownLemmas.{knows_same, page_number, same_page}
+use Rattle.index_engine.proofs.SeekHandLemmas.{only_same, only_gave, may_leave}
 use Rattle.index_engine.proofs.SeekTraceLemmas.{said_then_first}
 use Rattle.index_engine.proofs.StandLemmas.{last_tells}
 use Rattle.index_engine.proofs.seek_call.SeekCall.end_on.Goals as goal
@@ -75,7 +75,12 @@ returns-clause-nothing g c = let last = c.requires.held in let b = c.args.leaf.n
 
 pub returns-clause-ends : goal.returns-clause-ends
 returns-clause-ends g c = let call = c.args.self.now in let p = c.args.pass.now in
+    let last = c.requires.held in
     let terms = c.tell-told.ensures.own.1.1 ∙ sym c.requires.own.1 in
     said_then_first (shape_of_pass p) call.index c.tell-told.new.pass c.leave.new.pass
     c.args.leaf.now.block (ap (λ (t : Terms Shape). t.shape) terms) c.leave.ensures.gave call.mode
     call.tuple.now c.tell-told.result c.take_row-found.new.out (view p) c.tell-told.ensures.did
+    last.frame last.is.page.is.page.head.number
+    (page_number last.frame call.index 0 last.is.page.is) last.knows
+    (knows_same p c.tell-told.new.pass c.args.leaf.now.block last.frame
+    c.tell-told.ensures.kept.held terms last.knows)

@@ -1,10 +1,11 @@
-use Rattle.std.proofs.Common.{[], ◌∷◌, ◌∙◌, sym, ap, subst, None}
+use Rattle.std.proofs.Common.{[], ◌∷◌, ◌∙◌, sym, ap, subst}
 use Rattle.latch_law.specs.declared.knows.Terms.{Terms}
 use Rattle.latch_space.specs.Passes.{view}
 use Rattle.index_law.specs.Shape.{Shape}
 use Rattle.forest_world.specs.Held.{shape_of_pass}
 use Rattle.index_engine.specs.SeekSteps.{StandsThen, EndsSeek}
-use Rattle.index_engine.proofs.SeekHandLemmas.{gave_page, only_same, only_gave, knows_same, page_same, page_gave, may_leave}
+use Rattle.index_engine.proofs.KnownLemmas.{knows_same, page_number}
+use Rattle.index_engine.proofs.SeekHandLemmas.{gave_page, only_same, only_gave, page_same, page_gave, may_leave}
 use Rattle.index_engine.proofs.SeekTraceLemmas.{said_then_first, first_then_gave, first_then_on}
 use Rattle.index_engine.proofs.StandLemmas.{both_stands}
 use Rattle.index_engine.proofs.StepLemmas.{walks_at, past_gave}
@@ -44,6 +45,7 @@ pub returns-in-On-clause-ends : goal.returns-in-On-clause-ends
 returns-in-On-clause-ends g c = let call = c.args.self.now in let p = c.args.pass.now in
     let q = c.stand_on-stand.new.pass in let r = c.leave.new.pass in
     let v' = view c.walk.new.pass in let b = c.args.leaf.now.block in
+    let both = c.requires.held in
     let m = c.args.other in
     let terms = c.stand_on-stand.ensures.own.1.1 ∙ sym c.requires.own.1 in
     let on = subst
@@ -56,6 +58,9 @@ returns-in-On-clause-ends g c = let call = c.args.self.now in let p = c.args.pas
     c.walk.new.out)
     (ap (λ (t : Terms Shape). t.shape) (c.leave.ensures.own.1.1 ∙ sym c.requires.own.1))
     c.walk.ensures.ends)
+    both.frame both.is.page.is.page.head.number
+    (page_number both.frame call.index 0 both.is.page.is) both.knows
+    (knows_same p q b both.frame c.stand_on-stand.ensures.kept.held terms both.knows)
 
 pub returns-in-Ends-clause-nothing : goal.returns-in-Ends-clause-nothing
 returns-in-Ends-clause-nothing g c = let p = c.args.pass.now in
@@ -83,5 +88,8 @@ returns-in-Ends-clause-ends g c = let call = c.args.self.now in let p = c.args.p
     (said_then_first (shape_of_pass p) call.index q r b (ap (λ (t : Terms Shape). t.shape) terms)
     gave call.mode call.tuple.now c.in-Ends.told out (view p)
     (subst (λ s. StandsThen p q m call.index call.mode call.tuple.now s out) c.in-Ends.is
-    c.stand_on-stand.ensures.then))
+    c.stand_on-stand.ensures.then)
+    both.frame both.is.page.is.page.head.number
+    (page_number both.frame call.index 0 both.is.page.is) both.knows
+    (knows_same p q b both.frame kept.held terms both.knows))
     (gave_page r c.leave-in-Ends.new.pass m call.index holds.frame holds.knows holds.is gave2)

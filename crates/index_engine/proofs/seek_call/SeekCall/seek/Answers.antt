@@ -1,4 +1,4 @@
-use Rattle.std.proofs.Common.{None, Some, subst, rules}
+use Rattle.std.proofs.Common.{subst, rules}
 use Rattle.latch_space.specs.Passes.{view}
 use Rattle.index_engine.specs.SeekSteps.{TriesSeek}
 use Rattle.index_engine.proofs.SeekTraceLemmas.{tries_vain, vain_none, vain_both, vain_then_tells}

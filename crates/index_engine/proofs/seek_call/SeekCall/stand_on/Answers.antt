@@ -1,9 +1,9 @@
-use Rattle.std.proofs.Common.{◌≡◌, ◌∙◌, sym, subst, refl}
+use Rattle.std.proofs.Common.{◌∙◌, sym, subst, refl}
 use Rattle.latch_space.specs.Passes.{view}
 use Rattle.tree_neighbours.specs.Sides.{side_of}
 use Rattle.index_engine.specs.Seeks.{TellsRow, far_of}
 use Rattle.index_engine.specs.SeekSteps.{CountsPast}
-use Rattle.index_engine.proofs.SeekHandLemmas.{knows_same}
+use Rattle.index_engine.proofs.KnownLemmas.{knows_same}
 use Rattle.index_engine.proofs.StandLemmas.{stands_tells, stands_past}
 use Rattle.index_engine.proofs.seek_call.SeekCall.stand_on.Goals as goal
 

@@ -1,12 +1,10 @@
-use Rattle.std.proofs.Common.{[], ◌∷◌, ◌∙◌, sym, ap, subst, None, Some}
+use Rattle.std.proofs.Common.{[], ◌∷◌, ◌∙◌, sym, ap, subst}
 use Rattle.latch_law.specs.declared.knows.Terms.{Terms}
-use Rattle.latch_space.specs.Passes.{view}
 use Rattle.index_law.specs.Shape.{Shape}
-use Rattle.forest_world.specs.Held.{shape_of_pass}
 use Rattle.tree_neighbours.specs.Neighbours.{TellsBeside}
 use Rattle.tree_neighbours.specs.declared.beside.Beside.TheVariants.{AtEnd, Held, Busy}
 use Rattle.index_engine.proofs.SeekHandLemmas.{only_same, only_gave, page_same, may_leave}
-use Rattle.index_engine.proofs.StepLemmas.{walks_then, last_here, last_only, last_page, last_ends, busy_only, busy_knows, busy_ends, took_only, took_knows, next_only, next_passes, next_stands}
+use Rattle.index_engine.proofs.StepLemmas.{walks_then, last_here, last_only, last_page, last_ends, busy_only, busy_ends, took_only, took_knows, next_only, next_passes, next_stands}
 use Rattle.index_engine.proofs.seek_call.SeekCall.step.Goals as goal
 
 pub leave-requires-clause-held : goal.leave-requires-clause-held

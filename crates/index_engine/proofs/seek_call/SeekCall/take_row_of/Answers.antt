@@ -1,15 +1,13 @@
-use Rattle.std.proofs.Common.{◌≡◌, ◌≤◌, length, sym, ap, subst, ◌∙◌}
+use Rattle.std.proofs.Common.{◌≤◌, length, sym, ap, subst, ◌∙◌}
 use Rattle.latch_law.specs.declared.knows.Terms.{Terms}
-use Rattle.latch_space.specs.Passes.{view}
 use Rattle.index_page.specs.Page.{PageRows}
 use Rattle.index_law.specs.Shape.{Shape}
 use Rattle.forest_law.specs.declared.objects.Frame.{Frame}
 use Rattle.forest_law.specs.State.{fields_for}
 use Rattle.forest_world.specs.Held.{shape_of_pass}
 use Rattle.buffer_pool.proofs.CallLemmas.{frame_has}
-use Rattle.tree_descent.proofs.PageLemmas.{same_page}
-use Rattle.tree_descent.specs.Ways.{HoldsPage}
 use Rattle.index_engine.specs.Seeks.{TellsRow}
+use Rattle.index_engine.proofs.KnownLemmas.{same_page}
 use Rattle.index_engine.proofs.seek_call.SeekCall.take_row_of.Goals as goal
 
 pub page_of-page-requires : goal.page_of-page-requires

@@ -7,7 +7,8 @@ use Rattle.forest_world.specs.Held.{shape_of_pass}
 use Rattle.index_engine.specs.Says.{SeesFull}
 use Rattle.index_engine.proofs.CallLemmas.{can_refuse}
 use Rattle.index_engine.proofs.HoldLemmas.{frame_again, leaf_again}
-use Rattle.index_engine.proofs.RowLemmas.{lacked_key}
+use Rattle.index_engine.proofs.KnownLemmas.{number_stays, number_made}
+use Rattle.index_engine.proofs.RowLemmas.{lacked_key, put_makes}
 use Rattle.index_engine.proofs.TellLemmas.{says_made, looks_same, looks_then_says}
 use Rattle.index_engine.proofs.tree_call.TreeCall.commit_put.Goals as goal
 
@@ -21,7 +22,7 @@ say-requires-clause-held g c = let held = c.requires.held in let call = c.args.s
     (leaf_again p q b i key held.known held.made full.same terms held.holds) held.puts in
     can_refuse r b i key held.known holds (map.Put key value) c.in-Err.field-0.0 (lent_row None)
     refl
-    (ap is_none (lacked_key (shape_of_pass r) b i key held.known holds.leaf held.made c.args.place
+    (ap is_none (lacked_key (shape_of_pass r) i key held.known holds.leaf held.made c.args.place
     value held.puts))
     (subst (λ v. SeesFull v i) (sym same) full.full)
     (full.number ∙ (ap (λ t. t.max_changes) (sym terms)
@@ -38,6 +39,10 @@ returns-in-Ok-clause-did g c = let held = c.requires.held in let call = c.args.s
         has = did.frames c.args.block held.known held.made held.holds.has;
         one = did.count ∙ held.holds.one;
       };
+      number = number_made (view c.args.pass.now) c.args.block held.known held.holds.has.held
+          (shape_of_pass c.args.pass.now) (map.Put call.key.now.tuple c.args.value.now) held.made
+          (put_makes (shape_of_pass c.args.pass.now) call.index call.key.now.tuple held.known
+          held.holds.leaf held.made c.args.place c.args.value.now held.puts);
     }
 
 pub returns-in-Err-clause-did : goal.returns-in-Err-clause-did
@@ -58,4 +63,5 @@ returns-in-Err-clause-did g c = let held = c.requires.held in let call = c.args.
             c.say.ensures.did.once.adds.numbers.terms holds.has;
         one = c.say.ensures.kept.count ∙ holds.one;
       };
+      number = number_stays (view p) b held.known held.holds.has.held;
     }

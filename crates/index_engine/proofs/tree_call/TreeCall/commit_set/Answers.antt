@@ -8,6 +8,7 @@ use Rattle.forest_world.specs.Held.{shape_of_pass}
 use Rattle.index_engine.specs.Says.{SeesFull}
 use Rattle.index_engine.proofs.CallLemmas.{can_refuse}
 use Rattle.index_engine.proofs.HoldLemmas.{frame_again, leaf_again}
+use Rattle.index_engine.proofs.KnownLemmas.{number_stays, number_made}
 use Rattle.index_engine.proofs.RowLemmas.{set_key, set_makes}
 use Rattle.index_engine.proofs.TellLemmas.{says_made, looks_same, looks_then_says}
 use Rattle.index_engine.proofs.tree_call.TreeCall.commit_set.Goals as goal
@@ -20,7 +21,7 @@ commit-requires-clause-held g c = let held = c.requires.held in let call = c.arg
       made = held.made;
       holds = held.holds;
       about = refl;
-      makes = set_makes (shape_of_pass c.args.pass.now) c.args.block call.index key held.known
+      makes = set_makes (shape_of_pass c.args.pass.now) call.index key held.known
           held.holds.leaf held.made c.args.value.now held.sets;
     }
 
@@ -44,7 +45,7 @@ say_of_set-requires-clause-held g c = let held = c.requires.held in let call = c
     (leaf_again p q b i key held.known held.made full.same terms held.holds) held.was in
     can_refuse r b i key held.known holds (map.Set key value) c.in-Err.field-0.0 (lent_row None)
     refl
-    (ap is_some (set_key (shape_of_pass r) b i key held.known holds.leaf held.made value
+    (ap is_some (set_key (shape_of_pass r) i key held.known holds.leaf held.made value
     held.sets))
     (subst (λ v. SeesFull v i) (sym same) full.full)
     (full.number ∙ (ap (λ t. t.max_changes) (sym terms)
@@ -61,6 +62,10 @@ returns-in-Ok-clause-did g c = let held = c.requires.held in let call = c.args.s
         has = did.frames c.args.block held.known held.made held.holds.has;
         one = did.count ∙ held.holds.one;
       };
+      number = number_made (view c.args.pass.now) c.args.block held.known held.holds.has.held
+          (shape_of_pass c.args.pass.now) (map.Set call.key.now.tuple c.args.value.now) held.made
+          (set_makes (shape_of_pass c.args.pass.now) call.index call.key.now.tuple held.known
+          held.holds.leaf held.made c.args.value.now held.sets);
     }
 
 pub returns-in-Err-clause-did : goal.returns-in-Err-clause-did
@@ -81,4 +86,5 @@ returns-in-Err-clause-did g c = let held = c.requires.held in let call = c.args.
             c.say_of_set.ensures.did.once.adds.numbers.terms holds.has;
         one = c.say_of_set.ensures.kept.count ∙ holds.one;
       };
+      number = number_stays (view p) b held.known held.holds.has.held;
     }

@@ -7,6 +7,7 @@ use Rattle.forest_world.specs.Held.{shape_of_pass, HasFrame}
 use Rattle.index_engine.specs.Commits.{MakesChange, CanWriteAhead}
 use Rattle.index_engine.proofs.CallLemmas.{can_refuse}
 use Rattle.index_engine.proofs.HoldLemmas.{frame_again, leaf_again}
+use Rattle.index_engine.proofs.KnownLemmas.{number_stays, number_made}
 use Rattle.index_engine.proofs.RowLemmas.{has_key, del_makes}
 use Rattle.index_engine.proofs.TellLemmas.{says_made, says_same, looks_then_says}
 use Rattle.index_engine.proofs.tree_call.TreeCall.del_row.Goals as goal
@@ -21,7 +22,7 @@ write_ahead-requires-clause-held g c = let held = c.requires.held in let call = 
       holds = held.holds;
       about = refl;
       makes = subst (MakesChange (shape_of_pass p) (map.Del key) held.known) (sym held.next_is)
-          (del_makes (shape_of_pass p) c.args.block call.index key held.known held.holds.leaf
+          (del_makes (shape_of_pass p) call.index key held.known held.holds.leaf
           c.args.place held.row);
     })
 
@@ -43,7 +44,7 @@ say_of_del-requires-clause-held g c = let held = c.requires.held in let call = c
     let key = call.key.now.tuple in let b = c.args.block in
     let terms = full.looks.quiet.adds.numbers.terms in
     let holds = leaf_again p q b call.index key held.known held.known full.same terms held.holds in
-    let has = has_key (shape_of_pass q) b call.index key held.known holds.leaf c.args.place
+    let has = has_key (shape_of_pass q) call.index key held.known holds.leaf c.args.place
     held.row in
     can_refuse q b call.index key held.known holds (map.Del key) c.in-Err.field-0.0 (lent_row None)
     refl (ap is_some has.1) full.full (full.number ∙ ap (λ t. t.max_changes) (sym terms))
@@ -66,6 +67,12 @@ returns-in-Ok-clause-did g c = let held = c.requires.held in let call = c.args.s
             (c.delete.ensures.out next held.known has);
         one = c.delete.ensures.same.count ∙ (did.count ∙ held.holds.one);
       };
+      number = number_made (view p) b held.known held.holds.has.held (shape_of_pass p)
+          (map.Del call.key.now.tuple) next
+          (subst (MakesChange (shape_of_pass p) (map.Del call.key.now.tuple) held.known)
+          (sym held.next_is)
+          (del_makes (shape_of_pass p) call.index call.key.now.tuple held.known held.holds.leaf
+          c.args.place held.row));
     }
 
 pub returns-in-Err-clause-did : goal.returns-in-Err-clause-did
@@ -83,4 +90,5 @@ returns-in-Err-clause-did g c = let held = c.requires.held in let call = c.args.
             c.say_of_del.ensures.did.once.adds.numbers.terms holds.has;
         one = c.say_of_del.ensures.kept.count ∙ holds.one;
       };
+      number = number_stays (view p) b held.known held.holds.has.held;
     }

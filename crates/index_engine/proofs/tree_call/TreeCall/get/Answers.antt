@@ -1,7 +1,7 @@
 use Rattle.std.proofs.Common.{ap, ◌∙◌}
 use Rattle.map_history.specs.Operation as asked
 use Rattle.index_engine.proofs.CallLemmas.{can_get}
-use Rattle.index_engine.proofs.TellLemmas.{tells_by_leaf}
+use Rattle.index_engine.proofs.TellLemmas.{number_kept, tells_by_leaf}
 use Rattle.index_engine.proofs.tree_call.TreeCall.get.Goals as goal
 
 pub look_up-reply-requires : goal.look_up-reply-requires
@@ -26,4 +26,7 @@ returns-clause-told g c = let call = c.args.self.now in
     tells_by_leaf c.args.pass.now c.hold-leaf.new.pass c.say-told.new.pass c.let_go.new.pass
     call.index call.key.now.tuple c.hold-leaf.result c.hold-leaf.ensures.went c.let_go.ensures.gave
     (asked.Get call.key.now.tuple) c.say-told.result c.look_up-reply.new.out
+    (number_kept c.args.pass.now c.hold-leaf.new.pass c.say-told.new.pass c.let_go.new.pass
+    call.index call.key.now.tuple c.hold-leaf.result c.hold-leaf.ensures.went c.let_go.ensures.gave
+    c.say-told.ensures.kept c.say-told.ensures.did.once.adds.numbers.terms)
     c.say-told.ensures.did

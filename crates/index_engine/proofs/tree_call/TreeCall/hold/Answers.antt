@@ -21,5 +21,5 @@ descend-requires-clause-pool g c = let call = c.args.self.now in let p = c.args.
 pub returns-clause-held : goal.returns-clause-held
 returns-clause-held g c = let call = c.args.self.now in
     fresh_leaf c.args.pass.now c.descend.new.pass call.index call.key.now.tuple c.descend.result
-    c.descend.ensures.went c.descend.ensures.fits c.requires.nothing
+    c.descend.ensures.went c.requires.nothing
     (call.fits ∙ ap (λ t. fields_for t.shape call.index) (sym c.requires.own.1))

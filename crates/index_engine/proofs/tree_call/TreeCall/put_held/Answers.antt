@@ -7,8 +7,9 @@ use Rattle.forest_world.specs.Held.{shape_of_pass}
 use Rattle.index_engine.specs.Changes.{FindsRow}
 use Rattle.index_engine.proofs.CallLemmas.{can_duplicate, can_refuse}
 use Rattle.index_engine.proofs.HoldLemmas.{frame_again, leaf_again}
+use Rattle.index_engine.proofs.KnownLemmas.{number_stays, number_later}
 use Rattle.index_engine.proofs.RowLemmas.{found_old, found_new, has_key, lacks_key}
-use Rattle.index_engine.proofs.TellLemmas.{looks_same, looks_then_says}
+use Rattle.index_engine.proofs.TellLemmas.{looks_same, looks_then_says, said_holding}
 use Rattle.index_engine.proofs.tree_call.TreeCall.put_held.Goals as goal
 
 pub find_row-found-requires : goal.find_row-found-requires
@@ -26,10 +27,17 @@ say-requires-clause-held g c = let held = c.requires.held in let call = c.args.s
     (c.frame.ensures held.frame held.frame held.holds.has) c.find_row-found.ensures in
     let old = found_old held.frame key leaf.spot c.find_row-found.result found
     (sym c.is_some.ensures ∙ c.if-is_some.true) in
-    let has = has_key (shape_of_pass p) leaf.block call.index key held.frame held.holds.leaf old.0
+    let has = has_key (shape_of_pass p) call.index key held.frame held.holds.leaf old.0
     old.1 in
     can_duplicate p leaf.block call.index key held.frame held.holds c.args.value.now has.0
     (lent_row None) has.1
+
+pub returns-then-is_some-clause-ok : goal.returns-then-is_some-clause-ok
+returns-then-is_some-clause-ok g c = let held = c.requires.held in let call = c.args.self.now in
+    let key = call.key.now.tuple in
+    said_holding c.args.pass.now c.say.new.pass c.args.leaf.now.block call.index key held.frame
+    (Make (map.Put key c.args.value.now)) c.say.result (lent_row None) held.holds
+    c.say.ensures.kept c.say.ensures.did
 
 pub say-requires-then-is_full-clause-held : goal.say-requires-then-is_full-clause-held
 say-requires-then-is_full-clause-held g c = let held = c.requires.held in
@@ -44,7 +52,7 @@ say-requires-then-is_full-clause-held g c = let held = c.requires.held in
     c.is_full.ensures.kept terms held.holds in
     can_refuse q leaf.block call.index key held.frame holds (map.Put key c.args.value.now)
     c.args.most (lent_row None) refl
-    (ap is_none (lacks_key (shape_of_pass q) leaf.block call.index key held.frame holds.leaf
+    (ap is_none (lacks_key (shape_of_pass q) call.index key held.frame holds.leaf
     leaf.spot new))
     (c.is_full.ensures.full.0 c.if-is_full.true)
     (c.requires.most ∙ (ap (λ t. t.max_changes) (sym c.requires.own.1)
@@ -57,14 +65,15 @@ returns-then-is_full-clause-ok g c = let held = c.requires.held in let call = c.
     let holds = leaf_again p q leaf.block call.index key held.frame held.frame
     c.is_full.ensures.kept c.is_full.ensures.looked.quiet.adds.numbers.terms held.holds in record {
       says = looks_then_says (view p) (view q) (view r) call.index
-          (Make (map.Put key c.args.value.now)) c.say-then-is_full.result (lent_row None) c.is_full.ensures.looked
-          c.say-then-is_full.ensures.did;
+          (Make (map.Put key c.args.value.now)) c.say-then-is_full.result (lent_row None)
+          c.is_full.ensures.looked c.say-then-is_full.ensures.did;
       holds = record {
         frame = held.frame;
         has = frame_again q r leaf.block held.frame held.frame c.say-then-is_full.ensures.kept
             c.say-then-is_full.ensures.did.once.adds.numbers.terms holds.has;
         one = c.say-then-is_full.ensures.kept.count ∙ holds.one;
       };
+      number = number_stays (view p) leaf.block held.frame held.holds.has.held;
     }
 
 pub insert-requires-clause-held : goal.insert-requires-clause-held
@@ -89,4 +98,10 @@ returns-clause-ok g c = let call = c.args.self.now in let key = call.key.now.tup
       call.index c.is_full.ensures.looked c.in_ok-place.ensures.same.view)
       c.commit_put.ensures.did.says;
   holds = c.commit_put.ensures.did.holds;
+  number = number_later c.args.pass.now c.insert.new.pass c.args.leaf.now.block
+      c.commit_put.ensures.did.holds.frame
+      (ap (λ v. v.held) c.in_ok-place.ensures.same.view ∙ c.is_full.ensures.kept.held)
+      (ap (λ v. v.terms) c.in_ok-place.ensures.same.view
+      ∙ c.is_full.ensures.looked.quiet.adds.numbers.terms)
+      c.commit_put.ensures.did.number;
 }

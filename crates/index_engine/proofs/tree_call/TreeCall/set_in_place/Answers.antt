@@ -7,6 +7,7 @@ use Rattle.forest_world.specs.Held.{shape_of_pass, HasFrame}
 use Rattle.index_engine.specs.Commits.{MakesChange, CanWriteAhead}
 use Rattle.index_engine.proofs.CallLemmas.{can_refuse}
 use Rattle.index_engine.proofs.HoldLemmas.{frame_again, leaf_again}
+use Rattle.index_engine.proofs.KnownLemmas.{number_stays, number_made}
 use Rattle.index_engine.proofs.RowLemmas.{has_key, set_makes}
 use Rattle.index_engine.proofs.TellLemmas.{says_made, says_same, looks_then_says}
 use Rattle.index_engine.proofs.tree_call.TreeCall.set_in_place.Goals as goal
@@ -22,7 +23,7 @@ write_ahead-requires-clause-held g c = let held = c.requires.held in let call = 
       about = refl;
       makes = subst (MakesChange (shape_of_pass p) (map.Set key value) held.known)
           (sym held.next_is)
-          (set_makes (shape_of_pass p) c.args.block call.index key held.known held.holds.leaf _
+          (set_makes (shape_of_pass p) call.index key held.known held.holds.leaf _
           value (held.row.sets value (held.no_longer key held.row.has)));
     })
 
@@ -45,7 +46,7 @@ say_of_set-requires-clause-held g c = let held = c.requires.held in let call = c
     let key = call.key.now.tuple in let b = c.args.block in
     let terms = full.looks.quiet.adds.numbers.terms in
     let holds = leaf_again p q b call.index key held.known held.known full.same terms held.holds in
-    let has = has_key (shape_of_pass q) b call.index key held.known holds.leaf c.args.place
+    let has = has_key (shape_of_pass q) call.index key held.known holds.leaf c.args.place
     held.row in
     can_refuse q b call.index key held.known holds (map.Set key c.args.value.now)
     c.in-Err.field-0.0 (lent_row None)
@@ -70,6 +71,11 @@ returns-in-Ok-clause-did g c = let held = c.requires.held in let call = c.args.s
             (c.rewrite.ensures.set next held.known key held.row.has has);
         one = c.rewrite.ensures.same.count ∙ (did.count ∙ held.holds.one);
       };
+      number = number_made (view p) b held.known held.holds.has.held (shape_of_pass p) change next
+          (subst (MakesChange (shape_of_pass p) change held.known) (sym held.next_is)
+          (set_makes (shape_of_pass p) call.index key held.known held.holds.leaf _
+          c.args.value.now
+          (held.row.sets c.args.value.now (held.no_longer key held.row.has))));
     }
 
 pub returns-in-Err-clause-did : goal.returns-in-Err-clause-did
@@ -88,4 +94,5 @@ returns-in-Err-clause-did g c = let held = c.requires.held in let call = c.args.
             c.say_of_set.ensures.did.once.adds.numbers.terms holds.has;
         one = c.say_of_set.ensures.kept.count ∙ holds.one;
       };
+      number = number_stays (view p) b held.known held.holds.has.held;
     }

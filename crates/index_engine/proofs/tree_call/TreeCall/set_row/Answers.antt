@@ -9,6 +9,7 @@ use Rattle.leaf_rows.specs.Setting.{frame_with}
 use Rattle.index_engine.proofs.CallLemmas.{can_refuse}
 use Rattle.index_engine.proofs.ChangeLemmas.{frame_in_is}
 use Rattle.index_engine.proofs.HoldLemmas.{frame_again, leaf_again}
+use Rattle.index_engine.proofs.KnownLemmas.{number_stays, number_later}
 use Rattle.index_engine.proofs.RowLemmas.{has_key}
 use Rattle.index_engine.proofs.SettingLemmas.{value_there, value_is}
 use Rattle.index_engine.proofs.TellLemmas.{looks_same, looks_then_says}
@@ -45,7 +46,7 @@ say_of_set-requires-clause-held g c = let held = c.requires.held in
     let terms = c.is_full.ensures.looked.quiet.adds.numbers.terms in
     let holds = leaf_again p q b call.index key held.known held.known
     c.is_full.ensures.kept terms held.holds in
-    let has = has_key (shape_of_pass q) b call.index key held.known holds.leaf c.args.place
+    let has = has_key (shape_of_pass q) call.index key held.known holds.leaf c.args.place
     held.row in
     can_refuse q b call.index key held.known holds (map.Set key c.args.value.now)
     c.args.most (lent_row None) refl (ap is_some has.1)
@@ -68,6 +69,7 @@ returns-then-is_full-clause-ok g c = let held = c.requires.held in let call = c.
             c.say_of_set.ensures.did.once.adds.numbers.terms holds.has;
         one = c.say_of_set.ensures.kept.count ∙ holds.one;
       };
+      number = number_stays (view p) b held.known held.holds.has.held;
     }
 
 pub lengthen-requires-clause-held : goal.lengthen-requires-clause-held
@@ -94,4 +96,10 @@ returns-clause-ok g c = let call = c.args.self.now in let key = call.key.now.tup
       call.index c.is_full.ensures.looked c.in_ok-leaf.ensures.same.view)
       c.commit_set.ensures.did.says;
   holds = c.commit_set.ensures.did.holds;
+  number = number_later c.args.pass.now c.lengthen.new.pass c.args.block
+      c.commit_set.ensures.did.holds.frame
+      (ap (λ v. v.held) c.in_ok-leaf.ensures.same.view ∙ c.is_full.ensures.kept.held)
+      (ap (λ v. v.terms) c.in_ok-leaf.ensures.same.view
+      ∙ c.is_full.ensures.looked.quiet.adds.numbers.terms)
+      c.commit_set.ensures.did.number;
 }

@@ -4,7 +4,7 @@ use Rattle.index_law.specs.Meanings.{lent_row}
 use Rattle.index_engine.specs.Changes.{RefusesHolding}
 use Rattle.index_engine.specs.Writes.{write_asked}
 use Rattle.index_engine.specs.Says.{AnswersHolding}
-use Rattle.index_engine.proofs.TellLemmas.{tells_by_leaf}
+use Rattle.index_engine.proofs.TellLemmas.{number_answered, tells_by_leaf}
 use Rattle.index_engine.proofs.WayLemmas.{by_leaf_of_write, went_up, refused_lacks}
 use Rattle.index_engine.proofs.TryLemmas.{grown_ok, grown_err}
 use Rattle.index_engine.proofs.tree_call.TreeCall.try_write.Goals as goal
@@ -20,7 +20,9 @@ returns-in-Ok-clause-ok g c = let call = c.args.self.now in let key = call.key.n
     by_leaf_of_write p p2 call.index key c.args.value.now ask c.in-Ok.told (lent_row None)
     answers.says.placed
     (tells_by_leaf p p0 p1 p2 call.index key leaf c.hold-leaf.ensures.went c.let_go.ensures.gave ask
-    c.in-Ok.told (lent_row None) answers.says)
+    c.in-Ok.told (lent_row None)
+    (number_answered p p0 p1 p2 call.index key leaf c.hold-leaf.ensures.went
+    c.let_go.ensures.gave ask c.in-Ok.told (lent_row None) answers) answers.says)
 
 pub returns-in-NoMemory-clause-err : goal.returns-in-NoMemory-clause-err
 returns-in-NoMemory-clause-err g c = let call = c.args.self.now in
