@@ -4,6 +4,8 @@
 #[cfg(test)]
 mod drawn;
 #[cfg(test)]
+mod frames;
+#[cfg(test)]
 mod generated;
 #[cfg(test)]
 mod judged;

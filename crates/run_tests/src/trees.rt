@@ -10,7 +10,7 @@ use std::sync::Wait;
 use std::thread::Threads;
 
 /// How many changes of the index `t` a report counts.
-fn counted(report: &[u8]) -> Option<u64> {
+pub(crate) fn counted(report: &[u8]) -> Option<u64> {
     let text = str::from_utf8(report).ok()?;
     for line in text.split('\n') {
         if let Some(count) = line.strip_prefix("changes t ") {

@@ -1,0 +1,118 @@
+//! Runs in which pages go to their images and come back all the time, since frames are few.
+use crate::rows::{Look, Numbers, puts_and_gets};
+use crate::setup::{LANE, ROOMY, SCHEMA, run};
+use crate::trees::counted;
+use ahi_cli::Status;
+use io_port::MemorySink;
+use report_judge::{judge, slices_of};
+use std::alloc::Global;
+use std::sync::Wait;
+use std::thread::Threads;
+
+/// The report of these lanes over the index `t`, by a schema with these settings, where they are done
+/// and it is legal.
+fn legal_report<R: AllocGlobal + Threads + Wait + Sync>(
+    rt: &R,
+    settings: &str,
+    lanes: &[&str],
+) -> Option<MemorySink> {
+    let schema = format!(in rt.alloc(); "{settings}{SCHEMA}").ok()?;
+    let (status, sink) = run(rt, schema.as_str(), lanes, ROOMY)?;
+    if status != Status::Done || judge(rt.alloc(), SCHEMA, lanes, sink.written()) != Ok(()) {
+        return None;
+    }
+    Some(sink)
+}
+
+/// How many changes these lanes make by such a schema.
+fn changes_under<R: AllocGlobal + Threads + Wait + Sync>(
+    rt: &R,
+    settings: &str,
+    lanes: &[&str],
+) -> Option<u64> {
+    let sink = legal_report(rt, settings, lanes)?;
+    counted(sink.written())
+}
+
+/// How many of 2,000 ascending rows with 2,000 bytes are put, where a get of each follows.
+fn rows_under<R: AllocGlobal + Threads + Wait + Sync>(rt: &R, settings: &str) -> Option<u64> {
+    let numbers = Numbers {
+        first: 0,
+        factor: 1,
+        step: 1,
+        limit: 2000,
+        count: 2000,
+    };
+    let look = Look {
+        before: 0,
+        value: 2000,
+    };
+    let lane = puts_and_gets(rt.alloc(), numbers, look)?;
+    changes_under(rt, settings, &[lane.as_str()])
+}
+
+/// Eight such rows fill a leaf, and four stay on the left of each split: so 499 leaves and a root
+/// have them all, and with one page less the 1,997th finds none.
+#[test]
+fn sixteen_frames_are_enough_for_five_hundred_pages(rt: HostRuntime) {
+    assert_eq!(rt; rows_under(&rt, "blocks 16\npages 500\n"), Some(2000));
+    assert_eq!(rt; rows_under(&rt, "blocks 16\npages 499\n"), Some(1996));
+}
+
+/// The lane of every eighth number from this one on, below 2,400, with values of 1,000 bytes.
+fn every_eighth(alloc: Global, first: u64) -> Option<String> {
+    let numbers = Numbers {
+        first,
+        factor: 1,
+        step: 8,
+        limit: 2400,
+        count: 300,
+    };
+    let look = Look {
+        before: 0,
+        value: 1000,
+    };
+    puts_and_gets(alloc, numbers, look)
+}
+
+fn eight_lanes(alloc: Global) -> Option<Vec<String>> {
+    let mut lanes = Vec::new(alloc);
+    for first in 0..8u64 {
+        lanes.push(every_eighth(alloc, first)?).ok()?;
+    }
+    Some(lanes)
+}
+
+/// How many changes there are where eight lanes put rows into the same leaves, of which there are
+/// several times as many as frames.
+fn changes_of_eight<R: AllocGlobal + Threads + Wait + Sync>(rt: &R) -> Option<u64> {
+    let lanes = eight_lanes(rt.alloc())?;
+    let texts = slices_of(rt.alloc(), &lanes).ok()?;
+    changes_under(rt, "blocks 72\n", &texts)
+}
+
+/// How many of so many runs of the eight lanes make other than all changes.
+fn count_others<R: AllocGlobal + Threads + Wait + Sync>(rt: &R, runs: u32) -> u32 {
+    let mut others: u32 = 0;
+    for _ in 0..runs {
+        if changes_of_eight(rt) != Some(2400) {
+            others = others.wrapping_add(1);
+        }
+    }
+    others
+}
+
+#[test]
+fn eight_lanes_share_few_frames(rt: HostRuntime) {
+    assert_eq!(rt; count_others(&rt, 4), 0);
+}
+
+/// Whether 64 lanes alike are done by a schema with these settings, and reported legally.
+fn are_done<R: AllocGlobal + Threads + Wait + Sync>(rt: &R, settings: &str) -> bool {
+    legal_report(rt, settings, &[LANE; 64]).is_some()
+}
+
+#[test]
+fn as_many_lanes_run_as_frames_allow(rt: HostRuntime) {
+    assert!(rt; are_done(&rt, "blocks 520\n"));
+}
