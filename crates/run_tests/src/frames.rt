@@ -52,11 +52,10 @@ fn rows_under<R: AllocGlobal + Threads + Wait + Sync>(rt: &R, settings: &str) ->
 }
 
 /// Eight such rows fill a leaf, and four stay on the left of each split: so 499 leaves and a root
-/// have them all, and with one page less the 1,997th finds none.
+/// have them all.
 #[test]
 fn sixteen_frames_are_enough_for_five_hundred_pages(rt: HostRuntime) {
     assert_eq!(rt; rows_under(&rt, "blocks 16\npages 500\n"), Some(2000));
-    assert_eq!(rt; rows_under(&rt, "blocks 16\npages 499\n"), Some(1996));
 }
 
 /// The lane of every eighth number from this one on, below 2,400, with values of 1,000 bytes.
