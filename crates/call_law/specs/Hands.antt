@@ -4,12 +4,13 @@ use Rattle.std.specs.List.{AllByRecursion}
 use mathlib.Core.Option.{some}
 use lib.ListN.{get_elem?}
 use Rattle.latch_law.specs.Rule.{Holds}
-use Rattle.latch_law.specs.Views.{holding}
+use Rattle.latch_law.specs.Views.{holding, knowns}
 use Rattle.forest_law.specs.declared.objects.Frame.{Frame}
 use Rattle.forest_law.specs.declared.objects.Tree.{Tree}
 use Rattle.forest_law.specs.declared.objects.Object.{Object}
 use Rattle.forest_law.specs.declared.objects.Object.TheVariants as object
 use Rattle.forest_law.specs.Numbers.{pool_id, tree_id, frame_id, frames_of}
+use Rattle.forest_law.specs.Outside.{HasNoneOutside}
 use Rattle.call_law.specs.Spoken.{View}
 
 -- it holds the block's frame, which is known to be f
@@ -29,6 +30,10 @@ LacksObject v k = get_elem? v.held k ≡ some None
 abbrev pub HoldsNoFrameBut : View → List ℕ → Type 0
 HoldsNoFrameBut v bs = (c : ℕ) → c < frames_of v.terms.shape → AllByRecursion (λ (b : ℕ). c ≢ b) bs
     → LacksObject v (frame_id v.terms.shape c)
+
+-- no frame that it holds is known to have a page outside the trees
+abbrev pub HoldsNoOutside : View → Type 0
+HoldsNoOutside v = HasNoneOutside v.terms.shape (knowns v.held)
 
 -- it doesn't hold the pool
 abbrev pub HoldsNoPool : View → Type 0

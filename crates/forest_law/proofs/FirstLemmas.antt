@@ -58,7 +58,7 @@ module _ {X : Type 0} (items : List X) (count : ℕ) (made : ℕ → X)
 pub first_pool_is : (sh : Shape) (pool : Pool) → sh.indexes ≤ sh.pages
     → AddsEach [] pool.place.items sh.pages (first_where sh.indexes)
     → AddsEach [] pool.images.items sh.pages (first_image sh)
-    → pool.ages.items ≡ replicate sh.blocks 0 → pool.tick ≡ 0 → IsFirstPool sh pool
+    → pool.ages ≡ replicate sh.blocks 0 → pool.tick ≡ 0 → IsFirstPool sh pool
 first_pool_is sh pool room places images ages tick = record {
   counted = all_counted pool.place.items sh.pages (first_where sh.indexes) places;
   places = λ n. place n (cases_lt n sh.pages);

@@ -1,5 +1,5 @@
 -- A lawful state stays lawful when what is held changes as the law allows.
-use Rattle.std.proofs.Common.{◌≡◌, ◌≢◌, ◌⊎◌, inl, inr, ℕ, ◌<◌, true, [], ◌∷◌, ◌++◌, List, length, set, length-set, sym, ap, subst, ◌∙◌, refl, Option, Some, None}
+use Rattle.std.proofs.Common.{◌≡◌, ◌≢◌, ◌⊎◌, inl, inr, ℕ, ◌<◌, true, [], ◌∷◌, ◌++◌, List, length, set, length-set, sym, ap, subst, ◌∙◌, arith, refl, Option, Some, None}
 use mathlib.Core.List.{map-append}
 use mathlib.Core.Logic.{dite}
 use mathlib.Core.Option.{some, some-injective, some-ne-none}
@@ -18,14 +18,18 @@ use Rattle.map_history.proofs.HistoryLemmas.{map_after-push, lawful-push}
 use Rattle.tree_law.proofs.ContentLemmas.{maps_are_written}
 use Rattle.index_law.specs.Answers.{MadeChange}
 use Rattle.forest_law.specs.Lists.{AreLawfulLists}
-use Rattle.index_law.specs.State.{Entries, changes}
+use Rattle.index_law.specs.State.{Entries, changes, written_in_all}
 use Rattle.forest_law.specs.declared.objects.Object.{Object}
 use Rattle.forest_law.specs.State.{ForestState, list_of, maps_of}
+use Rattle.forest_law.specs.Budget.{ArePaid}
 use Rattle.forest_law.specs.Law.{AreLawfulObjects, IsLawful, Follows, MayFollow}
+use Rattle.forest_law.specs.Outside.{AreOutsideHeld}
 use Rattle.index_law.specs.Rightness.{IsRight}
 use Rattle.forest_law.specs.References.{IsReference}
 use Rattle.forest_law.proofs.ObjectLemmas.{Leads, Stays, Changes}
 use Rattle.forest_law.proofs.KeepingLemmas.{map_allows, objects_stay}
+use Rattle.forest_law.proofs.BudgetKeptLemmas.{written_by, written_in-push, written_in_all-set, budget_lasts}
+use Rattle.forest_law.proofs.OutsideLemmas.{outside_stays}
 
 -- after a step the objects are those before it, with the new values of what is held
 pub objects_after : (name : ℕ) (w w' : ForestState) (us : List (Option Object))
@@ -149,6 +153,20 @@ module _ (name : ℕ) (w w' : ForestState) (law : AreLawfulObjects w.shape w.obj
         w.lists law w'.lists (Some d) f (map_here, map_else) counted
         (ap length lists ∙ length-set w.lists d.0 (xs ++ entry ∷ [])) lawful
 
+    -- the change pays
+    paid_changed : ArePaid w.shape w.objects w.lists → ArePaid w.shape w'.objects w'.lists
+    paid_changed = budget_lasts w.shape w.objects w'.objects (knowns moves.view.held) moves.news
+        leads w.lists law w'.lists (Some d) f (map_here, map_else)
+        (ap written_in_all lists ∙ written_in_all-set w.lists d.0 xs (xs ++ entry ∷ [])
+        (written_by (Some d)) there (written_in-push xs entry))
+
+  -- without a change there is nothing to pay for
+  paid_unchanged : Follows w.shape (knowns moves.view.held) moves.news None → w'.lists ≡ w.lists
+      → ArePaid w.shape w.objects w.lists → ArePaid w.shape w'.objects w'.lists
+  paid_unchanged f lists = budget_lasts w.shape w.objects w'.objects (knowns moves.view.held)
+      moves.news leads w.lists law w'.lists None f (ap maps_of lists)
+      (let same = ap written_in_all lists in omega (arith, same))
+
   unchanged : Follows w.shape (knowns moves.view.held) moves.news None → w'.lists ≡ w.lists
       → AreLawfulObjects w.shape w'.objects w'.lists
   unchanged f lists = objects_stay w.shape w.objects w'.objects (knowns moves.view.held) moves.news
@@ -162,6 +180,37 @@ module _ (name : ℕ) (w w' : ForestState) (law : AreLawfulObjects w.shape w.obj
   objects_lawful (Some d) f is =
       changed d (here (Some d) f) is.0 is.1 (ap (λ (z : ForestState). z.lists) is.3)
 
+  -- so the pages stay within the budget
+  budget_kept : (change : Option (ℕ × MadeChange))
+      → Follows moves.view.terms.shape (knowns moves.view.held) moves.news change
+      → IsChanged name w moves.news change w' → ArePaid w.shape w.objects w.lists
+      → ArePaid w.shape w'.objects w'.lists
+  budget_kept None f is = paid_unchanged (here None f) (ap (λ (z : ForestState). z.lists) is)
+  budget_kept (Some d) f is =
+      paid_changed d (here (Some d) f) is.0 is.1 (ap (λ (z : ForestState). z.lists) is.3)
+
+module _ (name : ℕ) (w w' : ForestState) (law : IsLawful w) (below : name < w.passes)
+    (moves : Moves IsRight IsReference MayFollow name w w') where
+  -- the objects that the new values make
+  over : Leads w.objects (overlay moves.news w.objects) (knowns moves.view.held) moves.news
+  over = subst (λ z. Leads w.objects z (knowns moves.view.held) moves.news) (laid name w w' moves)
+      (step_leads name w w' moves)
+
+  outside : (change : Option (ℕ × MadeChange)) (lists : List Entries)
+      → Follows moves.view.terms.shape (knowns moves.view.held) moves.news change
+      → AreOutsideHeld (record w { objects = overlay moves.news w.objects; lists = lists })
+  outside change lists f = outside_stays w name (overlay moves.news w.objects) lists
+      (knowns moves.view.held) moves.news change law below moves.held moves.are_news over
+      (here name w w' law.objects moves change f)
+
+  -- pages outside the trees are held after the step
+  outside_lawful : (change : Option (ℕ × MadeChange))
+      → Follows moves.view.terms.shape (knowns moves.view.held) moves.news change
+      → IsChanged name w moves.news change w' → AreOutsideHeld w'
+  outside_lawful None f is = subst AreOutsideHeld (sym is) (outside None w.lists f)
+  outside_lawful (Some d) f is = subst AreOutsideHeld (sym is.3)
+      (outside (Some d) (set w.lists d.0 (is.0 ++ record { change = d.1; by = name } ∷ [])) f)
+
 -- a step that follows leads from a lawful state to a lawful one
 pub follow_lemma : (name : ℕ) (w w' : ForestState) → IsLawful w → name < w.passes
     → Moves IsRight IsReference MayFollow name w w' → IsLawful w'
@@ -169,4 +218,9 @@ follow_lemma name w w' law below moves = record {
   objects = subst (λ s. AreLawfulObjects s w'.objects w'.lists)
       (sym (shape_after name w w' moves.news moves.change moves.is_changed))
       (objects_lawful name w w' law.objects moves moves.change moves.follow moves.is_changed);
+  budget = subst (λ s. ArePaid s w'.objects w'.lists)
+      (sym (shape_after name w w' moves.news moves.change moves.is_changed))
+      (budget_kept name w w' law.objects moves moves.change moves.follow moves.is_changed
+      law.budget);
+  outside = outside_lawful name w w' law below moves moves.change moves.follow moves.is_changed;
 }

@@ -1,5 +1,5 @@
 -- What a lawful state tells of the page in a frame.
-use Rattle.std.proofs.Common.{◌≡◌, ℕ, ◌<◌, Bool, sym, ap, ◌∙◌, arith, refl, Option, Some, None}
+use Rattle.std.proofs.Common.{◌≡◌, ℕ, ◌<◌, Bool, List, sym, ap, ◌∙◌, arith, refl, Option, Some, None}
 use mathlib.Core.Option as maybe
 use lib.ListN.{get_elem?}
 use Rattle.key_tuple.specs.KeyPlace.{KeyPlace, IsCut}
@@ -7,29 +7,38 @@ use Rattle.list_facts.proofs.Places.{same_some, inside}
 use Rattle.index_page.specs.Page.{PageRows}
 use Rattle.tree_law.specs.TreeShape.{Outline, tag_of, map_tag, root_tag, HasCut}
 use Rattle.tree_law.specs.Pages.{Page, outline, tree_page, forest}
+use Rattle.tree_law.specs.PageBudget.{HasLimit}
 use Rattle.tree_law.proofs.PageRowLemmas.{tree_is}
 use Rattle.tree_law.proofs.WholeLemmas.{in_tree}
+use Rattle.index_law.specs.Shape.{Shape}
+use Rattle.index_law.specs.State.{Entries}
 use Rattle.forest_law.specs.declared.objects.Frame.{Frame}
 use Rattle.forest_law.specs.declared.objects.Where.{Where}
+use Rattle.forest_law.specs.declared.objects.Object.{Object}
 use Rattle.forest_law.specs.State.{ForestState, page_within, page_if, page_of, where_at, where_of, places, page_where, pages_of, heights_of}
 use Rattle.forest_law.specs.Objects.{IsFrameOf}
-use Rattle.forest_law.specs.Law.{IsLawful}
+use Rattle.forest_law.specs.Law.{AreLawfulObjects, IsLawful}
 use Rattle.forest_law.specs.FramePages.{TellsPage, FramesTellPages, FramesHaveOnePage, HasCutPage, CutsHavePages, RootsHaveCuts}
 use Rattle.forest_law.proofs.ObjectLemmas.{same_block}
 
 -- each page has a number below the shape's
-pub number_below : (w : ForestState) → IsLawful w → (n : ℕ) (page : Page)
-    → pages_of w.shape w.objects n ≡ Some page → n < w.shape.pages
-number_below w law n page is = pick (get_elem? (places w.objects) n) refl
+pub numbers_below : (sh : Shape) (objects : List Object) (lists : List Entries)
+    → AreLawfulObjects sh objects lists → HasLimit sh.pages (pages_of sh objects)
+numbers_below sh objects lists law n page is = pick (get_elem? (places objects) n) refl
   where
     none_is_not : None ≡ Some page → ⊥
     none_is_not e = absurd cc
 
-    pick : (o : maybe.Option Where) → get_elem? (places w.objects) n ≡ o → n < w.shape.pages
+    pick : (o : maybe.Option Where) → get_elem? (places objects) n ≡ o → n < sh.pages
     pick maybe.none e = absurd
-        (none_is_not (sym (ap (λ o. page_where w.shape w.objects n (where_of o)) e) ∙ is))
-    pick (maybe.some at) e = let room = inside (places w.objects) n at e in
-        let counted = law.objects.counted.places in omega (arith, room, counted)
+        (none_is_not (sym (ap (λ o. page_where sh objects n (where_of o)) e) ∙ is))
+    pick (maybe.some at) e = let room = inside (places objects) n at e in
+        let counted = law.counted.places in omega (arith, room, counted)
+
+-- so it is in a lawful state
+pub number_below : (w : ForestState) → IsLawful w → (n : ℕ) (page : Page)
+    → pages_of w.shape w.objects n ≡ Some page → n < w.shape.pages
+number_below w law n page is = numbers_below w.shape w.objects w.lists law.objects n page is
 
 module _ (w : ForestState) (law : IsLawful w) where
   -- the page in a frame is a page of the state

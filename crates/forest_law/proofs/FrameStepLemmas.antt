@@ -1,5 +1,5 @@
 -- Steps of held frames and trees that are one move follow.
-use Rattle.std.proofs.Common.{◌≡◌, ◌≢◌, ◌⊎◌, inl, inr, ℕ, [], ◌∷◌, List, sym, ap, subst, ◌∙◌, arith, refl, Option, Some, map}
+use Rattle.std.proofs.Common.{◌≡◌, ◌≢◌, ◌⊎◌, inl, inr, ℕ, [], ◌∷◌, List, sym, ap, subst, ◌∙◌, arith, refl, Option, Some}
 use Rattle.std.specs.List.{AllByRecursion}
 use Rattle.std.proofs.lemmas.Bool.{cases_eq}
 use mathlib.Core.Option.{some, some-injective}
@@ -27,25 +27,15 @@ use Rattle.forest_law.specs.Turns.{Turn, HasPage, IsTurn, page_changes}
 use Rattle.forest_law.specs.Placed.{KeepsPage, TurnsPage, PoolRests}
 use Rattle.forest_law.specs.Trees.{HeightsLead, MapsLead, IsStep}
 use Rattle.forest_law.specs.Lists.{MayChange}
+use Rattle.forest_law.specs.Budget.{Pays}
 use Rattle.forest_law.specs.Clocked.{IsLaterObject}
+use Rattle.forest_law.specs.Outside.{KeepsOneOutside}
 use Rattle.forest_law.specs.Law.{Follows}
 use Rattle.forest_law.specs.Steps.{Rests, FrameStep, TreeStep, ClockSuits, MakesFrameStep, MakesTreeStep, IsNoFrameOf, IsNoTreeOf, MakeSteps}
 use Rattle.forest_law.proofs.ObjectLemmas.{same_frame, same_block}
+pub use Rattle.forest_law.proofs.TurnLemmas.{turn_of, turns_of}
 use Rattle.forest_law.proofs.RestLemmas.{rests_kind, rests_later, step_later}
-
--- the turn of a frame's page
-abbrev pub turn_of : FrameStep → Turn
-turn_of s = record {
-  number = s.number;
-  from = InFrame s.hand.block;
-  to = InFrame s.hand.block;
-  old = Some s.was;
-  new = Some s.is;
-}
-
--- the turns of some steps
-abbrev pub turns_of : List FrameStep → List Turn
-turns_of steps = map turn_of steps
+use Rattle.forest_law.proofs.OneOutsideLemmas.{OutsideSuits, turns_suit, still_framed, one_stays}
 
 -- a number is that of a frame of the steps, or of none
 pub frame_or : (sh : Shape) (k : ℕ) (steps : List FrameStep)
@@ -233,13 +223,22 @@ module _ (sh : Shape) (before news : List (Option Object)) (steps : List FrameSt
     ordered ss a.1,
   )
 
+  -- one page outside the trees is in hand still
+  outside : OutsideSuits sh before steps → KeepsOneOutside sh before news (turns_of steps)
+  outside suits = record {
+    one = one_stays sh before news kinds (turns_of steps) (each_turn steps make.each) frames
+        (turns_suit sh before steps suits);
+    framed = still_framed (turns_of steps) (still steps);
+  }
+
   -- steps of held frames and trees that are one move follow
   pub frames_follow : (change : Option (ℕ × MadeChange)) → AllByRecursion ClockSuits steps
       → ((heights heights' : ℕ → ℕ) → HeightsLead before news heights heights'
       → (maps maps' : ℕ → Map) → MapsLead change maps maps'
       → IsStep heights heights' maps maps' (page_changes (turns_of steps)))
-      → MayChange sh before change → Follows sh before news change
-  frames_follow change suit pages allowed = record {
+      → MayChange sh before change → Pays sh change (page_changes (turns_of steps))
+      → OutsideSuits sh before steps → Follows sh before news change
+  frames_follow change suit pages allowed pays suits = record {
     kinds = kinds;
     turns = turns_of steps;
     each = each_turn steps make.each;
@@ -249,4 +248,6 @@ module _ (sh : Shape) (before news : List (Option Object)) (steps : List FrameSt
     order = ordered steps make.each;
     allowed = allowed;
     clocks = clocks suit;
+    pays = pays;
+    outside = outside suits;
   }

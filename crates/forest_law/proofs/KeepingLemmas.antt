@@ -26,13 +26,13 @@ use Rattle.forest_law.proofs.TreesLemmas.{heights_lead}
 use Rattle.forest_law.proofs.PlacesLemmas.{CountsLead}
 use Rattle.forest_law.proofs.PlacedLemmas.{places_counted, pages_lead, placed_stay}
 
+-- the maps rise
+pub ascend : (lists : List Entries) (i : ℕ) → Ascends (maps_of lists i)
+ascend lists i = map_after-ascends (changes (list_of (get_elem? lists i)))
+
 module _ (sh : Shape) (xs ys : List Object) (before news : List (Option Object))
     (leads : Leads xs ys before news) (lists : List Entries)
     (law : AreLawfulObjects sh xs lists) where
-  -- the maps rise
-  ascend : (i : ℕ) → Ascends (maps_of lists i)
-  ascend i = map_after-ascends (changes (list_of (get_elem? lists i)))
-
   -- the map allows a change that a held leaf allows
   pub map_allows : (i : ℕ) (c : MapChange) → IsOnLeaf sh before i c
       → is_allowed (maps_of lists i) c ≡ true
@@ -52,7 +52,8 @@ module _ (sh : Shape) (xs ys : List Object) (before news : List (Option Object))
   module _ (lists' : List Entries) (change : Option (ℕ × MadeChange))
       (f : Follows sh before news change)
       (maps_lead : MapsLead change (maps_of lists) (maps_of lists')) where
-    lead : LeadTo (pages_of sh xs) (pages_of sh ys) (page_changes f.turns)
+    -- the pages become what the turns make of them
+    pub lead : LeadTo (pages_of sh xs) (pages_of sh ys) (page_changes f.turns)
     lead = pages_lead sh xs ys before news leads law.kinds f.kinds f.turns law.placed f.each f.frames
         f.pool
 
@@ -77,7 +78,7 @@ module _ (sh : Shape) (xs ys : List Object) (before news : List (Option Object))
           | inl rests ↦ pages_rest rests.0 rests.1 rests.2
           | inr move ↦
               moves_keep sh.indexes (fields_for sh) (heights_of xs) (heights_of ys) (maps_of lists)
-              (maps_of lists') ascend (pages_of sh xs) (pages_of sh ys)
+              (maps_of lists') (ascend lists) (pages_of sh xs) (pages_of sh ys)
               (page_changes f.turns) lead move f.order law.pages
         ]
 

@@ -1,5 +1,7 @@
 -- The root of a space that was just opened is restored, and a put on it leads to a lawful state.
-use Rattle.std.proofs.Common.{◌≡◌, ◌≢◌, ◌⊎◌, inl, inr, ℕ, zero, suc, ◌+◌, ◌<◌, [], ◌∷◌, List, length, true, refl, sym, ap, subst, arith, Option, Some, None}
+use Rattle.std.specs.declared.alloc.Global.{Global}
+use Rattle.std.specs.declared.vec.Vec.{Vec}
+use Rattle.std.proofs.Common.{◌≡◌, ◌≢◌, ◌⊎◌, inl, inr, ℕ, zero, suc, ◌+◌, ◌<◌, [], ◌∷◌, List, length, set, true, false, refl, sym, ap, subst, ◌∙◌, arith, Option, Some, None}
 use mathlib.Core.Option.{some, some-injective, some-ne-none}
 use lib.ListN.{get_elem?}
 use Rattle.key_tuple.specs.Order.{FieldList}
@@ -10,7 +12,7 @@ use Rattle.map_history.specs.Map.{AreLawful}
 use Rattle.map_history.specs.Report.{Columns}
 use Rattle.map_history.proofs.HistoryLemmas.{lawful-none, lawful-push}
 use Rattle.index_page.specs.Rows.{Bytes, Row, placed_row}
-use Rattle.tree_law.specs.Pages.{Page, first_page}
+use Rattle.tree_law.specs.Pages.{Page, first_page, is_own}
 use Rattle.index_law.specs.Answers.{MadeChange}
 use Rattle.forest_law.specs.Lists.{AreLawfulLists}
 use Rattle.forest_law.specs.OnePut.{list_with}
@@ -23,19 +25,37 @@ use Rattle.forest_law.specs.declared.objects.Pool.{Pool}
 use Rattle.forest_law.specs.declared.objects.Where.TheVariants.{InFrame}
 use Rattle.forest_law.specs.declared.objects.Object.{Object}
 use Rattle.forest_law.specs.declared.objects.Object.TheVariants as object
-use Rattle.forest_law.specs.State.{where_of, image_of, fields_for, maps_of}
+use Rattle.forest_law.specs.State.{where_of, image_of, page_where, pages_of, fields_for, maps_of}
 use Rattle.forest_law.specs.Objects.{Becomes, IsFrameOf}
+use Rattle.forest_law.specs.Budget.{ArePaid}
 use Rattle.forest_law.specs.Law.{AreLawfulObjects, Follows}
 use Rattle.forest_law.specs.Opening.{empty_image, first_frame, first_tree, IsFirstPool, AreFirstObjects}
 use Rattle.forest_law.specs.Steps.{InHand, frame_step, Rests, MakeSteps}
 use Rattle.forest_law.specs.RowSteps.{ChangesLeaf}
 use Rattle.forest_law.specs.PoolSteps.{RestoresPage}
-use Rattle.forest_law.specs.OnePut.{one_index, put_of, pool_after, root_before, root_after, pool_in_hand, frame_in_hand, objects_with, OnePutIsLawful}
+use Rattle.forest_law.specs.OnePut.{one_index, put_of, root_before, root_after, pool_in_hand, frame_in_hand, objects_with, state_after, OnePutIsLawful}
 use Rattle.forest_law.proofs.ObjectLemmas.{Stays, Changes, Leads}
 use Rattle.forest_law.proofs.KeepingLemmas.{objects_stay}
-use Rattle.forest_law.proofs.OpeningLemmas.{first_lawful}
+use Rattle.forest_law.proofs.BudgetKeptLemmas.{budget_lasts}
+use Rattle.forest_law.proofs.OpeningLemmas.{first_lawful, first_paid}
+use Rattle.forest_law.proofs.FirstLemmas.{first_free}
+use Rattle.forest_law.proofs.HolderLemmas.{none_outside}
 use Rattle.forest_law.proofs.RowStepLemmas.{row_follows}
 use Rattle.forest_law.proofs.PoolStepLemmas.{restores_follows}
+
+-- the same items but for one, which is another
+abbrev with_item : {X : Type 0} → Vec X Global → ℕ → X → Vec X Global
+with_item xs n x = record xs {
+  items = set xs.items n x;
+  ok = (xs.ok.0 ∙ sym (length-set xs.items n x), xs.ok.1);
+}
+
+-- the pool after the root was restored to the frame of block 0
+abbrev pool_after : Pool → Pool
+pool_after pool = record pool {
+  place = with_item pool.place 0 (InFrame 0);
+  images = with_item pool.images 0 None;
+}
 
 module _ (key : FieldList) (pool : Pool) (first : IsFirstPool (one_index (length key)) pool) where
   abbrev shape : Shape
@@ -91,6 +111,7 @@ module _ (key : FieldList) (pool : Pool) (first : IsFirstPool (one_index (length
     stored = first.images 0;
     unstored = ap image_of (set_here pool.images.items 0 None one_image);
     had = record { number = refl; is = refl };
+    tree = refl;
     empty = refl;
     has = record { rows = _; paged = refl; number = refl; is = refl };
     order = record { fields = refl; keys = tt; low = tt; high = tt; bodies = tt; places = tt };
@@ -169,6 +190,11 @@ module _ (key : FieldList) (pool : Pool) (first : IsFirstPool (one_index (length
   pub restored_lawful : AreLawfulObjects shape after ([] ∷ [])
   restored_lawful = objects_stay shape opening after known restored leads_then ([] ∷ [])
       opening_lawful ([] ∷ []) None restore_follows refl refl refl opening_lawful.lists
+
+  -- and its pages are within the budget
+  pub restored_paid : ArePaid shape after ([] ∷ [])
+  restored_paid = budget_lasts shape opening after known restored leads_then ([] ∷ [])
+      opening_lawful ([] ∷ []) None restore_follows refl refl (first_paid shape opening firsts)
 
 module _ (key : FieldList) (value : List ℕ) where
   abbrev sh : Shape
@@ -309,10 +335,39 @@ module _ (key : FieldList) (value : List ℕ) where
           (restored_lawful key pool first) new_lists (Some change) put_follows
           (refl, maps_else) refl refl lists_lawful
 
+      objects_paid : ArePaid sh ys new_lists
+      objects_paid = budget_lasts sh xs ys before news leads old_lists
+          (restored_lawful key pool first) new_lists (Some change) put_follows
+          (refl, maps_else) refl (restored_paid key pool first)
+
+      -- the root is the one page, and it is of the trees
+      no_outside : (n : ℕ) (page : Page) → pages_of sh ys n ≡ Some page
+          → is_own n page.prev ≡ false
+      no_outside zero page is = ap (λ (p : Page). is_own zero p.prev)
+          (sym (same_some (record root { rows = row ∷ [] }) page
+          (sym (ap (λ o. page_where sh ys 0 (where_of o))
+          (set_here pool.place.items 0 (InFrame 0) (one_place key pool first))) ∙ is)))
+      no_outside (suc n) page is = absurd (none_is_some (sym (ap (page_where sh ys (suc n))
+          (ap where_of (set_else pool.place.items 0 (suc n) (InFrame 0) (λ e. omega (arith, e)))
+          ∙ (first.places (suc n) ∙ first_free 1 (suc n) (omega arith)))) ∙ is))
+        where
+          none_is_some : None ≡ Some page → ⊥
+          none_is_some e = absurd cc
+
 pub one_put_is_lawful : OnePutIsLawful
 one_put_is_lawful = record {
-  restores = λ pool key first. restore_follows key pool first;
+  restores = λ pool key first. record {
+    now = pool_after pool;
+    place = refl;
+    images = refl;
+    ages = refl;
+    follows = restore_follows key pool first;
+    lawful = λ value columns latches most passes. record {
+      objects = objects_lawful key value columns pool first;
+      budget = objects_paid key value columns pool first;
+      outside = none_outside (state_after (pool_after pool) key value columns latches most passes)
+          (no_outside key value columns pool first);
+    };
+  };
   follows = λ key value columns. put_follows key value columns;
-  lawful = λ pool key value columns latches most passes first.
-      record { objects = objects_lawful key value columns pool first };
 }

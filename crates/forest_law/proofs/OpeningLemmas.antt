@@ -10,7 +10,8 @@ use Rattle.list_facts.proofs.Places.{inside, same_some, replicate_is}
 use Rattle.map_history.specs.Map.{AreLawful, map_after}
 use Rattle.map_history.proofs.HistoryLemmas.{lawful-none}
 use Rattle.index_page.specs.Page.{PageRows}
-use Rattle.tree_law.specs.Pages.{AreLawfulPages, first_page, first_pages}
+use Rattle.latch_law.specs.Opening.{opened}
+use Rattle.tree_law.specs.Pages.{Page, AreLawfulPages, first_page, first_pages, is_own}
 use Rattle.tree_law.proofs.OpeningLemmas.{opening_lawful}
 use Rattle.index_law.specs.Shape.{Shape}
 use Rattle.index_law.specs.State.{Entries, changes}
@@ -23,9 +24,12 @@ use Rattle.forest_law.specs.Numbers.{tree_id, frame_id, frames_of}
 use Rattle.forest_law.specs.State.{page_stored, places_of, images_of, ages_of, image_at, images, height_of, where_at, places, page_where, pages_of, heights_of, list_of, maps_of, fields_for}
 use Rattle.forest_law.specs.Objects.{IsFrameOf}
 use Rattle.forest_law.specs.Placed.{IsImaged}
+use Rattle.forest_law.specs.Budget.{ArePaid}
 use Rattle.forest_law.specs.Law.{AreLawfulObjects}
 use Rattle.forest_law.specs.Opening.{empty_image, first_image, first_frame, first_tree, AreFirstObjects, ForestsOpenLawfully}
 use Rattle.forest_law.proofs.ObjectLemmas.{same_frame}
+use Rattle.forest_law.proofs.BudgetKeptLemmas.{budget_opens}
+use Rattle.forest_law.proofs.HolderLemmas.{none_outside}
 
 module _ (sh : Shape) (objects : List Object)
     (first : AreFirstObjects sh objects) where
@@ -187,6 +191,30 @@ module _ (sh : Shape) (objects : List Object)
         (sym (fun_ext pages_are)) (opening_lawful (fields_for sh) sh.indexes)));
   }
 
+  -- and the pages are within the budget
+  pub first_paid : ArePaid sh objects (replicate sh.indexes [])
+  first_paid = budget_opens sh objects pages_are
+
+  -- no page is outside the trees
+  no_outside : (n : ℕ) (page : Page) → pages_of sh objects n ≡ Some page
+      → is_own n page.prev ≡ false
+  no_outside n page is = pick (cases_lt n sh.indexes)
+    where
+      none_is_some : None ≡ Some page → ⊥
+      none_is_some e = absurd cc
+
+      pick : (n < sh.indexes) ⊎ (sh.indexes ≤ n) → is_own n page.prev ≡ false
+      pick (inl low) = ap (λ (p : Page). is_own n p.prev)
+          (sym (same_some (first_page (fields_for sh) n) page
+          (sym (ap (λ b. cond b (Some (first_page (fields_for sh) n)) None) (is_below n low))
+          ∙ (sym (pages_are n) ∙ is))))
+      pick (inr most) = absurd (none_is_some
+          (sym (ap (λ b. cond b (Some (first_page (fields_for sh) n)) None) (is_beyond n most))
+          ∙ (sym (pages_are n) ∙ is)))
+
 pub opens_lawfully : ForestsOpenLawfully
-opens_lawfully sh objects most passes fields room first =
-    record { objects = first_lawful sh objects first fields }
+opens_lawfully sh objects most passes fields room first = record {
+  objects = first_lawful sh objects first fields;
+  budget = first_paid sh objects first;
+  outside = none_outside (opened sh objects sh.indexes most passes) (no_outside sh objects first);
+}

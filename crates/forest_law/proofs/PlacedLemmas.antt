@@ -35,17 +35,17 @@ module _ (sh : Shape) (xs ys : List Object) (before news : List (Option Object))
     → KeepsPage turns b x y ⊎ TurnsPage turns b x y)
     (pool : PlacesStay before news turns ⊎ PlacesTurn before news turns) where
   -- what the places say of a turn
-  abbrev Placing : Turn → Type 0
+  abbrev pub Placing : Turn → Type 0
   Placing = IsPlacedBy sh xs ys before news leads kinds keeps turns placed each
 
-  lead : PlacesLead sh xs ys before news leads kinds keeps turns placed each
+  pub lead : PlacesLead sh xs ys before news leads kinds keeps turns placed each
   lead = places_lead sh xs ys before news leads kinds keeps turns placed each pool
 
   pub places_counted : CountsLead sh xs ys before news leads kinds keeps turns placed each
   places_counted = lead.counted
 
   -- the turn of a page, as it is seen and placed
-  turn_at : (n : ℕ) (t : IsTurned turns n) → IsTurn sh before news t.turn × Placing t.turn
+  pub turn_at : (n : ℕ) (t : IsTurned turns n) → IsTurn sh before news t.turn × Placing t.turn
   turn_at n t = each_in (λ (t : Turn). IsTurn sh before news t × Placing t) turns
       (each_both (IsTurn sh before news) Placing turns each lead.turned) t.turn t.among
 

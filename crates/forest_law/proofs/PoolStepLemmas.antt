@@ -1,11 +1,11 @@
 -- A page comes to a frame and goes from it: one outside the trees, and one to and from its image.
-use Rattle.std.proofs.Common.{◌≡◌, ◌≢◌, ◌⊎◌, inl, inr, ℕ, [], ◌∷◌, List, sym, ap, subst, ◌∙◌, arith, refl, Option, Some, None}
+use Rattle.std.proofs.Common.{◌≡◌, ◌≢◌, ◌⊎◌, inl, inr, ℕ, false, [], ◌∷◌, List, sym, ap, subst, ◌∙◌, arith, refl, Option, Some, None}
 use Rattle.std.proofs.lemmas.Bool.{cases_eq}
 use Rattle.list_facts.proofs.Places.{same_some}
 use Rattle.map_history.specs.Map.{Map}
 use Rattle.index_page.specs.Page.{PageRows}
 use Rattle.index_page.proofs.PartLemmas.{same_rows}
-use Rattle.tree_law.specs.Pages.{Page, IsOrderly}
+use Rattle.tree_law.specs.Pages.{Page, is_own, IsOrderly}
 use Rattle.tree_law.specs.PageMoves.{IsMove, Outside, Rearrange}
 use Rattle.clock_law.specs.ModifyClock.{GuardStays, IsLater}
 use Rattle.clock_law.proofs.LaterLemmas.{later_itself, rises_later, stays_later}
@@ -25,13 +25,17 @@ use Rattle.forest_law.specs.Turns.{Turn, HasPage, IsSeen, IsTurn, page_changes}
 use Rattle.forest_law.specs.Placed.{KeepsPage, TurnsPage}
 use Rattle.forest_law.specs.Trees.{HeightsLead, TreeTurns, TreeRests}
 use Rattle.forest_law.specs.Clocked.{IsLaterObject}
+use Rattle.forest_law.specs.Budget.{Pays}
 use Rattle.forest_law.specs.Law.{Follows}
 use Rattle.forest_law.specs.Steps.{Rests, InHand, ClockStands}
 use Rattle.forest_law.specs.PoolSteps.{PoolStep, BringsPage, TakesPage, EvictsPage, RestoresPage}
 use Rattle.forest_law.specs.StepLaws.{PagesComeAndGo}
 use Rattle.forest_law.proofs.ObjectLemmas.{same_frame, same_block, not_tree_frame}
 use Rattle.forest_law.proofs.RestLemmas.{rests_kind, rests_later}
+use Rattle.forest_law.proofs.PlacesLemmas.{not_image}
+use Rattle.forest_law.proofs.OneOutsideLemmas.{AddNoneOutside, OnlyOutside, not_outside, one_stays}
 use Rattle.forest_law.proofs.FrameStepLemmas.{one_before, one_after, same_becomes}
+use Rattle.forest_law.proofs.PayingLemmas.{outside_is_paid, rearrange_is_paid}
 use mathlib.Core.Path.{fun_ext}
 
 not_in : (b : ℕ) → Free ≡ InFrame b → ⊥
@@ -42,6 +46,12 @@ from_image b e = absurd cc
 
 none_is : {A : Type 0} (x : A) → None ≡ Some x → ⊥
 none_is x e = absurd cc
+
+-- a page of the trees is one, whatever its name
+of_trees : (n : ℕ) (p : Page) → is_own n p.prev ≡ false → (page : Page) → Some p ≡ Some page
+    → is_own n page.prev ≡ false
+of_trees n p tree page e =
+    ap (λ (z : Page). is_own n z.prev) (sym (same_some p page e)) ∙ tree
 
 module _ (sh : Shape) (before news : List (Option Object)) (number : ℕ)
     (hand : InHand) (old new : Pool) (s : PoolStep sh before news number hand old new) where
@@ -128,6 +138,10 @@ module _ (sh : Shape) (before news : List (Option Object)) (number : ℕ)
         → IsMove h h' maps maps' (page_changes (turn from to was is ∷ []))
     order : (page : Page) → is ≡ Some page → IsOrderly (fields_for sh) page
     later : IsLater (mark_of hand.old) (mark_of hand.new)
+    pays : Pays sh None (page_changes (turn from to was is ∷ []))
+    outside : AddNoneOutside (turn from to was is ∷ [])
+        ⊎ OnlyOutside sh before (turn from to was is ∷ [])
+    tree : to ≡ Image → (page : Page) → is ≡ Some page → is_own number page.prev ≡ false
 
   -- such a step follows
   turn_follows : (from to : Where) (was is : Option Page) → TurnsAlone from to was is
@@ -150,6 +164,12 @@ module _ (sh : Shape) (before news : List (Option Object)) (number : ℕ)
     order = (t.order, tt);
     allowed = tt;
     clocks = clocks t.later;
+    pays = t.pays;
+    outside = record {
+      one = one_stays sh before news kinds (turn from to was is ∷ []) (t.seen, tt)
+          (frames_beside (turn from to was is) t.away t.frame) t.outside;
+      framed = (t.tree, tt);
+    };
   }
 
   -- the page of a frame has the turn's number
@@ -213,6 +233,12 @@ module _ (sh : Shape) (before news : List (Option Object)) (number : ℕ)
   rearranged page h h' heights maps maps' same = Rearrange number
       (record { page = page; rows = page.rows; same = same_rows page.rows }) heights same
 
+  -- and adds nothing
+  rearranged_is_paid : (page : Page)
+      → Pays sh None (record { number = number; old = Some page; new = Some page } ∷ [])
+  rearranged_is_paid page = rearrange_is_paid sh number
+      (record { page = page; rows = page.rows; same = same_rows page.rows })
+
 -- a page that comes follows
 pub brings_follows : (sh : Shape) (before news : List (Option Object)) → BringsPage sh before news
     → Follows sh before news None
@@ -233,6 +259,14 @@ brings_follows sh before news br = turn_follows sh before news br.number br.hand
           (record { old = None; new = Some br.page; was = tt; is = br.outside }) heights same;
       order = λ page e. subst (IsOrderly (fields_for sh)) (same_some br.page page e) br.order;
       later = comes_later sh before news br.number br.hand br.old br.new br.step br.clock br.empty;
+      pays = outside_is_paid sh br.number
+          (record { old = None; new = Some br.page; was = tt; is = br.outside });
+      outside = inr (record {
+        none = br.alone;
+        number = br.number;
+        each = ((λ page e own. refl), tt);
+      });
+      tree = λ to. absurd (not_image br.hand.block to);
     })
 
 -- a page that goes follows
@@ -255,6 +289,10 @@ takes_follows sh before news tk = turn_follows sh before news tk.number tk.hand 
           (record { old = Some tk.page; new = None; was = tk.outside; is = tt }) heights same;
       order = λ page e. absurd (none_is page e);
       later = rises_later (mark_of tk.hand.old) (mark_of tk.hand.new) tk.clock;
+      pays = outside_is_paid sh tk.number
+          (record { old = Some tk.page; new = None; was = tk.outside; is = tt });
+      outside = inl ((λ page e. absurd (none_is page e)), tt);
+      tree = λ to page e. absurd (none_is page e);
     })
 
 -- a page that goes to its image follows
@@ -286,6 +324,13 @@ evicts_follows sh before news ev = turn_follows sh before news ev.number ev.hand
       move = rearranged sh before news ev.number ev.hand ev.old ev.new ev.step ev.page;
       order = λ page e. subst (IsOrderly (fields_for sh)) (same_some ev.page page e) ev.order;
       later = rises_later (mark_of ev.hand.old) (mark_of ev.hand.new) ev.clock;
+      pays = rearranged_is_paid sh before news ev.number ev.hand ev.old ev.new ev.step ev.page;
+      outside = inl (
+        (λ page e. not_outside ev.number page.prev
+            (of_trees ev.number ev.page ev.tree page e)),
+        tt,
+      );
+      tree = λ to. of_trees ev.number ev.page ev.tree;
     })
 
 -- a page that comes from its image follows
@@ -316,6 +361,13 @@ restores_follows sh before news re = turn_follows sh before news re.number re.ha
       move = rearranged sh before news re.number re.hand re.old re.new re.step re.page;
       order = λ page e. subst (IsOrderly (fields_for sh)) (same_some re.page page e) re.order;
       later = comes_later sh before news re.number re.hand re.old re.new re.step re.clock re.empty;
+      pays = rearranged_is_paid sh before news re.number re.hand re.old re.new re.step re.page;
+      outside = inl (
+        (λ page e. not_outside re.number page.prev
+            (of_trees re.number re.page re.tree page e)),
+        tt,
+      );
+      tree = λ to. of_trees re.number re.page re.tree;
     })
 
 pub pages_come_and_go : PagesComeAndGo

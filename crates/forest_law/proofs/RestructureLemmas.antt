@@ -1,5 +1,5 @@
 -- Splits, merges, raises, lifts and rearrangements in hand follow.
-use Rattle.std.proofs.Common.{◌≡◌, ℕ, suc, inl, inr, false, [], ◌∷◌, ◌++◌, List, sym, ap, subst, ◌∙◌, refl, Option, Some, None}
+use Rattle.std.proofs.Common.{◌≡◌, ℕ, suc, inl, inr, true, false, [], ◌∷◌, ◌++◌, List, sym, ap, subst, ◌∙◌, refl, Option, Some, None}
 use Rattle.std.specs.List.{AllByRecursion}
 use Rattle.index_page.specs.Rows.{Row}
 use Rattle.tree_law.specs.Pages.{Page, is_own}
@@ -10,12 +10,15 @@ use Rattle.clock_law.proofs.LaterLemmas.{keys_between, rows_stay, neighbour_stay
 use Rattle.index_law.specs.Shape.{Shape}
 use Rattle.forest_law.specs.declared.objects.Object.{Object}
 use Rattle.forest_law.specs.Turns.{page_changes}
+use Rattle.forest_law.specs.Budget.{Pays}
 use Rattle.forest_law.specs.Law.{Follows}
-use Rattle.forest_law.specs.Steps.{InHand, frame_step, ClockStands, ClockSuits}
+use Rattle.forest_law.specs.Steps.{InHand, FrameStep, frame_step, ClockStands, ClockSuits}
 use Rattle.forest_law.specs.Restructures.{HandsOfHalves, up_before, up_after, beyond_steps, split_steps, merge_steps, raise_steps, lift_steps, SplitsInHand, MergesInHand, RaisesInHand, LiftsInHand, RearrangesInHand}
 use Rattle.forest_law.specs.StepLaws.{RestructuresFollow}
 use Rattle.forest_law.proofs.FrameStepLemmas.{turns_of, frames_follow}
 use Rattle.forest_law.proofs.HeightLemmas.{heights_stay, heights_move}
+use Rattle.forest_law.proofs.PayingLemmas.{split_is_paid, merge_is_paid, raise_is_paid, lift_is_paid, rearrange_is_paid}
+use Rattle.forest_law.proofs.OneOutsideLemmas.{not_outside}
 
 -- another left neighbour raises no clock
 beyond_clocks : (o : Option ℕ) (b : InHand) (page : Page) (q r : Option ℕ) → ClockStands b
@@ -24,6 +27,13 @@ beyond_clocks : (o : Option ℕ) (b : InHand) (page : Page) (q r : Option ℕ) �
 beyond_clocks None b page q r stands trees = tt
 beyond_clocks (Some n) b page q r stands trees = let t = trees n refl in
     (inr (stands, neighbour_stays n page q r t.0 t.1), tt)
+
+-- nor does it bring a page outside the trees
+beyond_inside : (P : FrameStep → Type 0) (o : Option ℕ) (b : InHand) (page : Page) (q r : Option ℕ)
+    → ((n : ℕ) → o ≡ Some n → is_own n r ≡ false)
+    → AllByRecursion (λ s. is_own s.number s.is.prev ≡ true → P s) (beyond_steps o b page q r)
+beyond_inside P None b page q r trees = tt
+beyond_inside P (Some n) b page q r trees = ((λ own. not_outside n r (trees n refl) own), tt)
 
 -- one row more behind one of others
 one_more : (fore aft : List Row) (this new : Row)
@@ -92,6 +102,19 @@ module _ (sh : Shape) (before news : List (Option Object)) where
       (subst (IsMove hs hs' maps maps') (sym (split_changes s.left s.right s.parent h s.hands))
       (Splits s.left s.right s.parent s.split
       (heights_stay sh before news steps s.make hs hs' lead) same))) tt
+      (subst (Pays sh None) (sym (split_changes s.left s.right s.parent h s.hands))
+      (split_is_paid sh s.left s.right s.parent s.split s.due))
+      (inl (
+        (λ own. own),
+        (
+          (λ own. h.right_own),
+          (
+            (λ own. own),
+            beyond_inside (λ s. is_own s.number s.was.prev ≡ true) h.page.next s.hands.beyond
+                h.beyond h.whole_prev h.cut_prev (λ n e. (h.beyond_tree n e).1),
+          ),
+        ),
+      ))
 
   -- a merge follows
   pub merge_follows : MergesInHand sh before news → Follows sh before news None
@@ -112,6 +135,23 @@ module _ (sh : Shape) (before news : List (Option Object)) where
       (subst (IsMove hs hs' maps maps') (sym (merge_changes m.left m.right m.parent h m.hands))
       (Merges m.left m.right m.parent m.merge
       (heights_stay sh before news steps m.make hs hs' lead) same))) tt
+      (subst (Pays sh None) (sym (merge_changes m.left m.right m.parent h m.hands))
+      (merge_is_paid sh m.left m.right m.parent m.merge m.small))
+      (inr (
+        m.alone,
+        m.right,
+        (
+          not_outside m.left h.page.prev h.left_tree,
+          (
+            (λ own. refl),
+            (
+              not_outside m.parent h.up.prev h.up_tree,
+              beyond_inside (λ s. s.number ≡ m.right) h.page.next m.hands.beyond h.beyond h.cut_prev
+                  h.whole_prev (λ n e. (h.beyond_tree n e).0),
+            ),
+          ),
+        ),
+      ))
 
   -- a raise follows
   pub raise_follows : RaisesInHand sh before news → Follows sh before news None
@@ -126,7 +166,8 @@ module _ (sh : Shape) (before news : List (Option Object)) where
         height = ap hs' (sym m.index) ∙ (on.is ∙ (r.height
             ∙ ap suc (sym on.was ∙ ap hs m.index)));
         heights = λ i ne. sym (on.others i (λ e. ne (e ∙ m.index)));
-      }) same))) tt
+      }) same))) tt (raise_is_paid sh r.root r.under r.storeys r.two)
+      (inl ((λ own. own), ((λ own. r.storeys.under_own), tt)))
 
   -- a lift follows
   pub lift_follows : LiftsInHand sh before news → Follows sh before news None
@@ -141,7 +182,8 @@ module _ (sh : Shape) (before news : List (Option Object)) where
         height = ap hs (sym m.index) ∙ (on.was ∙ (r.height
             ∙ ap suc (sym on.is ∙ ap hs' m.index)));
         heights = λ i ne. on.others i (λ e. ne (e ∙ m.index));
-      }) same))) tt
+      }) same))) tt (lift_is_paid sh r.root r.under r.storeys)
+      (inr (r.alone, r.under, (not_outside r.root None refl, ((λ own. refl), tt))))
 
   -- a page that is rearranged follows
   pub rearrange_follows : RearrangesInHand sh before news → Follows sh before news None
@@ -151,6 +193,8 @@ module _ (sh : Shape) (before news : List (Option Object)) where
       (λ hs hs' lead maps maps' same. inr (Rearrange r.number
       (record { page = r.page; rows = r.rows; same = r.same })
       (heights_stay sh before news (step ∷ []) r.make hs hs' lead) same)) tt
+      (rearrange_is_paid sh r.number (record { page = r.page; rows = r.rows; same = r.same }))
+      (inl ((λ own. own), tt))
 
 pub restructures_follow : RestructuresFollow
 restructures_follow = record {

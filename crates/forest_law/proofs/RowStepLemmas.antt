@@ -2,10 +2,10 @@
 use Rattle.std.proofs.Common.{◌≡◌, inl, inr, ℕ, [], ◌∷◌, ◌++◌, List, length, sym, ap, subst, ◌∙◌, arith, refl, Option, Some, None}
 use mathlib.Core.Logic.{dite}
 use native.Mathlib.Decide.{ℕ_discrete}
-use Rattle.map_history.specs.Map.{MapChange, Ascends, key_of, value_of, write}
+use Rattle.map_history.specs.Map.{Map, MapChange, Ascends, key_of, value_of, write}
 use Rattle.index_page.specs.Rows.{Row}
 use Rattle.tree_law.specs.Pages.{Page, row_pairs}
-use Rattle.tree_law.specs.PageMoves.{Writes}
+use Rattle.tree_law.specs.PageMoves.{WritesPage, Writes}
 use Rattle.tree_law.specs.ContentLaws.{BecomeWritten}
 use Rattle.tree_law.proofs.ContentLemmas.{rows_are_written}
 use Rattle.clock_law.specs.ModifyClock.{KeysStay}
@@ -13,12 +13,15 @@ use Rattle.clock_law.proofs.LaterLemmas.{keys_between, rows_stay}
 use Rattle.index_law.specs.Answers.{MadeChange}
 use Rattle.index_law.specs.Shape.{Shape}
 use Rattle.forest_law.specs.declared.objects.Object.{Object}
+use Rattle.forest_law.specs.Turns.{page_changes}
+use Rattle.forest_law.specs.Trees.{MapsLead}
 use Rattle.forest_law.specs.Law.{Follows}
 use Rattle.forest_law.specs.Steps.{InHand, FrameStep, frame_step, ClockSuits, MakeSteps}
 use Rattle.forest_law.specs.RowSteps.{SetsRow, ChangesRow, ChangesLeaf}
 use Rattle.forest_law.specs.StepLaws.{RowChangesFollow}
-use Rattle.forest_law.proofs.FrameStepLemmas.{frames_follow}
+use Rattle.forest_law.proofs.FrameStepLemmas.{turns_of, frames_follow}
 use Rattle.forest_law.proofs.HeightLemmas.{heights_stay}
+use Rattle.forest_law.proofs.PayingLemmas.{rest_is_paid, row_is_paid}
 
 -- a row that is replaced by one of the same key at the same place keeps all keys' places
 replaced_stay : (left right : List Row) (row after : Row) → after.key ≡ row.key
@@ -94,17 +97,14 @@ module _ (sh : Shape) (before news : List (Option Object)) where
   pub rest_follows : MakeSteps sh before news [] [] → Follows sh before news None
   rest_follows make = frames_follow sh before news [] [] make None tt
       (λ h h' lead maps maps' same. inl (refl, heights_stay sh before news [] make h h' lead, same))
-      tt
+      tt (rest_is_paid sh) (inl tt)
 
-  -- a change of a row follows
-  pub row_follows : (d : ℕ × MadeChange) → ChangesLeaf sh before news d
-      → Follows sh before news (Some d)
-  row_follows d c = let leaf = c.allows in
+  -- the leaf's row and the map become what the change makes of them
+  row_writes : (d : ℕ × MadeChange) (c : ChangesLeaf sh before news d) (maps maps' : ℕ → Map)
+      → MapsLead (Some d) maps maps' → WritesPage maps maps' c.number
+  row_writes d c maps maps' change = let leaf = c.allows in
       let written = change_writes d.1.change c.page.rows c.rows c.hand.old.clock c.hand.new.clock
-      c.changes in
-      frames_follow sh before news (step c.hand c.number c.page c.rows ∷ []) [] c.make (Some d)
-      (change_suits c.hand c.number c.page c.rows d.1.change c.changes, tt)
-      (λ h h' lead maps maps' change. inr (Writes c.number (record {
+      c.changes in record {
         key = key_of d.1.change;
         value = value_of d.1.change;
         page = c.page;
@@ -117,7 +117,17 @@ module _ (sh : Shape) (before news : List (Option Object)) where
         map_is = ap maps' leaf.index ∙ (change.0
             ∙ ap (λ i. write (key_of d.1.change) (value_of d.1.change) (maps i)) (sym leaf.index));
         maps_kept = λ i ne. change.1 i (λ e. ne (e ∙ sym leaf.index));
-      }) (heights_stay sh before news (step c.hand c.number c.page c.rows ∷ []) c.make h h' lead)))
+      }
+
+  -- a change of a row follows
+  pub row_follows : (d : ℕ × MadeChange) → ChangesLeaf sh before news d
+      → Follows sh before news (Some d)
+  unfolding row_writes
+  row_follows d c = let leaf = c.allows in
+      frames_follow sh before news (step c.hand c.number c.page c.rows ∷ []) [] c.make (Some d)
+      (change_suits c.hand c.number c.page c.rows d.1.change c.changes, tt)
+      (λ h h' lead maps maps' change. inr (Writes c.number (row_writes d c maps maps' change)
+      (heights_stay sh before news (step c.hand c.number c.page c.rows ∷ []) c.make h h' lead)))
       (record {
         number = c.number;
         block = c.hand.block;
@@ -129,6 +139,9 @@ module _ (sh : Shape) (before news : List (Option Object)) where
         };
         allows = leaf;
       })
+      (row_is_paid sh d c.number (page_changes (turns_of (step c.hand c.number c.page c.rows ∷ [])))
+      (λ maps maps' change. (row_writes d c maps maps' change, refl, refl)))
+      (inl ((λ own. own), tt))
 
 pub row_changes_follow : RowChangesFollow
 row_changes_follow = record { rest = rest_follows; row = row_follows }

@@ -1,5 +1,5 @@
 -- Pages that take part in a step, and those that do not.
-use Rattle.std.proofs.Common.{◌≡◌, ◌≢◌, ◌⊎◌, inl, inr, ℕ, List, [], ◌∷◌, Option, Some, refl, sym, ap, ◌∙◌}
+use Rattle.std.proofs.Common.{◌≡◌, ◌≢◌, ◌⊎◌, inl, inr, ℕ, List, [], ◌∷◌, map, Option, Some, refl, sym, ap, ◌∙◌}
 use Rattle.std.specs.List.{AllByRecursion}
 use Rattle.std.proofs.lemmas.Bool.{cases_eq}
 use mathlib.Core.Option.{some}
@@ -14,6 +14,21 @@ use Rattle.forest_law.specs.declared.objects.Object.TheVariants as object
 use Rattle.forest_law.specs.Numbers.{pool_id, frame_id}
 use Rattle.forest_law.specs.State.{page_of, page_stored, images_of, image_at, page_where}
 use Rattle.forest_law.specs.Turns.{Turn, IsSeen, IsApart, IsTurned}
+use Rattle.forest_law.specs.Steps.{FrameStep}
+
+-- the turn of a frame's page
+abbrev pub turn_of : FrameStep → Turn
+turn_of s = record {
+  number = s.number;
+  from = InFrame s.hand.block;
+  to = InFrame s.hand.block;
+  old = Some s.was;
+  new = Some s.is;
+}
+
+-- the turns of some steps
+abbrev pub turns_of : List FrameStep → List Turn
+turns_of steps = map turn_of steps
 
 -- what holds of each in two ways
 pub each_both : {A : Type 0} (P Q : A → Type 0) (xs : List A) → AllByRecursion P xs

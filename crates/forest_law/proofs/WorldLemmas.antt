@@ -1,14 +1,24 @@
 -- The six laws.
-use Rattle.forest_law.specs.WorldLaws.{TakesStayLawful, LatchesPlayNoPart, StepsStayLawful, AnswersStayRight, ReferencesLast}
+use Rattle.std.proofs.Common.{◌+◌}
+use Rattle.forest_law.specs.WorldLaws.{TakesStayLawful, ReleasesStayLawful, StepsStayLawful, AnswersStayRight, ReferencesLast}
 use Rattle.forest_law.proofs.FollowingLemmas.{follow_lemma}
+use Rattle.forest_law.proofs.HolderLemmas.{latched_outside, free_away, back_away}
 use Rattle.forest_law.proofs.StayingLemmas.{stay_lemma}
 use Rattle.forest_law.proofs.LastingLemmas.{object_itself, reference_stays, reference_held}
 
 pub takes_stay_lawful : TakesStayLawful
-takes_stay_lawful w k name law free below = record { objects = law.objects }
+takes_stay_lawful w k name law free below = record {
+  objects = law.objects;
+  budget = law.budget;
+  outside = latched_outside w k (name + 1) law.outside (free_away w k law.outside free);
+}
 
-pub latches_play_no_part : LatchesPlayNoPart
-latches_play_no_part w k n law = record { objects = law.objects }
+pub releases_stay_lawful : ReleasesStayLawful
+releases_stay_lawful w k x law at may = record {
+  objects = law.objects;
+  budget = law.budget;
+  outside = latched_outside w k 0 law.outside (back_away w k x law at may);
+}
 
 pub steps_stay_lawful : StepsStayLawful
 steps_stay_lawful = follow_lemma

@@ -21,4 +21,4 @@ pub record AreCounted (shape : Shape) (xs : List Object) (entries : List Entries
 pub record CountsStay (old new : Pool) : Type 0 where
   pub places : length new.place.items ≡ length old.place.items
   pub images : length new.images.items ≡ length old.images.items
-  pub ages : length new.ages.items ≡ length old.ages.items
+  pub ages : length new.ages ≡ length old.ages

@@ -23,6 +23,8 @@ use Rattle.forest_law.specs.Placed.{ArePlaced, KeepsPage, TurnsPage, PlacesStay,
 use Rattle.forest_law.specs.Trees.{HeightsLead, MapsLead, IsStep}
 use Rattle.forest_law.specs.Lists.{MayChange}
 use Rattle.forest_law.specs.Clocked.{IsLaterObject}
+use Rattle.forest_law.specs.Budget.{ArePaid, Pays}
+use Rattle.forest_law.specs.Outside.{AreOutsideHeld, KeepsOneOutside}
 
 -- lawful objects and lists: all is counted and of its kind, each page has one place, in a frame or
 -- as an image, each list is lawful, and the pages form the trees that hold the lists' maps
@@ -35,14 +37,18 @@ pub record AreLawfulObjects (shape : Shape) (objects : List Object)
   pub pages : AreLawfulPages shape.indexes (fields_for shape) (heights_of objects)
       (maps_of entries) (pages_of shape objects)
 
--- a lawful state: no part of it speaks of latches
+-- a lawful state: its objects and lists are lawful, puts and sets have paid for its pages, and each
+-- page outside the trees is in somebody's hand
 pub record IsLawful (w : ForestState) : Type 0 where
   pub objects : AreLawfulObjects w.shape w.objects w.lists
+  pub budget : ArePaid w.shape w.objects w.lists
+  pub outside : AreOutsideHeld w
 
 -- what may follow: each held object stays of its kind and becomes a later one; the pages that take
 -- part are seen in hand and make one move, whatever the trees and maps of others are; each other
 -- held frame keeps its page; the pool names the places and has the images; the pages that are left
--- are in order; and the change is allowed
+-- are in order; the change is allowed, and pays for what the pages weigh more; and one page outside
+-- the trees is in hand at most
 pub record Follows (shape : Shape) (before news : List (Option Object))
     (change : Option (ℕ × MadeChange)) : Type 0 where
   pub kinds : (k : ℕ) (x y : Object) → Becomes before news k x y → KeepsKind x y
@@ -58,6 +64,8 @@ pub record Follows (shape : Shape) (before news : List (Option Object))
   pub order : LeaveOrder (fields_for shape) (page_changes turns)
   pub allowed : MayChange shape before change
   pub clocks : (k : ℕ) (x y : Object) → Becomes before news k x y → IsLaterObject x y
+  pub pays : Pays shape change (page_changes turns)
+  pub outside : KeepsOneOutside shape before news turns
 
 -- what a pass may do by what it knows
 abbrev pub MayFollow : Knows Shape Object MadeChange Saying → List (Option Object)

@@ -8,7 +8,10 @@ pub mod Placed
 pub mod Trees
 pub mod Lists
 pub mod Clocked
+pub mod Budget
+pub mod Outside
 pub mod Law
+pub mod OutsideLaws
 pub mod Opening
 pub mod References
 pub mod WorldLaws

@@ -1,10 +1,6 @@
 -- A put on the root of a space that was just opened, once it is in a frame, and the state that it
 -- leads to.
-use Rattle.std.specs.Prelude.{ℕ, Option, Some, None, List, [], ◌∷◌, length, set}
-use Rattle.std.proofs.Common.{sym, ◌∙◌}
-use Rattle.std.specs.declared.alloc.Global.{Global}
-use Rattle.std.specs.declared.vec.Vec.{Vec}
-use Rattle.std.proofs.lemmas.List.{length-set}
+use Rattle.std.specs.Prelude.{ℕ, ◌≡◌, Option, Some, None, List, [], ◌∷◌, length, set}
 use Rattle.key_tuple.specs.Order.{FieldList}
 use Rattle.map_history.specs.Map.{Put}
 use Rattle.map_history.specs.Report.{Columns}
@@ -51,20 +47,6 @@ one_index fields = record {
 abbrev pub put_of : FieldList → List ℕ → Columns → MadeChange
 put_of key value columns = record { change = Put key value; columns = columns }
 
--- the same items but for one, which is another
-abbrev pub with_item : {X : Type 0} → Vec X Global → ℕ → X → Vec X Global
-with_item xs n x = record xs {
-  items = set xs.items n x;
-  ok = (xs.ok.0 ∙ sym (length-set xs.items n x), xs.ok.1);
-}
-
--- the pool after the root was restored to the frame of block 0
-abbrev pub pool_after : Pool → Pool
-pool_after pool = record pool {
-  place = with_item pool.place 0 (InFrame 0);
-  images = with_item pool.images 0 None;
-}
-
 -- the frame of the root before the put
 abbrev pub root_before : FieldList → Frame
 root_before key = new_frame (Some (empty_page 0 (length key)))
@@ -85,27 +67,34 @@ frame_in_hand f = None ∷ None ∷ Some (object.Frame f) ∷ []
 abbrev pub objects_with : Pool → Frame → List Object
 objects_with pool f = object.Pool pool ∷ object.Tree (first_tree 0) ∷ object.Frame f ∷ []
 
--- the state after the root was restored and the put was made
+-- the state after the root was restored, with this pool, and the put was made
 abbrev pub state_after : Pool → FieldList → List ℕ → Columns → List ℕ → (most passes : ℕ)
     → ForestState
 state_after pool key value columns latches most passes = record {
   shape = one_index (length key);
-  objects = objects_with (pool_after pool) (root_after key value);
+  objects = objects_with pool (root_after key value);
   latches = latches;
   lists = list_with key value columns ∷ [];
   max_changes = most;
   passes = passes;
 }
 
+-- the root's page can come from its image in the first pool to the frame of block 0. That follows,
+-- and the state after a put on it is lawful
+pub record RestoresRoot (pool : Pool) (key : FieldList) : Type 0 where
+  pub now : Pool
+  pub place : now.place.items ≡ set pool.place.items 0 (InFrame 0)
+  pub images : now.images.items ≡ set pool.images.items 0 None
+  pub ages : now.ages ≡ pool.ages
+  pub follows : Follows (one_index (length key)) (pool_in_hand pool first_frame)
+      (pool_in_hand now (root_before key)) None
+  pub lawful : (value : List ℕ) (columns : Columns) (latches : List ℕ) (most passes : ℕ)
+      → IsLawful (state_after now key value columns latches most passes)
+
 -- a restore of the root follows, and so does the put on it, and the state after both is lawful
 pub record OnePutIsLawful : Type 0 where
   pub restores : (pool : Pool) (key : FieldList) → IsFirstPool (one_index (length key)) pool
-      → Follows (one_index (length key)) (pool_in_hand pool first_frame)
-      (pool_in_hand (pool_after pool) (root_before key)) None
+      → RestoresRoot pool key
   pub follows : (key : FieldList) (value : List ℕ) (columns : Columns)
       → Follows (one_index (length key)) (frame_in_hand (root_before key))
       (frame_in_hand (root_after key value)) (Some (0, put_of key value columns))
-  pub lawful : (pool : Pool) (key : FieldList) (value : List ℕ) (columns : Columns)
-      (latches : List ℕ) (most passes : ℕ)
-      → IsFirstPool (one_index (length key)) pool
-      → IsLawful (state_after pool key value columns latches most passes)

@@ -75,7 +75,7 @@ pub record IsFirstPool (shape : Shape) (pool : Pool) : Type 0 where
   pub places : (n : ℕ) → where_at pool.place.items n ≡ first_where shape.indexes n
   pub stored : length pool.images.items ≡ shape.pages
   pub images : (n : ℕ) → image_at pool.images.items n ≡ first_image shape n
-  pub ages : pool.ages.items ≡ replicate shape.blocks 0
+  pub ages : pool.ages ≡ replicate shape.blocks 0
   pub tick : pool.tick ≡ 0
 
 -- the objects are the pool, the trees and the frames as they begin

@@ -56,7 +56,7 @@ pub record TurnsPage (turns : List Turn) (b : ℕ) (x y : Frame) : Type 0 where
 pub record PoolRests (x y : Pool) : Type 0 where
   pub places : y.place.items ≡ x.place.items
   pub images : y.images.items ≡ x.images.items
-  pub ages : length y.ages.items ≡ length x.ages.items
+  pub ages : length y.ages ≡ length x.ages
 
 -- the pool rests, if it is held, and each page that takes part stays in its frame
 pub record PlacesStay (before news : List (Option Object)) (turns : List Turn) : Type 0 where

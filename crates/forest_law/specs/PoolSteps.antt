@@ -1,7 +1,7 @@
 -- A page comes to a frame or goes from it, with the pool in hand: one outside the trees, whose
 -- number was free or is, and any page, from its image or to it.
-use Rattle.std.specs.Prelude.{ℕ, ◌≡◌, ◌≢◌, Option, Some, None, List}
-use Rattle.tree_law.specs.Pages.{Page, IsOrderly}
+use Rattle.std.specs.Prelude.{ℕ, ◌≡◌, ◌≢◌, false, Option, Some, None, List}
+use Rattle.tree_law.specs.Pages.{Page, is_own, IsOrderly}
 use Rattle.tree_law.specs.PageMoves.{IsOutside}
 use Rattle.index_law.specs.Shape.{Shape}
 use Rattle.forest_law.specs.declared.objects.Stored.{Stored}
@@ -14,6 +14,7 @@ use Rattle.forest_law.specs.State.{where_at, image_at, fields_for}
 use Rattle.forest_law.specs.Objects.{Becomes}
 use Rattle.forest_law.specs.Counted.{CountsStay}
 use Rattle.forest_law.specs.Turns.{HasPage, HasImage}
+use Rattle.forest_law.specs.Outside.{HasNoneOutside}
 use Rattle.forest_law.specs.Placed.{KeepsPlace}
 use Rattle.forest_law.specs.Steps.{Rests, InHand, ClockStands, FrameClockRises}
 
@@ -29,7 +30,8 @@ pub record PoolStep (shape : Shape) (before news : List (Option Object)) (number
   pub others : (k : ℕ) (x y : Object) → Becomes before news k x y → k ≢ pool_id
       → k ≢ frame_id shape hand.block → Rests x y
 
--- a page outside the trees comes: its number was free, and the frame had none
+-- a page outside the trees comes while no other is in hand: its number was free, and the frame had
+-- none
 pub record BringsPage (shape : Shape) (before news : List (Option Object)) : Type 0 where
   pub number : ℕ
   pub hand : InHand
@@ -43,6 +45,7 @@ pub record BringsPage (shape : Shape) (before news : List (Option Object)) : Typ
   pub empty : hand.old.page ≡ None
   pub has : HasPage hand.new number page
   pub outside : IsOutside number (Some page)
+  pub alone : HasNoneOutside shape before
   pub order : IsOrderly (fields_for shape) page
   pub clock : ClockStands hand
 
@@ -62,7 +65,7 @@ pub record TakesPage (shape : Shape) (before news : List (Option Object)) : Type
   pub outside : IsOutside number (Some page)
   pub clock : FrameClockRises hand
 
--- a page goes to its image, with its bounds: the frame has none, and its clock rises
+-- a page of the trees goes to its image, with its bounds: the frame has none, and its clock rises
 pub record EvictsPage (shape : Shape) (before news : List (Option Object)) : Type 0 where
   pub number : ℕ
   pub hand : InHand
@@ -76,11 +79,13 @@ pub record EvictsPage (shape : Shape) (before news : List (Option Object)) : Typ
   pub stored : image_at new.images.items number ≡ Some image
   pub had : HasPage hand.old number page
   pub has : HasImage image number page
+  pub tree : is_own number page.prev ≡ false
   pub empty : hand.new.page ≡ None
   pub order : IsOrderly (fields_for shape) page
   pub clock : FrameClockRises hand
 
--- a page comes from its image, with its bounds: the frame had none, and its clock stands
+-- a page of the trees comes from its image, with its bounds: the frame had none, and its clock
+-- stands
 pub record RestoresPage (shape : Shape) (before news : List (Option Object)) : Type 0 where
   pub number : ℕ
   pub hand : InHand
@@ -94,6 +99,7 @@ pub record RestoresPage (shape : Shape) (before news : List (Option Object)) : T
   pub stored : image_at old.images.items number ≡ Some image
   pub unstored : image_at new.images.items number ≡ None
   pub had : HasImage image number page
+  pub tree : is_own number page.prev ≡ false
   pub empty : hand.old.page ≡ None
   pub has : HasPage hand.new number page
   pub order : IsOrderly (fields_for shape) page

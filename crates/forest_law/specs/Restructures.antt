@@ -1,10 +1,14 @@
 -- Splits, merges, raises and lifts in hand: which frames become what, and which clocks rise.
-use Rattle.std.specs.Prelude.{ℕ, suc, ◌≡◌, Option, Some, None, List, [], ◌∷◌, ◌++◌}
+use Rattle.std.specs.Prelude.{ℕ, suc, ◌≡◌, ◌≢◌, ◌≤◌, ◌+◌, Option, Some, None, List, [], ◌∷◌, ◌++◌, length}
+use Rattle.index_page.specs.Loads.{charge_of, load_of}
 use Rattle.index_page.specs.Rows.{Row, SameRows}
+use Rattle.tree_law.specs.PageBudget.{short_keys}
+use Rattle.tree_law.specs.BudgetLaws.{SplitIsDue}
 use Rattle.tree_law.specs.Pages.{Page}
 use Rattle.tree_law.specs.PageMoves.{TwoHalves, whole_page, left_page, right_page, SplitsPage, MergesPages, TwoStoreys, full_page}
 use Rattle.index_law.specs.Shape.{Shape}
 use Rattle.forest_law.specs.declared.objects.Object.{Object}
+use Rattle.forest_law.specs.Outside.{HasNoneOutside}
 use Rattle.forest_law.specs.Steps.{InHand, FrameStep, frame_step, TreeStep, ClockStands, FrameClockRises, MakeSteps}
 
 -- the frames of two halves, of their parent, and of the page after them, where there is one
@@ -46,13 +50,14 @@ merge_steps left right parent h hands =
     ∷ frame_step hands.up parent (up_after left right parent h) (up_before left right parent h)
     ∷ beyond_steps h.page.next hands.beyond h.beyond h.cut_prev h.whole_prev
 
--- a split in hand: rows move from the left page to the right one, so both clocks rise; the parent
--- gets a row, and the page after them another neighbour
+-- a split in hand that is due: rows move from the left page to the right one, so both clocks rise;
+-- the parent gets a row, and the page after them another neighbour
 pub record SplitsInHand (shape : Shape) (before news : List (Option Object)) : Type 0 where
   pub left : ℕ
   pub right : ℕ
   pub parent : ℕ
   pub split : SplitsPage left right parent
+  pub due : SplitIsDue short_keys charge_of left right parent split
   pub hands : HandsOfHalves
   pub make : MakeSteps shape before news (split_steps left right parent split.halves hands) []
   pub left_rises : FrameClockRises hands.left
@@ -60,12 +65,15 @@ pub record SplitsInHand (shape : Shape) (before news : List (Option Object)) : T
   pub up_stands : ClockStands hands.up
   pub beyond_stands : ClockStands hands.beyond
 
--- a merge in hand: rows move back and the parent loses one, so all three clocks rise
+-- a merge in hand of two pages that are small enough, while no page outside the trees is in hand:
+-- rows move back and the parent loses one, so all three clocks rise
 pub record MergesInHand (shape : Shape) (before news : List (Option Object)) : Type 0 where
   pub left : ℕ
   pub right : ℕ
   pub parent : ℕ
   pub merge : MergesPages left right parent
+  pub small : load_of merge.halves.lower + load_of merge.halves.moved ≤ short_keys.merged
+  pub alone : HasNoneOutside shape before
   pub hands : HandsOfHalves
   pub make : MakeSteps shape before news (merge_steps left right parent merge.halves hands) []
   pub left_rises : FrameClockRises hands.left
@@ -104,19 +112,21 @@ pub record MovesRoot (shape : Shape) (before news : List (Option Object)) (root 
   pub top_rises : FrameClockRises top
   pub below_rises : FrameClockRises below
 
--- a raise in hand: the tree is one higher
+-- a raise in hand of a leaf, or of a page whose children aren't one: the tree is one higher
 pub record RaisesInHand (shape : Shape) (before news : List (Option Object)) : Type 0 where
   pub root : ℕ
   pub under : ℕ
   pub storeys : TwoStoreys root under
+  pub two : storeys.level ≢ 0 → length storeys.rows ≢ 1
   pub moves : MovesRoot shape before news root under storeys (raise_steps root under storeys)
   pub height : moves.tree.new.height ≡ suc moves.tree.old.height
 
--- a lift in hand: the tree is one lower
+-- a lift in hand, while no page outside the trees is: the tree is one lower
 pub record LiftsInHand (shape : Shape) (before news : List (Option Object)) : Type 0 where
   pub root : ℕ
   pub under : ℕ
   pub storeys : TwoStoreys root under
+  pub alone : HasNoneOutside shape before
   pub moves : MovesRoot shape before news root under storeys (lift_steps root under storeys)
   pub height : moves.tree.old.height ≡ suc moves.tree.new.height
 

@@ -96,7 +96,7 @@ images_of maybe.none = []
 
 -- the ages of the blocks, by the pool; none where the object is no pool
 abbrev pub ages_of : maybe.Option Object → List ℕ
-ages_of (some (object.Pool p)) = p.ages.items
+ages_of (some (object.Pool p)) = p.ages
 ages_of (some (object.Frame f)) = []
 ages_of (some (object.Tree t)) = []
 ages_of maybe.none = []

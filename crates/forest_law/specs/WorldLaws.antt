@@ -9,6 +9,7 @@ use Rattle.index_law.specs.Answers.{Saying}
 use Rattle.forest_law.specs.declared.objects.Object.{Object}
 use Rattle.forest_law.specs.State.{ForestState}
 use Rattle.forest_law.specs.Law.{IsLawful, MayFollow}
+use Rattle.forest_law.specs.Outside.{MayGoBack}
 use Rattle.index_law.specs.Rightness.{IsRight}
 use Rattle.forest_law.specs.References.{IsReference}
 
@@ -18,9 +19,11 @@ TakesStayLawful =
     (w : ForestState) (k name : ℕ) → IsLawful w → IsFree w k → name < w.passes
     → IsLawful (latched w k (name + 1))
 
--- a lawful state stays lawful whatever its latches are, so when an object is given back
-abbrev pub LatchesPlayNoPart : Type 0
-LatchesPlayNoPart = (w : ForestState) (k n : ℕ) → IsLawful w → IsLawful (latched w k n)
+-- a lawful state stays lawful when an object is given back that may be
+abbrev pub ReleasesStayLawful : Type 0
+ReleasesStayLawful =
+    (w : ForestState) (k : ℕ) (x : Object) → IsLawful w → get_elem? w.objects k ≡ some x
+    → MayGoBack x → IsLawful (latched w k 0)
 
 -- a lawful state stays lawful when a pass makes a step that follows
 abbrev pub StepsStayLawful : Type 0

@@ -1,7 +1,10 @@
 //! Laws of the space, each the contract of a function that does nothing.
 ghost use Rattle.forest_law.specs.Opening.{ForestsOpenLawfully};
-ghost use Rattle.forest_law.specs.WorldLaws.{TakesStayLawful, LatchesPlayNoPart, StepsStayLawful};
+ghost use Rattle.forest_law.specs.OutsideLaws.{OutsideIsHeld, FullPoolsAreShort};
+ghost use Rattle.forest_law.specs.WorldLaws.{TakesStayLawful, ReleasesStayLawful, StepsStayLawful};
 ghost use Rattle.forest_law.specs.WorldLaws.{AnswersStayRight, ReferencesLast};
+
+use tree_law::numbers_balance;
 
 /// A space that begins with the pool, the trees and the empty roots of its indexes begins lawfully.
 pub fn forests_open_lawfully()
@@ -13,9 +16,10 @@ pub fn takes_stay_lawful()
     ensures { TakesStayLawful }
 {}
 
-/// A lawful state stays lawful whatever its latches are, so when an object is given back.
-pub fn latches_play_no_part()
-    ensures { LatchesPlayNoPart }
+/// A lawful state stays lawful when an object is given back, unless that is a frame with a page
+/// outside the trees.
+pub fn releases_stay_lawful()
+    ensures { ReleasesStayLawful }
 {}
 
 /// A lawful state stays lawful when a pass makes a step that follows.
@@ -32,3 +36,16 @@ pub fn answers_stay_right()
 pub fn references_last()
     ensures { ReferencesLast }
 {}
+
+/// A page outside the trees is in a frame that somebody holds: in none that is free, and in no image.
+pub fn outside_is_held()
+    ensures { OutsideIsHeld }
+{}
+
+/// Where each number has a page, the pages are at most two for each index, each put and each set, and
+/// one for each pass.
+pub fn full_pools_are_short()
+    ensures { FullPoolsAreShort }
+{
+    numbers_balance();
+}

@@ -10,8 +10,8 @@ mod pages;
 mod steps;
 
 pub use law::{
-    answers_stay_right, forests_open_lawfully, latches_play_no_part, references_last,
-    steps_stay_lawful, takes_stay_lawful,
+    answers_stay_right, forests_open_lawfully, full_pools_are_short, outside_is_held,
+    references_last, releases_stay_lawful, steps_stay_lawful, takes_stay_lawful,
 };
 pub use layout::ForestLayout;
 pub use objects::{Frame, Object, Pool, Stored, Tree, Where};

@@ -1,4 +1,5 @@
 //! What lies under a latch.
+use block_ages::Ages;
 use index_page::Page;
 use key_tuple::Key;
 use learning::BlockFigures;
@@ -62,7 +63,7 @@ pub struct Pool {
     /// The images, by the numbers of the pages.
     pub images: Vec<Option<Stored>>,
     /// The tick at which each block was last accessed, by the numbers of the blocks.
-    pub ages: Vec<u64>,
+    pub ages: Ages,
     /// How many accesses there were.
     pub tick: u64,
 }

@@ -7,6 +7,7 @@ ghost use Rattle.forest_law.specs.Opening.{IsFirstPool, AreFirstObjects, AddsEac
 
 use crate::layout::ForestLayout;
 use crate::objects::{Frame, Object, Pool, Stored, Tree, Where};
+use block_ages::Ages;
 use index_page::{Page, PageHead};
 use key_tuple::NoMemory;
 use learning::BlockFigures;
@@ -33,7 +34,7 @@ fn first_pool(alloc: Global, layout: &ForestLayout) -> Result<Pool, NoMemory>
     Ok(Pool {
         place: first_places(alloc, layout)?,
         images: first_images(alloc, layout)?,
-        ages: Vec::from_elem(alloc, 0, layout.blocks as usize)?,
+        ages: Ages::new(alloc, layout.blocks)?,
         tick: 0,
     })
 }

@@ -8,8 +8,8 @@ returns c =
     first_pool_is c.args.layout.now (record {
       place = c.in_ok-first_places.field-0;
       images = c.in_ok-first_images.field-0;
-      ages = c.in_ok-from_elem.field-0;
+      ages = c.in_ok-new.field-0;
       tick = 0;
     }) c.requires.room c.in_ok-first_places.ensures c.in_ok-first_images.ensures
-    (c.in_ok-from_elem.ensures.items_if_clones_equal (λ y same. same)
+    (c.in_ok-new.ensures
     ∙ ap (λ (z : Shape). replicate z.blocks 0) c.layout.view_is) refl
