@@ -1,6 +1,7 @@
 -- Looks at the pool that found nothing, and what the one that ends them tells.
 use Rattle.std.proofs.Common.{◌≡◌, ℕ, Bool, true, false, List, [], ◌∷◌, ◌++◌, cond, sym, ap, subst, ◌∙◌, refl, arith}
 use lib.ListN.{get_elem?}
+use Rattle.list_facts.proofs.Each.{each_append}
 use Rattle.latch_law.specs.declared.knows.Reference.{Reference}
 use Rattle.latch_law.specs.declared.knows.Terms.{Terms}
 use Rattle.latch_law.specs.Whole.{reference}
@@ -15,13 +16,15 @@ use Rattle.call_law.specs.Hands.{HoldsNoPool}
 use Rattle.call_law.specs.Trace.{Added, is_frame, frame_references}
 use Rattle.call_law.proofs.TraceLemmas.{both_added}
 use Rattle.buffer_pool.specs.Calls.{Does}
+use Rattle.buffer_pool.specs.Causes.{AreUnchanged, ChangesPoolSo}
 use Rattle.buffer_pool.specs.Hands.{LacksFrame}
 use Rattle.buffer_pool.specs.Looking.{GivesNothing, FindsNone}
 use Rattle.buffer_pool.specs.Pages.{HoldsOtherPages, PagesIn, RefusesPage}
 use Rattle.buffer_pool.proofs.AddedLemmas.{none_added, held_adds, none_spares, frame_before}
 use Rattle.buffer_pool.proofs.CallLemmas.{does_both, does_none}
+use Rattle.buffer_pool.proofs.ClearLemmas.{unchanged_once, comes_before_too}
 use Rattle.buffer_pool.proofs.FitsLemmas.{live_still}
-use Rattle.buffer_pool.proofs.VictimLemmas.{in_right}
+use Rattle.buffer_pool.proofs.VictimLemmas.{in_right, tried_right}
 
 -- it is the same pass over all of them
 pub passes_both : (p q r : TreePass) → IsSamePass p q → IsSamePass q r → IsSamePass p r
@@ -38,6 +41,12 @@ frames-append (q ∷ qs) rs = pick (is_frame q.released) (frame_references (qs +
         → cond o (q ∷ xs) xs ≡ cond o (q ∷ ys) ys ++ frame_references rs
     pick true xs ys e = ap (λ zs. q ∷ zs) e
     pick false xs ys e = e
+
+-- what two calls gave back as it was taken
+pub both_unchanged : (qs rs : List (Reference Object)) → AreUnchanged qs → AreUnchanged rs
+    → AreUnchanged (qs ++ rs)
+both_unchanged qs rs first second =
+    each_append (λ (q : Reference Object). q.taken ≡ q.released) qs rs first second
 
 -- no look
 pub gives_none : (p : TreePass) → IsKnown p → GivesNothing p p
@@ -56,6 +65,7 @@ gives_none p known = record {
     count = refl;
   };
   none = refl;
+  unchanged = tt;
 }
 
 module _ (p q : TreePass) (gives : GivesNothing p q) where
@@ -79,6 +89,10 @@ module _ (p q : TreePass) (gives : GivesNothing p q) where
   gives_lacks b lacked = sym (gives.got.silently.does.rest (frame_id (shape_of_pass p) b) tt)
       ∙ (ap (λ (s : Shape). get_elem? (view q).held (frame_id s b)) (sym gives_shape) ∙ lacked)
 
+  pub gives_lacked : (b : ℕ) → LacksFrame p b → LacksFrame q b
+  gives_lacked b lacks = ap (λ (s : Shape). get_elem? (view q).held (frame_id s b)) gives_shape
+      ∙ (gives.got.silently.does.rest (frame_id (shape_of_pass p) b) tt ∙ lacks)
+
   module _ (r : TreePass) where
     -- one more, that found nothing
     pub gives_both : GivesNothing q r → GivesNothing p r
@@ -93,6 +107,7 @@ module _ (p q : TreePass) (gives : GivesNothing p q) where
       };
       none = frames-append a.references c.references
           ∙ (λ k. gives.none k ++ more.none k);
+      unchanged = both_unchanged a.references c.references gives.unchanged more.unchanged;
     }
 
     -- that held the page
@@ -112,6 +127,25 @@ module _ (p q : TreePass) (gives : GivesNothing p q) where
           frame = pages.frame;
           knows = pages.knows;
           has = pages.has;
+          inside = pages.inside;
+          cause = record {
+            pool = pages.cause.pool;
+            held = record {
+              now = pages.cause.held.now;
+              among = in_right
+                  (reference pool_id (object.Pool pages.cause.pool)
+                  (object.Pool pages.cause.held.now)) a.references c.references
+                  pages.cause.held.among;
+            };
+            once = each_append (ChangesPoolSo pages.cause.pool pages.cause.held.now)
+                a.references c.references
+                (unchanged_once pages.cause.pool pages.cause.held.now a.references
+                gives.unchanged) pages.cause.once;
+            aged = pages.cause.aged;
+            how = comes_before_too p q gives_shape gives_lacked c.refused (a.refused ++ c.refused)
+                (λ k. tried_right k a.refused c.refused) pages.cause.pool n b
+                pages.cause.held.now pages.cause.how;
+          };
           count = (let x = gives.got.count in let y = pages.count in omega (arith, x, y));
         }
 
@@ -128,6 +162,7 @@ module _ (p q : TreePass) (gives : GivesNothing p q) where
       };
       none = frames-append a.references c.references
           ∙ (λ k. gives.none k ++ refuses.none k);
+      unchanged = both_unchanged a.references c.references gives.unchanged refuses.unchanged;
       block = refuses.block;
       taken = refuses.taken;
       pool = refuses.pool;
@@ -154,6 +189,8 @@ module _ (p q : TreePass) (gives : GivesNothing p q) where
         };
         none = frames-append a.references c.references
             ∙ (λ k. gives.none k ++ finds.gives.none k);
+        unchanged = both_unchanged a.references c.references gives.unchanged
+            finds.gives.unchanged;
       };
       gave = record {
         taken = finds.gave.taken;
@@ -161,10 +198,12 @@ module _ (p q : TreePass) (gives : GivesNothing p q) where
         among = in_right (reference pool_id finds.gave.taken (object.Pool finds.gave.pool))
             a.references c.references finds.gave.among;
         free = finds.gave.free;
+        unchanged = both_unchanged a.references c.references gives.unchanged finds.gave.unchanged;
       };
       never = λ live. finds.never (live_still p q gives.got.silently n live);
     }
 
 -- a look that found its frame another's found nothing
 pub refused_gives : (p q : TreePass) (n : ℕ) → RefusesPage p n q → GivesNothing p q
-refused_gives p q n refuses = record { got = refuses.got; none = refuses.none }
+refused_gives p q n refuses =
+    record { got = refuses.got; none = refuses.none; unchanged = refuses.unchanged }

@@ -1,6 +1,6 @@
 -- A new page outside the trees comes to a frame.
 use Rattle.std.proofs.Common.{◌≡◌, ℕ, ◌<◌, ◌≤◌, List, [], length, sym, ap, subst, ◌∙◌, refl, arith, Option, None}
-use Rattle.latch_space.specs.Passes.{view}
+use Rattle.latch_space.specs.Passes.{view, known_values}
 use Rattle.index_page.specs.Page.{PageRows}
 use Rattle.tree_law.specs.Pages.{IsOrderly}
 use Rattle.tree_law.proofs.PageRowLemmas.{own_of}
@@ -19,8 +19,9 @@ use Rattle.buffer_pool.specs.Ages.{IsAged}
 use Rattle.buffer_pool.specs.Forests.{IsFittedTree}
 use Rattle.buffer_pool.specs.Frames.{TakesOut}
 use Rattle.buffer_pool.specs.Pools.{TakesPoolOut}
-use Rattle.buffer_pool.specs.Tries.{HoldsBoth}
-use Rattle.buffer_pool.specs.Turning.{PutsPage, loaded, MayTurn, TurnsBack, MayBring, BringsTo, HasAged}
+use Rattle.buffer_pool.specs.Tries.{HoldsPoolAndFrame}
+use Rattle.buffer_pool.specs.Causes.{HasAged}
+use Rattle.buffer_pool.specs.Turning.{PutsPage, loaded_with, KeepsOthers, MayTurn, TurnsBack, MayBring, BringsTo}
 use Rattle.buffer_pool.proofs.KnownLemmas.{image_room}
 use Rattle.buffer_pool.proofs.PutLemmas.{put_place, put_image, puts_keeps, aged_rests, keeps_then, put_aged}
 use Rattle.buffer_pool.proofs.TurnLemmas.{frame_is, pool_is, may_turn, turned}
@@ -57,23 +58,23 @@ module _ (p p1 p2 : TreePass) (b : ℕ) (frame : Frame) (pool : Pool) (out : Tak
   brought_image = subst (λ (z : Pool). n < length z.images.items) (sym pool_same) image_below
 
   module _ (y : Pool) (put : PutsPage pool n (InFrame b) None y) (z : Pool) (aged : IsAged y b z)
-      (g : Frame) (made : g ≡ loaded frame (unbounded page)) where
+      (g : Frame) (made : g ≡ loaded_with frame (unbounded page)) where
     puts : PutsPage may.pool n (InFrame b) None y
     puts = subst (λ (w : Pool). PutsPage w n (InFrame b) None y) pool_same put
 
-    made_is : g ≡ loaded may.frame (unbounded page)
-    made_is = made ∙ ap (λ (f : Frame). loaded f (unbounded page))
+    made_is : g ≡ loaded_with may.frame (unbounded page)
+    made_is = made ∙ ap (λ (f : Frame). loaded_with f (unbounded page))
         (frame_is p p1 p2 b frame pool out outside may.taken may.pool may.frame may.both)
 
     placed : where_at z.place.items n ≡ InFrame b
     placed = ap (λ xs. where_at xs n) aged.place
         ∙ put_place may.pool n (InFrame b) None y puts may.below
 
-    bring_follows : (before news : List (Option Object))
-        → PoolStep (shape_of_pass p) before news n
+    bring_follows : (news : List (Option Object))
+        → PoolStep (shape_of_pass p) (known_values p) news n
         (record { block = b; old = may.frame; new = g }) may.pool z
-        → Follows (shape_of_pass p) before news None
-    bring_follows before news step = pages_come_and_go.brings (shape_of_pass p) before news
+        → Follows (shape_of_pass p) (known_values p) news None
+    bring_follows news step = pages_come_and_go.brings (shape_of_pass p) (known_values p) news
         (record {
           number = n;
           hand = record { block = b; old = may.frame; new = g };
@@ -89,6 +90,7 @@ module _ (p p1 p2 : TreePass) (b : ℕ) (frame : Frame) (pool : Pool) (out : Tak
           has = subst (λ (f : Frame). HasPage f n (page_within page None None)) (sym made_is)
               (record { rows = page; paged = refl; number = refl; is = refl });
           outside = (own_of n page.head.prev may.own, may.rows);
+          alone = may.alone;
           order = empty_order (fields_for (shape_of_pass p)) page may.rows may.fields;
           clock = subst (λ (f : Frame). may.frame.clock ≤ f.clock) (sym made_is) (omega arith);
         })
@@ -101,13 +103,17 @@ module _ (p p1 p2 : TreePass) (b : ℕ) (frame : Frame) (pool : Pool) (out : Tak
         (aged_rests y b z aged)) bring_follows
 
     -- and then the frame has it
-    pub brings : (t : Object) (x : Pool) (f : Frame) → HoldsBoth p b t x f → (q : TreePass)
-        → TurnsBack p2 b g z q → BringsTo p b page t x q
+    pub brings : (t : Object) (x : Pool) (f : Frame) → HoldsPoolAndFrame p b t x f
+        → (q : TreePass) → TurnsBack p2 b g z q → BringsTo p b page t x q
     brings t x f both q back = record {
       pool = z;
       frame = g;
       turns = turned p p1 p2 b frame pool out outside t x f both g z q back;
       placed = placed;
+      keeps = subst (λ (w : Pool). KeepsOthers w n z)
+          (pool_is p p1 p2 b frame pool out outside t x f both)
+          (keeps_then pool n y z (puts_keeps pool n (InFrame b) None y put)
+          (aged_rests y b z aged));
       paged = ap (λ (w : Frame). w.page) made;
       low = ap (λ (w : Frame). w.low) made;
       high = ap (λ (w : Frame). w.high) made;

@@ -1,7 +1,7 @@
 -- A page outside the trees goes from its frame for good.
 use Rattle.std.proofs.Common.{◌≡◌, ℕ, ◌<◌, List, length, set, sym, ap, subst, ◌∙◌, Option, Some, None}
 use Rattle.list_facts.proofs.Places.{same_some}
-use Rattle.latch_space.specs.Passes.{view}
+use Rattle.latch_space.specs.Passes.{view, known_values}
 use Rattle.clock_law.specs.ModifyClock.{ClockRises}
 use Rattle.index_page.specs.Page.{PageRows}
 use Rattle.tree_law.proofs.PageRowLemmas.{own_of}
@@ -19,7 +19,7 @@ use Rattle.buffer_pool.specs.Ages.{IsAgeless}
 use Rattle.buffer_pool.specs.Forests.{IsFittedTree}
 use Rattle.buffer_pool.specs.Frames.{TakesOut}
 use Rattle.buffer_pool.specs.Pools.{TakesPoolOut}
-use Rattle.buffer_pool.specs.Tries.{HoldsBoth}
+use Rattle.buffer_pool.specs.Tries.{HoldsPoolAndFrame}
 use Rattle.buffer_pool.specs.Turning.{PutsPage, UnloadsFrame, MayTurn, TurnsBack, MayFree, FreesFrom}
 use Rattle.buffer_pool.proofs.EvictLemmas.{unloaded_had, evicted_named, unloaded_place, unloaded_image}
 use Rattle.buffer_pool.proofs.PutLemmas.{put_place, put_image, puts_keeps, ageless_rests, keeps_then}
@@ -43,11 +43,11 @@ module _ (p p1 p2 : TreePass) (b : ℕ) (frame : Frame) (pool : Pool) (out : Tak
     puts : PutsPage may.pool n Free None y
     puts = subst (λ (w : Pool). PutsPage w n Free None y) pool_same put
 
-    drop_follows : (before news : List (Option Object))
-        → PoolStep (shape_of_pass p) before news n
+    drop_follows : (news : List (Option Object))
+        → PoolStep (shape_of_pass p) (known_values p) news n
         (record { block = b; old = may.frame; new = g }) may.pool z
-        → Follows (shape_of_pass p) before news None
-    drop_follows before news step = pages_come_and_go.takes (shape_of_pass p) before news
+        → Follows (shape_of_pass p) (known_values p) news None
+    drop_follows news step = pages_come_and_go.takes (shape_of_pass p) (known_values p) news
         (record {
           number = n;
           hand = record { block = b; old = may.frame; new = g };
@@ -87,7 +87,7 @@ module _ (p p1 p2 : TreePass) (b : ℕ) (frame : Frame) (pool : Pool) (out : Tak
         (ageless_rests y b z ageless)) drop_follows
 
   -- and then its number is free
-  pub drops : (page : PageRows) (t : Object) (x : Pool) (f : Frame) → HoldsBoth p b t x f
+  pub drops : (page : PageRows) (t : Object) (x : Pool) (f : Frame) → HoldsPoolAndFrame p b t x f
       → f.page ≡ Some page → (q : TreePass) → TurnsBack p2 b g z q
       → FreesFrom p b page.head.number t x f q
   drops page t x f both paged q back =
@@ -105,7 +105,7 @@ module _ (p p1 p2 : TreePass) (b : ℕ) (frame : Frame) (pool : Pool) (out : Tak
             ((number ∙ ap (λ (w : PageRows). w.head.number) page_same) k) Free));
         ages = ageless.ages
             ∙ ap (λ xs. set xs b 0)
-            (put.ages ∙ ap (λ (w : Pool). w.ages.items) pool_same);
+            (put.ages ∙ ap (λ (w : Pool). w.ages) pool_same);
         empty = ap (λ (w : Frame). w.page) unloaded.empty;
         clock = subst (λ (w : Frame). ClockRises w.clock g.clock) frame_same unloaded.clock;
       }

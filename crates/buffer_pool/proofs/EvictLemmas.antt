@@ -1,30 +1,33 @@
 -- The page of a frame goes to its image.
-use Rattle.std.proofs.Common.{◌≡◌, ℕ, ◌<◌, List, length, sym, ap, subst, ◌∙◌, refl, Option, Some, None}
-use Rattle.tree_law.specs.Pages.{Page, IsOrderly}
+use Rattle.std.proofs.Common.{◌≡◌, ℕ, ◌<◌, List, length, sym, ap, subst, ◌∙◌, refl, false, Option, Some, None}
+use Rattle.list_facts.proofs.Places.{same_some}
+use Rattle.index_page.specs.Page.{PageRows}
+use Rattle.tree_law.specs.Pages.{Page, is_own, IsOrderly}
 use Rattle.forest_law.specs.declared.objects.Frame.{Frame}
 use Rattle.forest_law.specs.declared.objects.Stored.{Stored}
 use Rattle.forest_law.specs.declared.objects.Pool.{Pool}
 use Rattle.forest_law.specs.declared.objects.Where.TheVariants.{InFrame, Image}
 use Rattle.forest_law.specs.declared.objects.Object.{Object}
 use Rattle.forest_law.specs.Law.{Follows}
+use Rattle.forest_law.specs.Outside.{HasNoOutside}
 use Rattle.forest_law.specs.PoolSteps.{PoolStep}
 use Rattle.forest_law.specs.State.{page_within, page_if, where_at, fields_for}
 use Rattle.forest_law.specs.Turns.{HasPage}
 use Rattle.forest_law.proofs.PoolStepLemmas.{pages_come_and_go}
 use Rattle.forest_world.specs.Held.{TreePass, shape_of_pass}
-use Rattle.latch_space.specs.Passes.{view}
+use Rattle.latch_space.specs.Passes.{view, known_values}
 use Rattle.buffer_pool.specs.Forests.{IsFittedTree}
 use Rattle.buffer_pool.specs.Frames.{TakesOut}
 use Rattle.buffer_pool.specs.Pools.{TakesPoolOut}
-use Rattle.buffer_pool.specs.Tries.{HoldsBoth}
+use Rattle.buffer_pool.specs.Tries.{HoldsPoolAndFrame}
 use Rattle.buffer_pool.specs.Turning.{PutsPage, UnloadsFrame, MayTurn, TurnsBack, EmptiesFrame}
-use Rattle.buffer_pool.proofs.KnownLemmas.{frame_named, number_in, frame_order, image_room}
+use Rattle.buffer_pool.proofs.KnownLemmas.{frame_named, named_number, number_in, frame_order, image_room}
 use Rattle.buffer_pool.proofs.PutLemmas.{put_place, put_image, puts_keeps}
 use Rattle.buffer_pool.proofs.TurnLemmas.{frame_is, pool_is, may_turn, turned}
 
 module _ (p p1 p2 : TreePass) (b : ℕ) (frame : Frame) (pool : Pool) (out : TakesOut p b frame p1)
     (outside : TakesPoolOut p1 pool p2) (t : Object) (x : Pool) (f : Frame)
-    (both : HoldsBoth p b t x f) (fitted : IsFittedTree (view p)) (g : Frame) (s : Stored)
+    (both : HoldsPoolAndFrame p b t x f) (fitted : IsFittedTree (view p)) (g : Frame) (s : Stored)
     (unloaded : UnloadsFrame frame s g) (n : ℕ) (number : n ≡ s.page.head.number) where
   unloads : UnloadsFrame f s g
   unloads = subst (λ (z : Frame). UnloadsFrame z s g)
@@ -38,6 +41,15 @@ module _ (p p1 p2 : TreePass) (b : ℕ) (frame : Frame) (pool : Pool) (out : Tak
   evicted_named = ap (where_at x.place.items) number
       ∙ frame_named fitted.whole fitted.is_lawful (view p) fitted.fits t x both.pool b f both.frame
       s.page unloads.page
+
+  -- for no other page
+  evicted_only : (m : ℕ) → where_at x.place.items m ≡ InFrame b → m ≡ n
+  evicted_only m named =
+      let has = named_number fitted.whole fitted.is_lawful (view p) fitted.fits t x both.pool b f
+      both.frame m named in
+      sym has.number
+      ∙ (ap (λ (r : PageRows). r.head.number)
+      (same_some has.page s.page (sym has.paged ∙ unloads.page)) ∙ sym number)
 
   place_below : n < length x.place.items
   place_below = subst (λ m. m < length x.place.items) (sym number)
@@ -77,10 +89,12 @@ module _ (p p1 p2 : TreePass) (b : ℕ) (frame : Frame) (pool : Pool) (out : Tak
     puts : PutsPage x n Image (Some s) y
     puts = subst (λ (z : Pool). PutsPage z n Image (Some s) y) pool_same put
 
-    evict_follows : (before news : List (Option Object))
-        → PoolStep (shape_of_pass p) before news n (record { block = b; old = f; new = g }) x y
-        → Follows (shape_of_pass p) before news None
-    evict_follows before news step = pages_come_and_go.evicts (shape_of_pass p) before news
+    evict_follows : HasNoOutside f → (news : List (Option Object))
+        → PoolStep (shape_of_pass p) (known_values p) news n
+        (record { block = b; old = f; new = g }) x y
+        → Follows (shape_of_pass p) (known_values p) news None
+    evict_follows inside news step =
+        pages_come_and_go.evicts (shape_of_pass p) (known_values p) news
         (record {
           number = n;
           hand = record { block = b; old = f; new = g };
@@ -93,6 +107,8 @@ module _ (p p1 p2 : TreePass) (b : ℕ) (frame : Frame) (pool : Pool) (out : Tak
           is = put_place x n Image (Some s) y puts place_below;
           stored = put_image x n Image (Some s) y puts image_below;
           had = unloaded_had;
+          tree = subst (λ m. is_own m s.page.head.prev ≡ false) (sym number)
+              (inside s.page unloads.page);
           has = record { number = sym number; is = refl };
           empty = ap (λ (z : Frame). z.page) unloads.empty;
           order = unloaded_order;
@@ -100,9 +116,9 @@ module _ (p p1 p2 : TreePass) (b : ℕ) (frame : Frame) (pool : Pool) (out : Tak
         })
 
     -- the page may go
-    pub may_evict : MayTurn p2 b g y
-    may_evict = may_turn p p1 p2 b frame pool out outside t x f both g y n
-        (puts_keeps x n Image (Some s) y puts) evict_follows
+    pub may_evict : HasNoOutside f → MayTurn p2 b g y
+    may_evict inside = may_turn p p1 p2 b frame pool out outside t x f both g y n
+        (puts_keeps x n Image (Some s) y puts) (evict_follows inside)
 
     -- and then the frame has none
     pub evicts : (q : TreePass) → TurnsBack p2 b g y q → EmptiesFrame p b t x q
@@ -111,7 +127,13 @@ module _ (p p1 p2 : TreePass) (b : ℕ) (frame : Frame) (pool : Pool) (out : Tak
       frame = g;
       turns = turned p p1 p2 b frame pool out outside t x f both g y q back;
       empty = ap (λ (z : Frame). z.page) unloads.empty;
-      keeps = λ m other.
-          ((puts_keeps x n Image (Some s) y puts).elsewhere m
-          (λ e. other (ap (where_at x.place.items) e ∙ evicted_named))).place;
+      clears = record {
+        gone = λ m named. ap (where_at y.place.items) (evicted_only m named)
+            ∙ put_place x n Image (Some s) y puts place_below;
+        keeps = λ m other.
+            ((puts_keeps x n Image (Some s) y puts).elsewhere m
+            (λ e. other (ap (where_at x.place.items) e ∙ evicted_named))).place;
+        ages = puts.ages;
+        tick = puts.tick;
+      };
     }

@@ -28,13 +28,14 @@ use Rattle.buffer_pool.specs.Pools.{TakesPool, GivesPool}
 use Rattle.buffer_pool.specs.Tries.{tries_alone}
 use Rattle.buffer_pool.specs.Victims.{HoldsRoom}
 use Rattle.buffer_pool.proofs.AddedLemmas.{only_refused, only_given}
-use Rattle.buffer_pool.proofs.AgainLemmas.{frames-append, gives_shape}
+use Rattle.buffer_pool.proofs.AgainLemmas.{frames-append, both_unchanged, gives_shape, gives_lacked}
 use Rattle.buffer_pool.proofs.CallLemmas.{does_both, does_none, does_among, does_again, gave_pool}
+use Rattle.buffer_pool.proofs.ClearLemmas.{victim_before}
 use Rattle.buffer_pool.proofs.FrameLemmas.{one_held}
-use Rattle.buffer_pool.proofs.GiveLemmas.{first, first_shape, pool_taken, lacks_before}
+use Rattle.buffer_pool.proofs.GiveLemmas.{first, first_shape, pool_taken, lacks_before, lacks_then}
 use Rattle.buffer_pool.proofs.KnownLemmas.{places_counted}
 use Rattle.buffer_pool.proofs.PoolLemmas.{same_pool}
-use Rattle.buffer_pool.proofs.VictimLemmas.{in_right}
+use Rattle.buffer_pool.proofs.VictimLemmas.{in_right, tried_right}
 
 free_is_not : (b : ℕ) → Free ≡ InFrame b → ⊥
 free_is_not b e = absurd cc
@@ -115,11 +116,16 @@ module _ (p p1 : TreePass) (known : IsKnown p) (lacks : HoldsNoPool (view p))
           silent = refl;
         };
         none = refl;
+        unchanged = tt;
         pool = took.pool;
         now = room.pool;
         held = room.knew;
         lowest = lowest;
-        free = room.keeps n (λ e. free_is_not b (sym lowest.free ∙ e)) ∙ lowest.free;
+        free = room.clears.keeps n (λ e. free_is_not b (sym lowest.free ∙ e)) ∙ lowest.free;
+        took = victim_before p p1 shape (lacks_then p p1 known lacks took) room.tries.refused
+            (took.refused ++ room.tries.refused)
+            (λ k. tried_right k took.refused room.tries.refused) took.pool b room.took;
+        clears = room.clears;
         below = subst (λ (s : Shape). n < s.pages) shape
             (let below = lowest.below in omega (arith, counted, below));
         named = named;
@@ -146,11 +152,15 @@ module _ (p q r : TreePass) (gives : GivesNothing p q) where
           silent = λ k. gives.got.silently.silent k ++ free.silently.silent k;
         };
         none = frames-append a.references c.references ∙ (λ k. gives.none k ++ free.none k);
+        unchanged = both_unchanged a.references c.references gives.unchanged free.unchanged;
         pool = free.pool;
         now = free.now;
         held = free.held;
         lowest = free.lowest;
         free = free.free;
+        took = victim_before p q shape (gives_lacked p q gives) c.refused (a.refused ++ c.refused)
+            (λ k. tried_right k a.refused c.refused) free.pool b free.took;
+        clears = free.clears;
         below = subst (λ (s : Shape). n < s.pages) shape free.below;
         named = free.named;
         lacked = sym (gives.got.silently.does.rest (frame_id (shape_of_pass p) b) tt)

@@ -1,5 +1,6 @@
 -- A page outside the trees is gone, the pool is given back, and then its frame.
 use Rattle.std.proofs.Common.{◌≡◌, ℕ, [], ◌∷◌, inl, sym, ap, subst, refl, arith}
+use Rattle.list_facts.proofs.Each.{each_append}
 use Rattle.latch_law.specs.declared.knows.Holding.{Holding}
 use Rattle.latch_law.specs.declared.knows.Terms.{Terms}
 use Rattle.latch_law.specs.Views.{holding}
@@ -16,23 +17,25 @@ use Rattle.call_law.specs.Hands.{KnowsFrame, HoldsNoPool}
 use Rattle.call_law.specs.Trace.{Added}
 use Rattle.call_law.proofs.TraceLemmas.{both_added}
 use Rattle.buffer_pool.specs.Calls.{Does}
+use Rattle.buffer_pool.specs.Causes.{ChangesPoolSo}
 use Rattle.buffer_pool.specs.Frames.{GivesFrame}
-use Rattle.buffer_pool.specs.Hands.{HoldsKnownFrame}
+use Rattle.buffer_pool.specs.Hands.{MayGiveBack}
 use Rattle.buffer_pool.specs.NewPages.{HoldsOutsidePage, FreesPage}
 use Rattle.buffer_pool.specs.Pools.{TakesPool, GivesPool, HoldsKnownPool}
-use Rattle.buffer_pool.specs.Tries.{tries_alone, Tries, HoldsBoth}
+use Rattle.buffer_pool.specs.Tries.{tries_alone, Tries, HoldsPoolAndFrame}
 use Rattle.buffer_pool.specs.Turning.{MayFree, FreesFrom}
 use Rattle.buffer_pool.proofs.AddedLemmas.{only_given, frame_still}
 use Rattle.buffer_pool.proofs.CallLemmas.{does_both, frame_has, pool_has, gave_frame}
 use Rattle.buffer_pool.proofs.FrameLemmas.{one_held}
-use Rattle.buffer_pool.proofs.GiveLemmas.{first, first_shape, pool_taken, all_added, all_does, pool_among, frame_then}
+use Rattle.buffer_pool.proofs.GiveLemmas.{first, first_shape, pool_taken, all_added, all_does, pool_among, pool_once, frame_then}
+use Rattle.buffer_pool.proofs.InsideLemmas.{empty_inside}
 use Rattle.buffer_pool.proofs.TurnLemmas.{frame_not_pool}
 use Rattle.buffer_pool.proofs.VictimLemmas.{in_left, in_right}
 
 module _ (p p1 : TreePass) (known : IsKnown p) (lacks : HoldsNoPool (view p))
     (took : TakesPool p p1) (b : ℕ) (held : HoldsOutsidePage (view p) b) where
   -- the pool and the frame are held
-  pub freed_both : HoldsBoth p1 b (object.Pool took.pool) took.pool held.frame
+  pub freed_both : HoldsPoolAndFrame p1 b (object.Pool took.pool) took.pool held.frame
   freed_both = record {
     known = (first p p1 known lacks took).known;
     pool = pool_taken p p1 known lacks took;
@@ -90,8 +93,12 @@ module _ (p p1 : TreePass) (known : IsKnown p) (lacks : HoldsNoPool (view p))
             freed.turns.both.pool gave b freed.frame freed.turns.both.frame
 
         -- and so is the frame
-        pub frame_freed : HoldsKnownFrame q2 b
-        frame_freed = (freed.frame, frame_has q2 second.known b freed.frame knows_freed)
+        pub frame_freed : MayGiveBack q2 b
+        frame_freed = (
+          freed.frame,
+          frame_has q2 second.known b freed.frame knows_freed,
+          empty_inside freed.frame freed.empty,
+        )
 
         module _ (q : TreePass) (gone : GivesFrame q2 b q) where
           same_shape : shape_of_pass q2 ≡ shape_of_pass p
@@ -130,7 +137,13 @@ module _ (p p1 : TreePass) (known : IsKnown p) (lacks : HoldsNoPool (view p))
                   (pool_among p p1 known lacks took q1 q2 (k ∷ []) tries freed.pool
                   freed.turns.both.pool gave);
             };
+            once = each_append (ChangesPoolSo took.pool freed.pool) before.references
+                given.references
+                (pool_once p p1 known lacks took q1 q2 (k ∷ []) tries freed.pool
+                freed.turns.both.pool gave)
+                ((λ is. absurd (frame_not_pool (shape_of_pass p) b is)), tt);
             placed = freed.placed;
+            ages = freed.ages;
             frame = freed.frame;
             gave = record {
               was = held.frame;

@@ -14,6 +14,7 @@ use Rattle.latch_space.specs.Passes.{view, values}
 use Rattle.index_law.specs.Answers.{Saying, Full}
 use Rattle.index_law.specs.Rightness.{is_used, IsRight}
 use Rattle.index_law.specs.Answers as told
+use Rattle.index_law.specs.Shape.{Shape}
 use Rattle.forest_law.specs.declared.objects.Pool.{Pool}
 use Rattle.forest_law.specs.declared.objects.Where.{Where}
 use Rattle.forest_law.specs.declared.objects.Where.TheVariants.{Free, InFrame, Image}
@@ -21,6 +22,7 @@ use Rattle.forest_law.specs.declared.objects.Object.{Object}
 use Rattle.forest_law.specs.declared.objects.Object.TheVariants as object
 use Rattle.forest_law.specs.Law.{IsLawful}
 use Rattle.forest_law.specs.Numbers.{pool_id}
+use Rattle.forest_law.specs.OutsideLaws.{FullPoolsAreShort}
 use Rattle.forest_law.specs.References.{IsReference}
 use Rattle.forest_law.specs.State.{places_of, where_at}
 use Rattle.forest_world.specs.Held.{TreePass, HasPool}
@@ -31,6 +33,7 @@ use Rattle.buffer_pool.specs.NewPages.{HasNoneFree}
 use Rattle.buffer_pool.specs.Pools.{TakesPoolOut, PutsPoolBack}
 use Rattle.buffer_pool.proofs.AddedLemmas.{only_said, read_adds}
 use Rattle.buffer_pool.proofs.FrameLemmas.{one_held}
+use Rattle.buffer_pool.proofs.KnownLemmas.{places_are, places_counted}
 
 -- where no number is free, each place that is told is used
 told_used : (xs : List Where) → ((n : ℕ) → n < length xs → where_at xs n ≢ Free)
@@ -42,11 +45,11 @@ told_used (InFrame b ∷ xs) none =
 told_used (Image ∷ xs) none =
     (refl, told_used xs (λ n below e. none (suc n) (omega (arith, below)) e))
 
--- so it may be told where the pool is held
-pub may_tell : (v : View) (i : ℕ) (t : Object) (x : Pool)
+-- so it may be told where the pool is held, of so few pages
+pub may_tell : FullPoolsAreShort → (v : View) (i : ℕ) (t : Object) (x : Pool)
     → Holds v pool_id (holding t (object.Pool x)) → HasNoneFree x
     → MayAnswer IsLawful IsRight IsReference v i (Full (map told_place x.place.items))
-may_tell v i t x held none w law fits xs at = record {
+may_tell short v i t x held none w law fits xs at = record {
   list = xs;
   there = at;
   point = omega arith;
@@ -56,6 +59,11 @@ may_tell v i t x held none w law fits xs at = record {
         (fits.known pool_id (holding t (object.Pool x)) held))
         ∙ law.objects.counted.places),
     told_used x.place.items none,
+    short w law (λ n below.
+        subst (λ ps. where_at ps n ≢ Free)
+        (sym (places_are w law v fits t x held))
+        (none n (let counted = places_counted w law v fits t x held in
+        let same = ap (λ (s : Shape). s.pages) fits.shape in omega (arith, below, counted, same)))),
   );
 }
 

@@ -1,8 +1,9 @@
 -- The pool is taken, something is done with it in hand, and it is given back.
-use Rattle.std.proofs.Common.{◌≡◌, ℕ, List, [], ◌∷◌, ◌++◌, inl, sym, ap, subst, ◌∙◌, refl, arith, Some, None}
+use Rattle.std.proofs.Common.{◌≡◌, ℕ, List, [], ◌∷◌, ◌++◌, inl, inr, sym, ap, subst, ◌∙◌, refl, arith, Some, None}
 use lib.ListN.{get_elem?}
 use Rattle.atomic_table.proofs.Lists.{set_here}
 use Rattle.list_facts.proofs.Places.{inside}
+use Rattle.latch_law.specs.declared.knows.Holding.{Holding}
 use Rattle.latch_law.specs.declared.knows.Terms.{Terms}
 use Rattle.latch_law.specs.Views.{holding}
 use Rattle.latch_law.specs.Whole.{reference}
@@ -14,6 +15,7 @@ use Rattle.tree_law.specs.Pages.{Page}
 use Rattle.forest_law.specs.declared.objects.Frame.{Frame}
 use Rattle.forest_law.specs.declared.objects.Pool.{Pool}
 use Rattle.forest_law.specs.declared.objects.Where.TheVariants.{Free}
+use Rattle.forest_law.specs.declared.objects.Object.{Object}
 use Rattle.forest_law.specs.declared.objects.Object.TheVariants as object
 use Rattle.forest_law.specs.Numbers.{pool_id, frame_id}
 use Rattle.forest_law.specs.State.{places_of, where_at, page_where}
@@ -24,15 +26,17 @@ use Rattle.call_law.proofs.TraceLemmas.{both_added}
 use Rattle.buffer_pool.specs.declared.looking.Looked.{Looked}
 use Rattle.buffer_pool.specs.declared.looking.Looked.TheVariants as looked
 use Rattle.buffer_pool.specs.Calls.{Does}
+use Rattle.buffer_pool.specs.Causes.{AreUnchanged, ChangesPoolOnce}
 use Rattle.buffer_pool.specs.Forests.{TreeView}
 use Rattle.buffer_pool.specs.Hands.{LacksFrame}
-use Rattle.buffer_pool.specs.Looking.{HoldsPage, TellsLook, GivesNothing, LooksFor}
+use Rattle.buffer_pool.specs.Looking.{HoldsPageToo, TellsLook, GivesNothing, TellsLookFor}
 use Rattle.buffer_pool.specs.Pages.{IsLive, HoldsOtherPages, PagesIn}
 use Rattle.buffer_pool.specs.Pools.{TakesPool, GivesPool}
 use Rattle.buffer_pool.specs.Tries.{tries_alone, Tries, IsTried, KnowsPool}
-use Rattle.buffer_pool.specs.Victims.{TriesInVain}
+use Rattle.buffer_pool.specs.Victims.{TriedInVain}
 use Rattle.buffer_pool.proofs.AddedLemmas.{only_refused, only_given, frame_still, frame_before}
 use Rattle.buffer_pool.proofs.CallLemmas.{does_both, does_among, does_again, took_pool, gave_pool}
+use Rattle.buffer_pool.proofs.ClearLemmas.{comes_before_too}
 use Rattle.buffer_pool.proofs.FrameLemmas.{one_held}
 use Rattle.buffer_pool.proofs.PageLemmas.{fits_before}
 use Rattle.buffer_pool.proofs.TurnLemmas.{frame_not_pool}
@@ -67,6 +71,12 @@ module _ (p p1 : TreePass) (known : IsKnown p) (lacks : HoldsNoPool (view p))
   lacks_before b lacked =
       sym (first.rest (frame_id (shape_of_pass p) b) (frame_not_pool (shape_of_pass p) b, tt))
       ∙ (ap (λ (s : Shape). get_elem? (view p1).held (frame_id s b)) (sym first_shape) ∙ lacked)
+
+  -- and one that was lacked is lacked
+  pub lacks_then : (b : ℕ) → LacksFrame p b → LacksFrame p1 b
+  lacks_then b lacked = ap (λ (s : Shape). get_elem? (view p1).held (frame_id s b)) first_shape
+      ∙ (first.rest (frame_id (shape_of_pass p) b) (frame_not_pool (shape_of_pass p) b, tt)
+      ∙ lacked)
 
   -- a page whose number is free isn't there
   pub free_is_dead : (n : ℕ) → where_at took.pool.place.items n ≡ Free → IsLive (view p) n → ⊥
@@ -109,6 +119,18 @@ module _ (p p1 : TreePass) (known : IsKnown p) (lacks : HoldsNoPool (view p))
         all_added.references
     pool_among = inl (λ k. reference pool_id (sym gave_is k).taken (sym gave_is k).known)
 
+    -- and was changed that once
+    pub pool_once : ChangesPoolOnce took.pool y all_added.references
+    pool_once = ((λ is. inr (λ k. reference pool_id (gave_is k).taken (gave_is k).known)), tt)
+
+    -- or not
+    pub pool_unchanged : object.Pool took.pool ≡ object.Pool y → AreUnchanged all_added.references
+    pool_unchanged same = (
+      ap (λ (h : Holding Object). h.taken) gave_is
+          ∙ (same ∙ sym (ap (λ (h : Holding Object). h.known) gave_is)),
+      tt,
+    )
+
     abbrev pub tried_among : (k : ℕ) → IsTried k tries.refused → IsTried k all_added.refused
     tried_among k tried = record {
       refusal = tried.refusal;
@@ -124,7 +146,8 @@ module _ (p p1 : TreePass) (known : IsKnown p) (lacks : HoldsNoPool (view p))
 
   -- what a look found
   module _ (q1 q : TreePass) (gave : GivesPool q1 q) (n : ℕ) where
-    looks_held : (b : ℕ) → HoldsPage p1 n b (object.Pool took.pool) q1 → PagesIn p n b q
+    looks_held : (b : ℕ) → HoldsPageToo p1 n b (object.Pool took.pool) took.pool q1
+        → PagesIn p n b q
     looks_held b holds = let ks = frame_id (shape_of_pass p1) b ∷ [] in record {
       silently = record {
         added = all_added q1 q ks holds.tries holds.pool holds.knew gave;
@@ -139,23 +162,37 @@ module _ (p p1 : TreePass) (known : IsKnown p) (lacks : HoldsNoPool (view p))
       frame = holds.frame;
       knows = frame_then q1 q ks holds.tries holds.pool holds.knew gave b holds.frame holds.knows;
       has = holds.has;
+      inside = holds.inside;
+      cause = record {
+        pool = took.pool;
+        held = record {
+          now = holds.pool;
+          among = pool_among q1 q ks holds.tries holds.pool holds.knew gave;
+        };
+        once = pool_once q1 q ks holds.tries holds.pool holds.knew gave;
+        aged = holds.aged;
+        how = comes_before_too p p1 first_shape lacks_then holds.tries.refused
+            (all_added q1 q ks holds.tries holds.pool holds.knew gave).refused
+            (tried_among q1 q ks holds.tries holds.pool holds.knew gave) took.pool n b holds.pool
+            holds.how;
+      };
       count = (let a = took.count in let c = holds.count in let d = gave.count in
           omega (arith, a, c, d));
     }
 
     -- where tries alone were made, the pool is known as it was taken
-    pub pool_vain : (vain : TriesInVain p1 q1)
+    pub pool_vain : (vain : TriedInVain p1 q1)
         → KnowsPool (view q1) (object.Pool took.pool) took.pool
     pool_vain vain = vain.tries.does.rest pool_id tt ∙ pool_taken
 
-    abbrev pub more : (vain : TriesInVain p1 q1) → Tries p1 q1 (pool_id ∷ [])
+    abbrev pub more : (vain : TriedInVain p1 q1) → Tries p1 q1 (pool_id ∷ [])
     more vain = record {
       refused = vain.tries.refused;
       does = does_among p1 q1 (tries_alone vain.tries.refused) [] (pool_id ∷ []) (λ j apart. tt)
           vain.tries.does;
     }
 
-    abbrev pub vain_gives : TriesInVain p1 q1 → GivesNothing p q
+    abbrev pub vain_gives : TriedInVain p1 q1 → GivesNothing p q
     vain_gives vain = record {
       got = record {
         silently = record {
@@ -167,14 +204,16 @@ module _ (p p1 : TreePass) (known : IsKnown p) (lacks : HoldsNoPool (view p))
             omega (arith, a, c, d));
       };
       none = refl;
+      unchanged = pool_unchanged q1 q [] (more vain) took.pool (pool_vain vain) gave refl;
     }
 
     pub looks_for : (r : Looked) → TellsLook p1 (object.Pool took.pool) took.pool n r q1
-        → LooksFor p n r q
+        → TellsLookFor p n r q
     looks_for (looked.Held b) told = looks_held b told
     looks_for looked.Busy told = record {
       got = (vain_gives told.vain).got;
       none = refl;
+      unchanged = (vain_gives told.vain).unchanged;
       block = told.block;
       taken = object.Pool took.pool;
       pool = took.pool;
@@ -193,6 +232,7 @@ module _ (p p1 : TreePass) (known : IsKnown p) (lacks : HoldsNoPool (view p))
         pool = took.pool;
         among = pool_among q1 q [] (more told.vain) took.pool (pool_vain told.vain) gave;
         free = told.free;
+        unchanged = (vain_gives told.vain).unchanged;
       };
       never = free_is_dead n told.free;
     }

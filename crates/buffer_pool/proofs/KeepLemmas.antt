@@ -1,11 +1,16 @@
 -- What stays in hand while one object is taken, changed or given back.
-use Rattle.std.proofs.Common.{◌≡◌, ◌≢◌, ℕ, ◌<◌, inl, inr, sym, ap, subst, ◌∙◌, arith}
+use Rattle.std.proofs.Common.{◌≡◌, ◌≢◌, ℕ, ◌<◌, List, inl, inr, sym, ap, subst, ◌∙◌, refl, arith, Option, Some, None}
 use Rattle.std.specs.List.{AllByRecursion}
 use Rattle.std.proofs.lemmas.Bool.{cases_eq}
+use mathlib.Core.Option.{some}
+use mathlib.Core.Option as maybe
 use lib.ListN.{get_elem?}
+use Rattle.list_facts.proofs.Places.{inside, there}
 use Rattle.latch_law.specs.declared.knows.Holding.{Holding}
 use Rattle.latch_law.specs.declared.knows.Terms.{Terms}
 use Rattle.latch_law.specs.Rule.{Holds}
+use Rattle.latch_law.specs.Views.{learnt}
+use Rattle.latch_law.proofs.Lists.{learnt_some, length-learnt}
 use Rattle.latch_space.specs.Has.{Has, SameBut}
 use Rattle.latch_space.specs.Passes.{view, values, Lacks, Shows}
 use Rattle.latch_space.proofs.Pointwise.{has_still}
@@ -112,3 +117,28 @@ module _ (p q : TreePass) (terms : (view q).terms ≡ (view p).terms) where
         (λ e. differs (omega (arith, e))) has;
     pool = λ x y has. pool_kept p q (tree_id i) terms others x y (λ e. omega (arith, e)) has;
   }
+
+-- what is known is learnt as it is
+pub learnt_same : (vs : List (Option Object)) (hs : List (Option (Holding Object))) (k : ℕ)
+    → ((h : Holding Object) → get_elem? hs k ≡ some (Some h)
+    → get_elem? vs k ≡ some (Some h.known))
+    → (get_elem? hs k ≡ some None → get_elem? (learnt vs hs) k ≡ some None)
+    → get_elem? (learnt vs hs) k ≡ get_elem? hs k
+learnt_same vs hs k known lacked = pick (get_elem? hs k) refl (get_elem? (learnt vs hs) k) refl
+  where
+    past : get_elem? hs k ≡ maybe.none → (h : Option (Holding Object))
+        → get_elem? (learnt vs hs) k ≡ some h → ⊥
+    past e h f = let room = inside (learnt vs hs) k h f in
+        let a = there hs k (omega (arith, room, length-learnt vs hs)) in
+        absurd (maybe_not a.0 (sym e ∙ a.1))
+      where
+        maybe_not : (h : Option (Holding Object)) → maybe.none ≡ some h → ⊥
+        maybe_not h e = absurd cc
+
+    pick : (o : maybe.Option (Option (Holding Object))) → get_elem? hs k ≡ o
+        → (l : maybe.Option (Option (Holding Object))) → get_elem? (learnt vs hs) k ≡ l
+        → get_elem? (learnt vs hs) k ≡ get_elem? hs k
+    pick (some (Some h)) e l f = learnt_some vs hs k h h.known e (known h e) ∙ sym e
+    pick (some None) e l f = lacked e ∙ sym e
+    pick maybe.none e maybe.none f = f ∙ sym e
+    pick maybe.none e (some h) f = absurd (past e h f)

@@ -1,5 +1,6 @@
 -- What a lawful state tells of the pool and a frame that are known.
 use Rattle.std.proofs.Common.{◌≡◌, ℕ, ◌<◌, length, sym, ap, subst, ◌∙◌, arith, Some}
+use mathlib.Core.Option.{some-injective}
 use lib.ListN.{get_elem?}
 use Rattle.list_facts.proofs.Places.{inside}
 use Rattle.latch_law.specs.Views.{holding}
@@ -22,10 +23,12 @@ use Rattle.forest_law.specs.Placed.{IsPageIn}
 use Rattle.forest_law.specs.State.{ForestState, page_within, places_of, images_of, ages_of, where_at, image_at, places, images, ages, fields_for}
 use Rattle.forest_law.proofs.FramePageLemmas.{frame_tells}
 use Rattle.forest_law.proofs.ImageLemmas.{images_tell_pages}
+use Rattle.forest_law.proofs.ObjectLemmas.{same_frame}
 use Rattle.forest_world.specs.Held.{TreePass, shape_of_pass}
 use Rattle.call_law.specs.Hands.{KnowsFrame}
 use Rattle.buffer_pool.specs.Forests.{TreeView, FitsTrees, IsFittedTree}
-use Rattle.buffer_pool.specs.Tries.{KnowsPool, HoldsBoth}
+use Rattle.buffer_pool.specs.Pages.{HasNumber}
+use Rattle.buffer_pool.specs.Tries.{KnowsPool, HoldsPoolAndFrame}
 use Rattle.buffer_pool.proofs.PutLemmas.{used_below}
 use Rattle.buffer_pool.proofs.SpaceLemmas.{known_below}
 
@@ -35,10 +38,10 @@ module _ (w : ForestState) (law : IsLawful w) (v : TreeView) (fits : FitsTrees w
   pub places_are : places w.objects ≡ x.place.items
   places_are = ap places_of (fits.known pool_id (holding t (object.Pool x)) held)
 
-  images_are : images w.objects ≡ x.images.items
+  pub images_are : images w.objects ≡ x.images.items
   images_are = ap images_of (fits.known pool_id (holding t (object.Pool x)) held)
 
-  ages_are : ages w.objects ≡ x.ages.items
+  ages_are : ages w.objects ≡ x.ages
   ages_are = ap ages_of (fits.known pool_id (holding t (object.Pool x)) held)
 
   -- of which there are as many as the shape says
@@ -50,7 +53,7 @@ module _ (w : ForestState) (law : IsLawful w) (v : TreeView) (fits : FitsTrees w
   images_counted = ap length (sym images_are)
       ∙ (law.objects.counted.images ∙ ap (λ (s : Shape). s.pages) fits.shape)
 
-  pub ages_counted : length x.ages.items ≡ frames_of v.terms.shape
+  pub ages_counted : length x.ages ≡ frames_of v.terms.shape
   ages_counted = ap length (sym ages_are)
       ∙ (law.objects.counted.ages ∙ ap frames_of fits.shape)
 
@@ -86,6 +89,17 @@ module _ (w : ForestState) (law : IsLawful w) (v : TreeView) (fits : FitsTrees w
     frame_at = ap (λ (s : Shape). get_elem? w.objects (frame_id s b)) fits.shape
         ∙ fits.known (frame_id v.terms.shape b) (holding knows.0 (object.Frame f)) knows.1
 
+    -- which has each page that the pool names there
+    pub named_number : (n : ℕ) → where_at x.place.items n ≡ InFrame b → HasNumber f n
+    named_number n named = let at = page_there n b named in
+        let is : at.frame ≡ f = same_frame at.frame f
+        (some-injective (object.Frame at.frame) (object.Frame f) (sym at.at ∙ frame_at)) in
+        record {
+          page = at.page;
+          paged = ap (λ (g : Frame). g.page) (sym is) ∙ at.paged;
+          number = at.number;
+        }
+
     module _ (rows : PageRows) (paged : f.page ≡ Some rows) where
       tells : TellsPage w f rows
       tells = frame_tells w law b f rows frame_at paged
@@ -105,19 +119,19 @@ module _ (w : ForestState) (law : IsLawful w) (v : TreeView) (fits : FitsTrees w
           tells.order
 
 -- a frame that is held has an age
-module _ (p : TreePass) (b : ℕ) (t : Object) (x : Pool) (f : Frame) (both : HoldsBoth p b t x f)
-    (fitted : IsFittedTree (view p))
+module _ (p : TreePass) (b : ℕ) (t : Object) (x : Pool) (f : Frame)
+    (both : HoldsPoolAndFrame p b t x f) (fitted : IsFittedTree (view p))
     (objects : (view p).terms.objects ≡ frame_id (shape_of_pass p) (frames_of (shape_of_pass p)))
   where
-    age_there : b < length x.ages.items
+    age_there : b < length x.ages
     age_there = let below = known_below p b both.frame.0 (object.Frame f) both.frame.1 objects in
         let counted = ages_counted fitted.whole fitted.is_lawful (view p) fitted.fits t x both.pool
         in
         omega (arith, below, counted)
 
     -- and so it has where only a page was put
-    pub age_still : (pool y : Pool) → pool ≡ x → y.ages.items ≡ pool.ages.items
-        → b < length y.ages.items
+    pub age_still : (pool y : Pool) → pool ≡ x → y.ages ≡ pool.ages
+        → b < length y.ages
     age_still pool y same ages = let there = age_there in
-        let e = ap length ages in let d = ap (λ (z : Pool). length z.ages.items) same in
+        let e = ap length ages in let d = ap (λ (z : Pool). length z.ages) same in
         omega (arith, there, e, d)

@@ -4,11 +4,12 @@ pub mod FrameLemmas
 pub mod TreeLemmas
 pub mod PoolLemmas
 pub mod AddedLemmas
-pub mod AgeLemmas
 pub mod CallLemmas
 pub mod PutLemmas
 pub mod TurnLemmas
+pub mod InsideLemmas
 pub mod KnownLemmas
+pub mod ClearLemmas
 pub mod EvictLemmas
 pub mod RestoreLemmas
 pub mod BringLemmas
@@ -16,6 +17,7 @@ pub mod DropLemmas
 pub mod SetAgeLemmas
 pub mod AgainLemmas
 pub mod VictimLemmas
+pub mod EmptyLemmas
 pub mod PageLemmas
 pub mod LookLemmas
 pub mod FitsLemmas

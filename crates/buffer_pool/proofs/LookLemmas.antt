@@ -1,10 +1,10 @@
 -- A page that is looked for in the pool in hand.
-use Rattle.std.proofs.Common.{◌≡◌, ℕ, ◌<◌, [], ◌∷◌, sym, ap, subst, ◌∙◌, arith, Some}
+use Rattle.std.proofs.Common.{◌≡◌, ℕ, ◌<◌, [], ◌∷◌, ◌++◌, inl, inr, sym, ap, subst, ◌∙◌, arith, Some}
 use mathlib.Core.Option.{some, some-injective}
 use lib.ListN.{get_elem?}
 use Rattle.latch_law.specs.declared.knows.Holding.{Holding}
 use Rattle.latch_law.specs.Rule.{Holds}
-use Rattle.latch_law.specs.Views.{holding}
+use Rattle.latch_law.specs.Views.{holding, with_refused}
 use Rattle.latch_space.specs.Has.{IsKnown}
 use Rattle.latch_space.specs.Passes.{view}
 use Rattle.index_law.specs.Shape.{Shape}
@@ -23,19 +23,21 @@ use Rattle.buffer_pool.specs.Calls.{Does}
 use Rattle.buffer_pool.specs.Forests.{IsFittedTree}
 use Rattle.buffer_pool.specs.Frames.{TakesFrame}
 use Rattle.buffer_pool.specs.Hands.{LacksFrame}
-use Rattle.buffer_pool.specs.Looking.{HoldsPage, RefusesNamed, TellsLook}
+use Rattle.buffer_pool.specs.Looking.{HoldsPageToo, RefusesNamed, TellsLook}
 use Rattle.buffer_pool.specs.Pages.{HasNumber, HoldsOtherPages}
 use Rattle.buffer_pool.specs.Tries.{tries_alone, KnowsPool}
 use Rattle.buffer_pool.specs.Turning.{SetsAge, MayRestore, RestoresTo}
 use Rattle.buffer_pool.specs.Victims.{MissesFrame, HoldsRoom}
 use Rattle.buffer_pool.proofs.AddedLemmas.{frame_still}
 use Rattle.buffer_pool.proofs.CallLemmas.{took_frame}
+use Rattle.buffer_pool.proofs.ClearLemmas.{cleared_aged, made_room}
 use Rattle.buffer_pool.proofs.FrameLemmas.{one_held}
+use Rattle.buffer_pool.proofs.InsideLemmas.{taken_inside}
 use Rattle.buffer_pool.proofs.KnownLemmas.{page_there, block_below}
 use Rattle.buffer_pool.proofs.PageLemmas.{fits_before, lacks_if}
 use Rattle.buffer_pool.proofs.PoolLemmas.{same_pool}
 use Rattle.buffer_pool.proofs.TurnLemmas.{frame_not_pool}
-use Rattle.buffer_pool.proofs.VictimLemmas.{tries_both, tries_among, tries_shape}
+use Rattle.buffer_pool.proofs.VictimLemmas.{tried_left, tries_both, tries_among, tries_shape}
 
 image_is_not : (b : ℕ) → Image ≡ InFrame b → ⊥
 image_is_not b e = absurd cc
@@ -95,7 +97,8 @@ module _ (p : TreePass) (t : Object) (x : Pool) (held : KnowsPool (view p) t x) 
     pool_beside = (took_frame p q known b took).rest pool_id ((λ e. omega (arith, e)), tt) ∙ held
 
     -- the page is held once its block has an age
-    pub holds_named : LacksFrame p b → (r : TreePass) → SetsAge q b t x r → HoldsPage p n b t r
+    pub holds_named : LacksFrame p b → (r : TreePass) → SetsAge q b t x r
+        → HoldsPageToo p n b t x r
     holds_named lacks r aged =
         let first = took_frame p q known b took in
         let k = frame_id (shape_of_pass p) b in
@@ -113,6 +116,9 @@ module _ (p : TreePass) (t : Object) (x : Pool) (held : KnowsPool (view p) t x) 
               aged.tries.does.rest b (frame_not_pool (shape_of_pass q) b, tt) took.frame
               took.has.held;
           has = named_has q took;
+          inside = taken_inside (with_refused (view p) took.refused) b took.frame took.was;
+          aged = record { tick = aged.aged.tick; ages = aged.aged.ages };
+          how = inl (record { named = named; places = aged.aged.place });
           count = (let a = took.count in let c = aged.count in omega (arith, a, c));
         }
 
@@ -139,12 +145,13 @@ module _ (p q : TreePass) (t : Object) (x : Pool) (n b : ℕ) (room : HoldsRoom 
       frame = room.knows;
     };
     empty = room.empty;
-    stored = room.keeps n (λ e. image_is_not b (sym stored ∙ e)) ∙ stored;
+    stored = room.clears.keeps n (λ e. image_is_not b (sym stored ∙ e)) ∙ stored;
   }
 
   -- and is held with it then
-  pub holds_restored : (r : TreePass) → RestoresTo q b n t room.pool r → HoldsPage p n b t r
-  holds_restored r restored = let ks = pool_id ∷ frame_id (shape_of_pass p) b ∷ [] in
+  pub holds_restored : where_at x.place.items n ≡ Image → (r : TreePass)
+      → RestoresTo q b n t room.pool r → HoldsPageToo p n b t x r
+  holds_restored stored r restored = let ks = pool_id ∷ frame_id (shape_of_pass p) b ∷ [] in
       record {
         tries = tries_both p q r ks room.tries
             (record {
@@ -160,6 +167,17 @@ module _ (p q : TreePass) (t : Object) (x : Pool) (n b : ℕ) (room : HoldsRoom 
         frame = restored.frame;
         knows = restored.turns.both.frame;
         has = restored.has;
+        inside = restored.inside;
+        aged = cleared_aged x b room.pool restored.pool room.clears restored.aged;
+        how = inr (record {
+          stored = stored;
+          named = restored.placed;
+          room = made_room p x n b (room.tries.refused ++ restored.turns.tries.refused) room.pool
+              restored.pool
+              (λ c below before lacks. tried_left (frame_id (shape_of_pass p) c)
+              room.tries.refused restored.turns.tries.refused (room.took c below before lacks))
+              room.clears (λ e. image_is_not b (sym stored ∙ e)) restored.keeps;
+        });
         count = (let a = restored.turns.count in let c = room.count in omega (arith, a, c));
       }
 

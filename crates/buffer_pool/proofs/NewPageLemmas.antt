@@ -1,5 +1,6 @@
 -- A new page is in a frame that is held, and the pool is given back.
-use Rattle.std.proofs.Common.{◌≡◌, ℕ, [], ◌∷◌, ◌++◌, inl, sym, ap, subst, ◌∙◌, arith, Some}
+use Rattle.std.proofs.Common.{◌≡◌, ℕ, [], ◌∷◌, ◌++◌, inl, inr, sym, ap, subst, ◌∙◌, arith, Some}
+use Rattle.list_facts.proofs.Each.{each_append}
 use Rattle.latch_law.specs.declared.knows.Terms.{Terms}
 use Rattle.latch_law.specs.Views.{holding}
 use Rattle.latch_law.specs.Whole.{reference}
@@ -7,27 +8,34 @@ use Rattle.latch_space.specs.Passes.{view}
 use Rattle.index_page.specs.declared.head.PageHead.{PageHead}
 use Rattle.index_page.specs.Page.{PageRows}
 use Rattle.index_law.specs.Shape.{Shape}
+use Rattle.forest_law.specs.declared.objects.Where.TheVariants.{Free, InFrame}
 use Rattle.forest_law.specs.declared.objects.Object.TheVariants as object
 use Rattle.forest_law.specs.Numbers.{pool_id, frame_id}
 use Rattle.forest_law.specs.State.{where_at, fields_for}
 use Rattle.forest_world.specs.Held.{TreePass, shape_of_pass}
-use Rattle.call_law.specs.Hands.{HoldsNoPool}
+use Rattle.call_law.specs.Hands.{HoldsNoPool, HoldsNoOutside}
 use Rattle.call_law.specs.Trace.{Added}
 use Rattle.call_law.proofs.TraceLemmas.{both_added}
 use Rattle.buffer_pool.specs.Calls.{Does}
+use Rattle.buffer_pool.specs.Causes.{ChangesPoolSo}
 use Rattle.buffer_pool.specs.Forests.{IsFittedTree}
 use Rattle.buffer_pool.specs.FreeNumbers.{HoldsFree}
 use Rattle.buffer_pool.specs.NewPages.{outside_page, GetsPage}
 use Rattle.buffer_pool.specs.Pools.{GivesPool}
-use Rattle.buffer_pool.specs.Tries.{tries_alone, HoldsBoth}
-use Rattle.buffer_pool.specs.Turning.{MayBring, BringsTo}
+use Rattle.buffer_pool.specs.Tries.{tries_alone, HoldsPoolAndFrame}
+use Rattle.buffer_pool.specs.Turning.{KeepsOthers, MayBring, BringsTo}
 use Rattle.buffer_pool.proofs.AddedLemmas.{only_given, frame_still}
-use Rattle.buffer_pool.proofs.AgainLemmas.{frames-append}
+use Rattle.buffer_pool.proofs.AgainLemmas.{frames-append, both_unchanged}
 use Rattle.buffer_pool.proofs.CallLemmas.{does_both, does_among, does_again, gave_pool}
+use Rattle.buffer_pool.proofs.ClearLemmas.{unchanged_once, cleared_aged, made_room}
 use Rattle.buffer_pool.proofs.FrameLemmas.{one_held}
+use Rattle.buffer_pool.proofs.InsideLemmas.{inside_still}
 use Rattle.buffer_pool.proofs.KnownLemmas.{places_counted}
 use Rattle.buffer_pool.proofs.TurnLemmas.{frame_not_pool}
-use Rattle.buffer_pool.proofs.VictimLemmas.{in_right}
+use Rattle.buffer_pool.proofs.VictimLemmas.{in_right, tried_left}
+
+free_is_not : (b : ℕ) → Free ≡ InFrame b → ⊥
+free_is_not b e = absurd cc
 
 -- a page with this head, and without rows, is the one that was asked for
 page_is : (page : PageRows) (head : PageHead) (n : ℕ)
@@ -39,15 +47,15 @@ module _ (p p1 : TreePass) (head : PageHead) (n b : ℕ) (free : HoldsFree p n b
   same_shape = ap (λ (t : Terms Shape). t.shape) free.silently.does.adds.numbers.terms
 
   -- the pool and the frame are held
-  pub free_both : HoldsBoth p1 b (object.Pool free.pool) free.now free.frame
+  pub free_both : HoldsPoolAndFrame p1 b (object.Pool free.pool) free.now free.frame
   free_both = record { known = free.silently.does.known; pool = free.held; frame = free.knows }
 
   module _ (page : PageRows) (heads : page.head ≡ (outside_page head n).head)
       (rows : page.rows ≡ []) where
     -- the page may come
     pub may_new : IsFittedTree (view p1) → head.fields ≡ fields_for (shape_of_pass p) head.index
-        → MayBring p1 b page
-    may_new fitted fields =
+        → HoldsNoOutside (view p) → MayBring p1 b page
+    may_new fitted fields inside =
         let counted = places_counted fitted.whole fitted.is_lawful (view p1) fitted.fits
         (object.Pool free.pool) free.now free.held in
         let number = ap (λ (h : PageHead). h.number) heads in
@@ -62,6 +70,8 @@ module _ (p p1 : TreePass) (head : PageHead) (n b : ℕ) (free : HoldsFree p n b
           free = ap (where_at free.now.place.items) number ∙ free.free;
           own = ap (λ (h : PageHead). h.prev) heads ∙ ap Some (sym number);
           rows = rows;
+          alone = inside_still p p1 b free.frame free.knows free.empty same_shape
+              free.silently.does.rest inside;
           fields = ap (λ (h : PageHead). h.fields) heads
               ∙ (fields
               ∙ (ap (λ (s : Shape). fields_for s head.index) (sym same_shape)
@@ -116,10 +126,24 @@ module _ (p p1 : TreePass) (head : PageHead) (n b : ℕ) (free : HoldsFree p n b
               (a.references ++ []) given.references
               (inl (λ i. reference pool_id (sym gave_is i).taken (sym gave_is i).known));
         };
+        once = each_append (ChangesPoolSo free.pool brings.pool) (a.references ++ [])
+            given.references
+            (unchanged_once free.pool brings.pool (a.references ++ [])
+            (both_unchanged a.references [] free.unchanged tt))
+            ((λ is. inr (λ i. reference pool_id (gave_is i).taken (gave_is i).known)), tt);
         number = n;
         lowest = free.lowest;
         placed = ap (where_at brings.pool.place.items)
             (ap (λ (h : PageHead). h.number) (sym heads)) ∙ brings.placed;
+        room = made_room p free.pool n b ((a.refused ++ c.refused) ++ []) free.now brings.pool
+            (λ k below before lacks. tried_left (frame_id (shape_of_pass p) k)
+            (a.refused ++ c.refused) []
+            (tried_left (frame_id (shape_of_pass p) k) a.refused c.refused
+            (free.took k below before lacks)))
+            free.clears (λ e. free_is_not b (sym free.lowest.free ∙ e))
+            (subst (λ m. KeepsOthers free.now m brings.pool)
+            (ap (λ (h : PageHead). h.number) heads) brings.keeps);
+        aged = cleared_aged free.pool b free.now brings.pool free.clears brings.aged;
         lacked = free.lacked;
         frame = brings.frame;
         knows = frame_still (view q1) (view q) (pool_id ∷ []) last.adds.numbers last.rest b

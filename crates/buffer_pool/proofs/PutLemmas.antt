@@ -13,7 +13,8 @@ use Rattle.forest_law.specs.declared.objects.Where.TheVariants.{Free, InFrame}
 use Rattle.forest_law.specs.State.{where_of, where_at, image_of, image_at}
 use Rattle.forest_law.specs.Placed.{PoolRests}
 use Rattle.buffer_pool.specs.Ages.{IsAged, IsAgeless}
-use Rattle.buffer_pool.specs.Turning.{PutsPage, KeepsOthers, HasAged}
+use Rattle.buffer_pool.specs.Causes.{HasAged}
+use Rattle.buffer_pool.specs.Turning.{PutsPage, KeepsOthers}
 
 -- a place that is read is the number's, and so is an image
 pub read_place : (xs : List Where) (n : ℕ) (d : Where) → n < length xs
@@ -67,14 +68,14 @@ pub aged_rests : (x : Pool) (b : ℕ) (y : Pool) → IsAged x b y → PoolRests 
 aged_rests x b y aged = record {
   places = aged.place;
   images = aged.images;
-  ages = ap length aged.ages ∙ length-set x.ages.items b y.tick;
+  ages = ap length aged.ages ∙ length-set x.ages b y.tick;
 }
 
 pub ageless_rests : (x : Pool) (b : ℕ) (y : Pool) → IsAgeless x b y → PoolRests x y
 ageless_rests x b y ageless = record {
   places = ageless.place;
   images = ageless.images;
-  ages = ap length ageless.ages ∙ length-set x.ages.items b 0;
+  ages = ap length ageless.ages ∙ length-set x.ages b 0;
 }
 
 -- and one that rests keeps all that it kept
@@ -93,7 +94,7 @@ keeps_then x n y z keeps rests = record {
 }
 
 -- a pool in which a page was put, and then a block got its age
-pub put_aged : (x : Pool) (b : ℕ) (y z : Pool) → y.ages.items ≡ x.ages.items → y.tick ≡ x.tick
+pub put_aged : (x : Pool) (b : ℕ) (y z : Pool) → y.ages ≡ x.ages → y.tick ≡ x.tick
     → IsAged y b z → HasAged x b z
 put_aged x b y z ages tick aged = record {
   tick = aged.tick ∙ ap raised tick;

@@ -1,9 +1,9 @@
 -- A page comes from its image to a frame.
-use Rattle.std.proofs.Common.{◌≡◌, ℕ, ◌<◌, ◌≤◌, List, length, sym, ap, subst, ◌∙◌, refl, arith, Option, Some, None}
+use Rattle.std.proofs.Common.{◌≡◌, ℕ, ◌<◌, ◌≤◌, List, length, sym, ap, subst, ◌∙◌, refl, arith, false, Option, Some, None}
 use Rattle.list_facts.proofs.Places.{same_some}
 use Rattle.index_law.specs.Shape.{Shape}
-use Rattle.tree_law.specs.Pages.{Page, IsOrderly}
-use Rattle.latch_space.specs.Passes.{view}
+use Rattle.tree_law.specs.Pages.{Page, is_own, IsOrderly}
+use Rattle.latch_space.specs.Passes.{view, known_values}
 use Rattle.forest_law.specs.declared.objects.Frame.{Frame}
 use Rattle.forest_law.specs.declared.objects.Stored.{Stored}
 use Rattle.forest_law.specs.declared.objects.Pool.{Pool}
@@ -20,9 +20,11 @@ use Rattle.buffer_pool.specs.Ages.{IsAged}
 use Rattle.buffer_pool.specs.Forests.{IsFittedTree}
 use Rattle.buffer_pool.specs.Frames.{TakesOut}
 use Rattle.buffer_pool.specs.Pools.{TakesPoolOut}
-use Rattle.buffer_pool.specs.Tries.{HoldsBoth}
-use Rattle.buffer_pool.specs.Turning.{PutsPage, loaded, MayTurn, TurnsBack, MayRestore, RestoresTo, HasAged}
-use Rattle.buffer_pool.proofs.KnownLemmas.{image_there, places_counted, images_counted}
+use Rattle.buffer_pool.specs.Tries.{HoldsPoolAndFrame}
+use Rattle.buffer_pool.specs.Causes.{HasAged}
+use Rattle.buffer_pool.specs.Turning.{PutsPage, loaded_with, KeepsOthers, MayTurn, TurnsBack, MayRestore, RestoresTo}
+use Rattle.buffer_pool.proofs.InsideLemmas.{image_inside, page_inside}
+use Rattle.buffer_pool.proofs.KnownLemmas.{image_there, images_are, places_counted, images_counted}
 use Rattle.buffer_pool.proofs.PutLemmas.{put_place, put_image, puts_keeps, aged_rests, keeps_then, put_aged}
 use Rattle.buffer_pool.proofs.TurnLemmas.{frame_is, pool_is, may_turn, turned}
 
@@ -64,12 +66,12 @@ module _ (p p1 p2 : TreePass) (b : ℕ) (frame : Frame) (pool : Pool) (out : Tak
 
   module _ (s : Stored) (is : image_at pool.images.items n ≡ Some s) (y : Pool)
       (put : PutsPage pool n (InFrame b) None y) (z : Pool) (aged : IsAged y b z) (g : Frame)
-      (made : g ≡ loaded frame s) where
+      (made : g ≡ loaded_with frame s) where
     puts : PutsPage may.pool n (InFrame b) None y
     puts = subst (λ (w : Pool). PutsPage w n (InFrame b) None y) pool_same put
 
-    made_is : g ≡ loaded may.frame s
-    made_is = made ∙ ap (λ (f : Frame). loaded f s) frame_same
+    made_is : g ≡ loaded_with may.frame s
+    made_is = made ∙ ap (λ (f : Frame). loaded_with f s) frame_same
 
     stored : image_at may.pool.images.items n ≡ Some s
     stored = ap (λ (w : Pool). image_at w.images.items n) (sym pool_same) ∙ is
@@ -84,11 +86,22 @@ module _ (p p1 p2 : TreePass) (b : ℕ) (frame : Frame) (pool : Pool) (out : Tak
     has_page = subst (λ (f : Frame). HasPage f n page) (sym made_is)
         (record { rows = s.page; paged = refl; number = tells.number; is = refl })
 
-    restore_follows : (before news : List (Option Object))
-        → PoolStep (shape_of_pass p) before news n
+    -- it is one of the trees
+    tree : is_own n s.page.head.prev ≡ false
+    tree = image_inside fitted.whole fitted.is_lawful n s
+        (ap (λ xs. image_at xs n)
+        (images_are fitted.whole fitted.is_lawful (view p) fitted.fits may.taken may.pool
+        may.both.pool) ∙ stored)
+
+    placed : where_at z.place.items n ≡ InFrame b
+    placed = ap (λ xs. where_at xs n) aged.place
+        ∙ put_place may.pool n (InFrame b) None y puts place_below
+
+    restore_follows : (news : List (Option Object))
+        → PoolStep (shape_of_pass p) (known_values p) news n
         (record { block = b; old = may.frame; new = g }) may.pool z
-        → Follows (shape_of_pass p) before news None
-    restore_follows before news step = pages_come_and_go.restores (shape_of_pass p) before news
+        → Follows (shape_of_pass p) (known_values p) news None
+    restore_follows news step = pages_come_and_go.restores (shape_of_pass p) (known_values p) news
         (record {
           number = n;
           hand = record { block = b; old = may.frame; new = g };
@@ -98,12 +111,12 @@ module _ (p p1 p2 : TreePass) (b : ℕ) (frame : Frame) (pool : Pool) (out : Tak
           page = page;
           image = s;
           was = may.stored;
-          is = ap (λ xs. where_at xs n) aged.place
-              ∙ put_place may.pool n (InFrame b) None y puts place_below;
+          is = placed;
           stored = stored;
           unstored = ap (λ xs. image_at xs n) aged.images
               ∙ put_image may.pool n (InFrame b) None y puts image_below;
           had = record { number = tells.number; is = refl };
+          tree = tree;
           empty = may.empty;
           has = has_page;
           order = subst (λ (w : Shape). IsOrderly (fields_for w) page) fitted.fits.shape
@@ -119,13 +132,20 @@ module _ (p p1 p2 : TreePass) (b : ℕ) (frame : Frame) (pool : Pool) (out : Tak
         (aged_rests y b z aged)) restore_follows
 
     -- and then the frame has it
-    pub restores : (t : Object) (x : Pool) (f : Frame) → HoldsBoth p b t x f → (q : TreePass)
-        → TurnsBack p2 b g z q → RestoresTo p b n t x q
+    pub restores : (t : Object) (x : Pool) (f : Frame) → HoldsPoolAndFrame p b t x f
+        → (q : TreePass) → TurnsBack p2 b g z q → RestoresTo p b n t x q
     restores t x f both q back = record {
       pool = z;
       frame = g;
       turns = turned p p1 p2 b frame pool out outside t x f both g z q back;
       has = record { page = has_page.rows; paged = has_page.paged; number = has_page.number };
+      inside = page_inside g s.page (ap (λ (w : Frame). w.page) made)
+          (subst (λ m. is_own m s.page.head.prev ≡ false) (sym tells.number) tree);
+      placed = placed;
+      keeps = subst (λ (w : Pool). KeepsOthers w n z)
+          (pool_is p p1 p2 b frame pool out outside t x f both)
+          (keeps_then pool n y z (puts_keeps pool n (InFrame b) None y put)
+          (aged_rests y b z aged));
       aged = subst (λ (w : Pool). HasAged w b z)
           (pool_is p p1 p2 b frame pool out outside t x f both)
           (put_aged pool b y z put.ages put.tick aged);

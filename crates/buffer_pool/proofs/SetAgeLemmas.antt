@@ -29,7 +29,7 @@ use Rattle.buffer_pool.proofs.CallLemmas.{pool_has}
 use Rattle.buffer_pool.proofs.FrameLemmas.{one_held}
 use Rattle.buffer_pool.proofs.KnownLemmas.{ages_counted}
 use Rattle.buffer_pool.proofs.PutLemmas.{aged_rests}
-use Rattle.buffer_pool.proofs.TurnLemmas.{learnt_same}
+use Rattle.buffer_pool.proofs.KeepLemmas.{learnt_same}
 
 module _ (p p1 : TreePass) (known : IsKnown p) (pool : Pool) (out : TakesPoolOut p pool p1)
     (t : Object) (x : Pool) (held : KnowsPool (view p) t x) where
@@ -42,10 +42,10 @@ module _ (p p1 : TreePass) (known : IsKnown p) (pool : Pool) (out : TakesPoolOut
 
   -- and the block has an age
   pub aged_room : IsFittedTree (view p) → (b : ℕ) → b < frames_of (shape_of_pass p)
-      → b < length pool.ages.items
+      → b < length pool.ages
   aged_room fitted b below =
       let counted = ages_counted fitted.whole fitted.is_lawful (view p) fitted.fits t x held in
-      let e = ap (λ (z : Pool). length z.ages.items) pool_was.1 in omega (arith, below, counted, e)
+      let e = ap (λ (z : Pool). length z.ages) pool_was.1 in omega (arith, below, counted, e)
 
   module _ (b : ℕ) (y : Pool) (touched : IsAged pool b y) (p2 : TreePass)
       (back : PutsPoolBack p1 y p2) where

@@ -1,7 +1,9 @@
 -- The objects of a space of trees, and their numbers.
-use Rattle.std.proofs.Common.{◌≡◌, ℕ, ◌<◌, ◌^◌, Some, sym, ap, ◌∙◌, arith}
+use Rattle.std.proofs.Common.{◌≡◌, ℕ, ◌<◌, ◌^◌, Some, sym, ap, subst, ◌∙◌, arith}
 use Rattle.list_facts.proofs.Places.{inside}
+use Rattle.latch_law.specs.declared.knows.Holding.{Holding}
 use Rattle.latch_law.specs.declared.knows.Terms.{Terms}
+use Rattle.latch_law.specs.Fitting.{MayRelease}
 use Rattle.latch_law.specs.Rule.{Holds}
 use Rattle.latch_law.specs.Views.{holding}
 use Rattle.latch_space.specs.declared.space.SpaceOf.{SpaceOf}
@@ -9,11 +11,16 @@ use Rattle.latch_space.specs.Has.{Has}
 use Rattle.latch_space.specs.Passes.{view}
 use Rattle.latch_space.specs.Spaces.{IsPassOf}
 use Rattle.index_law.specs.Answers.{MadeChange, Saying}
+use Rattle.index_law.specs.Rightness.{IsRight}
 use Rattle.index_law.specs.Shape.{Shape}
 use Rattle.forest_law.specs.declared.objects.Object.{Object}
+use Rattle.forest_law.specs.Law.{IsLawful}
 use Rattle.forest_law.specs.Numbers.{frame_id, frames_of}
+use Rattle.forest_law.specs.Outside.{MayGoBack}
+use Rattle.forest_law.specs.References.{IsReference}
+use Rattle.forest_law.proofs.WorldLemmas.{releases_stay_lawful}
 use Rattle.forest_world.specs.Held.{TreePass, shape_of_pass}
-use Rattle.buffer_pool.specs.Forests.{IsForest}
+use Rattle.buffer_pool.specs.Forests.{TreeView, IsForest}
 
 -- a pass of such a space knows of as many objects
 pub objects_of : {Q : Type 0} (s : SpaceOf Shape Object MadeChange Saying Q) (p : TreePass)
@@ -44,3 +51,9 @@ pub held_below : (p : TreePass) (b : ℕ) (x y : Object) → Has p (frame_id (sh
     → (view p).terms.objects ≡ frame_id (shape_of_pass p) (frames_of (shape_of_pass p))
     → b < frames_of (shape_of_pass p)
 held_below p b x y has objects = known_below p b has.held.0 x has.held.1 objects
+
+-- an object is given back lawfully where it is known to be one that may be
+pub may_release : (v : TreeView) (k j : ℕ) (h : Holding Object) → j ≡ k → Holds v k h
+    → MayGoBack h.known → MayRelease IsLawful IsRight IsReference v j
+may_release v k j h same held may w law fits = releases_stay_lawful w j h.known law
+    (fits.known j h (subst (λ n. Holds v n h) (sym same) held)) may

@@ -1,14 +1,12 @@
 -- The pool and a frame that were taken out come back as others: the step follows, and what is known
 -- then.
-use Rattle.std.proofs.Common.{◌≡◌, ◌≢◌, ℕ, List, [], ◌∷◌, sym, ap, subst, ◌∙◌, refl, arith, Option, Some, None}
+use Rattle.std.proofs.Common.{◌≡◌, ◌≢◌, ℕ, List, [], ◌∷◌, sym, ap, subst, ◌∙◌, arith, Option, None}
 use mathlib.Core.Option.{some}
-use mathlib.Core.Option as maybe
 use lib.ListN.{get_elem?}
-use Rattle.list_facts.proofs.Places.{inside, there}
 use Rattle.latch_law.specs.declared.knows.Holding.{Holding}
 use Rattle.latch_law.specs.Rule.{Holds}
-use Rattle.latch_law.specs.Views.{holding, learnt, settling}
-use Rattle.latch_law.proofs.Lists.{learnt_some, length-learnt}
+use Rattle.latch_law.specs.Views.{holding, knowns, learnt, settling}
+use Rattle.latch_law.proofs.Lists.{learnt_some}
 use Rattle.latch_space.specs.Has.{DidSettle}
 use Rattle.latch_space.specs.Passes.{view, values, known_values, Shows}
 use Rattle.latch_space.proofs.Pointwise.{learnt_known}
@@ -28,35 +26,11 @@ use Rattle.buffer_pool.specs.Forests.{TreeView}
 use Rattle.buffer_pool.specs.Frames.{TakesOut, PutsBack}
 use Rattle.buffer_pool.specs.Hands.{HasOut}
 use Rattle.buffer_pool.specs.Pools.{HasPoolOut, TakesPoolOut, PutsPoolBack}
-use Rattle.buffer_pool.specs.Tries.{HoldsBoth, Turns}
+use Rattle.buffer_pool.specs.Tries.{HoldsPoolAndFrame, TurnsBoth}
 use Rattle.buffer_pool.specs.Turning.{KeepsOthers, MayTurn, TurnsBack}
 use Rattle.buffer_pool.proofs.AddedLemmas.{held_adds, none_spares}
 use Rattle.buffer_pool.proofs.CallLemmas.{frame_has, pool_has}
-
--- what is known is learnt as it is
-pub learnt_same : (vs : List (Option Object)) (hs : List (Option (Holding Object))) (k : ℕ)
-    → ((h : Holding Object) → get_elem? hs k ≡ some (Some h)
-    → get_elem? vs k ≡ some (Some h.known))
-    → (get_elem? hs k ≡ some None → get_elem? (learnt vs hs) k ≡ some None)
-    → get_elem? (learnt vs hs) k ≡ get_elem? hs k
-learnt_same vs hs k known lacked = pick (get_elem? hs k) refl (get_elem? (learnt vs hs) k) refl
-  where
-    past : get_elem? hs k ≡ maybe.none → (h : Option (Holding Object))
-        → get_elem? (learnt vs hs) k ≡ some h → ⊥
-    past e h f = let room = inside (learnt vs hs) k h f in
-        let a = there hs k (omega (arith, room, length-learnt vs hs)) in
-        absurd (maybe_not a.0 (sym e ∙ a.1))
-      where
-        maybe_not : (h : Option (Holding Object)) → maybe.none ≡ some h → ⊥
-        maybe_not h e = absurd cc
-
-    pick : (o : maybe.Option (Option (Holding Object))) → get_elem? hs k ≡ o
-        → (l : maybe.Option (Option (Holding Object))) → get_elem? (learnt vs hs) k ≡ l
-        → get_elem? (learnt vs hs) k ≡ get_elem? hs k
-    pick (some (Some h)) e l f = learnt_some vs hs k h h.known e (known h e) ∙ sym e
-    pick (some None) e l f = lacked e ∙ sym e
-    pick maybe.none e maybe.none f = f ∙ sym e
-    pick maybe.none e (some h) f = absurd (past e h f)
+use Rattle.buffer_pool.proofs.KeepLemmas.{learnt_same}
 
 -- no frame is the pool
 pub frame_not_pool : (shape : Shape) (b : ℕ) → frame_id shape b ≢ pool_id
@@ -117,12 +91,12 @@ module _ (p p1 : TreePass) (b : ℕ) (g : Frame) (y : Pool) (may : MayTurn p b g
 
     -- the step follows
     pub turn_follows : Follows (shape_of_pass p2) (known_values p2) (values p2) None
-    turn_follows = subst (λ (s : Shape). Follows s (known_values p2) (values p2) None)
-        (sym same_shape)
-        (may.follows (known_values p2) (values p2)
+    turn_follows = subst
+        (λ (v : TreeView). Follows v.terms.shape (knowns v.held) (values p2) None) (sym same_view)
+        (may.follows (values p2)
         (subst
-        (λ (s : Shape). PoolStep s (known_values p2) (values p2) may.number hand may.pool y)
-        same_shape pool_steps.step))
+        (λ (v : TreeView). PoolStep v.terms.shape (knowns v.held) (values p2) may.number hand
+        may.pool y) same_view pool_steps.step))
 
     pub turn_whole : (k : ℕ) (h : Holding Object) → Holds (view p2) k h
         → (x : Object) × Shows p2 k x
@@ -167,7 +141,7 @@ module _ (p p1 : TreePass) (b : ℕ) (g : Frame) (y : Pool) (may : MayTurn p b g
 -- they are taken out, where both are known
 module _ (p p1 p2 : TreePass) (b : ℕ) (frame : Frame) (pool : Pool) (out : TakesOut p b frame p1)
     (outside : TakesPoolOut p1 pool p2) (t : Object) (x : Pool) (f : Frame)
-    (both : HoldsBoth p b t x f) where
+    (both : HoldsPoolAndFrame p b t x f) where
   out_view : view p2 ≡ view p
   out_view = outside.view ∙ out.view
 
@@ -206,9 +180,9 @@ module _ (p p1 p2 : TreePass) (b : ℕ) (frame : Frame) (pool : Pool) (out : Tak
       }
 
   pub may_turn : (g : Frame) (y : Pool) (n : ℕ) → KeepsOthers x n y
-      → ((before news : List (Option Object))
-      → PoolStep (shape_of_pass p) before news n (record { block = b; old = f; new = g }) x y
-      → Follows (shape_of_pass p) before news None)
+      → ((news : List (Option Object))
+      → PoolStep (shape_of_pass p) (known_values p) news n (record { block = b; old = f; new = g })
+      x y → Follows (shape_of_pass p) (known_values p) news None)
       → MayTurn p2 b g y
   may_turn g y n keeps follows = record {
     old = f;
@@ -224,14 +198,14 @@ module _ (p p1 p2 : TreePass) (b : ℕ) (frame : Frame) (pool : Pool) (out : Tak
     number = n;
     keeps = keeps;
     follows = subst
-        (λ (s : Shape). (before news : List (Option Object))
-        → PoolStep s before news n (record { block = b; old = f; new = g }) x y
-        → Follows s before news None) (sym out_shape) follows;
+        (λ (v : TreeView). (news : List (Option Object))
+        → PoolStep v.terms.shape (knowns v.held) news n (record { block = b; old = f; new = g }) x y
+        → Follows v.terms.shape (knowns v.held) news None) (sym out_view) follows;
   }
 
   -- and come back
   module _ (g : Frame) (y : Pool) (q : TreePass) (back : TurnsBack p2 b g y q) where
-    pub turned : Turns p b t q y g
+    pub turned : TurnsBoth p b t q y g
     turned = record {
       tries = record {
         refused = [];

@@ -1,32 +1,31 @@
 -- Frames that are tried one behind the other, by age and then by number.
-use Rattle.std.proofs.Common.{◌≡◌, ◌≢◌, ℕ, ◌<◌, List, [], ◌∷◌, ◌++◌, length, inl, inr, sym, ap, subst, ◌∙◌, refl, arith, true, false, Option, Some, None, IfSome, is_some}
+use Rattle.std.proofs.Common.{◌≡◌, ◌≢◌, ℕ, ◌<◌, List, [], ◌∷◌, ◌++◌, length, inl, inr, sym, ap, subst, ◌∙◌, refl, arith, true, false, Option, Some, None, IfSome}
 use Rattle.std.specs.List.{AllByRecursion}
 use mathlib.Core.Option.{some}
 use lib.ListN.{get_elem?}
 use Rattle.list_facts.proofs.Places.{there}
+use Rattle.block_ages.specs.Order.{IsBehind, IsNext}
+use Rattle.block_ages.proofs.OrderLemmas.{before_or_behind, behind_or_not}
 use Rattle.latch_law.specs.declared.knows.Refusal.{Refusal}
 use Rattle.latch_law.specs.declared.knows.Terms.{Terms}
+use Rattle.latch_law.specs.Views.{with_refused}
 use Rattle.latch_space.specs.Has.{IsKnown}
 use Rattle.latch_space.specs.Hands.{has_value, is_held}
 use Rattle.latch_space.specs.Passes.{view, count}
-use Rattle.index_page.specs.Page.{PageRows}
 use Rattle.index_law.specs.Shape.{Shape}
 use Rattle.tree_law.specs.TreeShape.{In}
-use Rattle.forest_law.specs.declared.objects.Frame.{Frame}
 use Rattle.forest_law.specs.declared.objects.Pool.{Pool}
 use Rattle.forest_law.specs.declared.objects.Object.{Object}
 use Rattle.forest_law.specs.Numbers.{pool_id, frame_id, frames_of}
 use Rattle.forest_world.specs.Held.{TreePass, shape_of_pass, HasPool}
 use Rattle.buffer_pool.specs.Calls.{Does}
-use Rattle.buffer_pool.specs.Ages.{IsBehind, IsNext}
 use Rattle.buffer_pool.specs.Forests.{IsFittedTree}
 use Rattle.buffer_pool.specs.Frames.{TakesFrame, RefusesFrame}
 use Rattle.buffer_pool.specs.Hands.{LacksFrame}
-use Rattle.buffer_pool.specs.Tries.{tries_alone, Tries, IsTried, KnowsPool, HoldsBoth}
-use Rattle.buffer_pool.specs.Turning.{EmptiesFrame}
-use Rattle.buffer_pool.specs.Victims.{HoldsFrameToo, MissesFrame, HoldsVictim, HoldsRoom}
+use Rattle.buffer_pool.specs.Tries.{tries_alone, Tries, IsTried, KnowsPool}
+use Rattle.buffer_pool.specs.Victims.{HoldsFrameToo, MissesFrame, HoldsVictim}
 use Rattle.buffer_pool.proofs.AddedLemmas.{held_adds, none_spares}
-use Rattle.buffer_pool.proofs.AgeLemmas.{before_or_behind, behind_or_not}
+use Rattle.buffer_pool.proofs.InsideLemmas.{taken_inside}
 use Rattle.buffer_pool.proofs.KnownLemmas.{ages_counted}
 use Rattle.buffer_pool.proofs.CallLemmas.{pool_has, does_both, does_none, does_among, took_frame, refused_frame}
 
@@ -116,6 +115,7 @@ took_too p q b known lacks took = record {
   lacked = lacks;
   frame = took.frame;
   knows = took.has.held;
+  inside = taken_inside (with_refused (view p) took.refused) b took.frame took.was;
   count = took.count;
 }
 
@@ -140,8 +140,8 @@ passed_frame p b known held = record {
 pub record HasTried (p q : TreePass) (x : Pool) (last : Option ℕ) : Type 0 where
   pub tries : Tries p q []
   pub count : count q ≡ count p
-  pub below : IfSome last (λ (b : ℕ). b < length x.ages.items)
-  pub each : (c : ℕ) → c < length x.ages.items → (IsBehind x.ages.items last c → ⊥)
+  pub below : IfSome last (λ (b : ℕ). b < length x.ages)
+  pub each : (c : ℕ) → c < length x.ages → (IsBehind x.ages last c → ⊥)
       → LacksFrame p c → IsTried (frame_id (shape_of_pass p) c) tries.refused
 
 pub tried_none : (p : TreePass) (x : Pool) → IsKnown p → HasTried p p x None
@@ -176,24 +176,24 @@ module _ (p q : TreePass) (x : Pool) (last : Option ℕ) (tried : HasTried p q x
 
   -- so are its ages, of which there is one for each frame
   module _ (t : Object) (held : KnowsPool (view p) t x) (y : Pool)
-      (read : (a z : Pool) → HasPool q a z → y ≡ z) (ages : List ℕ) (is : ages ≡ y.ages.items) where
-    pub ages_read : ages ≡ x.ages.items
-    ages_read = is ∙ ap (λ (z : Pool). z.ages.items) (pool_read t held y read)
+      (read : (a z : Pool) → HasPool q a z → y ≡ z) where
+    pub ages_read : y.ages ≡ x.ages
+    ages_read = ap (λ (z : Pool). z.ages) (pool_read t held y read)
 
-    pub frames_counted : IsFittedTree (view q) → length ages ≡ frames_of (shape_of_pass q)
+    pub frames_counted : IsFittedTree (view q) → length y.ages ≡ frames_of (shape_of_pass q)
     frames_counted fitted = ap length ages_read
         ∙ ages_counted fitted.whole fitted.is_lawful (view q) fitted.fits t x
         (pool_known_still t held)
 
-  module _ (r : TreePass) (b : ℕ) (next : IsNext x.ages.items last b) where
+  module _ (r : TreePass) (b : ℕ) (next : IsNext x.ages last b) where
     -- one more
     pub tries_next : MissesFrame q b r → HasTried p r x (Some b)
     tries_next misses = record {
       tries = tries_both p q r [] tried.tries misses.tries;
       count = misses.count ∙ tried.count;
       below = next.below;
-      each = λ c below not lacks. elim (behind_or_not x.ages.items last c) [
-        | inl behind ↦ elim (before_or_behind x.ages.items c b) [
+      each = λ c below not lacks. elim (behind_or_not x.ages last c) [
+        | inl behind ↦ elim (before_or_behind x.ages c b) [
           | inl before ↦ absurd (next.first c below behind before)
           | inr (inl e) ↦ tried_right (frame_id (shape_of_pass p) c) tried.tries.refused
               misses.tries.refused
@@ -227,83 +227,12 @@ module _ (p q : TreePass) (x : Pool) (last : Option ℕ) (tried : HasTried p q x
         lacked = lacked_before b holds.lacked;
         frame = holds.frame;
         knows = holds.knows;
+        inside = holds.inside;
         count = (let a = holds.count in let e = tried.count in omega (arith, a, e));
       };
-      took = λ c below before lacks. elim (behind_or_not x.ages.items last c) [
+      took = λ c below before lacks. elim (behind_or_not x.ages last c) [
         | inl behind ↦ absurd (next.first c below behind before)
         | inr isnt ↦ tried_left (frame_id (shape_of_pass p) c) tried.tries.refused
             holds.tries.refused (tried.each c below isnt lacks)
       ];
     }
-
--- a frame has a page, or none
-pub page_of_some : (o : Option PageRows) → is_some o ≡ true → (page : PageRows) × (o ≡ Some page)
-page_of_some (Some page) is = (page, refl)
-page_of_some None is = absurd (no is)
-  where
-    no : false ≡ true → ⊥
-    no e = absurd cc
-
-pub page_of_none : (o : Option PageRows) → is_some o ≡ false → o ≡ None
-page_of_none None is = refl
-page_of_none (Some page) is = absurd (no is)
-  where
-    no : true ≡ false → ⊥
-    no e = absurd cc
-
--- a frame without a page is as it is to be
-pub empties_itself : (p : TreePass) (b : ℕ) (t : Object) (x : Pool) (f : Frame)
-    → HoldsBoth p b t x f → f.page ≡ None → EmptiesFrame p b t x p
-empties_itself p b t x f both empty = record {
-  pool = x;
-  frame = f;
-  turns = record {
-    tries = tries_among p p [] (pool_id ∷ frame_id (shape_of_pass p) b ∷ []) (λ j apart. tt)
-        (tries_none p both.known);
-    both = both;
-    count = refl;
-  };
-  empty = empty;
-  keeps = λ m other. refl;
-}
-
--- the victim's frame and the pool are held
-module _ (p q : TreePass) (x : Pool) (b : ℕ) (victim : HoldsVictim p x b q) (t : Object)
-    (held : KnowsPool (view p) t x) where
-  pub victim_both : HoldsBoth q b t x victim.holds.frame
-  victim_both = record {
-    known = victim.holds.tries.does.known;
-    pool = victim.holds.tries.does.rest pool_id ((λ e. omega (arith, e)), tt) ∙ held;
-    frame = victim.holds.knows;
-  }
-
-  victim_shape : shape_of_pass q ≡ shape_of_pass p
-  victim_shape = tries_shape p q (frame_id (shape_of_pass p) b ∷ []) victim.holds.tries
-
-  -- and there is room once its page is gone
-  pub holds_room : (r : TreePass) → EmptiesFrame q b t x r → HoldsRoom p b t x r
-  holds_room r emptied =
-      let ks = pool_id ∷ frame_id (shape_of_pass p) b ∷ [] in
-      record {
-        tries = tries_both p q r ks
-            (tries_among p q (frame_id (shape_of_pass p) b ∷ []) ks
-            (λ j apart. (apart.1.0, tt)) victim.holds.tries)
-            (record {
-              refused = emptied.turns.tries.refused;
-              does = subst
-                  (λ (s : Shape). Does q r (pool_id ∷ frame_id s b ∷ [])
-                  (tries_alone emptied.turns.tries.refused)) victim_shape
-                  emptied.turns.tries.does;
-            });
-        took = λ c below before lacks. tried_left (frame_id (shape_of_pass p) c)
-            victim.holds.tries.refused emptied.turns.tries.refused
-            (victim.took c below before lacks);
-        lacked = victim.holds.lacked;
-        pool = emptied.pool;
-        knew = emptied.turns.both.pool;
-        keeps = emptied.keeps;
-        frame = emptied.frame;
-        knows = emptied.turns.both.frame;
-        empty = emptied.empty;
-        count = (let a = emptied.turns.count in let e = victim.holds.count in omega (arith, a, e));
-      }

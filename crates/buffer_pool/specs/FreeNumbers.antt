@@ -14,21 +14,27 @@ use Rattle.call_law.specs.Trace.{frame_references}
 use Rattle.buffer_pool.specs.declared.free_numbers.Found.{Found}
 use Rattle.buffer_pool.specs.declared.free_numbers.Found.TheVariants as found
 use Rattle.buffer_pool.specs.Calls.{DoesSilently}
+use Rattle.buffer_pool.specs.Causes.{AreUnchanged, TookVictim}
 use Rattle.buffer_pool.specs.Hands.{LacksFrame}
 use Rattle.buffer_pool.specs.Looking.{GivesNothing}
 use Rattle.buffer_pool.specs.NewPages.{IsLowestFree, FindsNoneFree}
 use Rattle.buffer_pool.specs.Tries.{KnowsPool}
+use Rattle.buffer_pool.specs.Turning.{ClearsBlock}
 
--- the pool is held, and with it the block's frame, without a page; the number was the lowest that
--- was free in the pool as it was taken, and is free; no frame was given back
+-- the pool is held, and with it the block's frame, whose turn it was to make room, without a page;
+-- the number was the lowest that was free in the pool as it was taken, and is free; no frame was
+-- given back
 pub record HoldsFree (p : TreePass) (n b : ℕ) (q : TreePass) : Type 0 where
   pub silently : DoesSilently p q (pool_id ∷ frame_id (shape_of_pass p) b ∷ [])
   pub none : frame_references silently.added.references ≡ []
+  pub unchanged : AreUnchanged silently.added.references
   pub pool : Pool
   pub now : Pool
   pub held : KnowsPool (view q) (object.Pool pool) now
   pub lowest : IsLowestFree pool n
   pub free : where_at now.place.items n ≡ Free
+  pub took : TookVictim p pool b silently.added.refused
+  pub clears : ClearsBlock pool b now
   pub below : n < (shape_of_pass p).pages
   pub named : IsNeighbour (Some n)
   pub lacked : LacksFrame p b

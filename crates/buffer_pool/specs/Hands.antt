@@ -13,6 +13,7 @@ use Rattle.forest_law.specs.declared.objects.Tree.{Tree}
 use Rattle.forest_law.specs.declared.objects.Object.{Object}
 use Rattle.forest_law.specs.declared.objects.Object.TheVariants as object
 use Rattle.forest_law.specs.Numbers.{pool_id, tree_id, frame_id}
+use Rattle.forest_law.specs.Outside.{HasNoOutside}
 use Rattle.forest_world.specs.Held.{TreePass, shape_of_pass, HasFrame, HasTree, HasPool, RestsBeyond}
 
 -- the pass lacks the block's frame
@@ -23,9 +24,10 @@ LacksFrame p b = Lacks p (frame_id (shape_of_pass p) b)
 abbrev pub HoldsFrame : TreePass → ℕ → Type 0
 HoldsFrame p b = (f : Frame) × (g : Frame) × HasFrame p b f g
 
--- it holds the block's frame, which is what it is known to be
-abbrev pub HoldsKnownFrame : TreePass → ℕ → Type 0
-HoldsKnownFrame p b = (f : Frame) × HasFrame p b f f
+-- it holds the block's frame, which is what it is known to be and has no page outside the trees, so
+-- that it may be given back
+abbrev pub MayGiveBack : TreePass → ℕ → Type 0
+MayGiveBack p b = (f : Frame) × HasFrame p b f f × HasNoOutside f
 
 -- it holds the block's frame, which is known to be f and was taken out
 pub record HasOut (p : TreePass) (b : ℕ) (f : Frame) : Type 0 where

@@ -5,10 +5,11 @@ pub mod Lending
 pub mod Pools
 pub mod Trees
 pub mod Calls
-pub mod Pages
-pub mod NewPages
 pub mod Ages
 pub mod Tries
+pub mod Causes
+pub mod Pages
+pub mod NewPages
 pub mod Turning
 pub mod Victims
 pub mod Looking

@@ -11,7 +11,7 @@ use Rattle.forest_law.specs.declared.objects.Pool.{Pool}
 use Rattle.forest_law.specs.declared.objects.Where.TheVariants.{Free, InFrame}
 use Rattle.forest_law.specs.declared.objects.Object.{Object}
 use Rattle.forest_law.specs.declared.objects.Object.TheVariants as object
-use Rattle.forest_law.specs.Numbers.{pool_id, frame_id}
+use Rattle.forest_law.specs.Numbers.{frame_id}
 use Rattle.forest_law.specs.State.{where_at}
 use Rattle.forest_world.specs.Held.{TreePass, shape_of_pass}
 use Rattle.call_law.specs.Hands.{KnowsFrame}
@@ -19,6 +19,8 @@ use Rattle.call_law.specs.Spoken.{View}
 use Rattle.call_law.specs.Trace.{Added, frame_references}
 use Rattle.buffer_pool.specs.Hands.{LacksFrame}
 use Rattle.buffer_pool.specs.Calls.{DoesSilently, FindsFull}
+pub use Rattle.buffer_pool.specs.Causes.{HeldPool}
+use Rattle.buffer_pool.specs.Causes.{ChangesPoolOnce, HasAged, MadeRoom}
 
 -- the number is the lowest that is free
 pub record IsLowestFree (pool : Pool) (n : ℕ) : Type 0 where
@@ -29,11 +31,6 @@ pub record IsLowestFree (pool : Pool) (n : ℕ) : Type 0 where
 -- no number is free
 abbrev pub HasNoneFree : Pool → Type 0
 HasNoneFree pool = (n : ℕ) → n < length pool.place.items → where_at pool.place.items n ≢ Free
-
--- the pool was held, as it was before, and given back
-pub record HeldPool (added : Added) (pool : Pool) : Type 0 where
-  pub now : Pool
-  pub among : In (reference pool_id (object.Pool pool) (object.Pool now)) added.references
 
 -- an empty page with this number, outside the trees: it has itself as its left neighbour
 abbrev pub outside_page : PageHead → ℕ → PageRows
@@ -46,15 +43,19 @@ pub record HasOutsidePage (f : Frame) (head : PageHead) (n : ℕ) : Type 0 where
   pub high : f.high ≡ None
 
 -- the lowest number that was free in the pool, as it was held, has a new page outside the trees,
--- which is held in the frame of the block b; no frame was given back
+-- which is held in the frame of the block b: that made room for it, and has a new age; no frame was
+-- given back
 pub record GetsPage (p : TreePass) (head : PageHead) (b : ℕ) (q : TreePass) : Type 0 where
   pub silently : DoesSilently p q (frame_id (shape_of_pass p) b ∷ [])
   pub none : frame_references silently.added.references ≡ []
   pub pool : Pool
   pub held : HeldPool silently.added pool
+  pub once : ChangesPoolOnce pool held.now silently.added.references
   pub number : ℕ
   pub lowest : IsLowestFree pool number
   pub placed : where_at held.now.place.items number ≡ InFrame b
+  pub room : MadeRoom p pool number b silently.added.refused held.now
+  pub aged : HasAged pool b held.now
   pub lacked : LacksFrame p b
   pub frame : Frame
   pub knows : KnowsFrame (view q) b frame
@@ -87,13 +88,15 @@ pub record GaveFrame (v : View) (added : Added) (b : ℕ) (frame : Frame) : Type
   pub clock : ClockRises was.clock frame.clock
 
 -- the page's number is free in the pool, as it was given back, and its frame was given back without
--- a page
+-- a page, its block at age 0
 pub record FreesPage (p : TreePass) (b : ℕ) (q : TreePass) : Type 0 where
   pub was : HoldsOutsidePage (view p) b
   pub silently : DoesSilently p q (frame_id (shape_of_pass p) b ∷ [])
   pub pool : Pool
   pub held : HeldPool silently.added pool
+  pub once : ChangesPoolOnce pool held.now silently.added.references
   pub placed : held.now.place.items ≡ slice_set pool.place.items was.page.head.number Free
+  pub ages : held.now.ages ≡ slice_set pool.ages b 0
   pub frame : Frame
   pub gave : GaveFrame (view p) silently.added b frame
   pub empty : frame.page ≡ None

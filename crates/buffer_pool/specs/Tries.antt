@@ -39,14 +39,15 @@ abbrev pub KnowsPool : View → Object → Pool → Type 0
 KnowsPool v t x = Holds v pool_id (holding t (object.Pool x))
 
 -- the pool and the block's frame are held, and all that is held is what it is known to be
-pub record HoldsBoth (p : TreePass) (b : ℕ) (t : Object) (x : Pool) (f : Frame) : Type 0 where
+pub record HoldsPoolAndFrame (p : TreePass) (b : ℕ) (t : Object) (x : Pool)
+    (f : Frame) : Type 0 where
   pub known : IsKnown p
   pub pool : KnowsPool (view p) t x
   pub frame : KnowsFrame (view p) b f
 
 -- the pool has become y and the block's frame g, and both are known so
-pub record Turns (p : TreePass) (b : ℕ) (t : Object) (q : TreePass) (y : Pool)
+pub record TurnsBoth (p : TreePass) (b : ℕ) (t : Object) (q : TreePass) (y : Pool)
     (g : Frame) : Type 0 where
   pub tries : Tries p q (pool_id ∷ frame_id (shape_of_pass p) b ∷ [])
-  pub both : HoldsBoth q b t y g
+  pub both : HoldsPoolAndFrame q b t y g
   pub count : count q ≡ count p

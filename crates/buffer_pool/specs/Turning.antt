@@ -3,7 +3,7 @@ use Rattle.std.specs.Prelude.{ℕ, ◌≡◌, ◌≢◌, ◌<◌, Option, Some, 
 use Rattle.latch_law.specs.Rule.{Holds}
 use Rattle.latch_law.specs.Views.{holding, settling}
 use Rattle.latch_space.specs.Has.{IsKnown}
-use Rattle.latch_space.specs.Passes.{view, count}
+use Rattle.latch_space.specs.Passes.{view, known_values, count}
 use Rattle.clock_law.specs.ModifyClock.{raised, ClockRises}
 use Rattle.index_page.specs.Page.{PageRows}
 use Rattle.forest_law.specs.declared.objects.Frame.{Frame}
@@ -18,21 +18,23 @@ use Rattle.forest_law.specs.State.{where_at, fields_for}
 use Rattle.forest_law.specs.Counted.{CountsStay}
 use Rattle.forest_law.specs.Placed.{KeepsPlace}
 use Rattle.forest_law.specs.Law.{Follows}
+use Rattle.forest_law.specs.Outside.{HasNoOutside}
 use Rattle.forest_law.specs.PoolSteps.{PoolStep}
 use Rattle.forest_world.specs.Held.{TreePass, shape_of_pass, IsKnownBeyond}
-use Rattle.call_law.specs.Hands.{HoldsTheRest}
+use Rattle.call_law.specs.Hands.{HoldsTheRest, HoldsNoOutside}
 use Rattle.buffer_pool.specs.Hands.{HasOut}
 use Rattle.buffer_pool.specs.Pools.{HasPoolOut}
 use Rattle.buffer_pool.specs.Pages.{HasNumber}
 use Rattle.buffer_pool.specs.Ages.{IsAged}
-use Rattle.buffer_pool.specs.Tries.{Tries, KnowsPool, HoldsBoth, Turns}
+use Rattle.buffer_pool.specs.Causes.{HasAged, GoesToImage}
+use Rattle.buffer_pool.specs.Tries.{Tries, KnowsPool, HoldsPoolAndFrame, TurnsBoth}
 
 -- the page of the number has this place and this image, and all else in the pool is as it was
 pub record PutsPage (x : Pool) (n : ℕ) (to : Where) (image : Option Stored)
     (y : Pool) : Type 0 where
   pub place : y.place.items ≡ slice_set x.place.items n to
   pub images : y.images.items ≡ slice_set x.images.items n image
-  pub ages : y.ages.items ≡ x.ages.items
+  pub ages : y.ages ≡ x.ages
   pub tick : y.tick ≡ x.tick
 
 -- the frame had this page in these bounds, and has none now, at a clock that rose
@@ -44,8 +46,8 @@ pub record UnloadsFrame (f : Frame) (s : Stored) (g : Frame) : Type 0 where
   pub clock : ClockRises f.clock g.clock
 
 -- the frame with this page in these bounds
-abbrev pub loaded : Frame → Stored → Frame
-loaded f s = record f { page = Some s.page; low = s.low; high = s.high }
+abbrev pub loaded_with : Frame → Stored → Frame
+loaded_with f s = record f { page = Some s.page; low = s.low; high = s.high }
 
 -- the pool has as many entries as before, and keeps the place and the image of each page but that
 -- of the number
@@ -63,9 +65,10 @@ pub record MayTurn (p : TreePass) (b : ℕ) (g : Frame) (y : Pool) : Type 0 wher
   pub others : IsKnownBeyond p (pool_id ∷ frame_id (shape_of_pass p) b ∷ [])
   pub number : ℕ
   pub keeps : KeepsOthers pool number y
-  pub follows : (before news : List (Option Object))
-      → PoolStep (shape_of_pass p) before news number (record { block = b; old = old; new = g })
-      pool y → Follows (shape_of_pass p) before news None
+  pub follows : (news : List (Option Object))
+      → PoolStep (shape_of_pass p) (known_values p) news number
+      (record { block = b; old = old; new = g }) pool y
+      → Follows (shape_of_pass p) (known_values p) news None
 
 -- they are back, and known as they are; all else that is held is what it was and what it is known
 -- to be
@@ -81,23 +84,22 @@ pub record TurnsBack (p : TreePass) (b : ℕ) (g : Frame) (y : Pool) (q : TreePa
   pub values : List (Option Object)
   pub view : view q ≡ settling (view p) values
 
--- the pool keeps the place of each page that wasn't in the block's frame
-abbrev pub KeepsElsewhere : Pool → ℕ → Pool → Type 0
-KeepsElsewhere x b y = (m : ℕ) → where_at x.place.items m ≢ InFrame b
-    → where_at y.place.items m ≡ where_at x.place.items m
+-- what was in the block's frame is an image; all other pages keep their places, and all blocks
+-- their ages
+pub record ClearsBlock (x : Pool) (b : ℕ) (y : Pool) : Type 0 where
+  pub gone : GoesToImage x b y
+  pub keeps : (m : ℕ) → where_at x.place.items m ≢ InFrame b
+      → where_at y.place.items m ≡ where_at x.place.items m
+  pub ages : y.ages ≡ x.ages
+  pub tick : y.tick ≡ x.tick
 
--- the block's frame has no page, and each page that wasn't in it has its place
+-- the block's frame has no page, and what was in it is an image
 pub record EmptiesFrame (p : TreePass) (b : ℕ) (t : Object) (x : Pool) (q : TreePass) : Type 0 where
   pub pool : Pool
   pub frame : Frame
-  pub turns : Turns p b t q pool frame
+  pub turns : TurnsBoth p b t q pool frame
   pub empty : frame.page ≡ None
-  pub keeps : KeepsElsewhere x b pool
-
--- the pool's tick went one up, or stayed at its last value, and is the block's age
-pub record HasAged (x : Pool) (b : ℕ) (y : Pool) : Type 0 where
-  pub tick : y.tick ≡ raised x.tick
-  pub ages : y.ages.items ≡ slice_set x.ages.items b y.tick
+  pub clears : ClearsBlock x b pool
 
 -- the pool is known to be one in which the block has a new age, and all else is as it was
 pub record SetsAge (p : TreePass) (b : ℕ) (t : Object) (x : Pool) (q : TreePass) : Type 0 where
@@ -113,39 +115,45 @@ pub record MayRestore (p : TreePass) (b n : ℕ) : Type 0 where
   pub taken : Object
   pub pool : Pool
   pub frame : Frame
-  pub both : HoldsBoth p b taken pool frame
+  pub both : HoldsPoolAndFrame p b taken pool frame
   pub empty : frame.page ≡ None
   pub stored : where_at pool.place.items n ≡ Image
 
--- the page of the number has come from its image to the block's frame
+-- the page of the number, one of the trees, has come from its image to the block's frame, and all
+-- others have their places
 pub record RestoresTo (p : TreePass) (b n : ℕ) (t : Object) (x : Pool) (q : TreePass) : Type 0 where
   pub pool : Pool
   pub frame : Frame
-  pub turns : Turns p b t q pool frame
+  pub turns : TurnsBoth p b t q pool frame
   pub has : HasNumber frame n
+  pub inside : HasNoOutside frame
+  pub placed : where_at pool.place.items n ≡ InFrame b
+  pub keeps : KeepsOthers x n pool
   pub aged : HasAged x b pool
 
 -- the pool and the block's frame are held, which has no page, and the page's number is free; the
--- page is outside the trees, and has its index's number of fields
+-- page is outside the trees, as none in hand is, and has its index's number of fields
 pub record MayBring (p : TreePass) (b : ℕ) (page : PageRows) : Type 0 where
   pub taken : Object
   pub pool : Pool
   pub frame : Frame
-  pub both : HoldsBoth p b taken pool frame
+  pub both : HoldsPoolAndFrame p b taken pool frame
   pub empty : frame.page ≡ None
   pub below : page.head.number < length pool.place.items
   pub free : where_at pool.place.items page.head.number ≡ Free
   pub own : page.head.prev ≡ Some page.head.number
   pub rows : page.rows ≡ []
   pub fields : page.head.fields ≡ fields_for (shape_of_pass p) page.head.index
+  pub alone : HoldsNoOutside (view p)
 
 -- the page has come to the block's frame, under its number, with no bounds
 pub record BringsTo (p : TreePass) (b : ℕ) (page : PageRows) (t : Object) (x : Pool)
     (q : TreePass) : Type 0 where
   pub pool : Pool
   pub frame : Frame
-  pub turns : Turns p b t q pool frame
+  pub turns : TurnsBoth p b t q pool frame
   pub placed : where_at pool.place.items page.head.number ≡ InFrame b
+  pub keeps : KeepsOthers x page.head.number pool
   pub paged : frame.page ≡ Some page
   pub low : frame.low ≡ None
   pub high : frame.high ≡ None
@@ -156,7 +164,7 @@ pub record MayFree (p : TreePass) (b : ℕ) (page : PageRows) : Type 0 where
   pub taken : Object
   pub pool : Pool
   pub frame : Frame
-  pub both : HoldsBoth p b taken pool frame
+  pub both : HoldsPoolAndFrame p b taken pool frame
   pub paged : frame.page ≡ Some page
   pub own : page.head.prev ≡ Some page.head.number
   pub rows : page.rows ≡ []
@@ -166,8 +174,8 @@ pub record FreesFrom (p : TreePass) (b n : ℕ) (t : Object) (x : Pool) (f : Fra
     (q : TreePass) : Type 0 where
   pub pool : Pool
   pub frame : Frame
-  pub turns : Turns p b t q pool frame
+  pub turns : TurnsBoth p b t q pool frame
   pub placed : pool.place.items ≡ slice_set x.place.items n Free
-  pub ages : pool.ages.items ≡ slice_set x.ages.items b 0
+  pub ages : pool.ages ≡ slice_set x.ages b 0
   pub empty : frame.page ≡ None
   pub clock : ClockRises f.clock frame.clock

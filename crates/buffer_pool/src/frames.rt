@@ -6,7 +6,7 @@ ghost use Rattle.forest_law.specs.Numbers.{frames_of};
 ghost use Rattle.forest_world.specs.Held.{shape_of_pass};
 ghost use Rattle.buffer_pool.specs.Forests.{IsForest, IsFittedTree};
 ghost use Rattle.buffer_pool.specs.Frames.{TakesFrame, TellsFrame, GivesFrame};
-ghost use Rattle.buffer_pool.specs.Hands.{LacksFrame, HoldsKnownFrame};
+ghost use Rattle.buffer_pool.specs.Hands.{LacksFrame, MayGiveBack};
 
 use crate::numbers::frame_number;
 use forest_world::{ForestPass, ForestSpace};
@@ -51,10 +51,11 @@ pub(crate) fn holds_frame(space: &ForestSpace, pass: &ForestPass, block: u32) ->
     pass.holds(frame_number(space, pass, block))
 }
 
-/// Gives the block's frame back, which is what it is known to be.
+/// Gives the block's frame back, which is what it is known to be and has no page outside the
+/// trees.
 pub fn give_back(space: &ForestSpace, pass: &mut ForestPass, block: u32)
     requires own { IsForest space.now × IsPassOf space.now pass.old }
-    requires held { HoldsKnownFrame pass.old block }
+    requires held { MayGiveBack pass.old block }
     ensures own { IsSamePass pass.old pass.new × IsPassOf space.now pass.new }
     ensures gave { GivesFrame pass.old block pass.new }
     ensures fits { IsFittedTree (view pass.new) }

@@ -1,5 +1,5 @@
 //! The lowest page number that is free is looked for, and a frame for its page.
-ghost use Rattle.std.specs.Prelude.{◌≡◌, ◌<◌, ◌+◌, ◌^◌, ◌≤◌, ◌↔◌, Some, IsTrue, IfSome, IfNone, IfOk, IfErr};
+ghost use Rattle.std.specs.Prelude.{◌≡◌, ◌<◌, ◌+◌, ◌≤◌, ◌↔◌, Some, length, IsTrue, IfSome, IfNone, IfOk, IfErr};
 ghost use Rattle.latch_space.specs.Has.{IsKnown};
 ghost use Rattle.latch_space.specs.Passes.{view, count, IsSamePass};
 ghost use Rattle.latch_space.specs.Spaces.{IsPassOf};
@@ -74,14 +74,11 @@ fn try_room<R: Wait>(space: &ForestSpace, pass: &mut ForestPass, index: u32, wai
     ensures fits { IsFittedTree (view pass.new) }
 {
     take_pool(space, pass, wait);
-    let Some(free) = lowest_free(pool(space, pass)) else {
+    let pages = space.shape().pages();
+    let Some(number) = lowest_free(pool(space, pass), pages) else {
         say_full(space, pass, index);
         give_pool_back(space, pass);
         return Found::NoneFree;
-    };
-    let Some(number) = as_number(free) else {
-        give_pool_back(space, pass);
-        return Found::NoRoom;
     };
     let Some(block) = make_room(space, pass) else {
         give_pool_back(space, pass);
@@ -90,29 +87,19 @@ fn try_room<R: Wait>(space: &ForestSpace, pass: &mut ForestPass, index: u32, wai
     Found::Room(number, block)
 }
 
-// The lowest number that is free.
-fn lowest_free(pool: &Pool) -> Option<usize>
+// The lowest number that is free, of so many: the last `u32` is none of them.
+fn lowest_free(pool: &Pool, pages: u32) -> Option<u32>
+    requires { length pool.now.place.items ≡ pages }
     ensures found { IfSome result (IsLowestFree pool.now) }
+    ensures named { IfSome result (λ n. IsNeighbour (Some n)) }
     ensures none { IfNone result (HasNoneFree pool.now) }
 {
-    for n in 0..pool.place.len() {
-        if is_free(pool.place[n]) {
+    for n in 0..pages {
+        if is_free(pool.place[n as usize]) {
             return Some(n);
         }
     }
     None
-}
-
-// The number of a page, as long as there are fewer than 2^32 pages: the last `u32` is no page's.
-fn as_number(free: usize) -> Option<u32>
-    ensures same { IfSome result (λ n. n ≡ free) }
-    ensures named { IfSome result (λ n. IsNeighbour (Some n)) }
-    ensures past { IfNone result (2 ^ 32 ≤ free + 1) }
-{
-    if free >= u32::MAX as usize {
-        return None;
-    }
-    Some(free as u32)
 }
 
 // Whether no page has the number.

@@ -10,6 +10,7 @@ ghost use Rattle.buffer_pool.specs.Forests.{IsForest, IsFittedTree};
 ghost use Rattle.buffer_pool.specs.NewPages.{HasNoneFree};
 
 use crate::pools::{pool_back, pool_out};
+use forest_law::full_pools_are_short;
 use forest_world::{ForestPass, ForestSpace, Pool};
 use index_law::AsSaying;
 use latch_law::Means;
@@ -36,6 +37,7 @@ pub(crate) fn say_full(space: &ForestSpace, pass: &mut ForestPass, index: u32)
     ensures full { FindsFull pass.old index pass.new }
     ensures fits { IsFittedTree (view pass.new) }
 {
+    full_pools_are_short();
     let pool = pool_out(space, pass);
     space.read_point(pass, index, &FullPool { pool: &pool });
     pool_back(space, pass, pool);

@@ -10,7 +10,7 @@ ghost use Rattle.forest_law.specs.State.{where_at};
 ghost use Rattle.forest_world.specs.Held.{shape_of_pass};
 ghost use Rattle.call_law.specs.Hands.{HoldsNoPool};
 ghost use Rattle.buffer_pool.specs.Forests.{IsForest, IsFittedTree};
-ghost use Rattle.buffer_pool.specs.Looking.{TellsLook, LooksFor};
+ghost use Rattle.buffer_pool.specs.Looking.{TellsLook, TellsLookFor};
 ghost use Rattle.buffer_pool.specs.Pages.{HoldsOtherPages};
 ghost use Rattle.buffer_pool.specs.Tries.{KnowsPool};
 
@@ -50,7 +50,7 @@ pub(crate) fn look_for<R: Wait>(
     requires pool { HoldsNoPool (view pass.old) }
     requires room { count pass.old + 2 ≤ 16 }
     ensures own { IsSamePass pass.old pass.new × IsPassOf space.now pass.new }
-    ensures did { LooksFor pass.old page result pass.new }
+    ensures did { TellsLookFor pass.old page result pass.new }
     ensures fits { IsFittedTree (view pass.new) }
 {
     take_pool(space, pass, wait);

@@ -6,7 +6,7 @@ ghost use Rattle.latch_space.specs.Spaces.{IsPassOf};
 ghost use Rattle.index_page.specs.Page.{IsNeighbour};
 ghost use Rattle.forest_law.specs.State.{fields_for};
 ghost use Rattle.forest_world.specs.Held.{shape_of_pass};
-ghost use Rattle.call_law.specs.Hands.{HoldsNoPool};
+ghost use Rattle.call_law.specs.Hands.{HoldsNoOutside, HoldsNoPool};
 ghost use Rattle.buffer_pool.specs.declared.error.PoolError.TheVariants as refused;
 ghost use Rattle.buffer_pool.specs.Calls.{GetsNothing};
 ghost use Rattle.buffer_pool.specs.Forests.{IsForest, IsFittedTree};
@@ -40,6 +40,7 @@ pub fn new_page<R: Wait>(
     requires fields { head.fields ≡ fields_for (shape_of_pass pass.old) head.index }
     requires next { IsNeighbour head.next }
     requires known { IsKnown pass.old }
+    requires inside { HoldsNoOutside (view pass.old) }
     requires pool { HoldsNoPool (view pass.old) }
     requires room { count pass.old + 2 ≤ 16 }
     ensures own { IsSamePass pass.old pass.new × IsPassOf space.now pass.new }

@@ -10,7 +10,7 @@ ghost use Rattle.forest_law.specs.declared.objects.Pool.{Pool};
 ghost use Rattle.forest_law.specs.Numbers.{frames_of};
 ghost use Rattle.forest_world.specs.Held.{shape_of_pass};
 ghost use Rattle.buffer_pool.specs.Forests.{IsForest, IsFittedTree};
-ghost use Rattle.buffer_pool.specs.Tries.{KnowsPool, HoldsBoth};
+ghost use Rattle.buffer_pool.specs.Tries.{KnowsPool, HoldsPoolAndFrame};
 ghost use Rattle.buffer_pool.specs.Turning.{SetsAge, MayRestore, RestoresTo, MayBring, BringsTo};
 ghost use Rattle.buffer_pool.specs.Turning.{MayFree, FreesFrom};
 
@@ -44,8 +44,8 @@ pub(crate) fn restore(space: &ForestSpace, pass: &mut ForestPass, block: u32, pa
     requires own { IsForest space.now × IsPassOf space.now pass.old }
     requires may { MayRestore pass.old block page }
     ensures own { IsSamePass pass.old pass.new × IsPassOf space.now pass.new }
-    ensures restored { (t : Object) (x : Pool) (f : Frame) → HoldsBoth pass.old block t x f
-        → RestoresTo pass.old block page t x pass.new }
+    ensures restored { (t : Object) (x : Pool) (f : Frame)
+        → HoldsPoolAndFrame pass.old block t x f → RestoresTo pass.old block page t x pass.new }
     ensures fits { IsFittedTree (view pass.new) }
 {
     pass.fits();
@@ -63,7 +63,7 @@ pub(crate) fn bring(space: &ForestSpace, pass: &mut ForestPass, block: u32, page
     requires own { IsForest space.now × IsPassOf space.now pass.old }
     requires may { MayBring pass.old block page }
     ensures own { IsSamePass pass.old pass.new × IsPassOf space.now pass.new }
-    ensures brought { (t : Object) (x : Pool) (f : Frame) → HoldsBoth pass.old block t x f
+    ensures brought { (t : Object) (x : Pool) (f : Frame) → HoldsPoolAndFrame pass.old block t x f
         → BringsTo pass.old block page t x pass.new }
     ensures fits { IsFittedTree (view pass.new) }
 {
@@ -87,7 +87,7 @@ pub(crate) fn drop_page(space: &ForestSpace, pass: &mut ForestPass, block: u32)
     requires may { (page : PageRows) × MayFree pass.old block page }
     ensures own { IsSamePass pass.old pass.new × IsPassOf space.now pass.new }
     ensures freed { (page : PageRows) (t : Object) (x : Pool) (f : Frame)
-        → HoldsBoth pass.old block t x f → f.page ≡ Some page
+        → HoldsPoolAndFrame pass.old block t x f → f.page ≡ Some page
         → FreesFrom pass.old block page.head.number t x f pass.new }
     ensures fits { IsFittedTree (view pass.new) }
 {

@@ -6,7 +6,7 @@ ghost use Rattle.latch_space.specs.Spaces.{IsPassOf};
 ghost use Rattle.index_page.specs.Page.{PageRows};
 ghost use Rattle.forest_law.specs.State.{image_at};
 ghost use Rattle.buffer_pool.specs.Forests.{IsForest, IsFittedTree};
-ghost use Rattle.buffer_pool.specs.Turning.{PutsPage, UnloadsFrame, loaded, MayTurn, TurnsBack};
+ghost use Rattle.buffer_pool.specs.Turning.{PutsPage, UnloadsFrame, loaded_with, MayTurn, TurnsBack};
 
 use crate::hands::frame_back;
 use crate::pools::pool_back;
@@ -59,7 +59,7 @@ pub(crate) fn unload(mut frame: Frame) -> (Frame, Stored)
 
 /// The frame with this page in these bounds.
 pub(crate) fn load(mut frame: Frame, stored: Stored) -> Frame
-    ensures { result ≡ loaded frame stored }
+    ensures { result ≡ loaded_with frame stored }
 {
     frame.page = Some(stored.page);
     frame.low = stored.low;

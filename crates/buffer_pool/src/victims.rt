@@ -8,13 +8,13 @@ ghost use Rattle.forest_law.specs.declared.objects.Frame.{Frame};
 ghost use Rattle.forest_law.specs.declared.objects.Object.{Object};
 ghost use Rattle.forest_law.specs.declared.objects.Pool.{Pool};
 ghost use Rattle.forest_law.specs.Numbers.{frames_of};
+ghost use Rattle.forest_law.specs.Outside.{HasNoOutside};
 ghost use Rattle.forest_world.specs.Held.{shape_of_pass};
 ghost use Rattle.buffer_pool.specs.Forests.{IsForest, IsFittedTree};
-ghost use Rattle.buffer_pool.specs.Tries.{KnowsPool, HoldsBoth};
+ghost use Rattle.buffer_pool.specs.Tries.{KnowsPool, HoldsPoolAndFrame};
 ghost use Rattle.buffer_pool.specs.Turning.{EmptiesFrame};
-ghost use Rattle.buffer_pool.specs.Victims.{TellsOther, TellsVictim, TellsRoom};
+ghost use Rattle.buffer_pool.specs.Victims.{TellsOther, TellsVictim, TellsRoomFor};
 
-use crate::ages::next_block;
 use crate::frames::{holds_frame, try_frame};
 use crate::hands::{frame, frame_out};
 use crate::pools::{pool, pool_out};
@@ -23,8 +23,8 @@ use forest_world::{ForestPass, ForestSpace, Frame, Where};
 use latch_space::Take;
 
 /// Holds the frame of the lowest age that one try takes, and of equal ages that of the lowest
-/// block, and sees to it that it has no page: its page goes to its image. Frames that the pass holds
-/// are passed over. The pool is held, so nothing is waited for.
+/// block, and sees to it that it has no page: its page goes to its image. Frames that the pass
+/// holds are passed over. The pool is held, so nothing is waited for.
 pub(crate) fn make_room(space: &ForestSpace, pass: &mut ForestPass) -> Option<u32>
     requires own { IsForest space.now × IsPassOf space.now pass.old }
     requires known { IsKnown pass.old }
@@ -32,7 +32,7 @@ pub(crate) fn make_room(space: &ForestSpace, pass: &mut ForestPass) -> Option<u3
     requires room { count pass.old < 16 }
     ensures own { IsSamePass pass.old pass.new × IsPassOf space.now pass.new }
     ensures did { (t : Object) (x : Pool) → KnowsPool (view pass.old) t x
-        → TellsRoom pass.old t x result pass.new }
+        → TellsRoomFor pass.old t x result pass.new }
     ensures fits { IsFittedTree (view pass.new) }
 {
     let Some(block) = try_victim(space, pass) else {
@@ -56,7 +56,7 @@ fn try_victim(space: &ForestSpace, pass: &mut ForestPass) -> Option<u32>
     pass.fits();
     let mut last: Option<u32> = None;
     for _i in 0..pool(space, pass).ages.len() {
-        let Some(block) = next_block(pool(space, pass).ages.as_slice(), last) else {
+        let Some(block) = pool(space, pass).ages.next(last) else {
             return None;
         };
         if try_other(space, pass, block) {
@@ -90,9 +90,10 @@ fn try_other(space: &ForestSpace, pass: &mut ForestPass, block: u32) -> bool
 // The page of the block's frame, if it has one, goes to its image.
 fn empty_frame(space: &ForestSpace, pass: &mut ForestPass, block: u32)
     requires own { IsForest space.now × IsPassOf space.now pass.old }
-    requires both { (t : Object) × (x : Pool) × (f : Frame) × HoldsBoth pass.old block t x f }
+    requires both { (t : Object) × (x : Pool) × (f : Frame)
+        × HoldsPoolAndFrame pass.old block t x f × HasNoOutside f }
     ensures own { IsSamePass pass.old pass.new × IsPassOf space.now pass.new }
-    ensures empty { (t : Object) (x : Pool) (f : Frame) → HoldsBoth pass.old block t x f
+    ensures empty { (t : Object) (x : Pool) (f : Frame) → HoldsPoolAndFrame pass.old block t x f
         → EmptiesFrame pass.old block t x pass.new }
     ensures fits { IsFittedTree (view pass.new) }
 {
@@ -114,9 +115,9 @@ fn has_page(frame: &Frame) -> bool
 fn evict(space: &ForestSpace, pass: &mut ForestPass, block: u32)
     requires own { IsForest space.now × IsPassOf space.now pass.old }
     requires both { (t : Object) × (x : Pool) × (f : Frame) × (page : PageRows)
-        × HoldsBoth pass.old block t x f × (f.page ≡ Some page) }
+        × HoldsPoolAndFrame pass.old block t x f × (f.page ≡ Some page) × HasNoOutside f }
     ensures own { IsSamePass pass.old pass.new × IsPassOf space.now pass.new }
-    ensures empty { (t : Object) (x : Pool) (f : Frame) → HoldsBoth pass.old block t x f
+    ensures empty { (t : Object) (x : Pool) (f : Frame) → HoldsPoolAndFrame pass.old block t x f
         → EmptiesFrame pass.old block t x pass.new }
     ensures fits { IsFittedTree (view pass.new) }
 {

@@ -6,8 +6,10 @@ use Rattle.latch_space.specs.Has.{DidRelease}
 use Rattle.latch_space.specs.Passes.{view, Shows}
 use Rattle.forest_law.specs.declared.objects.Object.{Object}
 use Rattle.forest_law.specs.declared.objects.Object.TheVariants as object
+use Rattle.forest_law.specs.Numbers.{frame_id}
+use Rattle.forest_world.specs.Held.{shape_of_pass}
 use Rattle.buffer_pool.proofs.FrameLemmas.{gives_frame}
-use Rattle.buffer_pool.proofs.SpaceLemmas.{objects_of, held_below}
+use Rattle.buffer_pool.proofs.SpaceLemmas.{objects_of, held_below, may_release}
 use Rattle.buffer_pool.proofs.frames.give_back.Goals as goal
 
 pub frame_number-number-requires-clause-there : goal.frame_number-number-requires-clause-there
@@ -22,7 +24,9 @@ release-requires-clause-known c = let p = c.args.pass.now in let h = c.requires.
     (holding h.1.held.0 (object.Frame h.0), h.1.held.1, h.1.value)
 
 pub release-requires-clause-rule : goal.release-requires-clause-rule
-release-requires-clause-rule c = λ w law fits. record { objects = law.objects }
+release-requires-clause-rule c = let p = c.args.pass.now in let h = c.requires.held in
+    may_release (view p) (frame_id (shape_of_pass p) c.args.block) c.frame_number-number.result
+    (holding h.1.held.0 (object.Frame h.0)) c.frame_number-number.ensures h.1.held.1 h.2
 
 pub returns-clause-gave : goal.returns-clause-gave
 returns-clause-gave c = let h = c.requires.held in

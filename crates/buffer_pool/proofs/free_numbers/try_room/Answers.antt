@@ -1,13 +1,25 @@
-use Rattle.std.proofs.Common.{◌∙◌, sym, subst, refl}
+use Rattle.std.proofs.Common.{◌∙◌, length, sym, ap, subst}
+use Rattle.latch_space.specs.Passes.{view}
 use Rattle.forest_law.specs.declared.objects.Object.TheVariants as object
 use Rattle.forest_law.specs.declared.objects.Pool.{Pool}
 use Rattle.forest_law.specs.Numbers.{pool_id}
 use Rattle.buffer_pool.specs.NewPages.{IsLowestFree, HasNoneFree}
 use Rattle.buffer_pool.proofs.CallLemmas.{pool_has}
 use Rattle.buffer_pool.proofs.FreeLemmas.{found_is, finds_none, holds_free}
-use Rattle.buffer_pool.proofs.GiveLemmas.{first, pool_taken, vain_gives}
-use Rattle.buffer_pool.proofs.VictimLemmas.{tries_none}
+use Rattle.buffer_pool.proofs.GiveLemmas.{pool_taken, vain_gives}
+use Rattle.buffer_pool.proofs.KnownLemmas.{places_counted}
 use Rattle.buffer_pool.proofs.free_numbers.try_room.Goals as goal
+
+pub lowest_free-requires : goal.lowest_free-requires
+lowest_free-requires g c = let p1 = c.take_pool.new.pass in
+    let took = c.take_pool.ensures.took in let f = c.take_pool.ensures.fits in
+    ap (λ z. length z.place.items)
+    (found_is c.args.pass.now p1 c.requires.known c.requires.pool took c.pool.result.now
+    c.pool.ensures)
+    ∙ (places_counted f.whole f.is_lawful (view p1) f.fits (object.Pool took.pool) took.pool
+    (pool_taken c.args.pass.now p1 c.requires.known c.requires.pool took)
+    ∙ (ap (λ t. t.shape.pages) c.take_pool.ensures.own.1.1
+    ∙ sym (c.pages-pages.ensures ∙ ap (λ s. s.pages) c.shape.ensures)))
 
 pub say_full-requires-clause-pool : goal.say_full-requires-clause-pool
 say_full-requires-clause-pool g c = let took = c.take_pool.ensures.took in (
@@ -31,15 +43,6 @@ returns-in_default-clause-did g c = let took = c.take_pool.ensures.took in
     c.say_full.new.pass c.give_pool_back.new.pass c.args.index c.say_full.ensures.full
     (subst HasNoneFree (c.pool.ensures took.pool took.pool took.has) c.in_default.ensures.none)
     c.give_pool_back.ensures.gave
-
-pub returns-in_default-as_number-clause-did : goal.returns-in_default-as_number-clause-did
-returns-in_default-as_number-clause-did g c = let p1 = c.take_pool.new.pass in
-    let took = c.take_pool.ensures.took in
-    let known = (first c.args.pass.now p1 c.requires.known c.requires.pool took).known in
-    vain_gives c.args.pass.now p1 c.requires.known c.requires.pool took p1
-    c.give_pool_back-in_default-as_number.new.pass
-    c.give_pool_back-in_default-as_number.ensures.gave 0
-    (record { tries = tries_none p1 known; count = refl })
 
 pub give_pool_back-requires-in_default-make_room-clause-held :
     goal.give_pool_back-requires-in_default-make_room-clause-held
@@ -68,8 +71,7 @@ returns-clause-did g c = let p1 = c.take_pool.new.pass in
     let is = found_is c.args.pass.now p1 c.requires.known c.requires.pool took c.pool.result.now
     c.pool.ensures in
     holds_free c.args.pass.now p1 c.requires.known c.requires.pool took
-    c.in-Some-as_number.number c.in-Some-make_room.block c.make_room.new.pass
-    c.take_pool.ensures.fits c.in-Some-as_number.ensures.named
-    (subst (λ n. IsLowestFree took.pool n) (sym c.in-Some-as_number.ensures.same)
-    (subst (λ (z : Pool). IsLowestFree z c.in-Some.free) is c.in-Some.ensures.found))
+    c.in-Some.number c.in-Some-make_room.block c.make_room.new.pass
+    c.take_pool.ensures.fits c.in-Some.ensures.named
+    (subst (λ (z : Pool). IsLowestFree z c.in-Some.number) is c.in-Some.ensures.found)
     (c.in-Some-make_room.ensures.did (object.Pool took.pool) took.pool taken)

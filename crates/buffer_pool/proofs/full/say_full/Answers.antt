@@ -11,7 +11,8 @@ use Rattle.buffer_pool.proofs.full.say_full.Goals as goal
 pub read_point-requires-clause-rule : goal.read_point-requires-clause-rule
 read_point-requires-clause-rule c = let h = c.requires.pool in
     let out = c.pool_out-pool.ensures.out in let o = out.out h.0 h.0 h.1 in
-    may_tell (view c.pool_out-pool.new.pass) c.args.index o.0.held.0 c.pool_out-pool.result
+    may_tell c.full_pools_are_short.ensures (view c.pool_out-pool.new.pass) c.args.index o.0.held.0
+    c.pool_out-pool.result
     (subst (λ (z : Pool). Rattle.latch_law.specs.Rule.Holds (view c.pool_out-pool.new.pass) pool_id
     (Rattle.latch_law.specs.Views.holding o.0.held.0 (object.Pool z))) (sym o.1) o.0.held.1)
     (subst HasNoneFree (sym o.1) h.2)

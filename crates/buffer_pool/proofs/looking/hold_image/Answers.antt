@@ -1,4 +1,7 @@
-use Rattle.buffer_pool.proofs.LookLemmas.{room_restores, holds_restored}
+use Rattle.std.proofs.Common.{◌≡◌, subst}
+use Rattle.forest_law.specs.declared.objects.Where.TheVariants.{Image}
+use Rattle.forest_law.specs.State.{where_at}
+use Rattle.buffer_pool.proofs.LookLemmas.{one_pool, room_restores, holds_restored}
 use Rattle.buffer_pool.proofs.looking.hold_image.Goals as goal
 
 pub restore-requires-clause-may : goal.restore-requires-clause-may
@@ -8,7 +11,10 @@ restore-requires-clause-may c = let h = c.requires.pool in
 
 pub returns-clause-did : goal.returns-clause-did
 returns-clause-did c = λ t x held. let room = c.in-Some.ensures.did t x held in
+    let h = c.requires.pool in
     holds_restored c.args.pass.now c.make_room.new.pass t x c.args.page c.in-Some.block room
+    (subst (λ z. where_at z.place.items c.args.page ≡ Image)
+    (one_pool c.args.pass.now h.0 t h.1 x h.2 held) h.3)
     c.restore.new.pass
     (c.restore.ensures.restored t room.pool room.frame
     (record { known = room.tries.does.known; pool = room.knew; frame = room.knows }))

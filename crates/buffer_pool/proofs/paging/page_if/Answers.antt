@@ -30,6 +30,7 @@ pub give_back-requires-clause-held : goal.give_back-requires-clause-held
 give_back-requires-clause-held g c = let pages = c.in-Some.ensures.did in (
   pages.frame,
   paged_has c.args.pass.now c.hold_page.new.pass c.args.page c.in-Some.block pages,
+  pages.inside,
 )
 
 pub returns-clause-did : goal.returns-clause-did

@@ -6,6 +6,8 @@ use Rattle.latch_space.specs.Has.{DidRelease}
 use Rattle.latch_space.specs.Passes.{view, Shows}
 use Rattle.forest_law.specs.declared.objects.Object.{Object}
 use Rattle.forest_law.specs.declared.objects.Object.TheVariants as object
+use Rattle.forest_law.specs.Numbers.{pool_id}
+use Rattle.buffer_pool.proofs.SpaceLemmas.{may_release}
 use Rattle.buffer_pool.proofs.PoolLemmas.{gives_pool}
 use Rattle.buffer_pool.proofs.pools.give_pool_back.Goals as goal
 
@@ -15,7 +17,9 @@ release-requires-clause-known c = let p = c.args.pass.now in let h = c.requires.
     (sym c.pool_id.ensures) (holding h.1.held.0 (object.Pool h.0), h.1.held.1, h.1.value)
 
 pub release-requires-clause-rule : goal.release-requires-clause-rule
-release-requires-clause-rule c = λ w law fits. record { objects = law.objects }
+release-requires-clause-rule c = let h = c.requires.held in
+    may_release (view c.args.pass.now) pool_id c.pool_id.result
+    (holding h.1.held.0 (object.Pool h.0)) c.pool_id.ensures h.1.held.1 tt
 
 pub returns-clause-gave : goal.returns-clause-gave
 returns-clause-gave c = let h = c.requires.held in

@@ -6,6 +6,8 @@ use Rattle.latch_space.specs.Has.{DidRelease}
 use Rattle.latch_space.specs.Passes.{view, Shows}
 use Rattle.forest_law.specs.declared.objects.Object.{Object}
 use Rattle.forest_law.specs.declared.objects.Object.TheVariants as object
+use Rattle.forest_law.specs.Numbers.{tree_id}
+use Rattle.buffer_pool.proofs.SpaceLemmas.{may_release}
 use Rattle.buffer_pool.proofs.TreeLemmas.{gives_tree}
 use Rattle.buffer_pool.proofs.trees.give_tree_back.Goals as goal
 
@@ -16,7 +18,9 @@ release-requires-clause-known c = let p = c.args.pass.now in let h = c.requires.
     (holding h.1.held.0 (object.Tree h.0), h.1.held.1, h.1.value)
 
 pub release-requires-clause-rule : goal.release-requires-clause-rule
-release-requires-clause-rule c = λ w law fits. record { objects = law.objects }
+release-requires-clause-rule c = let h = c.requires.held in
+    may_release (view c.args.pass.now) (tree_id c.args.index) c.tree_number-number.result
+    (holding h.1.held.0 (object.Tree h.0)) c.tree_number-number.ensures h.1.held.1 tt
 
 pub returns-clause-gave : goal.returns-clause-gave
 returns-clause-gave c = let h = c.requires.held in

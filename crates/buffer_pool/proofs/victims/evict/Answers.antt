@@ -47,7 +47,7 @@ turn-requires-clause-may c = let h = c.requires.both in
     c.args.block c.frame_out-frame.result c.pool_out-pool.result c.frame_out-frame.ensures.out
     c.pool_out-pool.ensures.out h.0 h.1 h.2 h.4 c.fits.ensures c.unload-frame.result.0
     c.unload-frame.result.1 c.unload-frame.ensures c.head.result.now.number
-    (ap (λ z. z.number) c.head.ensures) c.put_page.new.pool c.put_page.ensures.puts
+    (ap (λ z. z.number) c.head.ensures) c.put_page.new.pool c.put_page.ensures.puts h.6
 
 pub returns-clause-empty : goal.returns-clause-empty
 returns-clause-empty c = λ t x f both.

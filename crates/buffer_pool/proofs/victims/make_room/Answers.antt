@@ -1,4 +1,4 @@
-use Rattle.buffer_pool.proofs.VictimLemmas.{victim_both, holds_room}
+use Rattle.buffer_pool.proofs.EmptyLemmas.{victim_both, holds_room}
 use Rattle.buffer_pool.proofs.victims.make_room.Goals as goal
 
 pub empty_frame-requires-clause-both : goal.empty_frame-requires-clause-both
@@ -8,6 +8,7 @@ empty_frame-requires-clause-both c = let h = c.requires.pool in
       h.1,
       victim.holds.frame,
       victim_both c.args.pass.now c.try_victim.new.pass h.1 c.in-Some.block victim h.0 h.2,
+      victim.holds.inside,
     )
 
 pub returns-clause-did : goal.returns-clause-did

@@ -1,5 +1,5 @@
 use Rattle.std.proofs.Common.{ℕ, ◌<◌, List, length, IfSome, sym, ap, subst, refl, arith}
-use Rattle.buffer_pool.specs.Ages.{IsNext}
+use Rattle.block_ages.specs.Order.{IsNext}
 use Rattle.buffer_pool.proofs.AgainLemmas.{passes_both}
 use Rattle.buffer_pool.proofs.CallLemmas.{pool_has}
 use Rattle.buffer_pool.proofs.SpaceLemmas.{objects_of}
@@ -27,24 +27,23 @@ pool-requires-in-loop-i c = let h = c.requires.pool in
           (pool_known_still c.args.pass.now c.loop-i.pass h.1 c.loop-i.last tried h.0 h.2),
     )
 
-pub next_block-requires-clause-few : goal.next_block-requires-clause-few
-next_block-requires-clause-few c = let h = c.requires.pool in let counted = frames_counted
+pub next-requires-clause-few : goal.next-requires-clause-few
+next-requires-clause-few c = let h = c.requires.pool in let counted = frames_counted
     c.args.pass.now c.loop-i.pass h.1 c.loop-i.last
     (c.loop-i.invariant.tried h.0 h.1 h.2) h.0 h.2 c.pool-in-loop-i.result.now
-    c.pool-in-loop-i.ensures c.as_slice.result.now c.as_slice.ensures.value
+    c.pool-in-loop-i.ensures
     c.loop-i.invariant.fits in
     let objects = objects_of c.args.space.now c.loop-i.pass c.requires.own.0
     c.loop-i.invariant.own in
     let terms = ap (λ t. t.objects) c.loop-i.invariant.own.1 in
     let few = c.args.space.now.small.1 in omega (arith, counted, objects, terms, few)
 
-pub next_block-requires-clause-last : goal.next_block-requires-clause-last
-next_block-requires-clause-last c = let h = c.requires.pool in
+pub next-requires-clause-last : goal.next-requires-clause-last
+next-requires-clause-last c = let h = c.requires.pool in
     subst (λ (xs : List ℕ). IfSome c.loop-i.last (λ b. b < length xs))
     (sym (ages_read c.args.pass.now c.loop-i.pass h.1 c.loop-i.last
     (c.loop-i.invariant.tried h.0 h.1 h.2) h.0 h.2 c.pool-in-loop-i.result.now
-    c.pool-in-loop-i.ensures
-    c.as_slice.result.now c.as_slice.ensures.value)) (c.loop-i.invariant.tried h.0 h.1 h.2).below
+    c.pool-in-loop-i.ensures)) (c.loop-i.invariant.tried h.0 h.1 h.2).below
 
 pub returns-in_default-clause-own : goal.returns-in_default-clause-own
 returns-in_default-clause-own c = (c.loop-i.invariant.same, c.loop-i.invariant.own)
@@ -64,7 +63,7 @@ try_other-requires-clause-there c = let h = c.requires.pool in
     subst (λ n. c.in-Some.block < n)
     (frames_counted c.args.pass.now c.loop-i.pass h.1 c.loop-i.last
     (c.loop-i.invariant.tried h.0 h.1 h.2) h.0 h.2 c.pool-in-loop-i.result.now
-    c.pool-in-loop-i.ensures c.as_slice.result.now c.as_slice.ensures.value
+    c.pool-in-loop-i.ensures
     c.loop-i.invariant.fits) c.in-Some.ensures.found.below
 
 pub try_other-requires-clause-known : goal.try_other-requires-clause-known
@@ -89,8 +88,7 @@ returns-then-try_other-clause-did c = λ t x held.
     c.try_other.new.pass c.in-Some.block
     (subst (λ xs. IsNext xs c.loop-i.last c.in-Some.block) (ages_read c.args.pass.now c.loop-i.pass
     x c.loop-i.last
-    (c.loop-i.invariant.tried t x held) t held c.pool-in-loop-i.result.now c.pool-in-loop-i.ensures
-    c.as_slice.result.now c.as_slice.ensures.value)
+    (c.loop-i.invariant.tried t x held) t held c.pool-in-loop-i.result.now c.pool-in-loop-i.ensures)
     c.in-Some.ensures.found) c.if-try_other.ensures.did
 
 pub loop-i-preserved : goal.loop-i-preserved
@@ -104,8 +102,7 @@ loop-i-preserved c = record {
       (subst (λ xs. IsNext xs c.loop-i.last c.in-Some.block) (ages_read c.args.pass.now
       c.loop-i.pass x c.loop-i.last
       (c.loop-i.invariant.tried t x held) t held c.pool-in-loop-i.result.now
-      c.pool-in-loop-i.ensures
-      c.as_slice.result.now c.as_slice.ensures.value)
+      c.pool-in-loop-i.ensures)
       c.in-Some.ensures.found) c.if-try_other.ensures.did;
 }
 

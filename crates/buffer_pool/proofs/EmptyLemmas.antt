@@ -1,0 +1,104 @@
+-- The victim's frame, and the room that there is once its page is gone.
+use Rattle.std.proofs.Common.{◌≡◌, ℕ, [], ◌∷◌, sym, subst, ◌∙◌, refl, arith, true, false, Option, Some, None, is_some}
+use Rattle.latch_space.specs.Passes.{view}
+use Rattle.index_page.specs.Page.{PageRows}
+use Rattle.index_law.specs.Shape.{Shape}
+use Rattle.forest_law.specs.declared.objects.Frame.{Frame}
+use Rattle.forest_law.specs.declared.objects.Pool.{Pool}
+use Rattle.forest_law.specs.declared.objects.Object.{Object}
+use Rattle.forest_law.specs.Numbers.{pool_id, frame_id}
+use Rattle.forest_world.specs.Held.{TreePass, shape_of_pass}
+use Rattle.buffer_pool.specs.Calls.{Does}
+use Rattle.buffer_pool.specs.Forests.{IsFittedTree}
+use Rattle.buffer_pool.specs.Pages.{HasNumber}
+use Rattle.buffer_pool.specs.Tries.{tries_alone, KnowsPool, HoldsPoolAndFrame}
+use Rattle.buffer_pool.specs.Turning.{EmptiesFrame}
+use Rattle.buffer_pool.specs.Victims.{HoldsVictim, HoldsRoom}
+use Rattle.buffer_pool.proofs.KnownLemmas.{named_number}
+use Rattle.buffer_pool.proofs.VictimLemmas.{tries_none, tries_both, tries_among, tries_shape, tried_left}
+
+-- a frame has a page, or none
+pub page_of_some : (o : Option PageRows) → is_some o ≡ true → (page : PageRows) × (o ≡ Some page)
+page_of_some (Some page) is = (page, refl)
+page_of_some None is = absurd (no is)
+  where
+    no : false ≡ true → ⊥
+    no e = absurd cc
+
+pub page_of_none : (o : Option PageRows) → is_some o ≡ false → o ≡ None
+page_of_none None is = refl
+page_of_none (Some page) is = absurd (no is)
+  where
+    no : true ≡ false → ⊥
+    no e = absurd cc
+
+-- a frame without a page is as it is to be
+pub empties_itself : (p : TreePass) (b : ℕ) (t : Object) (x : Pool) (f : Frame)
+    → HoldsPoolAndFrame p b t x f → IsFittedTree (view p) → f.page ≡ None
+    → EmptiesFrame p b t x p
+empties_itself p b t x f both fitted empty = record {
+  pool = x;
+  frame = f;
+  turns = record {
+    tries = tries_among p p [] (pool_id ∷ frame_id (shape_of_pass p) b ∷ []) (λ j apart. tt)
+        (tries_none p both.known);
+    both = both;
+    count = refl;
+  };
+  empty = empty;
+  clears = record {
+    gone = λ m named. absurd (none_is_some
+        (named_number fitted.whole fitted.is_lawful (view p) fitted.fits t x both.pool b f
+        both.frame m named) empty);
+    keeps = λ m other. refl;
+    ages = refl;
+    tick = refl;
+  };
+}
+  where
+    none_is_some : {m : ℕ} → HasNumber f m → f.page ≡ None → ⊥
+    none_is_some has none = absurd (never has.page (sym none ∙ has.paged))
+      where
+        never : (page : PageRows) → None ≡ Some page → ⊥
+        never page e = absurd cc
+
+-- the victim's frame and the pool are held
+module _ (p q : TreePass) (x : Pool) (b : ℕ) (victim : HoldsVictim p x b q) (t : Object)
+    (held : KnowsPool (view p) t x) where
+  pub victim_both : HoldsPoolAndFrame q b t x victim.holds.frame
+  victim_both = record {
+    known = victim.holds.tries.does.known;
+    pool = victim.holds.tries.does.rest pool_id ((λ e. omega (arith, e)), tt) ∙ held;
+    frame = victim.holds.knows;
+  }
+
+  victim_shape : shape_of_pass q ≡ shape_of_pass p
+  victim_shape = tries_shape p q (frame_id (shape_of_pass p) b ∷ []) victim.holds.tries
+
+  -- and there is room once its page is gone
+  pub holds_room : (r : TreePass) → EmptiesFrame q b t x r → HoldsRoom p b t x r
+  holds_room r emptied =
+      let ks = pool_id ∷ frame_id (shape_of_pass p) b ∷ [] in
+      record {
+        tries = tries_both p q r ks
+            (tries_among p q (frame_id (shape_of_pass p) b ∷ []) ks
+            (λ j apart. (apart.1.0, tt)) victim.holds.tries)
+            (record {
+              refused = emptied.turns.tries.refused;
+              does = subst
+                  (λ (s : Shape). Does q r (pool_id ∷ frame_id s b ∷ [])
+                  (tries_alone emptied.turns.tries.refused)) victim_shape
+                  emptied.turns.tries.does;
+            });
+        took = λ c below before lacks. tried_left (frame_id (shape_of_pass p) c)
+            victim.holds.tries.refused emptied.turns.tries.refused
+            (victim.took c below before lacks);
+        lacked = victim.holds.lacked;
+        pool = emptied.pool;
+        knew = emptied.turns.both.pool;
+        clears = emptied.clears;
+        frame = emptied.frame;
+        knows = emptied.turns.both.frame;
+        empty = emptied.empty;
+        count = (let a = emptied.turns.count in let e = victim.holds.count in omega (arith, a, e));
+      }
