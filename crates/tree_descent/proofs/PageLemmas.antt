@@ -8,6 +8,8 @@ use Rattle.key_tuple.specs.Order.{FieldList}
 use Rattle.key_tuple.specs.Position.{position_cut}
 use Rattle.key_tuple.specs.declared.mode.Mode.{Mode}
 use Rattle.latch_law.specs.Views.{holding}
+use Rattle.latch_space.specs.Has.{IsKnown}
+use Rattle.latch_space.specs.Passes.{view}
 use Rattle.index_page.specs.Page.{PageRows}
 use Rattle.index_page.specs.Rows.{Row, last_of_rows, last_row_after}
 use Rattle.tree_law.specs.Pages.{Page, HasFields, IsOrderly, is_own, low_place, high_place}
@@ -18,14 +20,18 @@ use Rattle.forest_law.specs.FramePages.{HasCutPage}
 use Rattle.forest_law.specs.Law.{IsLawful}
 use Rattle.forest_law.specs.Numbers.{frame_id, frames_of}
 use Rattle.forest_law.specs.Objects.{IsFrameOf}
+use Rattle.forest_law.specs.Outside.{HasNoOutside}
 use Rattle.forest_law.specs.State.{ForestState, bound, page_within, pages_of, fields_for}
 use Rattle.forest_law.proofs.FramePageLemmas.{frames_tell_pages, number_below}
 use Rattle.tree_facts.specs.TreeFrames.{IsTreeFrame}
 use Rattle.tree_facts.proofs.InnerLemmas.{inner_pages_point, children_have_cuts}
+use Rattle.forest_world.specs.Held.{TreePass}
 use Rattle.call_law.specs.Hands.{KnowsFrame, HoldsNoFrameBut}
 use Rattle.call_law.specs.Spoken.{View}
 use Rattle.buffer_pool.specs.Forests.{FitsTrees, IsFittedTree}
+use Rattle.buffer_pool.specs.Hands.{MayGiveBack}
 use Rattle.buffer_pool.specs.Pages.{HasTreePage, HasNumber, HoldsOtherPages}
+use Rattle.buffer_pool.proofs.CallLemmas.{frame_has}
 use Rattle.tree_descent.specs.Descents.{PointsAt}
 use Rattle.tree_descent.specs.Leaves.{HasCutWithin, IsPageFor, cut_in}
 use Rattle.tree_descent.specs.Paths.{PicksChild}
@@ -108,6 +114,18 @@ pub number_is : (f : Frame) (n i level : ℕ) → HasNumber f n → (page : HasT
     → page.page.head.number ≡ n
 number_is f n i level has page = ap (λ (z : PageRows). z.head.number)
     (same_some page.page has.page (sym page.paged ∙ has.paged)) ∙ has.number
+
+-- a frame with a page of the trees has none outside them
+pub tree_page_inside : (f : Frame) (i level : ℕ) → HasTreePage f i level → HasNoOutside f
+tree_page_inside f i level has page is =
+    ap (λ (z : PageRows). is_own z.head.number z.head.prev)
+    (same_some page has.page (sym is ∙ has.paged)) ∙ has.tree
+
+-- so it may be given back
+pub may_give_back : (p : TreePass) → IsKnown p → (b i level : ℕ) (f : Frame)
+    → KnowsFrame (view p) b f → HasTreePage f i level → MayGiveBack p b
+may_give_back p known b i level f knows has =
+    (f, frame_has p known b f knows, tree_page_inside f i level has)
 
 module _ (w : ForestState) (law : IsLawful w) where
   -- a page with a cut is one of the pages

@@ -15,7 +15,7 @@ use Rattle.call_law.specs.Spoken.{View}
 use Rattle.buffer_pool.specs.Pages.{HasTreePage}
 use Rattle.buffer_pool.proofs.AddedLemmas.{frame_no_tree, frame_still, tree_still}
 use Rattle.tree_descent.specs.Descents.{HoldsInner, TakesChild}
-use Rattle.tree_smo.specs.Splitting.{most_for_pointer}
+use Rattle.tree_restructure.specs.Charges.{most_for_pointer}
 use Rattle.tree_growth.specs.declared.looking.PageInHand.{PageInHand}
 use Rattle.tree_growth.specs.Pages.{needed, IsPageInHand, HoldsChild}
 use Rattle.tree_growth.specs.Ways.{IsGoingDown, GoesOn}

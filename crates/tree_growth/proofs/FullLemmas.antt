@@ -1,10 +1,15 @@
 -- A child without room, which can be split, and one with room, which is kept.
-use Rattle.std.proofs.Common.{◌≡◌, ℕ, true, false, [], ◌∷◌}
+use Rattle.std.proofs.Common.{◌≡◌, ℕ, suc, ◌≤◌, ◌<◌, ◌+◌, true, false, [], ◌∷◌, subst, ◌∙◌, arith}
 use Rattle.key_tuple.specs.Order.{FieldList}
 use Rattle.latch_space.specs.Passes.{view}
+use Rattle.index_page.specs.declared.TheConstants.{PAGE_ROOM, MAX_CHARGE}
+use Rattle.index_page.specs.Loads.{load_of}
 use Rattle.forest_world.specs.Held.{TreePass}
+use Rattle.tree_restructure.specs.Charges.{largest_on}
 use Rattle.buffer_pool.specs.Frames.{GivesFrame}
+use Rattle.buffer_pool.specs.Hands.{MayGiveBack}
 use Rattle.buffer_pool.proofs.CallLemmas.{frame_has}
+use Rattle.tree_descent.proofs.PageLemmas.{may_give_back}
 use Rattle.tree_smo.specs.Splitting.{CanSplit}
 use Rattle.tree_growth.specs.declared.looking.PageInHand.{PageInHand}
 use Rattle.tree_growth.specs.Pages.{TellsRoom, IsOrdered, HoldsChild}
@@ -12,9 +17,10 @@ use Rattle.tree_growth.specs.Ways.{IsGoingDown, GrowsChild}
 use Rattle.tree_growth.proofs.HalvesLemmas.{Looks, keeps_right}
 use Rattle.tree_growth.proofs.KnownLemmas.{levels_apart}
 use Rattle.tree_growth.proofs.PageLemmas.{its_level}
+use Rattle.tree_growth.proofs.RoomLemmas.{needed_most}
 
 module _ (p : TreePass) (i : ℕ) (key : FieldList) (need parent child : ℕ)
-    (way : IsGoingDown p i key (parent ∷ child ∷ [])) (at : PageInHand)
+    (way : IsGoingDown p i key (parent ∷ child ∷ [])) (small : need ≤ MAX_CHARGE) (at : PageInHand)
     (looks : Looks p child need at) where
   tells : (held : HoldsChild (view p) parent child i key)
       → TellsRoom child held.below.is.page need at
@@ -24,7 +30,21 @@ module _ (p : TreePass) (i : ℕ) (key : FieldList) (need parent child : ℕ)
   pub is_ordered : IsOrdered (view p) child
   is_ordered f page knows paged = (looks f page (frame_has p way.known child f knows) paged).order
 
+  -- a full child has no room for one row more of the largest charge
+  child_is_full : (held : HoldsChild (view p) parent child i key) → at.is_full ≡ true
+      → PAGE_ROOM < load_of held.below.is.page.rows + largest_on held.level
+  child_is_full held full = let told = tells held in
+      let none = told.full full in
+      let most = needed_most at.level need small in
+      let level = told.is_level ∙ held.below.is.at_level in
+      subst (λ l. PAGE_ROOM < load_of held.below.is.page.rows + largest_on l) level
+      (omega (arith, none, most))
+
   module _ (held : HoldsChild (view p) parent child i key) where
+    pub may_give_parent : MayGiveBack p parent
+    may_give_parent = may_give_back p way.known parent i (suc held.level) held.up held.knows_up
+        held.above
+
     pub can_split : at.is_full ≡ true → CanSplit (view p) parent child i
     can_split full = record {
       level = held.level;
@@ -37,6 +57,7 @@ module _ (p : TreePass) (i : ℕ) (key : FieldList) (need parent child : ℕ)
       points = held.points;
       room = held.room;
       two = (tells held).two full;
+      full = child_is_full held full;
     }
 
     pub grows_kept : (q : TreePass) → at.is_full ≡ false → GivesFrame p parent q

@@ -20,7 +20,7 @@ use Rattle.buffer_pool.specs.Pages.{HasTreePage}
 use Rattle.tree_descent.specs.Descents.{PointsAt}
 use Rattle.tree_descent.specs.Leaves.{cut_in}
 use Rattle.tree_smo.specs.Raising.{RaisesRoot}
-use Rattle.tree_smo.specs.Splitting.{most_for_pointer}
+use Rattle.tree_restructure.specs.Charges.{most_for_pointer}
 use Rattle.tree_growth.specs.declared.looking.PageInHand.{PageInHand}
 use Rattle.tree_growth.specs.Pages.{HoldsChild}
 use Rattle.tree_growth.specs.Ways.{IsGoingDown, GoesOn, ArrivesWithRoom, GrowsChild}

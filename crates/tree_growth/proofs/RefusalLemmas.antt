@@ -3,6 +3,7 @@ use Rattle.std.proofs.Common.{◌≡◌, ◌≢◌, ℕ, List, [], ◌∷◌, �
 use Rattle.key_tuple.specs.Order.{FieldList}
 use Rattle.latch_space.specs.Passes.{view, count}
 use Rattle.forest_law.specs.declared.objects.Frame.{Frame}
+use Rattle.forest_law.specs.Outside.{HasNoOutside}
 use Rattle.forest_world.specs.Held.{TreePass}
 use Rattle.call_law.specs.Hands.{KnowsFrame}
 use Rattle.call_law.specs.Trace.{Added}
@@ -10,7 +11,7 @@ use Rattle.buffer_pool.specs.Calls.{Does, GetsNothing}
 use Rattle.buffer_pool.specs.declared.error.PoolError.{PoolError}
 use Rattle.buffer_pool.specs.declared.error.PoolError.TheVariants.{SpaceFull, NoMemory}
 use Rattle.buffer_pool.specs.Frames.{GivesFrame}
-use Rattle.buffer_pool.specs.Hands.{HoldsKnownFrame}
+use Rattle.buffer_pool.specs.Hands.{MayGiveBack}
 use Rattle.buffer_pool.proofs.CallLemmas.{frame_has}
 use Rattle.buffer_pool.specs.NewPages.{FindsNoneFree}
 use Rattle.buffer_pool.proofs.AddedLemmas.{frame_still, tree_still}
@@ -65,11 +66,13 @@ module _ (p q r : TreePass) (i : ℕ) (key : FieldList) (b c : ℕ) (e : PoolErr
   first_back = way_less q r i key (b ∷ c ∷ []) (b ∷ []) refused.way c gave
       (λ k apart each. (each.0, (apart, tt))) refl
 
-  pub holds_second : (f : Frame) → b ≢ c → KnowsFrame (view p) b f → HoldsKnownFrame r b
-  holds_second f ne knows = (
+  pub holds_second : (f : Frame) → HasNoOutside f → b ≢ c → KnowsFrame (view p) b f
+      → MayGiveBack r b
+  holds_second f inside ne knows = (
     f,
     frame_has r first_back.known b f
         (still_gave q r c refused.way.known gave b f ne (refused.frames b f knows)),
+    inside,
   )
 
   pub stops_two : (s : TreePass) → GivesFrame r b s → StopsOnWay p i key e s

@@ -14,8 +14,8 @@ use Rattle.index_page.proofs.AppendLemmas.{load_same}
 use Rattle.index_page.proofs.HalvesLemmas.{near_half}
 use Rattle.index_page.proofs.LoadLemmas.{load_of-cons}
 use Rattle.index_page.proofs.RoomLemmas.{charge_within}
+use Rattle.tree_restructure.specs.Charges.{most_for_pointer, largest_on}
 use Rattle.tree_restructure.specs.Cuts.{CutsPage}
-use Rattle.tree_smo.specs.Splitting.{most_for_pointer}
 use Rattle.tree_growth.specs.declared.looking.PageInHand.{PageInHand}
 use Rattle.tree_growth.specs.Pages.{needed, TellsRoom, HasRoomForAny}
 
@@ -24,6 +24,14 @@ pub needed_small : (level need : ℕ) → need ≤ MAX_CHARGE → needed level n
 needed_small level need small = pick (level == 0)
   where
     pick : (b : Bool) → cond b need most_for_pointer ≤ MAX_CHARGE
+    pick true = small
+    pick false = omega arith
+
+-- and the largest on its level at most
+pub needed_most : (level need : ℕ) → need ≤ MAX_CHARGE → needed level need ≤ largest_on level
+needed_most level need small = pick (level == 0)
+  where
+    pick : (b : Bool) → cond b need most_for_pointer ≤ cond b MAX_CHARGE most_for_pointer
     pick true = small
     pick false = omega arith
 

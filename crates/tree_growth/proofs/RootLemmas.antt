@@ -1,5 +1,5 @@
 -- The root in hand.
-use Rattle.std.proofs.Common.{◌≡◌, ℕ, ◌<◌, true, [], ◌∷◌, length, Some, sym, ap, subst, ◌∙◌, arith}
+use Rattle.std.proofs.Common.{◌≡◌, ℕ, ◌<◌, true, [], ◌∷◌, Some, sym, ap, subst, ◌∙◌, arith}
 use Rattle.list_facts.proofs.Places.{same_some}
 use Rattle.key_tuple.specs.declared.mode.Mode.TheVariants as mode
 use Rattle.key_tuple.specs.KeyPlace.{IsCut}
@@ -151,6 +151,5 @@ can_raise v i key need at is root t knows full =
       knows_root = is.knows;
       page = is.page.is;
       number = ap (λ (r : PageRows). r.head.number) one ∙ root.has.number;
-      some = λ none. let two = is.tells.two full in let e = ap length none in
-          omega (arith, two, e);
+      two = is.tells.two full;
     }

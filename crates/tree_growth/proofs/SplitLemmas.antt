@@ -11,10 +11,13 @@ use Rattle.index_law.specs.Shape.{Shape}
 use Rattle.forest_law.specs.declared.objects.Frame.{Frame}
 use Rattle.forest_law.specs.FramePages.{TellsPage}
 use Rattle.forest_law.specs.Numbers.{tree_id, frame_id}
+use Rattle.forest_law.specs.Outside.{HasNoOutside}
 use Rattle.forest_law.specs.State.{bound, page_within, fields_for}
 use Rattle.forest_world.specs.Held.{TreePass, shape_of_pass}
 use Rattle.buffer_pool.specs.Forests.{IsFittedTree}
 use Rattle.buffer_pool.specs.Frames.{GivesFrame}
+use Rattle.buffer_pool.specs.Hands.{MayGiveBack}
+use Rattle.buffer_pool.proofs.CallLemmas.{frame_has}
 use Rattle.buffer_pool.specs.Pages.{HasTreePage}
 use Rattle.buffer_pool.proofs.AddedLemmas.{frame_no_tree, tree_still}
 use Rattle.tree_descent.specs.Leaves.{HasCutWithin, cut_in}
@@ -42,6 +45,24 @@ module _ (p q : TreePass) (i : ℕ) (key : FieldList) (parent child right : ℕ)
       (tree_still (view p) (view q)
       (frame_id s parent ∷ frame_id s child ∷ frame_id s right ∷ []) does.rest i
       (no parent, (no child, (no right, tt))) way.tree way.knows) (omega (arith, had, more))
+
+  -- the parent is still a page of the trees, and may be given back
+  up_inside : HasNoOutside splits.up
+  up_inside page has =
+      let p = splits.pointer in
+      let same : page ≡ p.new = same_some page p.new
+      (sym has ∙ ap (λ (f : Frame). f.page) p.kept) in
+      let was = same_some p.page splits.was.above.page (sym p.had ∙ splits.was.above.paged) in
+      ap (λ (r : PageRows). is_own r.head.number r.head.prev) same
+      ∙ (ap (λ (h : PageHead). is_own h.number h.prev) p.head
+      ∙ (ap (λ (r : PageRows). is_own r.head.number r.head.prev) was ∙ splits.was.above.tree))
+
+  pub may_give_up : MayGiveBack q parent
+  may_give_up = (
+    splits.up,
+    frame_has q splits.silently.does.known parent splits.up splits.knows_up,
+    up_inside,
+  )
 
   module _ (held : HoldsChild (view p) parent child i key) where
     -- the frame of the child, as it was

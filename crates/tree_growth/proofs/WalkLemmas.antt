@@ -14,7 +14,7 @@ use Rattle.forest_law.specs.State.{page_within, fields_for}
 use Rattle.forest_world.specs.Held.{TreePass, shape_of_pass}
 use Rattle.buffer_pool.specs.Frames.{GivesFrame}
 use Rattle.tree_descent.specs.Leaves.{HasCutWithin, cut_in}
-use Rattle.tree_smo.specs.Splitting.{most_for_pointer}
+use Rattle.tree_restructure.specs.Charges.{most_for_pointer}
 use Rattle.tree_growth.specs.declared.looking.PageInHand.{PageInHand}
 use Rattle.tree_growth.specs.Growing.{HadRoom}
 use Rattle.tree_growth.specs.Ways.{GoesOn, ArrivesAt, WalksDown}

@@ -14,7 +14,7 @@ use Rattle.call_law.specs.Spoken.{View}
 use Rattle.buffer_pool.specs.Pages.{HasNumber, HasTreePage}
 use Rattle.tree_descent.specs.Descents.{PointsAt}
 use Rattle.tree_descent.specs.Leaves.{cut_in, IsPageFor}
-use Rattle.tree_smo.specs.Splitting.{most_for_pointer}
+use Rattle.tree_restructure.specs.Charges.{most_for_pointer}
 use Rattle.tree_growth.specs.declared.looking.PageInHand.{PageInHand}
 
 -- what has to be free on a page of this level: so much on a leaf, and above the leaves room for any

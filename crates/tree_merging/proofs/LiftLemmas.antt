@@ -139,6 +139,7 @@ module _ (shape : Shape) (before news : List (Option Object))
     root = root;
     under = under;
     storeys = storeys;
+    alone = s.alone;
     moves = record {
       top = s.top;
       below = s.below;

@@ -15,7 +15,7 @@ use Rattle.forest_law.specs.Restructures.{up_before, up_after, merge_steps, Merg
 use Rattle.tree_restructure.specs.Links.{RelinksNext}
 use Rattle.tree_restructure.specs.Splits.{NextTakesPart}
 use Rattle.tree_restructure.proofs.FrameLemmas.{AreSame, has_page, orderly, fits_too, makes_step, was_orderly, was_own}
-use Rattle.tree_restructure.proofs.SplitLemmas.{beyond_page, beyond_prev, beyond_stands, beyond_makes, beyond_apart}
+use Rattle.tree_restructure.proofs.BeyondLemmas.{beyond_page, beyond_prev, beyond_stands, beyond_makes, beyond_apart}
 use Rattle.tree_merging.specs.Merges.{emptied}
 use Rattle.tree_merging.specs.MergeSteps.{MergesFrames, MergesAreInHand}
 use Rattle.tree_merging.proofs.RowLemmas.{same_back}
@@ -262,6 +262,8 @@ module _ (shape : Shape) (before news : List (Option Object))
     right = right;
     parent = parent;
     merge = merges;
+    small = s.small;
+    alone = s.alone;
     hands = s.hands;
     make = makes;
     left_rises = s.under.merge.rises;

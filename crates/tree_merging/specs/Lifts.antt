@@ -9,6 +9,7 @@ use Rattle.index_law.specs.Shape.{Shape}
 use Rattle.forest_law.specs.declared.objects.Frame.{Frame}
 use Rattle.forest_law.specs.declared.objects.Object.{Object}
 use Rattle.forest_law.specs.Numbers.{tree_id, frame_id}
+use Rattle.forest_law.specs.Outside.{HasNoneOutside}
 use Rattle.forest_law.specs.Steps.{InHand, TreeStep, MakesTreeStep}
 use Rattle.forest_law.specs.Restructures.{LiftsInHand}
 use Rattle.tree_restructure.specs.Parts.{TakesPart, RestBut}
@@ -78,12 +79,13 @@ pub record IsOnlyChild (page under : PageRows) (f : Frame) : Type 0 where
   pub high : f.high ≡ None
 
 -- the root took the rows of the one page that it pointed to, its tree is one lower, and all else in
--- hand is at rest
+-- hand is at rest; no page outside the trees was in hand
 pub record LiftsFrames (shape : Shape) (before news : List (Option Object)) : Type 0 where
   pub top : InHand
   pub below : InHand
   pub tree : TreeStep
   pub lift : LiftsFrame top.old top.new below.old below.new
+  pub alone : HasNoneOutside shape before
   pub whole : IsRootIn lift.page top.old
   pub one : HasOnePointer lift.page lift.under.head.number
   pub only : IsOnlyChild lift.page lift.under below.old

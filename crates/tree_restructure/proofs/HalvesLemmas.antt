@@ -30,6 +30,7 @@ cuts_page page mid stays fresh got new place at order cut m head rows new_head n
     let go = subst (SameRows (m.row ∷ m.right)) (sym new_rows) m.go in record {
       lower = m.left;
       upper = m.row ∷ m.right;
+      whole = order;
       was = m.was;
       halves = subst (λ (xs : List Row). HalvesRows page.rows (length xs)) parts.0 h.halves;
       stay = rows ∙ m.stay;

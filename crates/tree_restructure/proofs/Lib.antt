@@ -3,6 +3,8 @@ pub mod FieldLemmas
 pub mod HalvesLemmas
 pub mod BehindLemmas
 pub mod FrameLemmas
+pub mod DueLemmas
+pub mod BeyondLemmas
 pub mod SplitLemmas
 pub mod RaiseLemmas
 pub mod BackLemmas

@@ -1,5 +1,5 @@
 -- Frames of a root that rose are a raise of the law.
-use Rattle.std.proofs.Common.{◌≡◌, ℕ, suc, true, false, [], ◌∷◌, List, sym, ap, ◌∙◌, refl, Option, None}
+use Rattle.std.proofs.Common.{◌≡◌, ℕ, suc, true, false, [], ◌∷◌, List, sym, ap, ◌∙◌, refl, arith, Option, None}
 use Rattle.index_page.specs.declared.head.PageHead.{PageHead}
 use Rattle.tree_law.specs.Pages.{Page, IsOrderly}
 use Rattle.tree_law.specs.PageMoves.{TwoStoreys, full_page}
@@ -138,6 +138,7 @@ module _ (shape : Shape) (before news : List (Option Object))
     root = root;
     under = under;
     storeys = storeys;
+    two = λ inner one. absurd (omega (arith, s.two, one));
     moves = record {
       top = s.top;
       below = s.below;

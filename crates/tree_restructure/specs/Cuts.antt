@@ -38,12 +38,13 @@ pub record SuitsPages (page fresh : PageRows) (place : ℕ) (at : FieldList) : T
   pub number : page.head.number ≢ NO_PAGE
   pub other : fresh.head.number ≢ NO_PAGE
 
--- the rows below the cut stay on the left page, and those from the key on, in their order, are
--- on the right one, which was blank. The two name each other, and the right one names what the
--- left one named as its next
+-- the rows below the cut stay on the left page, which was in order, and those from the key on, in
+-- their order, are on the right one, which was blank. The two name each other, and the right one
+-- names what the left one named as its next
 pub record CutsPage (page stays fresh new : PageRows) (at : FieldList) : Type 0 where
   pub lower : List Row
   pub upper : List Row
+  pub whole : IsPageInOrder page
   pub was : page.rows ≡ lower ++ upper
   pub halves : HalvesRows page.rows (length lower)
   pub stay : stays.rows ≡ lower

@@ -1,3 +1,4 @@
+pub mod Charges
 pub mod Cuts
 pub mod FrameCuts
 pub mod Links

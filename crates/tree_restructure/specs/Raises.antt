@@ -1,5 +1,5 @@
 -- A root that rises over a page that gets its rows.
-use Rattle.std.specs.Prelude.{ℕ, suc, ◌≡◌, ◌≢◌, ◌<◌, ◌^◌, true, false, Option, Some, None, List, [], ◌∷◌}
+use Rattle.std.specs.Prelude.{ℕ, suc, ◌≡◌, ◌≢◌, ◌<◌, ◌^◌, true, false, Option, Some, None, List, [], ◌∷◌, length}
 use Rattle.key_tuple.specs.KeyPlace.{Start}
 use Rattle.index_page.specs.Rows.{Row, Child, SameRows}
 use Rattle.index_page.specs.Page.{PageRows, linked, IsPageInOrder}
@@ -85,13 +85,14 @@ pub record IsRootIn (page : PageRows) (f : Frame) : Type 0 where
   pub low : f.low ≡ None
   pub high : f.high ≡ None
 
--- the root rose over a page that was outside the trees, its tree is one higher, and all else in
--- hand is at rest
+-- the root, which had two rows or more, rose over a page that was outside the trees, its tree is
+-- one higher, and all else in hand is at rest
 pub record RaisesFrames (shape : Shape) (before news : List (Option Object)) : Type 0 where
   pub top : InHand
   pub below : InHand
   pub tree : TreeStep
   pub raise : RaisesFrame top.old top.new below.old below.new
+  pub two : 1 < length raise.page.rows
   pub whole : IsRootIn raise.page top.old
   pub root : TakesPart shape before news raise.page.head.number false top
   pub under : TakesPart shape before news raise.fresh.head.number true below

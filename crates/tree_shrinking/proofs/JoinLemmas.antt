@@ -1,11 +1,14 @@
 -- A page is merged with one beside it, or isn't, on the way up.
-use Rattle.std.proofs.Common.{ℕ, List, [], ◌∷◌}
+use Rattle.std.proofs.Common.{ℕ, suc, List, [], ◌∷◌}
 use Rattle.key_tuple.specs.Order.{FieldList}
 use Rattle.key_tuple.specs.declared.mode.Mode.TheVariants as mode
 use Rattle.latch_space.specs.Passes.{view}
 use Rattle.forest_world.specs.Held.{TreePass}
 use Rattle.buffer_pool.specs.Calls.{GetsNothing}
 use Rattle.tree_descent.specs.Descents.{HoldsInner}
+use Rattle.tree_descent.proofs.PageLemmas.{tree_page_inside}
+use Rattle.tree_growth.specs.Ways.{IsGoingDown}
+use Rattle.tree_growth.proofs.AddLemmas.{goes_nowhere}
 use Rattle.tree_shrinking.specs.declared.families.Family.{Family}
 use Rattle.tree_shrinking.specs.declared.pairs.Pair.{Pair}
 use Rattle.tree_shrinking.specs.declared.pairs.Siblings.{Siblings}
@@ -20,6 +23,18 @@ back_after p q r parent i key bs first back = record {
   to = to_both p q r i key bs (parent ∷ []) first back.to;
   up = back.up;
   knows = back.knows;
+  inside = back.inside;
+}
+
+-- the page above was never left
+abbrev pub back_at_once : (p : TreePass) (parent i : ℕ) (key : FieldList) (family : Family)
+    → IsGoingDown p i key (parent ∷ []) → HoldsFamily (view p) parent i family
+    → ComesBack p parent i key p
+back_at_once p parent i key family way h = record {
+  to = record { goes = goes_nowhere p; way = way };
+  up = h.up;
+  knows = h.knows;
+  inside = tree_page_inside h.up i (suc h.level) h.above;
 }
 
 -- a pair is still in hand where nothing was done
@@ -73,6 +88,7 @@ module _ (p q r : TreePass) (pair : Pair) (asked : Siblings) (i : ℕ) (key : Fi
         gave;
     up = took.held.up;
     knows = still took.held.up took.held.knows_up;
+    inside = tree_page_inside took.held.up i (suc took.held.level) took.held.above;
   }
 
   pub taken_still : StillKnows p pair.parent r
@@ -89,4 +105,5 @@ failed_back p q r s pair asked i key took got gave still = record {
   up = took.held.up;
   knows = still took.held.up
       (still_nothing q r got pair.parent took.held.up took.held.knows_up);
+  inside = tree_page_inside took.held.up i (suc took.held.level) took.held.above;
 }

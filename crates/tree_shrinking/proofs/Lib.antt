@@ -3,6 +3,7 @@ pub mod MergePlanLemmas
 pub mod MergedLemmas
 pub mod MergeStepLemmas
 pub mod MergeNextLemmas
+pub mod InTreesLemmas
 pub mod MergeCallLemmas
 pub mod SinkHandLemmas
 pub mod SinkLemmas

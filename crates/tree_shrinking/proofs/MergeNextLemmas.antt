@@ -13,7 +13,7 @@ use Rattle.call_law.specs.Hands.{KnowsFrame, HoldsNoFrameBut}
 use Rattle.buffer_pool.specs.Calls.{DoesSilently, GetsNothing}
 use Rattle.buffer_pool.specs.Forests.{IsFittedTree}
 use Rattle.buffer_pool.specs.Frames.{GivesFrame}
-use Rattle.buffer_pool.specs.Hands.{HoldsKnownFrame}
+use Rattle.buffer_pool.specs.Hands.{MayGiveBack}
 use Rattle.buffer_pool.specs.NewPages.{HoldsOutsidePage}
 use Rattle.buffer_pool.specs.Pages.{IsLive, HoldsOtherPages, PagesIn, HasTreePage}
 use Rattle.buffer_pool.proofs.AddedLemmas.{frame_still, frame_before}
@@ -200,13 +200,14 @@ module _ (p : TreePass) (at : SplitBlocks) (i n b : ℕ) (q : TreePass)
     -- the page behind is still held after the merge, however that ended
     pub next_held : {A E : Type 0} (made : Result A E)
         → OnOk made (MakesMerge q at i (Some b) r) → OnErr made (IsAsBefore q r)
-        → HoldsKnownFrame r b
+        → MayGiveBack r b
     next_held (Ok x) ok err = let has = ok.merges.behind in
-        (has.0, frame_has r ok.silently.does.known b has.0 has.1)
+        (has.0, frame_has r ok.silently.does.known b has.0 has.1, has.2)
     next_held (Err e) ok err = (
       took.frame,
       frame_has r err.known b took.frame
           (subst (λ v. KnowsFrame v b took.frame) (sym err.same_view) took.knows),
+      took.inside,
     )
 
     module _ (s : TreePass) (gave : GivesFrame r b s) where

@@ -14,7 +14,7 @@ use Rattle.tree_facts.specs.TreeFrames.{IsTreeFrame}
 use Rattle.tree_facts.proofs.NeighbourLemmas.{next_pages_fit}
 use Rattle.tree_merging.specs.FrameMerges.{SuitsMerge}
 use Rattle.tree_merging.specs.Siblings.{AreSiblings}
-use Rattle.call_law.specs.Hands.{KnowsFrame}
+use Rattle.call_law.specs.Hands.{KnowsFrame, HoldsNoOutside}
 use Rattle.call_law.specs.Spoken.{View}
 use Rattle.buffer_pool.specs.Forests.{FitsTrees, IsFittedTree}
 use Rattle.buffer_pool.specs.Pages.{HasTreePage}
@@ -143,11 +143,13 @@ pub record MergeCall (p : TreePass) (at : SplitBlocks) (i : ℕ) (next : Option 
   pub known : IsKnown p
   pub fitted : IsFittedTree (view p)
   pub held : HoldsMerge (view p) at i next
+  pub inside : HoldsNoOutside (view p)
 
 abbrev pub merge_call : (p : TreePass) (at : SplitBlocks) (i : ℕ) (next : Option ℕ) → IsKnown p
-    → IsFittedTree (view p) → HoldsMerge (view p) at i next → MergeCall p at i next
-merge_call p at i next known fitted held =
-    record { known = known; fitted = fitted; held = held }
+    → IsFittedTree (view p) → HoldsMerge (view p) at i next → HoldsNoOutside (view p)
+    → MergeCall p at i next
+merge_call p at i next known fitted held inside =
+    record { known = known; fitted = fitted; held = held; inside = inside }
 
 pub three : (p : TreePass) (at : SplitBlocks) (i : ℕ) (next : Option ℕ) → MergeCall p at i next
     → AreThree at

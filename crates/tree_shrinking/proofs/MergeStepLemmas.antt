@@ -1,10 +1,12 @@
 -- A merge in hand is a merge of the law, and is known once it is settled.
-use Rattle.std.proofs.Common.{◌≡◌, ◌≢◌, ℕ, false, ◌∷◌, sym, ap, subst, ◌∙◌, Option, Some, None}
+use Rattle.std.proofs.Common.{◌≡◌, ◌≢◌, ◌≤◌, ◌+◌, ℕ, false, ◌∷◌, sym, ap, subst, ◌∙◌, refl, arith, Option, Some, None}
 use Rattle.std.specs.List.{AllByRecursion}
 use Rattle.latch_law.specs.Views.{without_seen}
 use Rattle.latch_space.specs.Has.{DidSettle}
 use Rattle.latch_space.specs.Passes.{view, values, known_values, IsWhole}
+use Rattle.index_page.specs.Loads.{load_of}
 use Rattle.index_page.specs.Page.{PageRows}
+use Rattle.tree_law.specs.PageBudget.{short_keys}
 use Rattle.tree_law.specs.Pages.{is_own}
 use Rattle.index_law.specs.Shape.{Shape}
 use Rattle.forest_law.specs.declared.objects.Object.TheVariants as object
@@ -18,6 +20,7 @@ use Rattle.tree_restructure.specs.Splits.{next_hands}
 use Rattle.tree_merging.specs.FrameMerges.{MergesUnder}
 use Rattle.tree_merging.specs.MergeSteps.{MergesFrames}
 use Rattle.tree_merging.proofs.MergeLemmas.{merge_in_hand}
+use Rattle.call_law.specs.Hands.{HoldsNoOutside}
 use Rattle.call_law.specs.Spoken.{View}
 use Rattle.buffer_pool.specs.Forests.{FitsTrees}
 use Rattle.tree_smo.specs.declared.halves.SplitBlocks.{SplitBlocks}
@@ -96,16 +99,21 @@ module _ (p : TreePass) (at : SplitBlocks) (i : ℕ) (next : Option ℕ) (c : Me
   up_is = that_page h.can.up h.can.above.page under.pointer.was.page h.can.above.paged
       under.pointer.was.has
 
+  -- both pages are small enough
+  pair_is_small : load_of under.merge.page.rows + load_of under.merge.other.rows ≤ short_keys.merged
+  pair_is_small = let a = ap (λ (z : PageRows). load_of z.rows) left_is in
+      let b = ap (λ (z : PageRows). load_of z.rows) right_is in
+      let fits = h.can.fits in omega (arith, a, b, fits)
+
   after : Behind m next under.merge.other.head.next under.merge.page.head.number
   after = subst (λ (x : PageRows). Behind m next x.head.next under.merge.page.head.number) right_is
       (subst (λ (x : PageRows). Behind m next h.can.is_right.page.head.next x.head.number) left_is
       (behind m w law fits_now then.left i h.can.level next h.can.is_right.page.head.next
       h.can.is_left.page.head.number all.behind))
 
-  no_loop : under.merge.other.head.next ≢ Some under.merge.page.head.number
+  no_loop : h.can.is_right.page.head.next ≢ Some h.can.is_left.page.head.number
   no_loop e = (siblings (view p) w law c.fitted.fits at.parent at.child at.right i h.can).around
-      under.merge.page.head.number (ap (λ (z : PageRows). z.head.next) right_is ∙ e)
-      (ap (λ (z : PageRows). z.head.number) (sym left_is))
+      h.can.is_left.page.head.number e refl
 
   left_ids : (k : ℕ) → AllByRecursion (λ (j : ℕ). k ≢ j)
       (frame_ids (shape_of_pass m)
@@ -129,6 +137,8 @@ module _ (p : TreePass) (at : SplitBlocks) (i : ℕ) (next : Option ℕ) (c : Me
       beyond = after.hand;
     };
     under = under;
+    small = pair_is_small;
+    alone = subst HoldsNoOutside (sym all.remakes.same_view) c.inside;
     links = after.links;
     left = part_of m w law fits_now at.child then.left changed.now.left all.has.left
         under.merge.page under.merge.had under.merge.page.head.number false
@@ -142,7 +152,8 @@ module _ (p : TreePass) (at : SplitBlocks) (i : ℕ) (next : Option ℕ) (c : Me
         under.pointer.was.page under.pointer.was.has under.pointer.was.page.head.number false
         (ap (λ (x : PageRows). is_own x.head.number x.head.prev) (sym up_is) ∙ h.can.above.tree);
     beyond = after.part;
-    apart = no_loop;
+    apart = λ e. no_loop (ap (λ (z : PageRows). z.head.next) right_is
+        ∙ (e ∙ ap (λ (z : PageRows). Some z.head.number) (sym left_is)));
     others = λ k x y becomes a. rests_of m (merge_ids (shape_of_pass m) at next)
         (rests_beyond p m (merge_ids (shape_of_pass m) at next) c.known now_ids) k x y becomes
         (left_ids k a);
@@ -167,7 +178,7 @@ module _ (p : TreePass) (at : SplitBlocks) (i : ℕ) (next : Option ℕ) (c : Me
       };
       merges = under;
       behind = knows_next m q did i h.can.level next h.can.is_right.page.head.next
-          h.can.is_left.page.head.number all.behind;
+          h.can.is_left.page.head.number no_loop all.behind;
     };
     count = settled_count p m (merge_ids (shape_of_pass p) at next) c.known all.remakes whole q
         did;

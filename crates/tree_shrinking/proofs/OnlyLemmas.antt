@@ -1,11 +1,16 @@
 -- A root that is left with one child is lifted, on the way up.
-use Rattle.std.proofs.Common.{◌≡◌, ◌≢◌, ℕ, ◌≤◌, List, [], ◌∷◌, ◌++◌, length, sym, ap, subst, ◌∙◌, refl, arith}
+use Rattle.std.proofs.Common.{◌≡◌, ◌≢◌, ℕ, suc, ◌≤◌, List, [], ◌∷◌, ◌++◌, length, sym, ap, subst, ◌∙◌, refl, arith}
 use lib.ListN.{get_elem?}
+use Rattle.list_facts.proofs.Places.{same_some}
 use Rattle.key_tuple.specs.Order.{FieldList}
 use Rattle.latch_space.specs.Passes.{view}
+use Rattle.index_page.specs.declared.head.PageHead.{PageHead}
+use Rattle.index_page.specs.Page.{PageRows}
 use Rattle.index_page.specs.Rows.{Row}
+use Rattle.tree_law.specs.Pages.{is_own}
 use Rattle.index_law.specs.Shape.{Shape}
 use Rattle.forest_law.specs.Numbers.{tree_id, frame_id}
+use Rattle.forest_law.specs.Outside.{HasNoOutside}
 use Rattle.forest_world.specs.Held.{TreePass, shape_of_pass}
 use Rattle.call_law.specs.Hands.{KnowsTree}
 use Rattle.buffer_pool.specs.Calls.{DoesSilently, GetsNothing}
@@ -13,6 +18,7 @@ use Rattle.buffer_pool.specs.Frames.{GivesFrame}
 use Rattle.buffer_pool.proofs.AddedLemmas.{frame_no_tree, frame_still, tree_still}
 use Rattle.buffer_pool.proofs.CallLemmas.{silently_both}
 use Rattle.tree_descent.specs.Descents.{PointsAt}
+use Rattle.tree_descent.proofs.PageLemmas.{tree_page_inside}
 use Rattle.tree_smo.proofs.SilentLemmas.{silently_weaker, does_shape}
 use Rattle.tree_growth.specs.Ways.{IsGoingDown}
 use Rattle.tree_growth.proofs.HandLemmas.{frames_apart, still_gave}
@@ -45,6 +51,7 @@ module _ (p : TreePass) (parent child i : ℕ) (key : FieldList)
         (λ k ne each. (each.0, (ne, tt))) refl;
     up = h.up;
     knows = still_gave p q child way.known gave parent h.up (λ e. joined_apart (sym e)) h.knows_up;
+    inside = tree_page_inside h.up i (suc h.level) h.above;
   }
 
   -- so it was after nothing was done
@@ -59,6 +66,7 @@ module _ (p : TreePass) (parent child i : ℕ) (key : FieldList)
         up = h.up;
         knows = still_gave q r child none.way.known gave parent h.up (λ e. joined_apart (sym e))
             (still_nothing p q got parent h.up h.knows_up);
+        inside = tree_page_inside h.up i (suc h.level) h.above;
       }
 
   pub can_lift : h.above.page.head.number ≡ i → length h.above.page.rows ≤ 1
@@ -106,6 +114,17 @@ module _ (p : TreePass) (parent child i : ℕ) (key : FieldList)
         ((λ z. frame_no_tree (shape_of_pass p) child i way.index (sym z)), tt)
         made.sinks.tree made.sinks.knows_tree
 
+    -- the root is still one of the trees
+    lifted_inside : HasNoOutside made.sinks.root
+    lifted_inside page has =
+        let l = made.sinks.lifts in
+        let was = made.sinks.was.above in
+        ap (λ (x : PageRows). is_own x.head.number x.head.prev)
+        (same_some page l.top (sym has ∙ l.has))
+        ∙ (ap (λ (h : PageHead). is_own h.number h.prev) l.lifts.head
+        ∙ (ap (λ (x : PageRows). is_own x.head.number x.head.prev)
+        (same_some l.page was.page (sym l.had ∙ was.paged)) ∙ was.tree))
+
     pub back_lifted : ComesBack p parent i key q
     back_lifted = let had = way.count in let same = made.sinks.count in
         let less = made.frees.count in
@@ -121,4 +140,5 @@ module _ (p : TreePass) (parent child i : ℕ) (key : FieldList)
               made.frees.silently.does.adds.numbers made.frees.silently.does.rest parent
               (frames_apart (shape_of_pass m) parent child (λ z. joined_apart (sym z)), tt)
               made.sinks.root made.sinks.knows_root;
+          inside = lifted_inside;
         }

@@ -1,5 +1,5 @@
 -- A lift in hand is a lift of the law, and is known once it is settled.
-use Rattle.std.proofs.Common.{◌≡◌, ◌≢◌, ℕ, suc, ◌<◌, ◌≤◌, ◌^◌, ◌-◌, false, [], ◌∷◌, sym, ap, subst, ◌∙◌, refl, arith, Some, None}
+use Rattle.std.proofs.Common.{◌≡◌, ◌≢◌, ℕ, suc, ◌<◌, ◌^◌, ◌-◌, false, [], ◌∷◌, sym, ap, subst, ◌∙◌, refl, arith, Some, None}
 use Rattle.latch_law.specs.Views.{holding, without_seen}
 use Rattle.latch_space.specs.Has.{IsKnown, DidSettle}
 use Rattle.latch_space.specs.Passes.{view, values, known_values, IsWhole}
@@ -21,6 +21,7 @@ use Rattle.forest_world.proofs.HandLemmas.{becomes_of, rests_of}
 use Rattle.tree_restructure.specs.Raises.{HasOnePointer, IsRootIn}
 use Rattle.tree_merging.specs.Lifts.{IsOnlyChild, LiftsFrames}
 use Rattle.tree_merging.proofs.LiftLemmas.{lift_in_hand}
+use Rattle.call_law.specs.Hands.{HoldsNoOutside}
 use Rattle.call_law.specs.Spoken.{View}
 use Rattle.buffer_pool.specs.Forests.{FitsTrees, IsFittedTree}
 use Rattle.buffer_pool.specs.NewPages.{HoldsOutsidePage}
@@ -51,13 +52,20 @@ pub record SinkCall (p : TreePass) (i b child : ℕ) : Type 0 where
   pub fitted : IsFittedTree (view p)
   pub below : i < (shape_of_pass p).indexes
   pub held : CanLift (view p) i b child
+  pub inside : HoldsNoOutside (view p)
   pub few : (shape_of_pass p).pages < 2 ^ 32
 
 abbrev pub sink_call : (p : TreePass) (i b child : ℕ) → IsKnown p → IsFittedTree (view p)
     → i < (shape_of_pass p).indexes → CanLift (view p) i b child
-    → (shape_of_pass p).pages < 2 ^ 32 → SinkCall p i b child
-sink_call p i b child known fitted below held few =
-    record { known = known; fitted = fitted; below = below; held = held; few = few }
+    → HoldsNoOutside (view p) → (shape_of_pass p).pages < 2 ^ 32 → SinkCall p i b child
+sink_call p i b child known fitted below held inside few = record {
+  known = known;
+  fitted = fitted;
+  below = below;
+  held = held;
+  inside = inside;
+  few = few;
+}
 
 module _ (p : TreePass) (i b child : ℕ) (c : SinkCall p i b child) where
   abbrev w : ForestState
@@ -239,6 +247,7 @@ module _ (p : TreePass) (i b child : ℕ) (c : SinkCall p i b child) where
         below = record { block = child; old = h.low; new = sunk.low };
         tree = record { index = i; old = h.tree; new = u };
         lift = sunk.lifts;
+        alone = subst HoldsNoOutside (sym all.same_view) c.inside;
         whole = subst (λ x. IsRootIn x h.root) page_is root_in;
         one = subst (λ (x : PageRows). HasOnePointer sunk.lifts.page x.head.number) under_is
             (subst (λ x. HasOnePointer x h.below.page.head.number) page_is one);

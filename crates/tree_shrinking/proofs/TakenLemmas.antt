@@ -9,9 +9,10 @@ use Rattle.forest_world.specs.Held.{TreePass, shape_of_pass}
 use Rattle.call_law.specs.Hands.{KnowsFrame}
 use Rattle.buffer_pool.specs.Forests.{IsFittedTree}
 use Rattle.buffer_pool.specs.Frames.{GivesFrame}
-use Rattle.buffer_pool.specs.Hands.{HoldsKnownFrame}
+use Rattle.buffer_pool.specs.Hands.{MayGiveBack}
 use Rattle.buffer_pool.specs.Pages.{IsLive, HoldsOtherPages, PagesIn, HasTreePage}
 use Rattle.buffer_pool.proofs.CallLemmas.{frame_has}
+use Rattle.tree_descent.proofs.PageLemmas.{may_give_back}
 use Rattle.tree_growth.specs.Pages.{HoldsPagedFrame}
 use Rattle.tree_growth.specs.Ways.{IsGoingDown}
 use Rattle.tree_growth.proofs.HandLemmas.{still_gave}
@@ -149,13 +150,10 @@ module _ (p q r : TreePass) (pair : Pair) (i : ℕ) (key : FieldList)
       (pair.parent ∷ pair.left ∷ []) way pair.right first
       (λ k ne each. (each.0, (each.1.0, (ne, tt)))) refl
 
-  pub left_held : HoldsKnownFrame q pair.left
-  left_held = (
-    h.lower,
-    frame_has q gave_right.way.known pair.left h.lower
-        (still_gave p q pair.right way.known first pair.left h.lower (λ e. apart_both (sym e))
-        h.knows_left),
-  )
+  pub left_held : MayGiveBack q pair.left
+  left_held = may_give_back q gave_right.way.known pair.left i h.level h.lower
+      (still_gave p q pair.right way.known first pair.left h.lower (λ e. apart_both (sym e))
+      h.knows_left) h.is_left
 
   module _ (second : GivesFrame q pair.left r) where
     abbrev gave_left : GoesTo q i key (pair.parent ∷ []) r

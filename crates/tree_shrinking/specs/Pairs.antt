@@ -5,6 +5,7 @@ use Rattle.latch_space.specs.Passes.{view}
 use Rattle.index_page.specs.Loads.{load_of}
 use Rattle.index_page.specs.Page.{PageRows}
 use Rattle.forest_law.specs.declared.objects.Frame.{Frame}
+use Rattle.forest_law.specs.Outside.{HasNoOutside}
 use Rattle.forest_world.specs.Held.{TreePass, HasFrame}
 use Rattle.call_law.specs.Hands.{KnowsFrame}
 use Rattle.call_law.specs.Spoken.{View}
@@ -63,11 +64,13 @@ pub record GoesTo (p : TreePass) (i : ℕ) (key : FieldList) (bs : List ℕ) (q 
 abbrev pub StillKnows : TreePass → ℕ → TreePass → Type 0
 StillKnows p b q = (f : Frame) → KnowsFrame (view p) b f → KnowsFrame (view q) b f
 
--- the pass came back to the page above, which alone is in hand beside the index's tree
+-- the pass came back to the page above, which alone is in hand beside the index's tree, and is none
+-- outside the trees
 pub record ComesBack (p : TreePass) (parent i : ℕ) (key : FieldList) (q : TreePass) : Type 0 where
   pub to : GoesTo p i key (parent ∷ []) q
   pub up : Frame
   pub knows : KnowsFrame (view q) parent up
+  pub inside : HasNoOutside up
 
 -- the blocks of a page and of two pages under it
 abbrev pub pair_in : (parent : ℕ) → Siblings → (left right : ℕ) → Pair

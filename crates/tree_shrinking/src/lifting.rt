@@ -1,10 +1,10 @@
 //! A root sinks to its only child.
-ghost use Rattle.std.specs.Prelude.{◌<◌, OnOk, OnErr};
+ghost use Rattle.std.specs.Prelude.{◌<◌, [], ◌∷◌, OnOk, OnErr};
 ghost use Rattle.latch_space.specs.Has.{IsKnown};
 ghost use Rattle.latch_space.specs.Passes.{view, count, IsSamePass};
 ghost use Rattle.latch_space.specs.Spaces.{IsPassOf};
 ghost use Rattle.forest_world.specs.Held.{shape_of_pass};
-ghost use Rattle.call_law.specs.Hands.{HoldsNoPool};
+ghost use Rattle.call_law.specs.Hands.{HoldsNoFrameBut, HoldsNoPool};
 ghost use Rattle.buffer_pool.specs.Calls.{GetsNothing};
 ghost use Rattle.buffer_pool.specs.Forests.{IsForest, IsFittedTree};
 ghost use Rattle.tree_shrinking.specs.Lifting.{CanLift, LiftsRoot};
@@ -33,6 +33,7 @@ pub fn lift<R: Wait>(
     requires index { index < (shape_of_pass pass.old).indexes }
     requires held { CanLift (view pass.old) index root child }
     requires known { IsKnown pass.old }
+    requires frames { HoldsNoFrameBut (view pass.old) (root ∷ child ∷ []) }
     requires pool { HoldsNoPool (view pass.old) }
     requires room { count pass.old < 16 }
     ensures own { IsSamePass pass.old pass.new × IsPassOf space.now pass.new }

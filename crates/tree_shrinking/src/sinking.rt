@@ -4,6 +4,7 @@ ghost use Rattle.latch_space.specs.Has.{IsKnown};
 ghost use Rattle.latch_space.specs.Passes.{view, IsSamePass};
 ghost use Rattle.latch_space.specs.Spaces.{IsPassOf};
 ghost use Rattle.forest_world.specs.Held.{shape_of_pass};
+ghost use Rattle.call_law.specs.Hands.{HoldsNoOutside};
 ghost use Rattle.buffer_pool.specs.Forests.{IsForest, IsFittedTree};
 ghost use Rattle.tree_smo.specs.Remakes.{IsAsBefore};
 ghost use Rattle.tree_shrinking.specs.LiftHands.{SuitsSinking, SinksStoreys};
@@ -28,6 +29,7 @@ pub(crate) fn sink_root(
     requires own { IsForest space.now × IsPassOf space.now pass.old }
     requires index { index < (shape_of_pass pass.old).indexes }
     requires held { CanLift (view pass.old) index root child }
+    requires inside { HoldsNoOutside (view pass.old) }
     requires known { IsKnown pass.old }
     requires few { (shape_of_pass pass.old).pages < 2 ^ 32 }
     ensures own { IsSamePass pass.old pass.new × IsPassOf space.now pass.new }

@@ -110,6 +110,7 @@ module _ (p : TreePass) (plan : SplitPlan) (n b : ℕ) (q : TreePass) (c : NextT
           points = can'.points;
           room = can'.room;
           two = can'.two;
+          full = can'.full;
         };
         lacked = sym ((does p plan n b q c).rest (frame_id (shape_of_pass p) right)
             (λ z. ne (omega (arith, z)), tt))

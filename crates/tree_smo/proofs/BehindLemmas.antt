@@ -1,5 +1,5 @@
 -- The page behind two halves takes part in the step, where there is such a page.
-use Rattle.std.proofs.Common.{◌≡◌, ◌≢◌, ℕ, false, sym, ap, subst, refl, Option, Some, None}
+use Rattle.std.proofs.Common.{◌≡◌, ◌≢◌, ℕ, false, sym, ap, subst, ◌∙◌, refl, Option, Some, None}
 use Rattle.std.specs.List.{AllByRecursion}
 use Rattle.latch_space.specs.Has.{DidSettle}
 use Rattle.latch_space.specs.Passes.{view, values, known_values, Shows}
@@ -17,6 +17,7 @@ use Rattle.tree_restructure.specs.Splits.{NextTakesPart, next_hands}
 use Rattle.buffer_pool.specs.Forests.{FitsTrees}
 use Rattle.buffer_pool.specs.Pages.{HasTreePage}
 use Rattle.tree_smo.specs.Plans.{next_ids, KnowsNext}
+use Rattle.tree_smo.proofs.InsideLemmas.{relinked_inside}
 use Rattle.tree_smo.proofs.LawfulLemmas.{that_page}
 use Rattle.tree_smo.proofs.PartLemmas.{part_of}
 use Rattle.tree_smo.proofs.SettledLemmas.{settled_frame}
@@ -67,9 +68,18 @@ pub shows_next : (m : TreePass) (i level : ℕ) (block number : Option ℕ) (rig
 shows_next m i level None number right has = tt
 shows_next m i level (Some b) number right has = ((object.Frame has.1, has.2.value), tt)
 
--- and what is known of it once it is settled
+-- and what is known of it once it is settled, where it is another page than its new neighbour
 pub knows_next : (m q : TreePass) → DidSettle m q → (i level : ℕ) (block number : Option ℕ)
-    (right : ℕ) → HasRelinked m i level block number right → KnowsNext (view q) block
-knows_next m q did i level None number right has = tt
-knows_next m q did i level (Some b) number right has =
-    (has.1, settled_frame m q did b has.0 has.1 has.2)
+    (right : ℕ) → number ≢ Some right → HasRelinked m i level block number right
+    → KnowsNext (view q) block
+knows_next m q did i level None number right apart has = tt
+knows_next m q did i level (Some b) number right apart has =
+    let f = has.0 in
+    let t = has.3 in
+    let r = has.5 in
+    let same = that_page f t.page r.page t.paged r.had in (
+      has.1,
+      settled_frame m q did b f has.1 has.2,
+      relinked_inside right f has.1 r (λ e. apart (has.4
+          ∙ ap (λ (x : PageRows). Some x.head.number) same ∙ ap Some (sym e))),
+    )

@@ -56,6 +56,7 @@ plan_moves v v' plan h up low next = record {
     points = h.can.points;
     room = h.can.room;
     two = h.can.two;
+    full = h.can.full;
   };
   is = h.is;
   next = go plan.next refl h.next;

@@ -10,6 +10,7 @@ pub mod ChangedLemmas
 pub mod SplitLemmas
 pub mod SilentLemmas
 pub mod BesideLemmas
+pub mod InsideLemmas
 pub mod NextLemmas
 pub mod AroundLemmas
 pub mod ChildLemmas

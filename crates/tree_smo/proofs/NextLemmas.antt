@@ -24,7 +24,7 @@ use Rattle.buffer_pool.specs.declared.error.PoolError.{PoolError}
 use Rattle.buffer_pool.specs.declared.error.PoolError.TheVariants as refused
 use Rattle.buffer_pool.specs.Calls.{Does, GetsNothing}
 use Rattle.buffer_pool.specs.Forests.{FitsTrees, IsFittedTree}
-use Rattle.buffer_pool.specs.Hands.{HoldsKnownFrame}
+use Rattle.buffer_pool.specs.Hands.{MayGiveBack}
 use Rattle.buffer_pool.specs.NewPages.{FindsNoneFree}
 use Rattle.buffer_pool.specs.Pages.{IsLive, HoldsOtherPages, PagesIn, HasTreePage}
 use Rattle.buffer_pool.proofs.AddedLemmas.{frame_still, frame_before}
@@ -175,6 +175,7 @@ module _ (p : TreePass) (plan : SplitPlan) (n b : ℕ) (q : TreePass)
       points = can.points;
       room = can.room;
       two = can.two;
+      full = can.full;
     };
     is = record {
       head = c.is.head;
@@ -201,16 +202,18 @@ module _ (p : TreePass) (plan : SplitPlan) (n b : ℕ) (q : TreePass)
     pub next_held : (made : Result ℕ PoolError)
         → IfOk made (λ right. SplitsBeside q (plan_with plan b) right r)
         → (made ≡ Err refused.SpaceFull → FindsNoneFree q plan.head.index r)
-        → (made ≡ Err refused.NoMemory → GetsNothing q r) → HoldsKnownFrame r b
+        → (made ≡ Err refused.NoMemory → GetsNothing q r) → MayGiveBack r b
     next_held (Ok right) ok full memory = let has = ok.splits.next in
-        (has.0, frame_has r ok.silently.does.known b has.0 has.1)
+        (has.0, frame_has r ok.silently.does.known b has.0 has.1, has.2)
     next_held (Err refused.SpaceFull) ok full memory = let d = (full refl).full.does in (
       took.frame,
       frame_has r d.known b took.frame (frame_still (view q) (view r) []
           d.adds.numbers d.rest b tt took.frame took.knows),
+      took.inside,
     )
     next_held (Err refused.NoMemory) ok full memory = let d = (memory refl).silently.does in (
       took.frame,
       frame_has r d.known b took.frame (frame_still (view q) (view r) []
           d.adds.numbers d.rest b tt took.frame took.knows),
+      took.inside,
     )

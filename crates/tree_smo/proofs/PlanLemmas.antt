@@ -12,6 +12,7 @@ use Rattle.index_page.specs.Refusals.{insert_refusal, free_of}
 use Rattle.index_page.specs.Rows.{Row, Child}
 use Rattle.index_page.proofs.RefusalLemmas.{not_refused}
 use Rattle.forest_law.specs.declared.objects.Frame.{Frame}
+use Rattle.tree_restructure.specs.Charges.{most_for_pointer}
 use Rattle.tree_restructure.specs.Cuts.{HalvesAt, IsBlankBeside}
 use Rattle.tree_restructure.specs.Pointers.{RangeHas, pointer_refusal}
 use Rattle.tree_restructure.specs.SplitCalls.{SuitsSplit, split_refusal}
@@ -34,7 +35,6 @@ use Rattle.tree_smo.specs.declared.halves.SplitHands.{SplitHands}
 use Rattle.tree_smo.specs.declared.plans.SplitPlan.{SplitPlan}
 use Rattle.tree_smo.specs.Halves.{AreThree}
 use Rattle.tree_smo.specs.Plans.{HoldsNext, HoldsPlan, blocks_of}
-use Rattle.tree_smo.specs.Splitting.{most_for_pointer}
 use Rattle.tree_smo.proofs.LawfulLemmas.{one_page, outside_apart, levels_apart, tree_frame, page_number}
 
 -- a page with room for any pointer takes one with a key within the limits

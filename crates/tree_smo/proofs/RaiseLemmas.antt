@@ -1,5 +1,5 @@
 -- A raise in hand is a raise of the law, and is known once it is settled.
-use Rattle.std.proofs.Common.{◌≡◌, ℕ, suc, true, false, [], ◌∷◌, sym, ap, subst, ◌∙◌, refl, arith, None}
+use Rattle.std.proofs.Common.{◌≡◌, ℕ, suc, true, false, [], ◌∷◌, sym, ap, subst, ◌∙◌, refl, arith, None, ◌<◌, length}
 use Rattle.latch_law.specs.Views.{without_seen}
 use Rattle.latch_space.specs.Has.{IsKnown, DidSettle}
 use Rattle.latch_space.specs.Passes.{view, values, known_values, IsWhole}
@@ -116,6 +116,7 @@ module _ (p : TreePass) (i b under : ℕ) (c : RaiseCall p i b under) (m0 : Tree
       below = record { block = under; old = h.fresh; new = raised.low };
       tree = record { index = i; old = h.can.tree; new = u };
       raise = raised.raises;
+      two = subst (λ (x : PageRows). 1 < length x.rows) page_is h.can.two;
       whole = subst (λ x. IsRootIn x root) page_is (root_in p i b under c);
       root = part_of m w law fits_now b root raised.top top_now raised.raises.page
           raised.raises.had raised.raises.page.head.number false

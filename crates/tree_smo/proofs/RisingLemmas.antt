@@ -1,5 +1,5 @@
 -- What a lawful state tells of a root that is to rise.
-use Rattle.std.proofs.Common.{◌≡◌, ◌≢◌, ℕ, suc, ◌<◌, ◌≤◌, ◌+◌, sym, ap, subst, ◌∙◌, refl, arith, Option, Some, None}
+use Rattle.std.proofs.Common.{◌≡◌, ◌≢◌, ℕ, suc, ◌<◌, ◌≤◌, ◌+◌, sym, ap, subst, ◌∙◌, refl, arith, Option, Some, None, length}
 use Rattle.key_tuple.specs.declared.key.Key.{Key}
 use Rattle.latch_law.specs.Views.{holding}
 use Rattle.latch_space.specs.Has.{IsKnown}
@@ -142,7 +142,8 @@ module _ (p : TreePass) (i b under : ℕ) (c : RaiseCall p i b under) where
       has = h.can.page.paged;
       has_fresh = h.blank.page;
       suits = record {
-        some = h.can.some;
+        some = λ e. (let two = h.can.two in
+            let none : length page.rows ≡ 0 = ap length e in omega (arith, two, none));
         blank = record { empty = refl; index = refl; level = refl; fields = refl };
         level = (let level = whole_root.level in omega (arith, levels, level));
       };

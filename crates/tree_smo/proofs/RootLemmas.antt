@@ -72,7 +72,7 @@ module _ (p q : TreePass) (i b under : ℕ) (can : CanRaise (view p) i b)
       knows_root = still_known p q can.page.page.head under got b can.root can.knows_root;
       page = can.page;
       number = can.number;
-      some = can.some;
+      two = can.two;
     };
     fresh = got.frame;
     number = got.number;
@@ -105,7 +105,7 @@ module _ (p q : TreePass) (i b under : ℕ) (can : CanRaise (view p) i b)
               was.can.knows_root;
           page = was.can.page;
           number = was.can.number;
-          some = was.can.some;
+          two = was.can.two;
         };
         lacked = got.lacked;
         head = was.can.page.page.head;

@@ -1,11 +1,13 @@
 -- A planned split in hand is a split of the law, and is known once it is settled.
-use Rattle.std.proofs.Common.{◌≡◌, ◌≢◌, ℕ, true, false, ◌∷◌, sym, ap, subst, ◌∙◌, Option, Some, None}
+use Rattle.std.proofs.Common.{◌≡◌, ◌≢◌, ℕ, ◌<◌, ◌+◌, true, false, ◌∷◌, sym, ap, subst, ◌∙◌, Option, Some, None}
 use Rattle.std.specs.List.{AllByRecursion}
 use Rattle.list_facts.proofs.Places.{same_some}
 use Rattle.latch_law.specs.Views.{without_seen}
 use Rattle.latch_space.specs.Has.{DidSettle}
 use Rattle.latch_space.specs.Passes.{view, values, known_values, IsWhole}
+use Rattle.index_page.specs.declared.TheConstants.{PAGE_ROOM}
 use Rattle.index_page.specs.declared.head.PageHead.{PageHead}
+use Rattle.index_page.specs.Loads.{load_of}
 use Rattle.index_page.specs.Page.{PageRows}
 use Rattle.tree_law.specs.Pages.{is_own}
 use Rattle.index_law.specs.Shape.{Shape}
@@ -15,6 +17,7 @@ use Rattle.forest_law.specs.State.{ForestState}
 use Rattle.forest_law.proofs.RestructureLemmas.{restructures_follow}
 use Rattle.forest_world.specs.Held.{TreePass, shape_of_pass}
 use Rattle.forest_world.proofs.HandLemmas.{rests_of}
+use Rattle.tree_restructure.specs.Charges.{largest_on}
 use Rattle.tree_restructure.specs.Parts.{frame_ids}
 use Rattle.tree_restructure.specs.Pointers.{PutsPointer}
 use Rattle.tree_restructure.specs.Splits.{next_hands, SplitsFrames}
@@ -101,6 +104,12 @@ module _ (p : TreePass) (plan : SplitPlan) (right : ℕ) (c : SplitCall p plan r
   next_is = ap (λ (z : PageHead). z.next)
       (h.is.head h.can.below.page h.can.below.paged ∙ ap (λ (z : PageRows). z.head) left_is)
 
+  -- it has no room for one row more of the largest charge
+  child_lacks_room : PAGE_ROOM < load_of cut_page.rows + largest_on cut_page.head.level
+  child_lacks_room = subst (λ (z : PageRows). PAGE_ROOM < load_of z.rows + largest_on z.head.level) left_is
+      (subst (λ l. PAGE_ROOM < load_of h.can.below.page.rows + largest_on l)
+      (sym h.can.below.at_level) h.can.full)
+
   right_is : c.number ≡ cut_fresh.head.number
   right_is = ap (λ (z : PageRows). z.head.number) fresh_is
 
@@ -148,6 +157,7 @@ module _ (p : TreePass) (plan : SplitPlan) (right : ℕ) (c : SplitCall p plan r
     };
     at = plan.cut.key.tuple;
     cut = changed.splits.cut;
+    full = child_lacks_room;
     pointer = changed.splits.pointer;
     links = after.links;
     left = part_of m w law fits_now plan.child was.left changed.now.left all.has.left cut_page
@@ -197,7 +207,7 @@ module _ (p : TreePass) (plan : SplitPlan) (right : ℕ) (c : SplitCall p plan r
           (subst (λ (z : PageRows). PutsPointer z.head.number cut_fresh.head.number h.can.up
           changed.now.up plan.cut.key.tuple) (sym left_is) changed.splits.pointer);
       next = knows_next m q did plan.head.index h.can.level plan.next plan.head.next c.number
-          all.next;
+          (no_loop plan.next h.next) all.next;
     };
     count = settled_count p m (plan_ids (shape_of_pass p) plan right) c.known all.remakes whole q
         did;

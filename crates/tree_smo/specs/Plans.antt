@@ -6,6 +6,7 @@ use Rattle.index_page.specs.Page.{PageRows, IsNeighbour}
 use Rattle.index_law.specs.Shape.{Shape}
 use Rattle.forest_law.specs.declared.objects.Frame.{Frame}
 use Rattle.forest_law.specs.Numbers.{frame_id}
+use Rattle.forest_law.specs.Outside.{HasNoOutside}
 use Rattle.forest_world.specs.Held.{TreePass, shape_of_pass, HasFrame}
 use Rattle.tree_restructure.specs.Cuts.{HalvesAt}
 use Rattle.tree_restructure.specs.FrameCuts.{CutsFrame}
@@ -65,10 +66,10 @@ plan_ids shape plan right =
     frame_id shape plan.parent ∷ frame_id shape plan.child ∷ frame_id shape right
     ∷ next_ids shape plan.next
 
--- the pass knows the frame of the page behind, where there is one
+-- the pass knows the frame of the page behind, where there is one, which is none outside the trees
 abbrev pub KnowsNext : View → Option ℕ → Type 0
 KnowsNext v None = Unit {0}
-KnowsNext v (Some b) = (f : Frame) × KnowsFrame v b f
+KnowsNext v (Some b) = (f : Frame) × KnowsFrame v b f × HasNoOutside f
 
 -- it has it in hand, as it is known, with a page
 abbrev pub HasNext : TreePass → Option ℕ → Type 0

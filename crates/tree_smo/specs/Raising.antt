@@ -1,5 +1,5 @@
 -- A root that rises, with its tree in hand.
-use Rattle.std.specs.Prelude.{ℕ, suc, ◌≡◌, ◌≢◌, ◌+◌, ◌∷◌, []}
+use Rattle.std.specs.Prelude.{ℕ, suc, ◌≡◌, ◌<◌, ◌+◌, ◌∷◌, [], length}
 use Rattle.latch_space.specs.Passes.{view, count}
 use Rattle.index_page.specs.declared.head.PageHead.{PageHead}
 use Rattle.forest_law.specs.declared.objects.Frame.{Frame}
@@ -14,7 +14,8 @@ use Rattle.buffer_pool.specs.Hands.{LacksFrame}
 use Rattle.buffer_pool.specs.NewPages.{HasOutsidePage}
 use Rattle.buffer_pool.specs.Pages.{HasTreePage}
 
--- the pass holds the tree of an index and its root, which has rows, in the frame of the block b
+-- the pass holds the tree of an index and its root, which has two rows or more, in the frame of the
+-- block b
 pub record CanRaise (v : View) (i b : ℕ) : Type 0 where
   pub tree : Tree
   pub root : Frame
@@ -23,7 +24,7 @@ pub record CanRaise (v : View) (i b : ℕ) : Type 0 where
   pub knows_root : KnowsFrame v b root
   pub page : HasTreePage root i level
   pub number : page.page.head.number ≡ i
-  pub some : page.page.rows ≢ []
+  pub two : 1 < length page.page.rows
 
 -- all rows of the root are on a new page, in the frame `under`, which is held besides, and the
 -- root, a level higher, points to that alone

@@ -1,8 +1,6 @@
 -- A child that is split under its parent, both in hand.
 use Rattle.std.specs.Prelude.{ℕ, suc, ◌≡◌, ◌<◌, ◌≤◌, ◌+◌, ◌∷◌, [], length}
 use Rattle.key_tuple.specs.Order.{FieldList}
-use Rattle.key_tuple.specs.declared.TheConstants.{MAX_POINTER_SIZE}
-use Rattle.key_tuple.specs.Sizes.{charge}
 use Rattle.latch_space.specs.Passes.{view, count}
 use Rattle.index_page.specs.declared.head.PageHead.{PageHead}
 use Rattle.index_page.specs.declared.TheConstants.{PAGE_ROOM}
@@ -10,6 +8,7 @@ use Rattle.index_page.specs.Loads.{load_of}
 use Rattle.forest_law.specs.declared.objects.Frame.{Frame}
 use Rattle.forest_law.specs.Numbers.{frame_id}
 use Rattle.forest_world.specs.Held.{TreePass, shape_of_pass}
+use Rattle.tree_restructure.specs.Charges.{most_for_pointer, largest_on}
 use Rattle.tree_restructure.specs.FrameCuts.{CutsFrame}
 use Rattle.tree_restructure.specs.Pointers.{PutsPointer}
 use Rattle.call_law.specs.Hands.{KnowsFrame}
@@ -20,12 +19,8 @@ use Rattle.buffer_pool.specs.NewPages.{HasOutsidePage}
 use Rattle.buffer_pool.specs.Pages.{HasTreePage}
 use Rattle.tree_descent.specs.Descents.{PointsAt}
 
--- the most that a page is charged for a pointer
-abbrev pub most_for_pointer : ℕ
-most_for_pointer = charge MAX_POINTER_SIZE
-
--- the pass holds a page of an index, which has two rows or more, and the page above it, which
--- points to it and has room for any pointer
+-- the pass holds a page of an index, which has two rows or more and no room for one row more of the
+-- largest charge, and the page above it, which points to it and has room for any pointer
 pub record CanSplit (v : View) (parent child i : ℕ) : Type 0 where
   pub level : ℕ
   pub up : Frame
@@ -37,6 +32,7 @@ pub record CanSplit (v : View) (parent child i : ℕ) : Type 0 where
   pub points : PointsAt above.page.rows below.page.head.number
   pub room : load_of above.page.rows + most_for_pointer ≤ PAGE_ROOM
   pub two : 1 < length below.page.rows
+  pub full : PAGE_ROOM < load_of below.page.rows + largest_on level
 
 -- the upper half of the child's rows is on a new page, in the frame `right`, which is held besides,
 -- and the parent points to that too

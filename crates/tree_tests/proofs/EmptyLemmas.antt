@@ -1,11 +1,24 @@
 -- A pass that holds nothing.
-use Rattle.std.proofs.Common.{◌≡◌, ℕ, arith}
-use Rattle.list_facts.proofs.Places.{inside, not_both}
-use Rattle.latch_space.specs.Passes.{view, count}
+use Rattle.std.proofs.Common.{◌≡◌, ℕ, suc, zero, Option, Some, None, List, [], ◌∷◌, map, sym, ap, ◌∙◌, refl, arith}
+use mathlib.Core.Option.{some, some-ne-none}
+use lib.ListN.{get_elem?}
+use Rattle.list_facts.proofs.Places.{inside, not_both, none_is_not}
+use Rattle.latch_space.specs.Passes.{view, count, known_values}
 use Rattle.latch_space.proofs.Pointwise.{lacks_each}
+use Rattle.forest_law.specs.declared.objects.Object.TheVariants as object
 use Rattle.forest_law.specs.Numbers.{frame_id}
+use Rattle.forest_law.specs.Outside.{HasNoneOutside}
 use Rattle.forest_world.specs.Held.{TreePass, shape_of_pass}
 use Rattle.buffer_pool.specs.Pages.{HoldsOtherPages}
+
+-- where there is something after a map there was something before
+mapped_back : {A B : Type 0} (f : Option A → Option B) → f None ≡ None → (xs : List (Option A))
+    (k : ℕ) (y : B) → get_elem? (map f xs) k ≡ some (Some y)
+    → (x : A) × (get_elem? xs k ≡ some (Some x))
+mapped_back f e [] k y is = absurd (some-ne-none (Some y) (sym is))
+mapped_back f e (Some x ∷ xs) zero y is = (x, refl)
+mapped_back f e (None ∷ xs) zero y is = absurd (none_is_not y (ap some (sym e) ∙ is))
+mapped_back f e (x ∷ xs) (suc k) y is = mapped_back f e xs k y is
 
 -- no frame that it holds has the page
 pub none_has_page : (p : TreePass) → count p ≡ 0 → (n : ℕ) → HoldsOtherPages (view p) n
@@ -14,3 +27,13 @@ none_has_page p none n b f page knows paged number =
     let room = inside (view p).held k _ knows.1 in
     let all = p.all in
     not_both (view p).held k _ (lacks_each p k none (omega (arith, room, all.0))) knows.1
+
+-- nor has one a page outside the trees
+pub none_has_outside : (p : TreePass) → count p ≡ 0
+    → HasNoneOutside (shape_of_pass p) (known_values p)
+none_has_outside p none n o =
+    let k = frame_id (shape_of_pass p) o.block in
+    let h = mapped_back _ refl (view p).held k (object.Frame o.hand.frame) o.hand.at in
+    let room = inside (view p).held k _ h.1 in
+    let all = p.all in
+    not_both (view p).held k _ (lacks_each p k none (omega (arith, room, all.0))) h.1

@@ -2,11 +2,10 @@ use Rattle.std.proofs.Common.{◌≡◌, ◌-◌, ◌<◌, suc, sym, subst, arit
 use Rattle.latch_space.specs.Passes.{view}
 use Rattle.index_law.specs.Shape.{Shape}
 use Rattle.forest_world.specs.Held.{shape_of_pass}
-use Rattle.buffer_pool.proofs.CallLemmas.{frame_has}
 use Rattle.buffer_pool.specs.Pages.{PagesInIf}
 use Rattle.tree_descent.specs.Leaves.{HasCutWithin, cut_in}
 use Rattle.tree_descent.specs.Ways.{GoesDown, TriesDown}
-use Rattle.tree_descent.proofs.PageLemmas.{none_others}
+use Rattle.tree_descent.proofs.PageLemmas.{none_others, may_give_back}
 use Rattle.tree_descent.proofs.WayLemmas.{looks_shape, looks_frames, looks_pool, ends_in_vain, way_shape, way_page, way_above, turns_back, finds_way}
 use Rattle.tree_descent.proofs.ways.try_down.Goals as goal
 
@@ -177,10 +176,9 @@ give_back-requires-clause-held g c =
     let way =
     subst (λ l. GoesDown p cut i l c.loop-level.block c.loop-level.pass) leaf
     c.loop-level.invariant.way in
-    let page = way_page p cut i 0 c.loop-level.block c.loop-level.pass way in (
-      way.frame,
-      frame_has c.loop-level.pass way.silently.does.known c.loop-level.block way.frame page.knows,
-    )
+    let page = way_page p cut i 0 c.loop-level.block c.loop-level.pass way in
+    may_give_back c.loop-level.pass way.silently.does.known c.loop-level.block i 0 way.frame
+    page.knows page.is
 
 pub returns-clause-tried : goal.returns-clause-tried
 returns-clause-tried g c =

@@ -1,6 +1,6 @@
 use Rattle.std.proofs.Common.{◌≡◌, [], ◌∷◌, true, false, ap, Err, arith}
 use Rattle.latch_space.specs.Passes.{view}
-use Rattle.buffer_pool.proofs.CallLemmas.{frame_has}
+use Rattle.tree_descent.proofs.PageLemmas.{may_give_back}
 use Rattle.tree_growth.specs.Ways.{ArrivesWithRoom, StopsOnWay, GrowsChild}
 use Rattle.tree_growth.proofs.AddLemmas.{goes_nowhere, stops_after}
 use Rattle.tree_growth.proofs.HandLemmas.{no_frame_but, no_pool}
@@ -53,11 +53,9 @@ give_back-requires-clause-held g c =
     let p = c.args.pass.now in let q = c.raise_root.new.pass in let held = c.requires.held in
     let refused = is_refused p q c.args.index c.args.key.now.tuple
     (c.args.root.block ∷ []) c.requires.way c.in-Err.error
-    (λ e. c.in-Err.ensures.full (ap Err e)) (λ e. c.in-Err.ensures.memory (ap Err e)) in (
-      held.frame,
-      frame_has q refused.way.known c.args.root.block held.frame
-          (refused.frames c.args.root.block held.frame held.knows),
-    )
+    (λ e. c.in-Err.ensures.full (ap Err e)) (λ e. c.in-Err.ensures.memory (ap Err e)) in
+    may_give_back q refused.way.known c.args.root.block c.args.index c.args.root.level held.frame
+    (refused.frames c.args.root.block held.frame held.knows) held.page.is
 
 pub returns-in-Ok-clause-ok : goal.returns-in-Ok-clause-ok
 returns-in-Ok-clause-ok g c =

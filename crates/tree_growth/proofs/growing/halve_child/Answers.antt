@@ -1,9 +1,9 @@
-use Rattle.std.proofs.Common.{[], ◌∷◌, ap, sym, Err}
+use Rattle.std.proofs.Common.{[], ◌∷◌, ap, suc, sym, Err}
 use Rattle.latch_space.specs.Passes.{view}
-use Rattle.buffer_pool.proofs.CallLemmas.{frame_has}
+use Rattle.tree_descent.proofs.PageLemmas.{may_give_back, tree_page_inside}
 use Rattle.tree_growth.proofs.HandLemmas.{no_frame_but, no_pool}
 use Rattle.tree_growth.proofs.RefusalLemmas.{is_refused, holds_second, stops_two}
-use Rattle.tree_growth.proofs.SplitLemmas.{way_halves, halves_held, grows_halved}
+use Rattle.tree_growth.proofs.SplitLemmas.{may_give_up, way_halves, halves_held, grows_halved}
 use Rattle.tree_growth.proofs.growing.halve_child.Goals as goal
 use Rattle.tree_growth.proofs.KnownLemmas.{levels_apart}
 
@@ -18,8 +18,9 @@ split_child-requires-clause-pool g c =
     c.args.key.now.tuple (c.args.parent ∷ c.args.child ∷ []) c.requires.way
 
 pub give_back-requires-clause-held : goal.give_back-requires-clause-held
-give_back-requires-clause-held g c = let s = c.in-Ok.ensures.ok in
-    (s.up, frame_has c.split_child.new.pass s.silently.does.known c.args.parent s.up s.knows_up)
+give_back-requires-clause-held g c =
+    may_give_up c.args.pass.now c.split_child.new.pass c.args.index c.args.key.now.tuple
+    c.args.parent c.args.child c.in-Ok.right c.requires.way c.in-Ok.ensures.ok
 
 pub keep_half-requires-clause-way : goal.keep_half-requires-clause-way
 keep_half-requires-clause-way g c =
@@ -45,11 +46,9 @@ give_back-requires-in-Err-clause-held g c =
     let p = c.args.pass.now in let q = c.split_child.new.pass in let held = c.requires.held in
     let refused = is_refused p q c.args.index c.args.key.now.tuple
     (c.args.parent ∷ c.args.child ∷ []) c.requires.way c.in-Err.error
-    (λ e. c.in-Err.ensures.full (ap Err e)) (λ e. c.in-Err.ensures.memory (ap Err e)) in (
-      held.low,
-      frame_has q refused.way.known c.args.child held.low
-          (refused.frames c.args.child held.low held.knows_low),
-    )
+    (λ e. c.in-Err.ensures.full (ap Err e)) (λ e. c.in-Err.ensures.memory (ap Err e)) in
+    may_give_back q refused.way.known c.args.child c.args.index held.level held.low
+    (refused.frames c.args.child held.low held.knows_low) held.below.is
 
 pub give_back-requires-in-Err-2-clause-held : goal.give_back-requires-in-Err-2-clause-held
 give_back-requires-in-Err-2-clause-held g c =
@@ -60,6 +59,7 @@ give_back-requires-in-Err-2-clause-held g c =
     in
     holds_second p q c.give_back-in-Err.new.pass i key c.args.parent c.args.child c.in-Err.error
     refused c.give_back-in-Err.ensures.gave held.up
+    (tree_page_inside held.up i (suc held.level) held.above)
     (λ e. levels_apart (view p) c.args.parent c.args.child i held.level held.up held.low
     held.knows_up held.knows_low held.above held.below.is (sym e)) held.knows_up
 

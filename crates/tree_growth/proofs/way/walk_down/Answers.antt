@@ -1,5 +1,5 @@
 use Rattle.std.proofs.Common.{rules, arith}
-use Rattle.buffer_pool.proofs.CallLemmas.{frame_has}
+use Rattle.tree_descent.proofs.PageLemmas.{may_give_back}
 use Rattle.tree_growth.specs.Ways.{StopsOnWay}
 use Rattle.tree_growth.proofs.AddLemmas.{reaches_after, stops_after}
 use Rattle.tree_growth.proofs.HandLemmas.{same_pass}
@@ -26,11 +26,9 @@ loop-at-init g c =
     }
 
 pub give_back-requires-clause-held : goal.give_back-requires-clause-held
-give_back-requires-clause-held g c = let reaches = c.loop-at.invariant.reaches in (
-  reaches.is.frame,
-  frame_has c.loop-at.pass reaches.way.known c.loop-at.at.block
-      reaches.is.frame reaches.is.knows,
-)
+give_back-requires-clause-held g c = let reaches = c.loop-at.invariant.reaches in
+    may_give_back c.loop-at.pass reaches.way.known c.loop-at.at.block c.args.index
+    c.loop-at.at.level reaches.is.frame reaches.is.knows reaches.is.page.is
 
 pub returns-in_err-at-2-clause-err : goal.returns-in_err-at-2-clause-err
 returns-in_err-at-2-clause-err g c =

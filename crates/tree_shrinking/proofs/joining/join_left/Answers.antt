@@ -1,17 +1,15 @@
 use Rattle.std.proofs.Common.{true, sym, subst, ◌∙◌}
 use Rattle.list_facts.proofs.Places.{same_some}
 use Rattle.forest_world.specs.Held.{shape_of_pass}
-use Rattle.tree_growth.proofs.AddLemmas.{goes_nowhere}
 use Rattle.tree_shrinking.specs.Shrinking.{StayApart}
 use Rattle.tree_shrinking.proofs.FamilyLemmas.{left_pair}
+use Rattle.tree_shrinking.proofs.JoinLemmas.{back_at_once}
 use Rattle.tree_shrinking.proofs.joining.join_left.Goals as goal
 
 pub returns-in-None-clause-back : goal.returns-in-None-clause-back
-returns-in-None-clause-back g c = record {
-  to = record { goes = goes_nowhere c.args.pass.now; way = c.requires.way };
-  up = c.requires.held.up;
-  knows = c.requires.held.knows;
-}
+returns-in-None-clause-back g c =
+    back_at_once c.args.pass.now c.args.parent c.args.index c.args.key.now.tuple c.args.family
+    c.requires.way c.requires.held
 
 pub join_pair-requires-clause-held : goal.join_pair-requires-clause-held
 join_pair-requires-clause-held g c = let h = c.requires.held in record {
@@ -24,11 +22,8 @@ join_pair-requires-clause-held g c = let h = c.requires.held in record {
 
 pub returns-in-None-clause-apart : goal.returns-in-None-clause-apart
 returns-in-None-clause-apart g c e = record {
-  back = record {
-    to = record { goes = goes_nowhere c.args.pass.now; way = c.requires.way };
-    up = c.requires.held.up;
-    knows = c.requires.held.knows;
-  };
+  back = back_at_once c.args.pass.now c.args.parent c.args.index c.args.key.now.tuple c.args.family
+      c.requires.way c.requires.held;
   still = λ f knows. knows;
   apart = λ n is. absurd (cc (c.in-None.is, is));
 }

@@ -1,6 +1,6 @@
 use Rattle.std.proofs.Common.{[], ◌∷◌, arith}
 use Rattle.buffer_pool.proofs.CallLemmas.{frame_has}
-use Rattle.tree_growth.proofs.HandLemmas.{no_pool}
+use Rattle.tree_growth.proofs.HandLemmas.{no_frame_but, no_pool}
 use Rattle.tree_shrinking.proofs.OnlyLemmas.{back_given, back_failed, can_lift, back_lifted}
 use Rattle.tree_shrinking.proofs.joining.lift_only.Goals as goal
 
@@ -19,6 +19,11 @@ lift-requires-clause-held g c = let h = c.requires.held in let p = c.args.pass.n
     let root = c.if-number_in-index.false in
     can_lift p c.args.parent c.args.child c.args.index c.args.key.now.tuple c.requires.way h
     (omega (arith, number, root)) (omega (arith, counted, few))
+
+pub lift-requires-clause-frames : goal.lift-requires-clause-frames
+lift-requires-clause-frames g c =
+    no_frame_but c.args.space.now c.args.pass.now c.requires.own.0 c.requires.own.1 c.args.index
+    c.args.key.now.tuple (c.args.parent ∷ c.args.child ∷ []) c.requires.way
 
 pub lift-requires-clause-pool : goal.lift-requires-clause-pool
 lift-requires-clause-pool g c =

@@ -2,6 +2,7 @@ use Rattle.std.proofs.Common.{◌∙◌}
 use Rattle.std.proofs.lemmas.Result.{on_ok_weaker, on_err_weaker}
 use Rattle.buffer_pool.proofs.CallLemmas.{frame_has}
 use Rattle.buffer_pool.proofs.SpaceLemmas.{objects_of}
+use Rattle.tree_shrinking.proofs.InTreesLemmas.{pair_inside, behind_inside}
 use Rattle.tree_shrinking.proofs.MergeNextLemmas.{nothing_made, right_page, next_read, holds_last, pair_last, next_live, next_other, next_taken, merge_held, next_held, nothing_around, pair_around}
 use Rattle.tree_shrinking.proofs.merging.merge_pair.Goals as goal
 
@@ -22,6 +23,11 @@ make_merge-requires-clause-held g c = let p = c.args.pass.now in
     holds_last p c.args.at c.args.index c.requires.held
     (next_read p c.requires.known c.args.at c.args.index c.requires.held c.frame.result.now
     c.frame.ensures c.head_of.result c.head_of.ensures.head ∙ c.in-None.is)
+
+pub make_merge-requires-clause-inside : goal.make_merge-requires-clause-inside
+make_merge-requires-clause-inside g c = let p = c.args.pass.now in
+    pair_inside p c.args.at c.args.index c.requires.held
+    (objects_of c.args.space.now p c.requires.own.0 c.requires.own.1) c.requires.frames
 
 pub page_in-behind-requires-clause-live : goal.page_in-behind-requires-clause-live
 page_in-behind-requires-clause-live g c = let p = c.args.pass.now in
@@ -45,6 +51,18 @@ make_merge-made-requires-clause-held g c = let p = c.args.pass.now in let n = c.
     (next_read p c.requires.known c.args.at c.args.index c.requires.held
     c.frame.result.now c.frame.ensures c.head_of.result c.head_of.ensures.head ∙ c.in-Some.is)
     c.page_in-behind.ensures.took c.page_in-behind.ensures.fits)
+
+pub make_merge-made-requires-clause-inside : goal.make_merge-made-requires-clause-inside
+make_merge-made-requires-clause-inside g c = let p = c.args.pass.now in let n = c.in-Some.next in
+    let b = c.page_in-behind.result in let q = c.page_in-behind.new.pass in
+    behind_inside p q n b c.page_in-behind.ensures.took c.args.at c.args.index
+    (merge_held p c.args.at c.args.index n b q
+    (next_taken p c.args.at c.args.index n b q c.requires.held
+    (next_read p c.requires.known c.args.at c.args.index c.requires.held
+    c.frame.result.now c.frame.ensures c.head_of.result c.head_of.ensures.head ∙ c.in-Some.is)
+    c.page_in-behind.ensures.took c.page_in-behind.ensures.fits)).can
+    (objects_of c.args.space.now q c.requires.own.0 c.page_in-behind.ensures.own.1)
+    c.requires.frames
 
 pub give_back-requires-clause-held : goal.give_back-requires-clause-held
 give_back-requires-clause-held g c = let p = c.args.pass.now in let n = c.in-Some.next in

@@ -20,14 +20,14 @@ pub join_halves-requires-clause-suits : goal.join_halves-requires-clause-suits
 join_halves-requires-clause-suits c = let p = c.args.pass.now in let f = c.fits.ensures in
     let can = c.requires.held.can in
     suits_taken p c.args.at c.args.index c.args.next (merge_call p c.args.at c.args.index c.args.next
-    c.requires.known f c.requires.held)
+    c.requires.known f c.requires.held c.requires.inside)
     (page_number f.whole f.is_lawful (view p) f.fits c.args.at.right can.upper can.is_right.page
     can.knows_right can.is_right.paged c.requires.few)
 
 pub relink_behind-requires-clause-held : goal.relink_behind-requires-clause-held
 relink_behind-requires-clause-held c = let p = c.args.pass.now in
     next_in_hand p c.args.at c.args.index c.args.next (merge_call p c.args.at c.args.index c.args.next
-    c.requires.known c.fits.ensures c.requires.held)
+    c.requires.known c.fits.ensures c.requires.held c.requires.inside)
     c.join_halves.new.pass c.in_ok-join_halves.ensures.ok
 
 pub relink_behind-requires-clause-right : goal.relink_behind-requires-clause-right
@@ -45,7 +45,7 @@ settle-requires-clause-whole c = let p = c.args.pass.now in let can = c.requires
     let read = read_page p c.requires.known c.args.at.child can.lower c.frame.result.now
     can.knows_left c.frame.ensures can.is_left.page can.is_left.paged in
     whole p c.args.at c.args.index c.args.next (merge_call p c.args.at c.args.index c.args.next
-    c.requires.known c.fits.ensures c.requires.held)
+    c.requires.known c.fits.ensures c.requires.held c.requires.inside)
     c.join_halves.new.pass c.in_ok-join_halves.ensures.ok c.head_of-left.result.number
     (ap (λ (h : PageHead). h.number) (c.head_of-left.ensures.head can.is_left.page read))
     c.relink_behind.new.pass c.relink_behind.ensures.relinks
@@ -55,7 +55,7 @@ settle-requires-clause-rule c = let p = c.args.pass.now in let can = c.requires.
     let read = read_page p c.requires.known c.args.at.child can.lower c.frame.result.now
     can.knows_left c.frame.ensures can.is_left.page can.is_left.paged in
     follows p c.args.at c.args.index c.args.next (merge_call p c.args.at c.args.index c.args.next
-    c.requires.known c.fits.ensures c.requires.held)
+    c.requires.known c.fits.ensures c.requires.held c.requires.inside)
     c.join_halves.new.pass c.in_ok-join_halves.ensures.ok c.head_of-left.result.number
     (ap (λ (h : PageHead). h.number) (c.head_of-left.ensures.head can.is_left.page read))
     c.relink_behind.new.pass c.relink_behind.ensures.relinks
@@ -65,7 +65,7 @@ returns-clause-ok c = let p = c.args.pass.now in let can = c.requires.held.can i
     let read = read_page p c.requires.known c.args.at.child can.lower c.frame.result.now
     can.knows_left c.frame.ensures can.is_left.page can.is_left.paged in
     makes_merge p c.args.at c.args.index c.args.next (merge_call p c.args.at c.args.index c.args.next
-    c.requires.known c.fits.ensures c.requires.held)
+    c.requires.known c.fits.ensures c.requires.held c.requires.inside)
     c.join_halves.new.pass c.in_ok-join_halves.ensures.ok c.head_of-left.result.number
     (ap (λ (h : PageHead). h.number) (c.head_of-left.ensures.head can.is_left.page read))
     c.relink_behind.new.pass c.relink_behind.ensures.relinks c.settle.new.pass c.settle.ensures.did

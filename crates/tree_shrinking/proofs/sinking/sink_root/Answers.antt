@@ -6,72 +6,86 @@ use Rattle.tree_shrinking.proofs.sinking.sink_root.Goals as goal
 pub sink_storeys-requires-clause-suits : goal.sink_storeys-requires-clause-suits
 sink_storeys-requires-clause-suits c = let p = c.args.pass.now in
     suits_sinking p c.args.index c.args.root c.args.child (sink_call p c.args.index c.args.root c.args.child
-    c.requires.known c.fits.ensures c.requires.index c.requires.held c.requires.few)
+    c.requires.known c.fits.ensures c.requires.index c.requires.held c.requires.inside
+    c.requires.few)
 
 pub tree-old-requires-clause-held : goal.tree-old-requires-clause-held
 tree-old-requires-clause-held c = let p = c.args.pass.now in let t = c.requires.held.tree in
     let there = tree_there p c.args.index c.args.root c.args.child (sink_call p c.args.index c.args.root c.args.child
-    c.requires.known c.fits.ensures c.requires.index c.requires.held c.requires.few)
+    c.requires.known c.fits.ensures c.requires.index c.requires.held c.requires.inside
+    c.requires.few)
     c.sink_storeys.new.pass c.in_ok-sink_storeys.ensures.ok in (t, t, there)
 
 pub change_tree-requires-clause-held : goal.change_tree-requires-clause-held
 change_tree-requires-clause-held c = let p = c.args.pass.now in let t = c.requires.held.tree in
     let there = tree_there p c.args.index c.args.root c.args.child (sink_call p c.args.index c.args.root c.args.child
-    c.requires.known c.fits.ensures c.requires.index c.requires.held c.requires.few)
+    c.requires.known c.fits.ensures c.requires.index c.requires.held c.requires.inside
+    c.requires.few)
     c.sink_storeys.new.pass c.in_ok-sink_storeys.ensures.ok in (t, t, there)
 
 pub overflow_sub-height : goal.overflow_sub-height
 overflow_sub-height c = let p = c.args.pass.now in let t = c.requires.held.tree in
     let there = tree_there p c.args.index c.args.root c.args.child (sink_call p c.args.index c.args.root c.args.child
-    c.requires.known c.fits.ensures c.requires.index c.requires.held c.requires.few)
+    c.requires.known c.fits.ensures c.requires.index c.requires.held c.requires.inside
+    c.requires.few)
     c.sink_storeys.new.pass c.in_ok-sink_storeys.ensures.ok in
     let some = some_height p c.args.index c.args.root c.args.child (sink_call p c.args.index c.args.root c.args.child
-    c.requires.known c.fits.ensures c.requires.index c.requires.held c.requires.few) in
+    c.requires.known c.fits.ensures c.requires.index c.requires.held c.requires.inside
+    c.requires.few) in
     let same = ap (λ (z : Tree). z.height) (c.tree-old.ensures t t there) in
     omega (arith, some, same)
 
 pub settle-requires-clause-whole : goal.settle-requires-clause-whole
 settle-requires-clause-whole c = let p = c.args.pass.now in let t = c.requires.held.tree in
     let there = tree_there p c.args.index c.args.root c.args.child (sink_call p c.args.index c.args.root c.args.child
-    c.requires.known c.fits.ensures c.requires.index c.requires.held c.requires.few)
+    c.requires.known c.fits.ensures c.requires.index c.requires.held c.requires.inside
+    c.requires.few)
     c.sink_storeys.new.pass c.in_ok-sink_storeys.ensures.ok in
     let old = c.tree-old.result in
     whole p c.args.index c.args.root c.args.child (sink_call p c.args.index c.args.root c.args.child
-    c.requires.known c.fits.ensures c.requires.index c.requires.held c.requires.few)
+    c.requires.known c.fits.ensures c.requires.index c.requires.held c.requires.inside
+    c.requires.few)
     c.sink_storeys.new.pass c.in_ok-sink_storeys.ensures.ok
     (record old { height = old.height - 1 })
     (one_lower t old (record old { height = old.height - 1 }) (c.tree-old.ensures t t there)
     (some_height p c.args.index c.args.root c.args.child (sink_call p c.args.index c.args.root c.args.child
-    c.requires.known c.fits.ensures c.requires.index c.requires.held c.requires.few)) refl)
+    c.requires.known c.fits.ensures c.requires.index c.requires.held c.requires.inside
+    c.requires.few)) refl)
     c.change_tree.new.pass c.change_tree.ensures.changed
 
 pub settle-requires-clause-rule : goal.settle-requires-clause-rule
 settle-requires-clause-rule c = let p = c.args.pass.now in let t = c.requires.held.tree in
     let there = tree_there p c.args.index c.args.root c.args.child (sink_call p c.args.index c.args.root c.args.child
-    c.requires.known c.fits.ensures c.requires.index c.requires.held c.requires.few)
+    c.requires.known c.fits.ensures c.requires.index c.requires.held c.requires.inside
+    c.requires.few)
     c.sink_storeys.new.pass c.in_ok-sink_storeys.ensures.ok in
     let old = c.tree-old.result in
     follows p c.args.index c.args.root c.args.child (sink_call p c.args.index c.args.root c.args.child
-    c.requires.known c.fits.ensures c.requires.index c.requires.held c.requires.few)
+    c.requires.known c.fits.ensures c.requires.index c.requires.held c.requires.inside
+    c.requires.few)
     c.sink_storeys.new.pass c.in_ok-sink_storeys.ensures.ok
     (record old { height = old.height - 1 })
     (one_lower t old (record old { height = old.height - 1 }) (c.tree-old.ensures t t there)
     (some_height p c.args.index c.args.root c.args.child (sink_call p c.args.index c.args.root c.args.child
-    c.requires.known c.fits.ensures c.requires.index c.requires.held c.requires.few)) refl)
+    c.requires.known c.fits.ensures c.requires.index c.requires.held c.requires.inside
+    c.requires.few)) refl)
     c.change_tree.new.pass c.change_tree.ensures.changed
 
 pub returns-clause-ok : goal.returns-clause-ok
 returns-clause-ok c = let p = c.args.pass.now in let t = c.requires.held.tree in
     let there = tree_there p c.args.index c.args.root c.args.child (sink_call p c.args.index c.args.root c.args.child
-    c.requires.known c.fits.ensures c.requires.index c.requires.held c.requires.few)
+    c.requires.known c.fits.ensures c.requires.index c.requires.held c.requires.inside
+    c.requires.few)
     c.sink_storeys.new.pass c.in_ok-sink_storeys.ensures.ok in
     let old = c.tree-old.result in
     sinks_root p c.args.index c.args.root c.args.child (sink_call p c.args.index c.args.root c.args.child
-    c.requires.known c.fits.ensures c.requires.index c.requires.held c.requires.few)
+    c.requires.known c.fits.ensures c.requires.index c.requires.held c.requires.inside
+    c.requires.few)
     c.sink_storeys.new.pass c.in_ok-sink_storeys.ensures.ok
     (record old { height = old.height - 1 })
     (one_lower t old (record old { height = old.height - 1 }) (c.tree-old.ensures t t there)
     (some_height p c.args.index c.args.root c.args.child (sink_call p c.args.index c.args.root c.args.child
-    c.requires.known c.fits.ensures c.requires.index c.requires.held c.requires.few)) refl)
+    c.requires.known c.fits.ensures c.requires.index c.requires.held c.requires.inside
+    c.requires.few)) refl)
     c.change_tree.new.pass c.change_tree.ensures.changed c.settle.new.pass
     c.settle.ensures.did

@@ -1,4 +1,7 @@
-use Rattle.std.proofs.Common.{sym, ap, subst, Err}
+use Rattle.std.proofs.Common.{[], ◌∷◌, sym, ap, subst, Err}
+use Rattle.latch_space.specs.Passes.{view}
+use Rattle.buffer_pool.proofs.SpaceLemmas.{objects_of}
+use Rattle.tree_smo.proofs.InsideLemmas.{none_outside_but, knows_inside}
 use Rattle.buffer_pool.specs.NewPages.{FindsNoneFree}
 use Rattle.tree_smo.proofs.BesideLemmas.{holds_outside, no_pool, gets_nothing}
 use Rattle.tree_smo.proofs.RootLemmas.{root_page, index_is, index_there, root_fields, root_got, storeys_held, raises_root}
@@ -20,6 +23,16 @@ new_page-requires-clause-fields g c = let f = c.fits.ensures in
     root_fields c.args.pass.now c.requires.known c.args.index c.args.root c.requires.held
     c.frame.result.now c.frame.ensures c.head_of-head.result c.head_of-head.ensures.head
     f.whole f.is_lawful f.fits
+
+pub new_page-requires-clause-inside : goal.new_page-requires-clause-inside
+new_page-requires-clause-inside g c = let p = c.args.pass.now in let own = c.requires.own in
+    let can = c.requires.held in
+    none_outside_but p (c.args.root ∷ []) (objects_of c.args.space.now p own.0 own.1)
+    c.requires.frames (
+      knows_inside (view p) c.args.root c.args.index can.level can.root
+          can.knows_root can.page,
+      tt,
+    )
 
 pub returns-in_err-under-clause-full : goal.returns-in_err-under-clause-full
 returns-in_err-under-clause-full g c = λ e. let r = rw e at c.from_residual.ensures in

@@ -1,4 +1,8 @@
-use Rattle.std.proofs.Common.{refl, sym, ap, Err}
+use Rattle.std.proofs.Common.{◌∷◌, refl, sym, ap, Err}
+use Rattle.latch_space.specs.Passes.{view}
+use Rattle.buffer_pool.proofs.SpaceLemmas.{objects_of}
+use Rattle.tree_smo.specs.Plans.{next_blocks}
+use Rattle.tree_smo.proofs.InsideLemmas.{none_outside_but, plan_inside}
 use Rattle.tree_smo.proofs.BesideLemmas.{index_below, fields_are, plan_still, holds_outside, no_pool, splits_beside, gets_nothing}
 use Rattle.tree_smo.proofs.splitting.split_beside.Goals as goal
 
@@ -9,6 +13,13 @@ new_page-requires-clause-index g c = let f = c.fits.ensures in
 pub new_page-requires-clause-fields : goal.new_page-requires-clause-fields
 new_page-requires-clause-fields g c = let f = c.fits.ensures in
     fields_are c.args.pass.now f.whole f.is_lawful f.fits c.args.plan c.requires.held
+
+pub new_page-requires-clause-inside : goal.new_page-requires-clause-inside
+new_page-requires-clause-inside g c = let p = c.args.pass.now in let plan = c.args.plan in
+    let own = c.requires.own in
+    none_outside_but p (plan.parent ∷ plan.child ∷ next_blocks plan.next)
+    (objects_of c.args.space.now p own.0 own.1) c.requires.frames
+    (plan_inside (view p) plan c.requires.held)
 
 pub returns-in_err-right-clause-full : goal.returns-in_err-right-clause-full
 returns-in_err-right-clause-full g c = λ e. let r = rw e at c.from_residual.ensures in

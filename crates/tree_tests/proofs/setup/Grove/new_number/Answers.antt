@@ -5,7 +5,12 @@ use Rattle.forest_law.specs.declared.objects.Frame.{Frame}
 use Rattle.forest_law.specs.Numbers.{pool_id}
 use Rattle.buffer_pool.proofs.CallLemmas.{frame_has}
 use Rattle.buffer_pool.proofs.SpaceLemmas.{objects_of}
+use Rattle.tree_tests.proofs.EmptyLemmas.{none_has_outside}
 use Rattle.tree_tests.proofs.setup.Grove.new_number.Goals as goal
+
+pub new_page-requires-clause-inside : goal.new_page-requires-clause-inside
+new_page-requires-clause-inside g c = let grove = c.args.self.now in
+    none_has_outside grove.pass grove.nothing
 
 pub new_page-requires-clause-pool : goal.new_page-requires-clause-pool
 new_page-requires-clause-pool g c = let grove = c.args.self.now in
