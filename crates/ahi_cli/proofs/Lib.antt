@@ -5,3 +5,4 @@ pub mod ReportLemmas
 pub mod EndsLemmas
 pub mod LawLemmas
 pub mod ScriptLemmas
+pub mod RoomLemmas

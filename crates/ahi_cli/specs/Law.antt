@@ -1,8 +1,9 @@
 -- When a run is done, and with which status it ends.
-use Rattle.std.specs.Prelude.{ℕ, ◌≡◌, ◌⊎◌, List, length, Option, Some, None}
+use Rattle.std.specs.Prelude.{ℕ, ◌≡◌, ◌⊎◌, ◌+◌, ◌<◌, List, length, Option, Some, None}
 use Rattle.io_port.specs.Faults.{ShowsFault}
 use Rattle.io_port.specs.Shelf.{Files}
-use Rattle.map_history.specs.LegalReport.{Line}
+use Rattle.map_history.specs.LegalReport.{Line, HasNoSpaceFull}
+use Rattle.report_laws.specs.FullLaws.{enough_pages}
 use Rattle.script.specs.Schema.{SchemaText}
 use Rattle.ahi_cli.specs.declared.status.Status.{Status}
 use Rattle.ahi_cli.specs.declared.status.Status.TheVariants.{Done, ShelfFault, NoMemory}
@@ -11,7 +12,7 @@ use Rattle.ahi_cli.specs.declared.stop.Stop.TheVariants as stop
 use Rattle.ahi_cli.specs.Ends.{Output, IsPut, IsWritten, Ends}
 use Rattle.ahi_cli.specs.Files.{Spells}
 use Rattle.ahi_cli.specs.FirstRefusal.{first_refusal, sizes_stop}
-use Rattle.ahi_cli.specs.Run.{Asked, Reports, Stops, IsUnloaded}
+use Rattle.ahi_cli.specs.Run.{Asked, Reports, Stops, IsUnloaded, run_over, IsReportOf}
 use Rattle.ahi_cli.specs.Stops.{status_of, stop_text}
 use Rattle.ahi_cli.specs.Words.{accepted}
 
@@ -72,3 +73,11 @@ pub record RunsEndByFirstRefusal : Type 0 where
       → asked.told ≡ Some files → first_refusal asked.words files ≡ Some (stop.Shelf file)
       → IsSinkSound out → RunEnds asked out status
       → ((status ≡ ShelfFault) × IsMissedFile asked out) ⊎ (status ≡ NoMemory)
+
+-- in a report of lanes over a schema nothing is answered `space-full` where the schema has two pages
+-- for each index and for each line that is a put or a set, and one for each lane, or one less
+abbrev pub AmpleRunsFindPages : Type 0
+AmpleRunsFindPages = (schema : SchemaText) (lanes : List (List Line)) (bytes : List ℕ)
+    → (told : IsReportOf schema lanes bytes)
+    → enough_pages (run_over schema lanes) < schema.sizes.pages + 2
+    → HasNoSpaceFull told.legal.report

@@ -4,7 +4,7 @@ use Rattle.std.specs.Option.{ForSome}
 use Rattle.std.specs.List.{AllByRecursion}
 use Rattle.io_port.specs.Shelf.{Files}
 use Rattle.io_port.specs.declared.shelf.Shelf.{Ghosts}
-use Rattle.map_history.specs.LegalReport.{Line, Run, IsLegalButRoom}
+use Rattle.map_history.specs.LegalReport.{Line, Run, IsLegalReport}
 use Rattle.map_history.specs.Report.{AnswerLine, IndexPart, Report}
 use Rattle.map_history.specs.Spelling.{spell}
 use Rattle.map_history.specs.Statistics.{counts_of}
@@ -43,14 +43,13 @@ pub record IsWithoutHash (report : Report) : Type 0 where
 abbrev pub run_over : SchemaText → List (List Line) → Run
 run_over schema lanes = record { sizes = schema.sizes; names = schema.names; lanes = lanes }
 
--- the bytes spell a report of the run that is legal, but that `space-full` may be told of a put
--- however many pages there are
+-- the bytes spell a legal report of the run
 pub record IsLegalText (run : Run) (bytes : List ℕ) : Type 0 where
   pub report : Report
   pub spelled : bytes ≡ spell report
-  pub legal : IsLegalButRoom run report
+  pub legal : IsLegalReport run report
 
--- the bytes are a report of these lanes over a schema that is legal but for room
+-- the bytes are a legal report of these lanes over a schema
 pub record IsReportOf (schema : SchemaText) (lanes : List (List Line))
     (bytes : List ℕ) : Type 0 where
   pub legal : IsLegalText (run_over schema lanes) bytes

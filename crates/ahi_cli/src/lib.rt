@@ -1,4 +1,4 @@
-//! The top call: words and files in, a report out, and the theorem that it is legal but for room.
+//! The top call: words and files in, a report out, and the theorem that it is legal.
 #![tactic(auto)]
 
 mod files;
@@ -9,6 +9,6 @@ mod status;
 mod stop;
 mod words;
 
-pub use law::{good_runs_are_done, runs_end_by_first_refusal};
+pub use law::{ample_runs_find_pages, good_runs_are_done, runs_end_by_first_refusal};
 pub use run::run_words;
 pub use status::Status;

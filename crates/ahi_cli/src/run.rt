@@ -24,9 +24,9 @@ use std::thread::Threads;
 /// then the lanes, runs the lanes in threads, and puts the report to the sink line by line, or the
 /// line of the first refusal. Lane k, counted from 1, asks the gate before each of its lines.
 ///
-/// `Done` means that the bytes put are a report of what the files spell that is legal but for room,
-/// whatever order the lanes' steps came in. `trail` is then the pass of all lanes, which did what
-/// is printed; after any other status it is `None`.
+/// `Done` means that the bytes put are a legal report of what the files spell, whatever order the
+/// lanes' steps came in. `trail` is then the pass of all lanes, which did what is printed; after
+/// any other status it is `None`.
 pub fn run_words<
     R: AllocGlobal + Threads + Sync,
     W: Wait + Sync,

@@ -21,6 +21,7 @@ pub mod PassingLemmas
 pub mod SawLemmas
 pub mod TellingLemmas
 pub mod SeekTraceLemmas
+pub mod SeekTryLemmas
 pub mod SeekHandLemmas
 pub mod StandLemmas
 pub mod StepLemmas

@@ -1,7 +1,13 @@
 -- A write is told that there is no page for its row.
-use Rattle.std.proofs.Common.{◌≡◌, ℕ, true, List, sym, ap, subst, ◌∙◌, refl, None}
+use Rattle.std.proofs.Common.{◌≡◌, ℕ, suc, true, List, [], ◌∷◌, ◌++◌, sym, arith, ap, subst, ◌∙◌, refl, None}
 use Rattle.key_tuple.specs.Order.{FieldList}
-use Rattle.latch_law.specs.Fitting.{DidRead}
+use mathlib.Core.Option.{some}
+use lib.ListN.{get_elem?}
+use Rattle.list_facts.proofs.Places.{at_further}
+use Rattle.latch_law.specs.declared.knows.Statement.{Statement}
+use Rattle.latch_law.specs.declared.knows.Statement.TheVariants as what
+use Rattle.latch_law.specs.Fitting.{DidRead, MayAnswer}
+use Rattle.latch_law.specs.Rule.{IsSo}
 use Rattle.latch_space.specs.Passes.{view}
 use Rattle.map_history.specs.declared.reply.Reply.TheVariants as words
 use Rattle.map_history.specs.declared.reply.Told.{Told}
@@ -9,7 +15,7 @@ use Rattle.map_history.specs.Map.{Put, Set}
 use Rattle.map_history.specs.Operation.{Ask}
 use Rattle.map_history.specs.Report.{SpaceFull, dashes}
 use Rattle.map_history.specs.LegalReport.{has_form}
-use Rattle.index_law.specs.Answers.{Replies}
+use Rattle.index_law.specs.Answers.{MadeChange, Where, Saying, Replies, Piece, Full, Look}
 use Rattle.index_law.specs.Answers as answers
 use Rattle.index_law.specs.Meanings.{lent_row}
 use Rattle.index_law.specs.Rightness.{IsRight, AsksToWrite}
@@ -17,14 +23,14 @@ use Rattle.forest_law.specs.Law.{IsLawful}
 use Rattle.forest_law.specs.References.{IsReference}
 use Rattle.forest_world.specs.Held.{TreePass}
 use Rattle.call_law.specs.Spoken.{OwnAnswer, sayings}
-use Rattle.call_law.specs.Trace.{AreGivenAt}
+use Rattle.call_law.specs.Trace.{AreGivenAt, full_places, fulls}
 use Rattle.call_law.proofs.TraceLemmas.{full_then_word}
 use Rattle.latch_law.specs.Views.{answer_said}
 use Rattle.buffer_pool.proofs.AddedLemmas.{only_said, read_adds}
 use Rattle.tree_growth.specs.Growing.{FindsNoRoom}
 use Rattle.index_engine.specs.declared.write.Write.{Write}
 use Rattle.index_engine.specs.declared.write.Write.TheVariants as write
-use Rattle.index_engine.specs.Writes.{write_asked, SaysNoRoom, LacksPage}
+use Rattle.index_engine.specs.Writes.{write_asked, KnowsShort, SaysNoRoom, LacksPage}
 use Rattle.index_engine.specs.Says.{told_space_full}
 use Rattle.index_engine.specs.Tells.{HasKeyOf}
 
@@ -84,4 +90,67 @@ write_asks write.Set key value = record {
   writes = record { change = Set key value; asked = refl; row = refl };
   form = refl;
   key = tt;
+}
+
+-- a full that names these places is among what was said
+record HasFullAmong (qs : List OwnAnswer) (places : List Where) : Type 0 where
+  place : ℕ
+  answer : OwnAnswer
+  there : get_elem? qs place ≡ some answer
+  is : answer.what ≡ what.Answer (Full places)
+
+-- so it is where one answer more was said before
+said_before : (q : OwnAnswer) (qs : List OwnAnswer) (places : List Where) → HasFullAmong qs places
+    → HasFullAmong (q ∷ qs) places
+said_before q qs places full = record {
+  place = suc full.place;
+  answer = full.answer;
+  there = full.there;
+  is = full.is;
+}
+
+-- the first answer says the full, or those after it have it
+said_first : (said : Statement MadeChange Saying) (q : OwnAnswer) (qs : List OwnAnswer)
+    (places : List Where) → q.what ≡ said → full_places said ++ fulls qs ≡ places ∷ []
+    → (fulls qs ≡ places ∷ [] → HasFullAmong qs places) → HasFullAmong (q ∷ qs) places
+said_first (what.Change deed) q qs places is one later = said_before q qs places (later one)
+said_first (what.Answer (Replies ask word bound columns)) q qs places is one later =
+    said_before q qs places (later one)
+said_first (what.Answer (Piece ask low high rows columns)) q qs places is one later =
+    said_before q qs places (later one)
+said_first (what.Answer Look) q qs places is one later = said_before q qs places (later one)
+said_first (what.Answer (Full named)) q qs places is one later =
+    let same : named ≡ places = cc in record {
+      place = 0;
+      answer = q;
+      there = refl;
+      is = is ∙ ap (λ z. what.Answer (Full z)) same;
+    }
+
+-- what has one full has an answer that says it
+full_said : (qs : List OwnAnswer) (places : List Where) → fulls qs ≡ places ∷ []
+    → HasFullAmong qs places
+full_said [] places one = absurd cc
+full_said (q ∷ qs) places one = said_first q.what q qs places refl one (full_said qs places)
+
+-- who was told that no number is free knows that the pages are few
+pub knows_short : (p q : TreePass) (i : ℕ) → FindsNoRoom p i q → KnowsShort (view q)
+knows_short p q i none w law fits =
+    let full = full_said none.added.said none.places none.full in
+    let at = at_further (view p).said none.added.said full.place full.answer full.there in
+    let so = fits.so at.0 full.answer
+    (ap (λ qs. get_elem? qs at.0) none.grows.adds.said ∙ at.1) in
+    let right : IsRight w full.answer.index full.answer.point (Full none.places) =
+    subst (IsSo IsRight w full.answer.index full.answer.point full.answer.by) full.is so in
+    right.said.2
+
+-- and may tell a write so
+pub may_say_full : (p : TreePass) (i : ℕ) (ask : Ask) → KnowsShort (view p) → AsksToWrite ask
+    → MayAnswer IsLawful IsRight IsReference (view p) i
+    (Replies ask answers.SpaceFull None dashes)
+may_say_full p i ask short writes w law fits xs listed = record {
+  list = xs;
+  there = listed;
+  point = omega arith;
+  said = λ speaks. (writes, short w law fits);
 }

@@ -14,12 +14,13 @@ use Rattle.forest_world.specs.Held.{TreePass, shape_of_pass}
 use Rattle.call_law.specs.Hands.{KnowsFrame}
 use Rattle.buffer_pool.specs.Calls.{DoesSilently}
 use Rattle.buffer_pool.specs.Frames.{GivesFrame}
-use Rattle.buffer_pool.specs.Hands.{HoldsKnownFrame}
+use Rattle.buffer_pool.specs.Hands.{MayGiveBack}
 use Rattle.buffer_pool.specs.Pages.{HasTreePage}
 use Rattle.tree_law.specs.Pages.{IsOrderly}
 use Rattle.forest_law.specs.State.{page_within, fields_for}
 use Rattle.tree_descent.specs.Ways.{HoldsPage}
-use Rattle.buffer_pool.proofs.CallLemmas.{frame_has, gave_frame}
+use Rattle.buffer_pool.proofs.CallLemmas.{gave_frame}
+use Rattle.tree_descent.proofs.PageLemmas.{may_give_back}
 use Rattle.index_engine.specs.SeekHands.{HoldsLeavesAlone}
 use Rattle.index_engine.proofs.KnownLemmas.{gave_known, knows_same}
 
@@ -120,7 +121,7 @@ module _ (p q : TreePass) (i : ℕ) where
         holds.order;
   }
 
--- a frame that is known may be given back
-pub may_leave : (p : TreePass) (bs : List ℕ) (b : ℕ) (f : Frame) → HoldsLeavesAlone p bs
-    → KnowsFrame (view p) b f → HoldsKnownFrame p b
-may_leave p bs b f only knows = (f, frame_has p only.known b f knows)
+-- a leaf that is known may be given back
+pub may_leave : (p : TreePass) (bs : List ℕ) (b i : ℕ) (f : Frame) → HoldsLeavesAlone p bs
+    → KnowsFrame (view p) b f → HasTreePage f i 0 → MayGiveBack p b
+may_leave p bs b i f only knows is = may_give_back p only.known b i 0 f knows is

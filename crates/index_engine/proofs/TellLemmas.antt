@@ -35,7 +35,7 @@ use Rattle.index_engine.specs.Says.{SaysOnce, OnlyLooks, AnswersHolding, told_ma
 use Rattle.index_engine.specs.Traces.{EndsOnLeaf, TellsByLeaf}
 use Rattle.index_engine.proofs.FrameTraceLemmas.{frames_both}
 use Rattle.index_engine.proofs.HoldLemmas.{frame_again}
-use Rattle.index_engine.proofs.KnownLemmas.{gave_known, knows_same, page_number, number_stays}
+use Rattle.index_engine.proofs.KnownLemmas.{gave_known, knows_same, page_number, number_stays, leaf_inside}
 
 -- nothing was answered, and then nothing
 pub looks_both : (v v0 v1 : View) (i : ℕ) → OnlyLooks v v0 i → OnlyLooks v0 v1 i
@@ -89,6 +89,7 @@ said_holding p q b i key f ask told row holds same says = record {
   holds = record {
     frame = f;
     has = frame_again p q b f f same says.once.adds.numbers.terms holds.has;
+    inside = leaf_inside p b i key f f holds;
     one = same.count ∙ holds.one;
   };
   number = number_stays (view p) b f holds.has.held;

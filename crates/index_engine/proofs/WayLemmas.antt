@@ -32,6 +32,7 @@ use Rattle.index_engine.specs.Holds.{HoldsLeaf, HoldsKnown}
 use Rattle.index_engine.specs.Says.{OnlyLooks, AnswersHolding}
 use Rattle.index_engine.specs.Traces.{LackedRoom, TellsByLeaf, TellsOfWrite, GivesUp}
 use Rattle.index_engine.proofs.HoldLemmas.{gave_is}
+use Rattle.index_engine.proofs.KnownLemmas.{leaf_inside}
 use Rattle.index_engine.proofs.TellLemmas.{way, back, back_adds, spares_all, references_are}
 
 -- an answer by a leaf is one of a put
@@ -55,6 +56,7 @@ known_then p q b i key value ask row (Ok told) answers refuses = answers.holds
 known_then p q b i key value ask row (Err e) answers refuses = record {
   frame = refuses.holds.frame;
   has = refuses.holds.holds.has;
+  inside = leaf_inside q b i key refuses.holds.frame refuses.holds.frame refuses.holds.holds;
   one = refuses.holds.holds.one;
 }
 

@@ -9,6 +9,7 @@ use Rattle.index_page.specs.declared.spot.Spot.{Spot}
 use Rattle.index_law.specs.Shape.{Shape}
 use Rattle.forest_law.specs.declared.objects.Frame.{Frame}
 use Rattle.forest_law.specs.Numbers.{frame_id}
+use Rattle.forest_law.specs.Outside.{HasNoOutside}
 use Rattle.forest_world.specs.Held.{TreePass, shape_of_pass, HasFrame}
 use Rattle.call_law.specs.Hands.{KnowsFrame}
 use Rattle.call_law.specs.Spoken.{View}
@@ -39,8 +40,10 @@ pub record HoldsFresh (p : TreePass) (b i : ℕ) (key : FieldList) (spot : Spot)
 abbrev pub KeepsNumber : View → ℕ → Frame → Type 0
 KeepsNumber v b g = (f : Frame) (n : ℕ) → KnowsFrame v b f → HasNumber f n → HasNumber g n
 
--- it holds the block's frame alone, which is what it is known to be
+-- it holds the block's frame alone, which is what it is known to be, and whose page is none outside
+-- the trees
 pub record HoldsKnown (p : TreePass) (b : ℕ) : Type 0 where
   pub frame : Frame
   pub has : HasFrame p b frame frame
+  pub inside : HasNoOutside frame
   pub one : count p ≡ 1

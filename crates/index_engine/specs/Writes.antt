@@ -7,9 +7,13 @@ use Rattle.map_history.specs.Map as map
 use Rattle.map_history.specs.Operation.{Ask, Make}
 use Rattle.map_history.specs.Report.{SpaceFull, dashes}
 use Rattle.index_law.specs.Meanings.{lent_row}
+use Rattle.index_law.specs.Rightness.{IsShort}
+use Rattle.forest_law.specs.Law.{IsLawful}
+use Rattle.forest_law.specs.State.{ForestState}
 use Rattle.call_law.specs.Once.{IsQuiet}
 use Rattle.call_law.specs.Spoken.{View, spoken, sayings}
 use Rattle.call_law.specs.Trace.{Added, Adds, AreGivenAt, fulls}
+use Rattle.buffer_pool.specs.Forests.{FitsTrees}
 use Rattle.index_engine.specs.declared.write.Write.{Write}
 use Rattle.index_engine.specs.declared.write.Write.TheVariants as write
 use Rattle.index_engine.specs.Tells.{TellsOnce}
@@ -19,6 +23,11 @@ use Rattle.index_engine.specs.Traces.{TellsOfWrite, GivesUp}
 abbrev pub write_asked : Write → FieldList → List ℕ → Ask
 write_asked write.Put key value = Make (map.Put key value)
 write_asked write.Set key value = Make (map.Set key value)
+
+-- in each lawful state in which all that is known is so, there are so few pages that the trees may
+-- need them all
+abbrev pub KnowsShort : View → Type 0
+KnowsShort v = (w : ForestState) → IsLawful w → FitsTrees w v → IsShort w
 
 -- the word that there is no page for a row was said, and nothing else
 pub record SaysNoRoom (v v' : View) (i : ℕ) (ask : Ask) : Type 0 where

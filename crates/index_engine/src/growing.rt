@@ -5,7 +5,7 @@ ghost use Rattle.latch_space.specs.Passes.{view, count, IsSamePass};
 ghost use Rattle.latch_space.specs.Spaces.{IsPassOf};
 ghost use Rattle.map_history.specs.Operation.{operation_by};
 ghost use Rattle.call_law.specs.Once.{IsQuiet};
-ghost use Rattle.index_engine.specs.Writes.{write_asked, SaysNoRoom, TellsGrowth};
+ghost use Rattle.index_engine.specs.Writes.{write_asked, KnowsShort, SaysNoRoom, TellsGrowth};
 ghost use Rattle.index_engine.specs.Says.{told_space_full};
 
 use crate::tree_call::TreeCall;
@@ -52,9 +52,10 @@ impl<R: Wait> TreeCall<'_, R> {
 }
 
 impl<R> TreeCall<'_, R> {
-    /// Answers the write for want of a page.
+    /// Answers the write for want of a page, of so few.
     fn say_space_full(&self, pass: &mut ForestPass, write: Write, value: &Value) -> Told
         requires own { IsPassOf self.now.space.now pass.old }
+        requires short { KnowsShort (view pass.old) }
         ensures own { IsSamePass pass.old pass.new × IsPassOf self.now.space.now pass.new }
         ensures did { SaysNoRoom (view pass.old) (view pass.new) self.now.index
             (write_asked write self.now.key.now.tuple value.now) }
@@ -79,6 +80,7 @@ impl<R> TreeCall<'_, R> {
         self.space.read_point(pass, self.index, &said);
         told
     }
+
     /// The write of the key's row, as an operation.
     fn write_op<'a>(&'a self, write: Write, value: &'a Value) -> OpRef<'a>
         ensures { (operation_by result).ask

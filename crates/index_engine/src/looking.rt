@@ -8,7 +8,7 @@ ghost use Rattle.map_history.specs.Operation.{Seek};
 ghost use Rattle.index_page.specs.Page.{PageRows};
 ghost use Rattle.index_page.specs.Search.{Finds};
 ghost use Rattle.index_law.specs.Answers as answers;
-ghost use Rattle.buffer_pool.specs.Hands.{HoldsKnownFrame};
+ghost use Rattle.buffer_pool.specs.Hands.{MayGiveBack};
 ghost use Rattle.buffer_pool.specs.Frames.{GivesFrame};
 ghost use Rattle.tree_descent.specs.Ways.{HoldsPage};
 ghost use Rattle.tree_neighbours.specs.Sides.{side_of, row_on};
@@ -134,10 +134,10 @@ impl<R> SeekCall<'_, R> {
         }
     }
 
-    /// Gives a leaf back.
+    /// Gives a leaf back, which is what it is known to be.
     pub(crate) fn leave(&self, pass: &mut ForestPass, block: u32)
         requires own { IsPassOf self.now.space.now pass.old }
-        requires held { HoldsKnownFrame pass.old block }
+        requires held { MayGiveBack pass.old block }
         ensures own { IsSamePass pass.old pass.new × IsPassOf self.now.space.now pass.new }
         ensures gave { GivesFrame pass.old block pass.new }
     {

@@ -1,4 +1,4 @@
--- The report of the lanes is legal, but for room.
+-- The report of the lanes is legal.
 use Rattle.std.proofs.Common.{◌≡◌, false, List, [], ◌∷◌, length, take, ap, sym, ◌∙◌, subst, ⊎_elim, arith}
 use Rattle.std.proofs.lemmas.List.{length-map, take_all}
 use Rattle.std.specs.List.{AllByRecursion, AllZip}
@@ -6,7 +6,7 @@ use Rattle.latch_law.specs.declared.knows.Entry.{Entry}
 use Rattle.map_history.specs.Map.{MapChange, is_allowed, map_after}
 use Rattle.map_history.specs.Operation.{Ask, Get, Make, Seek, Scan, is_scan}
 use Rattle.map_history.specs.Report.{ScanPiece, Replied, LogFull, AnswerLine, Report, changes_at}
-use Rattle.map_history.specs.LegalReport.{Line, Run, Answers, HasReplies, RepliesAt, IsInOrder, HasScans, ScansFor, HasLogFull, IsLogFull, IsLegalButRoom}
+use Rattle.map_history.specs.LegalReport.{Line, Run, Answers, HasReplies, RepliesAt, IsInOrder, HasScans, ScansFor, HasLogFull, IsLogFull, IsLegalButRoom, IsLegalReport}
 use Rattle.index_law.specs.Answers.{MadeChange}
 use Rattle.forest_law.specs.State.{ForestState}
 use Rattle.index_law.specs.State.{changes}
@@ -17,6 +17,7 @@ use Rattle.list_facts.proofs.Elements.{all_at, all_zip_at}
 use Rattle.lane_law.proofs.SaidLemmas.{IsRepliedAt, IsFullAt}
 use Rattle.lane_law.proofs.AnswerLemmas.{answer_so}
 use Rattle.lane_law.proofs.EntryLemmas.{changes_same, changes_lawful, ok_named}
+use Rattle.lane_law.proofs.RoomLemmas.{room}
 
 forms_of : (lanes : List (List Line)) (told : List (List AnswerLine)) → AllZip AreInOrder lanes told → AllZip (AllZip Answers) lanes told
 forms_of [] [] all = tt
@@ -64,8 +65,8 @@ module _ (run : Run) (report : Report) (w : ForestState) (v : View) (plain : Has
             allowed = ap (λ cs. is_allowed (map_after cs) is.allowed.change) (sym whole) ∙ is.allowed.allowed;
           })
 
-  pub legal : IsLegalButRoom run report
-  legal = record {
+  but_room : IsLegalButRoom run report
+  but_room = record {
     form = record { lanes = forms_of run.lanes report.lanes all.lanes; names = all.names; counts = all.counts };
     changes = record {
       lawful = changes_lawful run report w v all entries;
@@ -77,3 +78,6 @@ module _ (run : Run) (report : Report) (w : ForestState) (v : View) (plain : Has
     scans = scans;
     log_full = log_full;
   }
+
+  pub legal : IsLegalReport run report
+  legal = record { but_room = but_room; room = room run report w v all entries }

@@ -3,6 +3,7 @@ pub mod WorkLemmas
 pub mod SaidLemmas
 pub mod AnswerLemmas
 pub mod EntryLemmas
+pub mod RoomLemmas
 pub mod LegalLemmas
 pub mod CountLemmas
 pub mod NoteLemmas

@@ -16,7 +16,7 @@ use Rattle.index_law.specs.Answers.{MadeChange, Word, Gives, Saying, Replies, Pi
 use Rattle.index_law.specs.Answers as word
 use Rattle.forest_law.specs.State.{ForestState}
 use Rattle.index_law.specs.State.{Entries}
-use Rattle.index_law.specs.Rightness.{map_at, IsAllowed, AsksToWrite, IsRight}
+use Rattle.index_law.specs.Rightness.{map_at, IsAllowed, AsksToWrite, IsShort, IsRight}
 use Rattle.call_law.specs.Spoken.{OwnAnswer, Spoken, spoken, spoken_at, spoken_saying, printed_word, sayings}
 use Rattle.lane_law.specs.Worked.{lane_sayings}
 use Rattle.lane_law.specs.Runs.{all_sayings}
@@ -48,7 +48,7 @@ pub record IsFullAt (w : ForestState) (i point : ℕ) (ask : Ask) : Type 0 where
 abbrev pub IsAnswerSo : ForestState → ℕ → ℕ → Ask → Answer → Type 0
 IsAnswerSo w i by ask (Replied reply point columns) = ((reply ≡ Done) × IsMadeAt w i point by ask) ⊎ ((reply ≢ Done) × IsRepliedAt w i point ask reply)
 IsAnswerSo w i by ask (LogFull n columns) = IsFullAt w i n ask
-IsAnswerSo w i by ask (SpaceFull columns) = AsksToWrite ask
+IsAnswerSo w i by ask (SpaceFull columns) = AsksToWrite ask × IsShort w
 IsAnswerSo w i by ask (Scanned pieces) = Unit {0}
 
 abbrev IsSpokenSo : ForestState → Spoken → Type 0

@@ -9,7 +9,7 @@ use Rattle.map_history.specs.Operation.{Get, Make}
 use Rattle.map_history.specs.Reply.{Value, Done}
 use Rattle.map_history.specs.Report.{AnswerLine, Replied, Report, dashes}
 use Rattle.map_history.specs.Statistics.{counts_of}
-use Rattle.map_history.specs.LegalReport.{Line, Run, IsLegalButRoom}
+use Rattle.map_history.specs.LegalReport.{Line, Run, IsLegalReport}
 use Rattle.index_law.specs.Answers.{MadeChange, Gives, Replies}
 use Rattle.forest_law.specs.declared.objects.Pool.{Pool}
 use Rattle.forest_law.specs.State.{ForestState}
@@ -120,7 +120,7 @@ pub record IsMet (sizes : Sizes) (w : ForestState) : Type 0 where
   pub runs : RunsAll (example_run sizes) example_report w (example_view w)
   pub notes : HasNotes (example_run sizes) example_report example_logs
   pub merged : HasMerged example_report example_logs
-  pub legal : IsLegalButRoom (example_run sizes) example_report
+  pub legal : IsLegalReport (example_run sizes) example_report
   pub trail : IsTrail (example_run sizes) example_report (example_view w)
 
 -- in each such state
@@ -132,7 +132,8 @@ abbrev pub example_state : Sizes → Pool → ForestState
 example_state sizes pool =
     state_after pool key value dashes (0 ∷ 0 ∷ 0 ∷ []) sizes.max_changes 2
 
--- it is such a state, with whatever pool a space of one page begins
+-- it is such a state, with a pool to which that of a space of one page leads, however that begins
 abbrev pub ExampleStands : Type 0
-ExampleStands = (sizes : Sizes) (pool : Pool) → sizes.pages ≡ 1 → 1 ≤ sizes.max_changes
-    → IsFirstPool (one_index (length key)) pool → IsExample sizes (example_state sizes pool)
+ExampleStands = (sizes : Sizes) (first : Pool) → sizes.pages ≡ 1 → 1 ≤ sizes.max_changes
+    → IsFirstPool (one_index (length key)) first
+    → (pool : Pool) × IsExample sizes (example_state sizes pool)

@@ -11,7 +11,7 @@ use Rattle.change_log.specs.Log.{ChangeNote, Log}
 use Rattle.change_log.specs.Merge.{IsMerge}
 use Rattle.map_history.specs.Operation.{is_scan}
 use Rattle.map_history.specs.Report.{Answer, AnswerLine, Report}
-use Rattle.map_history.specs.LegalReport.{Line, Run, Precedes, marks_of, IsLegalButRoom}
+use Rattle.map_history.specs.LegalReport.{Line, Run, Precedes, marks_of, IsLegalReport}
 use Rattle.forest_law.specs.State.{ForestState}
 use Rattle.index_law.specs.State.{Entries}
 use Rattle.index_law.specs.Answers.{MadeChange}
@@ -58,10 +58,10 @@ pub record RunsJoin : Type 0 where
       → AllZip AreInOrder lanes told → AllZip AreInOrder lanes' told'
       → AllZip AreInOrder (lanes ++ lanes') (told ++ told')
 
--- what lanes without scans are told is a legal report, but for room
+-- what lanes without scans are told is a legal report
 abbrev pub LanesAreLegal : Type 0
 LanesAreLegal = (run : Run) (report : Report) (w : ForestState) (v : View) → HasNoScan run
-    → RunsAll run report w v → AreEntries run report w → IsLegalButRoom run report
+    → RunsAll run report w v → AreEntries run report w → IsLegalReport run report
 
 -- where each lane noted its changes, the merged logs of an index are its list, change by change
 abbrev pub MergedLogsAreLists : Type 0

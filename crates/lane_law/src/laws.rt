@@ -13,7 +13,7 @@ pub fn runs_join()
     ensures { RunsJoin }
 {}
 
-/// What lanes are told of one space is a legal report, but for room.
+/// What lanes are told of one space is a legal report.
 pub fn lanes_are_legal()
     ensures { LanesAreLegal }
 {}

@@ -1,4 +1,4 @@
-//! Why what some lanes are told of one space is a report that is legal but for room.
+//! Why what some lanes are told of one space is a legal report.
 //! Laws alone: nothing here runs, waits or takes memory.
 #![tactic(auto)]
 

@@ -7,7 +7,7 @@ use Rattle.change_log.specs.Merge.{AreMerges}
 use Rattle.change_log.specs.Entries.{printed_entries, ArePrinted, AreCountedUp}
 use Rattle.latch_law.specs.Fitting.{IsFitted}
 use Rattle.map_history.specs.declared.sizes.Sizes.{Sizes}
-use Rattle.map_history.specs.LegalReport.{Run, IsLegalButRoom}
+use Rattle.map_history.specs.LegalReport.{Run, IsLegalReport}
 use Rattle.map_history.specs.LegalReport as legal
 use Rattle.map_history.specs.Report.{AnswerLine, ChangeLine, Report}
 use Rattle.map_history.specs.declared.line.Line.{Line}
@@ -60,11 +60,11 @@ AllAreLinesOf fields lanes =
 abbrev pub lanes_run : Sizes → List (List ℕ) → List (Vec Line Global) → Run
 lanes_run sizes names lanes = record { sizes = sizes; names = names; lanes = lane_texts lanes }
 
--- What is known of the changes that such lanes merged: they are the entries of a report that is
--- legal but for room, one of each and numbered from 1, and the joined pass did what it tells.
+-- What is known of the changes that such lanes merged: they are the entries of a legal report, one
+-- of each and numbered from 1, and the joined pass did what it tells.
 pub record AreReported (run : Run) (report : Report) (pass : EnginePass)
     (changes : List (List ChangeNote)) (entries : List (List ChangeLine)) : Type 0 where
-  pub legal : IsLegalButRoom run report
+  pub legal : IsLegalReport run report
   pub trail : IsTrail run report (known pass)
   pub printed : AllZip ArePrinted changes entries
   pub counted : AllByRecursion AreCountedUp changes

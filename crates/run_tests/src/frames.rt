@@ -4,21 +4,46 @@ use crate::setup::{LANE, ROOMY, SCHEMA, run};
 use crate::trees::counted;
 use ahi_cli::Status;
 use io_port::MemorySink;
-use report_judge::{judge, slices_of};
+use report_judge::{LIMITS, Limits, judge_within, slices_of};
 use std::alloc::Global;
 use std::sync::Wait;
 use std::thread::Threads;
 
-/// The report of these lanes over the index `t`, by a schema with these settings, where they are done
+/// How many blocks and pages a run has.
+#[derive(Clone, Copy)]
+struct PoolSizes {
+    blocks: u64,
+    pages: u64,
+}
+
+/// So many blocks, and as many pages as a run has that sets none.
+fn sizes_for(blocks: u64) -> PoolSizes {
+    PoolSizes {
+        blocks,
+        pages: LIMITS.pages,
+    }
+}
+
+/// Whether the report of these lanes over the index `t` is legal for a run with so many pages.
+fn is_legal(alloc: Global, pages: u64, lanes: &[&str], report: &[u8]) -> bool {
+    let limits = Limits {
+        changes: LIMITS.changes,
+        pages,
+    };
+    judge_within(alloc, limits, SCHEMA, lanes, report) == Ok(())
+}
+
+/// The report of these lanes over the index `t`, by a schema with these sizes, where they are done
 /// and it is legal.
 fn legal_report<R: AllocGlobal + Threads + Wait + Sync>(
     rt: &R,
-    settings: &str,
+    sizes: PoolSizes,
     lanes: &[&str],
 ) -> Option<MemorySink> {
-    let schema = format!(in rt.alloc(); "{settings}{SCHEMA}").ok()?;
+    let PoolSizes { blocks, pages } = sizes;
+    let schema = format!(in rt.alloc(); "blocks {blocks}\npages {pages}\n{SCHEMA}").ok()?;
     let (status, sink) = run(rt, schema.as_str(), lanes, ROOMY)?;
-    if status != Status::Done || judge(rt.alloc(), SCHEMA, lanes, sink.written()) != Ok(()) {
+    if status != Status::Done || !is_legal(rt.alloc(), pages, lanes, sink.written()) {
         return None;
     }
     Some(sink)
@@ -27,15 +52,16 @@ fn legal_report<R: AllocGlobal + Threads + Wait + Sync>(
 /// How many changes these lanes make by such a schema.
 fn changes_under<R: AllocGlobal + Threads + Wait + Sync>(
     rt: &R,
-    settings: &str,
+    sizes: PoolSizes,
     lanes: &[&str],
 ) -> Option<u64> {
-    let sink = legal_report(rt, settings, lanes)?;
+    let sink = legal_report(rt, sizes, lanes)?;
     counted(sink.written())
 }
 
-/// How many of 2,000 ascending rows with 2,000 bytes are put, where a get of each follows.
-fn rows_under<R: AllocGlobal + Threads + Wait + Sync>(rt: &R, settings: &str) -> Option<u64> {
+/// How many of 2,000 ascending rows with 2,000 bytes are put by sixteen frames and so many pages, where
+/// a get of each follows.
+fn rows_within<R: AllocGlobal + Threads + Wait + Sync>(rt: &R, pages: u64) -> Option<u64> {
     let numbers = Numbers {
         first: 0,
         factor: 1,
@@ -48,14 +74,15 @@ fn rows_under<R: AllocGlobal + Threads + Wait + Sync>(rt: &R, settings: &str) ->
         value: 2000,
     };
     let lane = puts_and_gets(rt.alloc(), numbers, look)?;
-    changes_under(rt, settings, &[lane.as_str()])
+    changes_under(rt, PoolSizes { blocks: 16, pages }, &[lane.as_str()])
 }
 
 /// Eight such rows fill a leaf, and four stay on the left of each split: so 499 leaves and a root
-/// have them all.
+/// have them all, and with one page less the last four find none.
 #[test]
 fn sixteen_frames_are_enough_for_five_hundred_pages(rt: HostRuntime) {
-    assert_eq!(rt; rows_under(&rt, "blocks 16\npages 500\n"), Some(2000));
+    assert_eq!(rt; rows_within(&rt, 500), Some(2000));
+    assert_eq!(rt; rows_within(&rt, 499), Some(1996));
 }
 
 /// The lane of every eighth number from this one on, below 2,400, with values of 1,000 bytes.
@@ -87,7 +114,7 @@ fn eight_lanes(alloc: Global) -> Option<Vec<String>> {
 fn changes_of_eight<R: AllocGlobal + Threads + Wait + Sync>(rt: &R) -> Option<u64> {
     let lanes = eight_lanes(rt.alloc())?;
     let texts = slices_of(rt.alloc(), &lanes).ok()?;
-    changes_under(rt, "blocks 72\n", &texts)
+    changes_under(rt, sizes_for(72), &texts)
 }
 
 /// How many of so many runs of the eight lanes make other than all changes.
@@ -106,12 +133,12 @@ fn eight_lanes_share_few_frames(rt: HostRuntime) {
     assert_eq!(rt; count_others(&rt, 4), 0);
 }
 
-/// Whether 64 lanes alike are done by a schema with these settings, and reported legally.
-fn are_done<R: AllocGlobal + Threads + Wait + Sync>(rt: &R, settings: &str) -> bool {
-    legal_report(rt, settings, &[LANE; 64]).is_some()
+/// Whether 64 lanes alike are done with frames for so many blocks, and reported legally.
+fn are_done<R: AllocGlobal + Threads + Wait + Sync>(rt: &R, blocks: u64) -> bool {
+    legal_report(rt, sizes_for(blocks), &[LANE; 64]).is_some()
 }
 
 #[test]
 fn as_many_lanes_run_as_frames_allow(rt: HostRuntime) {
-    assert!(rt; are_done(&rt, "blocks 520\n"));
+    assert!(rt; are_done(&rt, 520));
 }

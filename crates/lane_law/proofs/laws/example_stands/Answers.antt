@@ -5,13 +5,16 @@ use Rattle.map_history.specs.Report.{dashes}
 use Rattle.lane_law.proofs.laws.example_stands.Goals as goal
 
 pub returns : goal.returns
-returns c sizes pool one room first = record {
-  lawful = one_put_is_lawful.lawful pool key value dashes (0 ∷ 0 ∷ 0 ∷ []) sizes.max_changes 2 first;
-  lists = refl;
-  latches = refl;
-  passes = refl;
-  max_changes = refl;
-  room = room;
-  indexes = refl;
-  pages = sym one;
-}
+returns c sizes pool one room first = let restored = one_put_is_lawful.restores pool key first in (
+  restored.now,
+  record {
+    lawful = restored.lawful value dashes (0 ∷ 0 ∷ 0 ∷ []) sizes.max_changes 2;
+    lists = refl;
+    latches = refl;
+    passes = refl;
+    max_changes = refl;
+    room = room;
+    indexes = refl;
+    pages = sym one;
+  },
+)

@@ -62,9 +62,9 @@ pub leave-requires-clause-held : goal.leave-requires-clause-held
 leave-requires-clause-held g c = let last = c.requires.held in let b = c.args.leaf.now.block in
     let p = c.args.pass.now in let q = c.tell-told.new.pass in
     let terms = c.tell-told.ensures.own.1.1 ∙ sym c.requires.own.1 in
-    may_leave q (b ∷ []) b last.frame
+    may_leave q (b ∷ []) b c.args.self.now.index last.frame
     (only_same p q (b ∷ []) last.only c.tell-told.ensures.kept terms)
-    (knows_same p q b last.frame c.tell-told.ensures.kept.held terms last.knows)
+    (knows_same p q b last.frame c.tell-told.ensures.kept.held terms last.knows) last.is.page.is
 
 pub returns-clause-nothing : goal.returns-clause-nothing
 returns-clause-nothing g c = let last = c.requires.held in let b = c.args.leaf.now.block in

@@ -21,8 +21,9 @@ leave-requires-clause-held g c = let p = c.args.pass.now in let q = c.stand_on-s
     let both = c.requires.held in let b = c.args.leaf.now.block in let m = c.args.other in
     let terms = c.stand_on-stand.ensures.own.1.1 ∙ sym c.requires.own.1 in
     let kept = c.stand_on-stand.ensures.kept in
-    may_leave q (b ∷ m ∷ []) b both.frame (only_same p q (b ∷ m ∷ []) both.only kept terms)
-    (knows_same p q b both.frame kept.held terms both.knows)
+    may_leave q (b ∷ m ∷ []) b c.args.self.now.index both.frame
+    (only_same p q (b ∷ m ∷ []) both.only kept terms)
+    (knows_same p q b both.frame kept.held terms both.knows) both.is.page.is
 
 pub walk-requires-clause-walks : goal.walk-requires-clause-walks
 walk-requires-clause-walks g c = let call = c.args.self.now in let p = c.args.pass.now in

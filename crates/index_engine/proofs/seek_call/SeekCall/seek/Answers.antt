@@ -1,7 +1,7 @@
 use Rattle.std.proofs.Common.{subst, rules}
 use Rattle.latch_space.specs.Passes.{view}
 use Rattle.index_engine.specs.SeekSteps.{TriesSeek}
-use Rattle.index_engine.proofs.SeekTraceLemmas.{tries_vain, vain_none, vain_both, vain_then_tells}
+use Rattle.index_engine.proofs.SeekTryLemmas.{tries_vain, vain_none, vain_both, vain_then_tells}
 use Rattle.index_engine.proofs.seek_call.SeekCall.seek.Goals as goal
 
 pub loop-init : goal.loop-init

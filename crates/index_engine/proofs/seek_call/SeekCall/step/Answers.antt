@@ -14,9 +14,9 @@ leave-requires-clause-held g c = let call = c.args.self.now in let p = c.args.pa
     (subst (λ r. TellsBeside p b call.index c.side_of-side.result r q) c.in-Held.is
     c.take_beside.ensures.tells) in
     let walks = c.requires.walks in
-    may_leave q (b ∷ m ∷ []) b took.holds.frame
+    may_leave q (b ∷ m ∷ []) b call.index took.holds.frame
     (took_only p call.index call.mode call.tuple.now c.args.from walks m q took)
-    (took_knows p call.index call.mode call.tuple.now c.args.from walks m q took)
+    (took_knows p call.index call.mode call.tuple.now c.args.from walks m q took) took.holds.is
 
 pub step_onto-requires-clause-only : goal.step_onto-requires-clause-only
 step_onto-requires-clause-only g c = let call = c.args.self.now in let p = c.args.pass.now in

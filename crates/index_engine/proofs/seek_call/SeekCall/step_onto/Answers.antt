@@ -25,8 +25,8 @@ leave-requires-clause-held g c = let call = c.args.self.now in let p = c.args.pa
     let terms = c.stand_on.ensures.own.1.1 ∙ sym c.requires.own.1 in
     let holds = page_same p q call.index b c.stand_on.ensures.kept terms
     c.requires.stands.holds in
-    may_leave q (b ∷ []) b holds.frame
-    (only_same p q (b ∷ []) c.requires.only c.stand_on.ensures.kept terms) holds.knows
+    may_leave q (b ∷ []) b call.index holds.frame
+    (only_same p q (b ∷ []) c.requires.only c.stand_on.ensures.kept terms) holds.knows holds.is
 
 pub returns-in-Ends-clause-then : goal.returns-in-Ends-clause-then
 returns-in-Ends-clause-then g c = let call = c.args.self.now in let p = c.args.pass.now in

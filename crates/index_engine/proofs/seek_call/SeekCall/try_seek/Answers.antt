@@ -3,7 +3,7 @@ use Rattle.latch_law.specs.declared.knows.Terms.{Terms}
 use Rattle.latch_space.specs.Passes.{view}
 use Rattle.index_law.specs.Shape.{Shape}
 use Rattle.index_engine.specs.SeekSteps.{EndsFromLeaf}
-use Rattle.index_engine.proofs.SeekTraceLemmas.{tries_pair}
+use Rattle.index_engine.proofs.SeekTryLemmas.{tries_pair}
 use Rattle.index_engine.proofs.StandLemmas.{went_last, went_both}
 use Rattle.index_engine.proofs.seek_call.SeekCall.try_seek.Goals as goal
 

@@ -7,7 +7,7 @@ use Rattle.forest_world.specs.Held.{shape_of_pass}
 use Rattle.index_engine.specs.Says.{SeesFull}
 use Rattle.index_engine.proofs.CallLemmas.{can_refuse}
 use Rattle.index_engine.proofs.HoldLemmas.{frame_again, leaf_again}
-use Rattle.index_engine.proofs.KnownLemmas.{number_stays, number_made}
+use Rattle.index_engine.proofs.KnownLemmas.{number_stays, number_made, leaf_inside, made_inside}
 use Rattle.index_engine.proofs.RowLemmas.{lacked_key, put_makes}
 use Rattle.index_engine.proofs.TellLemmas.{says_made, looks_same, looks_then_says}
 use Rattle.index_engine.proofs.tree_call.TreeCall.commit_put.Goals as goal
@@ -30,19 +30,21 @@ say-requires-clause-held g c = let held = c.requires.held in let call = c.args.s
 
 pub returns-in-Ok-clause-did : goal.returns-in-Ok-clause-did
 returns-in-Ok-clause-did g c = let held = c.requires.held in let call = c.args.self.now in
-    let did = c.in-Ok.ensures.did in record {
-      says = says_made c.args.pass.now c.commit.new.pass call.index
-          (map.Put call.key.now.tuple c.args.value.now) (lent_row None) c.made.result c.in-Ok.point
-          c.made.ensures did.written;
+    let did = c.in-Ok.ensures.did in let p = c.args.pass.now in let b = c.args.block in
+    let key = call.key.now.tuple in let change = map.Put key c.args.value.now in
+    let makes = put_makes (shape_of_pass p) call.index key held.known held.holds.leaf held.made
+    c.args.place c.args.value.now held.puts in record {
+      says = says_made p c.commit.new.pass call.index change (lent_row None) c.made.result
+          c.in-Ok.point c.made.ensures did.written;
       holds = record {
         frame = held.made;
-        has = did.frames c.args.block held.known held.made held.holds.has;
+        has = did.frames b held.known held.made held.holds.has;
+        inside = made_inside p b call.index key held.known held.made held.holds (shape_of_pass p)
+            change held.made makes;
         one = did.count ∙ held.holds.one;
       };
-      number = number_made (view c.args.pass.now) c.args.block held.known held.holds.has.held
-          (shape_of_pass c.args.pass.now) (map.Put call.key.now.tuple c.args.value.now) held.made
-          (put_makes (shape_of_pass c.args.pass.now) call.index call.key.now.tuple held.known
-          held.holds.leaf held.made c.args.place c.args.value.now held.puts);
+      number = number_made (view p) b held.known held.holds.has.held (shape_of_pass p) change
+          held.made makes;
     }
 
 pub returns-in-Err-clause-did : goal.returns-in-Err-clause-did
@@ -61,6 +63,7 @@ returns-in-Err-clause-did g c = let held = c.requires.held in let call = c.args.
         frame = held.known;
         has = frame_again r s b held.known held.known c.say.ensures.kept
             c.say.ensures.did.once.adds.numbers.terms holds.has;
+        inside = leaf_inside r b i key held.known held.known holds;
         one = c.say.ensures.kept.count ∙ holds.one;
       };
       number = number_stays (view p) b held.known held.holds.has.held;

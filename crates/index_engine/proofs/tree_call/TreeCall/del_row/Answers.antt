@@ -7,7 +7,7 @@ use Rattle.forest_world.specs.Held.{shape_of_pass, HasFrame}
 use Rattle.index_engine.specs.Commits.{MakesChange, CanWriteAhead}
 use Rattle.index_engine.proofs.CallLemmas.{can_refuse}
 use Rattle.index_engine.proofs.HoldLemmas.{frame_again, leaf_again}
-use Rattle.index_engine.proofs.KnownLemmas.{number_stays, number_made}
+use Rattle.index_engine.proofs.KnownLemmas.{number_stays, number_made, leaf_inside, made_inside}
 use Rattle.index_engine.proofs.RowLemmas.{has_key, del_makes}
 use Rattle.index_engine.proofs.TellLemmas.{says_made, says_same, looks_then_says}
 use Rattle.index_engine.proofs.tree_call.TreeCall.del_row.Goals as goal
@@ -53,26 +53,26 @@ pub returns-in-Ok-clause-did : goal.returns-in-Ok-clause-did
 returns-in-Ok-clause-did g c = let held = c.requires.held in let call = c.args.self.now in
     let did = c.in-Ok.ensures.did in let next = g.X.Becomes.leaf in let p = c.args.pass.now in
     let q = c.write_ahead.new.pass in let r = c.delete.new.pass in let b = c.args.block in
-    let ask = Make (map.Del call.key.now.tuple) in
+    let key = call.key.now.tuple in let change = map.Del key in let ask = Make change in
+    let makes = subst (MakesChange (shape_of_pass p) change held.known) (sym held.next_is)
+    (del_makes (shape_of_pass p) call.index key held.known held.holds.leaf c.args.place held.row) in
     let has = subst (λ k. HasFrame q k next held.known) c.requires.block
     (did.frame held.known held.known
     (subst (λ k. HasFrame p k held.known held.known) (sym c.requires.block) held.holds.has)) in
     record {
       says = says_same (view p) (view q) (view r) call.index ask c.made.result (lent_row None)
-          (says_made p q call.index (map.Del call.key.now.tuple) (lent_row None) c.made.result
-          c.in-Ok.point c.made.ensures did.written) c.delete.ensures.same.view;
+          (says_made p q call.index change (lent_row None) c.made.result c.in-Ok.point
+          c.made.ensures did.written) c.delete.ensures.same.view;
       holds = record {
         frame = next;
         has = subst (HasFrame r b next) (sym held.next_is)
             (c.delete.ensures.out next held.known has);
+        inside = made_inside p b call.index key held.known held.known held.holds (shape_of_pass p)
+            change next makes;
         one = c.delete.ensures.same.count ∙ (did.count ∙ held.holds.one);
       };
-      number = number_made (view p) b held.known held.holds.has.held (shape_of_pass p)
-          (map.Del call.key.now.tuple) next
-          (subst (MakesChange (shape_of_pass p) (map.Del call.key.now.tuple) held.known)
-          (sym held.next_is)
-          (del_makes (shape_of_pass p) call.index call.key.now.tuple held.known held.holds.leaf
-          c.args.place held.row));
+      number = number_made (view p) b held.known held.holds.has.held (shape_of_pass p) change next
+          makes;
     }
 
 pub returns-in-Err-clause-did : goal.returns-in-Err-clause-did
@@ -88,6 +88,7 @@ returns-in-Err-clause-did g c = let held = c.requires.held in let call = c.args.
         frame = held.known;
         has = frame_again q r b held.known held.known c.say_of_del.ensures.kept
             c.say_of_del.ensures.did.once.adds.numbers.terms holds.has;
+        inside = leaf_inside q b call.index key held.known held.known holds;
         one = c.say_of_del.ensures.kept.count ∙ holds.one;
       };
       number = number_stays (view p) b held.known held.holds.has.held;

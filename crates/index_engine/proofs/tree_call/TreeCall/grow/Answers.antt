@@ -1,7 +1,12 @@
 use Rattle.std.proofs.Common.{Err, ap, ◌∙◌}
 use Rattle.index_engine.specs.Writes.{write_asked}
-use Rattle.index_engine.proofs.RoomLemmas.{room_then_word, write_asks}
+use Rattle.index_engine.proofs.RoomLemmas.{room_then_word, write_asks, knows_short}
 use Rattle.index_engine.proofs.tree_call.TreeCall.grow.Goals as goal
+
+pub say_space_full-requires-clause-short : goal.say_space_full-requires-clause-short
+say_space_full-requires-clause-short g c =
+    knows_short c.args.pass.now c.make_room-room.new.pass c.args.self.now.index
+    (c.make_room-room.ensures.full (c.in-Err.is ∙ ap Err c.in-SpaceFull.is))
 
 pub returns-in-SpaceFull-clause-ok : goal.returns-in-SpaceFull-clause-ok
 returns-in-SpaceFull-clause-ok g c = let call = c.args.self.now in

@@ -7,7 +7,7 @@ use Rattle.forest_world.specs.Held.{shape_of_pass}
 use Rattle.index_engine.specs.Changes.{FindsRow}
 use Rattle.index_engine.proofs.CallLemmas.{can_duplicate, can_refuse}
 use Rattle.index_engine.proofs.HoldLemmas.{frame_again, leaf_again}
-use Rattle.index_engine.proofs.KnownLemmas.{number_stays, number_later}
+use Rattle.index_engine.proofs.KnownLemmas.{number_stays, number_later, leaf_inside}
 use Rattle.index_engine.proofs.RowLemmas.{found_old, found_new, has_key, lacks_key}
 use Rattle.index_engine.proofs.TellLemmas.{looks_same, looks_then_says, said_holding}
 use Rattle.index_engine.proofs.tree_call.TreeCall.put_held.Goals as goal
@@ -71,6 +71,7 @@ returns-then-is_full-clause-ok g c = let held = c.requires.held in let call = c.
         frame = held.frame;
         has = frame_again q r leaf.block held.frame held.frame c.say-then-is_full.ensures.kept
             c.say-then-is_full.ensures.did.once.adds.numbers.terms holds.has;
+        inside = leaf_inside q leaf.block call.index key held.frame held.frame holds;
         one = c.say-then-is_full.ensures.kept.count ∙ holds.one;
       };
       number = number_stays (view p) leaf.block held.frame held.holds.has.held;

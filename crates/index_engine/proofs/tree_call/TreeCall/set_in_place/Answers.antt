@@ -7,7 +7,7 @@ use Rattle.forest_world.specs.Held.{shape_of_pass, HasFrame}
 use Rattle.index_engine.specs.Commits.{MakesChange, CanWriteAhead}
 use Rattle.index_engine.proofs.CallLemmas.{can_refuse}
 use Rattle.index_engine.proofs.HoldLemmas.{frame_again, leaf_again}
-use Rattle.index_engine.proofs.KnownLemmas.{number_stays, number_made}
+use Rattle.index_engine.proofs.KnownLemmas.{number_stays, number_made, leaf_inside, made_inside}
 use Rattle.index_engine.proofs.RowLemmas.{has_key, set_makes}
 use Rattle.index_engine.proofs.TellLemmas.{says_made, says_same, looks_then_says}
 use Rattle.index_engine.proofs.tree_call.TreeCall.set_in_place.Goals as goal
@@ -57,6 +57,9 @@ returns-in-Ok-clause-did g c = let held = c.requires.held in let call = c.args.s
     let did = c.in-Ok.ensures.did in let next = g.X.Becomes.leaf in let p = c.args.pass.now in
     let q = c.write_ahead.new.pass in let r = c.rewrite.new.pass in let b = c.args.block in
     let key = call.key.now.tuple in let change = map.Set key c.args.value.now in
+    let makes = subst (MakesChange (shape_of_pass p) change held.known) (sym held.next_is)
+    (set_makes (shape_of_pass p) call.index key held.known held.holds.leaf _ c.args.value.now
+    (held.row.sets c.args.value.now (held.no_longer key held.row.has))) in
     let has = subst (λ k. HasFrame q k next held.known) c.requires.block
     (did.frame held.known held.known
     (subst (λ k. HasFrame p k held.known held.known) (sym c.requires.block) held.holds.has)) in
@@ -69,13 +72,12 @@ returns-in-Ok-clause-did g c = let held = c.requires.held in let call = c.args.s
         frame = next;
         has = subst (HasFrame r b next) (sym held.next_is)
             (c.rewrite.ensures.set next held.known key held.row.has has);
+        inside = made_inside p b call.index key held.known held.known held.holds (shape_of_pass p)
+            change next makes;
         one = c.rewrite.ensures.same.count ∙ (did.count ∙ held.holds.one);
       };
       number = number_made (view p) b held.known held.holds.has.held (shape_of_pass p) change next
-          (subst (MakesChange (shape_of_pass p) change held.known) (sym held.next_is)
-          (set_makes (shape_of_pass p) call.index key held.known held.holds.leaf _
-          c.args.value.now
-          (held.row.sets c.args.value.now (held.no_longer key held.row.has))));
+          makes;
     }
 
 pub returns-in-Err-clause-did : goal.returns-in-Err-clause-did
@@ -92,6 +94,7 @@ returns-in-Err-clause-did g c = let held = c.requires.held in let call = c.args.
         frame = held.known;
         has = frame_again q r b held.known held.known c.say_of_set.ensures.kept
             c.say_of_set.ensures.did.once.adds.numbers.terms holds.has;
+        inside = leaf_inside q b call.index key held.known held.known holds;
         one = c.say_of_set.ensures.kept.count ∙ holds.one;
       };
       number = number_stays (view p) b held.known held.holds.has.held;

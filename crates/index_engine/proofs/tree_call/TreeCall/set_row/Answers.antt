@@ -9,7 +9,7 @@ use Rattle.leaf_rows.specs.Setting.{frame_with}
 use Rattle.index_engine.proofs.CallLemmas.{can_refuse}
 use Rattle.index_engine.proofs.ChangeLemmas.{frame_in_is}
 use Rattle.index_engine.proofs.HoldLemmas.{frame_again, leaf_again}
-use Rattle.index_engine.proofs.KnownLemmas.{number_stays, number_later}
+use Rattle.index_engine.proofs.KnownLemmas.{number_stays, number_later, leaf_inside}
 use Rattle.index_engine.proofs.RowLemmas.{has_key}
 use Rattle.index_engine.proofs.SettingLemmas.{value_there, value_is}
 use Rattle.index_engine.proofs.TellLemmas.{looks_same, looks_then_says}
@@ -67,6 +67,7 @@ returns-then-is_full-clause-ok g c = let held = c.requires.held in let call = c.
         frame = held.known;
         has = frame_again q r b held.known held.known c.say_of_set.ensures.kept
             c.say_of_set.ensures.did.once.adds.numbers.terms holds.has;
+        inside = leaf_inside q b call.index key held.known held.known holds;
         one = c.say_of_set.ensures.kept.count ∙ holds.one;
       };
       number = number_stays (view p) b held.known held.holds.has.held;
