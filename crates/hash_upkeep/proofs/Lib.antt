@@ -1,0 +1,6 @@
+pub mod WalkLemmas
+pub mod CoverLemmas
+pub mod ChangeLemmas
+pub mod KeepLemmas
+pub mod EmptyLemmas
+pub mod LawLemmas
