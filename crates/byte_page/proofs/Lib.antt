@@ -1,2 +1,3 @@
-pub mod PlaceLemmas
-pub mod SpellingLemmas
+pub mod FrontLemmas
+pub mod FormLemmas
+pub mod SearchLemmas

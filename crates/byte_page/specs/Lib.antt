@@ -1,2 +1,2 @@
-pub mod Reading
-pub mod Spelling
+pub mod Form
+pub mod Searching

@@ -1,14 +1,17 @@
-//! A page of rows that is its 16,384 bytes, seen as the rows that they spell.
+//! A page of a B-tree index that is its 16,384 bytes, seen as the head and the rows they spell.
 //! It never holds a row beside its bytes, and never looks at another page.
 #![tactic(auto)]
 
 mod front;
+mod inserting;
 mod page;
+mod search;
 #[cfg(test)]
 mod tests;
 mod walks;
 
 pub use page::BytePage;
+pub use search::ByteSpot;
 
 /// The bytes of a page.
 pub const PAGE_BYTES: usize = 16_384;

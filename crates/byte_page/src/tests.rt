@@ -1,5 +1,9 @@
 //! The bytes of a page against a dump.
+ghost use Rattle.std.specs.Prelude.{◌≡◌, ◌∷◌, [], length, IfSome};
+
 use crate::BytePage;
+use index_page::{Body, PageHead, Place, spots_tell_keys};
+use key_tuple::{Fields, Mode, Value};
 use std::alloc::Global;
 
 /// A line of a dump: where sixteen bytes stand, and which they are.
@@ -31,6 +35,47 @@ const LINES: [Line; 8] = [
     ),
 ];
 
+/// The lines that are others or new once a row with the key `a` and the value `x` is in it.
+const ROW_LINES: [Line; 4] = [
+    (
+        0x0020,
+        [0, 0, 0, 0, 0, 0, 0, 2, 0, 0x81, 0x80, 3, 0, 0, 0, 0],
+    ),
+    (0x0030, [0, 0, 0, 5, 0, 0, 0, 1, 0, 0, 0, 0, 0, 0, 0, 0]),
+    (0x0060, *b"\x02\x00\x1cinfimum\x00\x02\x00\x0b\x00\x00"),
+    (0x0070, *b"supremum\x01\x01\x00\x00\x10\xff\xf1a"),
+];
+
+/// The keys of eight rows, and where they stand.
+const EIGHT: [(u8, Place); 8] = [
+    (b'a', 127),
+    (b'b', 136),
+    (b'c', 145),
+    (b'd', 154),
+    (b'e', 163),
+    (b'f', 172),
+    (b'g', 181),
+    (b'h', 190),
+];
+
+/// A key of one byte.
+#[derive(Drop)]
+struct OneByte {
+    bytes: [u8; 1],
+}
+
+impl Fields for OneByte {
+    ghost fields_of = { λ k. k.bytes ∷ [] };
+
+    fn count(&self) -> u8 {
+        1
+    }
+
+    fn field(&self, _i: u8) -> &[u8] {
+        &self.bytes
+    }
+}
+
 /// The sixteen bytes at a place of the dump.
 fn line_at(at: usize) -> [u8; 16] {
     for (start, bytes) in LINES {
@@ -39,6 +84,19 @@ fn line_at(at: usize) -> [u8; 16] {
         }
     }
     [0; 16]
+}
+
+/// The sixteen bytes at a place of the dump with the row.
+fn row_line_at(at: usize) -> [u8; 16] {
+    for (start, bytes) in ROW_LINES {
+        if start == at {
+            return bytes;
+        }
+    }
+    if at == 0x0080 {
+        return *b"x\x00\x00\x00\x00\x00\x00\x00\x00\x00\x00\x00\x00\x00\x00\x00";
+    }
+    line_at(at)
 }
 
 /// The bytes are those of the dump.
@@ -51,13 +109,96 @@ fn is_dump(bytes: &[u8]) -> bool {
     true
 }
 
+/// The bytes are those of the dump with the row.
+fn is_row_dump(bytes: &[u8]) -> bool {
+    for (i, line) in bytes.chunks(16).enumerate() {
+        if line != row_line_at(16 * i).as_slice() {
+            return false;
+        }
+    }
+    true
+}
+
 /// Page 3 of index 0 with nothing in it, if there is memory.
-fn page_three(alloc: Global) -> Option<BytePage> {
-    BytePage::empty(alloc, 3, 0, 1).ok()
+fn page_three(alloc: Global) -> Option<BytePage>
+    ensures fields { IfSome result (λ form. form.page.head.fields ≡ 1) }
+    ensures level { IfSome result (λ form. form.page.head.level ≡ 0) }
+    ensures rows { IfSome result (λ form. form.page.rows ≡ []) }
+{
+    let head = PageHead {
+        number: 3,
+        index: 0,
+        level: 0,
+        prev: None,
+        next: None,
+        fields: 1,
+    };
+    BytePage::empty(alloc, head).ok()
+}
+
+/// The same with the row, if its place is 127.
+fn page_with_row(alloc: Global) -> Option<BytePage> {
+    let mut page = page_three(alloc)?;
+    let value = Value::try_new(vec![in alloc; b'x'; 1].ok()?).ok()?;
+    let place = page
+        .insert(&OneByte { bytes: *b"a" }, Body::Value(&value))
+        .ok()?;
+    if place == 127 { Some(page) } else { None }
+}
+
+/// Puts a row in, if its key isn't there, and tells its place.
+fn put(page: &mut BytePage, byte: u8, value: &Value) -> Option<Place>
+    requires fields { page.old.page.head.fields ≡ 1 }
+    requires level { page.old.page.head.level ≡ 0 }
+    ensures fields { page.new.page.head.fields ≡ 1 }
+    ensures level { page.new.page.head.level ≡ 0 }
+{
+    let key = OneByte { bytes: [byte] };
+    page.is_in_order();
+    spots_tell_keys();
+    let spot = page.search(&key, Mode::Ge);
+    if spot.up.fields == 1 {
+        return None;
+    }
+    page.insert(&key, Body::Value(value)).ok()
+}
+
+/// Page 3 with rows of the keys `a` to `h` and values of one byte, if they stand where they do in
+/// the dump: the eighth splits the slot of supremum.
+fn page_with_eight(alloc: Global) -> Option<BytePage> {
+    let mut page = page_three(alloc)?;
+    let value = Value::try_new(vec![in alloc; b'x'; 1].ok()?).ok()?;
+    for (byte, place) in EIGHT {
+        if put(&mut page, byte, &value)? != place {
+            return None;
+        }
+    }
+    Some(page)
+}
+
+/// The head's numbers and the slots are those of the dump with eight rows.
+fn has_eight(bytes: &[u8]) -> bool
+    requires { length bytes.now ≡ 16384 }
+{
+    bytes[38..46] == [0, 3, 0, 192, 0x80, 10, 0, 0]
+        && bytes[54..56] == [0, 8]
+        && bytes[0x3ff0..0x3ff8] == [0, 0, 0, 0x70, 0, 0x9a, 0, 0x63]
 }
 
 #[test]
 fn a_page_without_rows_has_the_bytes_of_the_dump(rt: HostRuntime) {
     let same = page_three(rt.alloc()).map_or(false, |page| is_dump(&page.bytes));
+    assert!(rt; same);
+}
+
+#[test]
+fn a_page_with_a_row_has_the_bytes_of_the_dump(rt: HostRuntime) {
+    let same = page_with_row(rt.alloc()).map_or(false, |page| is_row_dump(&page.bytes));
+    assert!(rt; same);
+}
+
+#[test]
+fn a_page_with_eight_rows_has_three_slots(rt: HostRuntime) {
+    let same = page_with_eight(rt.alloc()).map_or(false, |page| has_eight(&page.bytes));
     assert!(rt; same);
 }

@@ -7,7 +7,7 @@ use crate::page::BytePage;
 use page_mirror::next_of;
 
 /// Where infimum stands, which leads to the first row.
-const INFIMUM: u16 = 99;
+pub(crate) const INFIMUM: u16 = 99;
 
 /// Where supremum stands, to which the last row leads.
 const SUPREMUM: u16 = 112;
@@ -15,22 +15,22 @@ const SUPREMUM: u16 = 112;
 impl BytePage {
     /// The place of the first row, none on a page with no rows.
     pub fn first(&self) -> Option<u16>
-        ensures { IsAt self.now result (first_of_rows self.now) }
+        ensures { IsAt self.now.page.rows result (first_of_rows self.now.page.rows) }
     {
         row_place(next_of(&self.bytes, INFIMUM))
     }
 
     /// The place of the next row, none at the last one.
     pub fn next(&self, place: u16) -> Option<u16>
-        requires { IsSome (find_row place self.now) }
-        ensures { NextIs self.now place result }
+        requires { IsSome (find_row place self.now.page.rows) }
+        ensures { NextIs self.now.page.rows place result }
     {
         row_place(next_of(&self.bytes, place))
     }
 }
 
 /// The place itself, if it is a row's.
-fn row_place(place: u16) -> Option<u16>
+pub(crate) fn row_place(place: u16) -> Option<u16>
     ensures { result ≡ if nat_eq place 112 then None else Some place }
 {
     if place == SUPREMUM { None } else { Some(place) }

@@ -2,7 +2,7 @@
 use Rattle.std.proofs.Common.{◌≡◌, ℕ, zero, suc, ◌+◌, ◌*◌, ◌/◌, ◌%◌, ◌<◌, ◌≤◌, List, length, slice_index, take, drop, refl, sym, ap, subst, ◌∙◌, arith, length-take-le, length-drop}
 use Rattle.std.proofs.lemmas.List.{get_or-take, get_or-drop}
 use Rattle.compact_record.specs.Bytes.{u16_at, SpellsAt}
-use Rattle.page_mirror.specs.Cells.{end_of}
+use Rattle.page_mirror.specs.Cells.{end_in}
 use Rattle.page_mirror.specs.Words.{slot_word}
 use Rattle.page_mirror.specs.Mirror.{Mirrors, HasFixed, HasCell, origin_of}
 use Rattle.page_mirror.specs.Empty.{empty_mirror, empty_numbers, end_records}
@@ -40,9 +40,9 @@ empty_page old b len numbers rows ends zeros first last fixed =
         first = refl;
         second = refl;
         numbered = below_two (λ h. (m.cell h).number / 8 ≡ h) refl refl;
-        apart = λ h k b w. subst (λ i. end_of (m.cell h) ≤ (m.cell i).start) (let e : 1 ≡ k = omega arith in e)
-            (subst (λ i. end_of (m.cell i) ≤ (m.cell 1).start) (let e : 0 ≡ h = omega arith in e) (omega arith));
-        high = below_two (λ h. end_of (m.cell h) ≤ 120) (omega arith) (omega arith);
+        apart = λ h k b w. subst (λ i. end_in (m.cell h) ≤ (m.cell i).start) (let e : 1 ≡ k = omega arith in e)
+            (subst (λ i. end_in (m.cell i) ≤ (m.cell 1).start) (let e : 0 ≡ h = omega arith in e) (omega arith));
+        high = below_two (λ h. end_in (m.cell h) ≤ 120) (omega arith) (omega arith);
       };
       head = record {
         dir_slots = two_at 38 empty_numbers numbers 0 (omega arith);

@@ -3,7 +3,7 @@ use Rattle.std.proofs.Common.{◌≡◌, ℕ, ◌+◌, ◌-◌, ◌*◌, ◌/◌
 use Rattle.std.proofs.lemmas.Bool.{cases_lt, cases_eq}
 use Rattle.std.proofs.lemmas.Bool.Decides.{nat_tests}
 use Rattle.compact_record.specs.Bytes.{SameOutside}
-use Rattle.page_mirror.specs.Cells.{Cell, StandsHere, origin_in, end_of}
+use Rattle.page_mirror.specs.Cells.{Cell, StandsHere, origin_in, end_in}
 use Rattle.compact_record.proofs.BytesLemmas.{spells_kept, u16_kept}
 use Rattle.page_mirror.specs.Words.{next_origin, owned_count, slot_word}
 use Rattle.page_mirror.specs.Mirror.{Mirror, Mirrors, HasHead, HasFixed, HasCell, IsHeap, changed, origin_of}
@@ -18,7 +18,7 @@ changed-other f i v k h = grind (arith, nat_tests)
 pub starts_above : {count top : ℕ} {cell : ℕ → Cell} → IsHeap count cell top → (h : ℕ) → h < count → 94 ≤ (cell h).start
 starts_above {cell = cell} heap h w =
     let some = heap.some in
-    let end : end_of (cell 0) ≡ 107 = ap end_of heap.first in
+    let end : end_in (cell 0) ≡ 107 = ap end_in heap.first in
     elim (cases_eq h 0) [
       | inl is ↦ rw (is, heap.first) (omega arith)
       | inr other ↦ let after = heap.apart 0 h (omega (arith, other)) w in omega arith
@@ -27,13 +27,13 @@ starts_above {cell = cell} heap h w =
 pub top_above : {count top : ℕ} {cell : ℕ → Cell} → IsHeap count cell top → 120 ≤ top
 top_above {cell = cell} heap =
     let some = heap.some in
-    let end : end_of (cell 1) ≡ 120 = ap end_of heap.second in
+    let end : end_in (cell 1) ≡ 120 = ap end_in heap.second in
     let high = heap.high 1 (omega arith) in
     omega arith
 
 -- two records don't overlap
 pub cells_apart : {count top : ℕ} {cell : ℕ → Cell} → IsHeap count cell top → (h k : ℕ) → h < count → k < count → (h ≡ k → ⊥)
-    → (end_of (cell h) ≤ (cell k).start) ⊎ (end_of (cell k) ≤ (cell h).start)
+    → (end_in (cell h) ≤ (cell k).start) ⊎ (end_in (cell k) ≤ (cell h).start)
 cells_apart heap h k low high differ = elim (cases_lt h k) [
   | inl below ↦ inl (heap.apart h k below high)
   | inr above ↦ inr (heap.apart k h (omega (arith, differ)) low)
@@ -41,7 +41,7 @@ cells_apart heap h k low high differ = elim (cases_lt h k) [
 
 -- a record that the write doesn't touch, or of which it touches the link or the count alone
 pub stands_kept : {old new : List ℕ} {from to : ℕ} (c : Cell) → SameOutside old new from to
-    → (end_of c ≤ from) ⊎ (to ≤ c.start) → StandsHere old c → StandsHere new c
+    → (end_in c ≤ from) ⊎ (to ≤ c.start) → StandsHere old c → StandsHere new c
 stands_kept c same apart s = record {
   fits = rw same.len s.fits;
   lengths = spells_kept same c.start c.lengths (elim apart [ inl low ↦ inl (omega arith) | inr high ↦ inr high ]) s.lengths;
@@ -81,7 +81,7 @@ owned_kept same at apart low =
 
 -- a write outside a record keeps all of it
 pub cell_kept : {old new : List ℕ} {from to next owned : ℕ} (c : Cell) → SameOutside old new from to
-    → (end_of c ≤ from) ⊎ (to ≤ c.start) → HasCell old c next owned → HasCell new c next owned
+    → (end_in c ≤ from) ⊎ (to ≤ c.start) → HasCell old c next owned → HasCell new c next owned
 cell_kept c same apart r = record {
   stands = stands_kept c same apart r.stands;
   leads = next_kept same (origin_in c) (elim apart [ inl low ↦ inl (omega arith) | inr high ↦ inr (omega arith) ]) (omega arith) ∙ r.leads;
@@ -120,7 +120,7 @@ pub record Spares (new : List ℕ) (m : Mirror) (p : ℕ) : Type 0 where
 
 -- a write within record p keeps the rest
 pub spares : {old new : List ℕ} {from to : ℕ} {m : Mirror} (p : ℕ) → Mirrors old m → p < m.count → SameOutside old new from to
-    → (m.cell p).start ≤ from → to ≤ end_of (m.cell p) → Spares new m p
+    → (m.cell p).start ≤ from → to ≤ end_in (m.cell p) → Spares new m p
 spares {m = m} p r within same above below =
     let low = starts_above r.heap p within in
     let high = r.heap.high p within in

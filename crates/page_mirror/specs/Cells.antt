@@ -16,12 +16,12 @@ abbrev pub origin_in : Cell → ℕ
 origin_in c = c.start + length c.lengths + 5
 
 -- where the bytes behind the record begin
-abbrev pub end_of : Cell → ℕ
-end_of c = origin_in c + length c.body
+abbrev pub end_in : Cell → ℕ
+end_in c = origin_in c + length c.body
 
 -- the bytes are those of the record; which one it leads to and how many it owns is said apart
 pub record StandsHere (bytes : List ℕ) (c : Cell) : Type 0 where
-  pub fits : end_of c ≤ length bytes
+  pub fits : end_in c ≤ length bytes
   pub lengths : SpellsAt bytes c.start c.lengths
   pub info : slice_index bytes (origin_in c - 5) / 16 ≡ c.info
   pub number : u16_at bytes (origin_in c - 4) ≡ c.number

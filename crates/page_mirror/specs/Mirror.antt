@@ -1,7 +1,7 @@
 -- A page's bytes as numbers, slots, and records under their heap numbers.
 use Rattle.std.specs.Prelude.{◌≡◌, ℕ, ◌+◌, ◌*◌, ◌/◌, ◌<◌, ◌≤◌, List, length, slice_index, nat_eq, if◌then◌else◌}
 use Rattle.compact_record.specs.Bytes.{u16_at}
-use Rattle.page_mirror.specs.Cells.{Cell, StandsHere, origin_in, end_of, infimum, supremum}
+use Rattle.page_mirror.specs.Cells.{Cell, StandsHere, origin_in, end_in, infimum, supremum}
 use Rattle.page_mirror.specs.Words.{next_origin, owned_count, slot_word}
 
 -- f, with the value v at i
@@ -33,8 +33,8 @@ pub record IsHeap (count : ℕ) (cell : ℕ → Cell) (top : ℕ) : Type 0 where
   pub first : cell 0 ≡ infimum
   pub second : cell 1 ≡ supremum
   pub numbered : (h : ℕ) → h < count → (cell h).number / 8 ≡ h
-  pub apart : (h k : ℕ) → h < k → k < count → end_of (cell h) ≤ (cell k).start
-  pub high : (h : ℕ) → h < count → end_of (cell h) ≤ top
+  pub apart : (h k : ℕ) → h < k → k < count → end_in (cell h) ≤ (cell k).start
+  pub high : (h : ℕ) → h < count → end_in (cell h) ≤ top
 
 -- the six numbers of the head
 pub record HasHead (bytes : List ℕ) (slots top count free wasted rows : ℕ) : Type 0 where

@@ -3,7 +3,7 @@ use Rattle.std.proofs.Common.{◌≡◌, ℕ, zero, suc, ◌==◌, eq-eqb, Bool,
 use Rattle.std.proofs.lemmas.Bool.Decides.{nat_tests}
 use Rattle.page_mirror.specs.Words.{next_origin}
 use Rattle.index_page.specs.Rows.{find_row, first_of_rows, IsAt}
-use Rattle.byte_page.specs.Reading.{places_from, row_in_bytes}
+use Rattle.page_rows.specs.Reading.{places_from, row_in_bytes}
 
 -- as many places as are asked for
 pub length-places_from : (bytes : List ℕ) (at n : ℕ) → length (places_from bytes at n) ≡ n

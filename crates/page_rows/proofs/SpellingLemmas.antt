@@ -1,23 +1,25 @@
 -- What is read from the bytes of a page is what stands in its list.
-use Rattle.std.proofs.Common.{◌≡◌, ℕ, zero, suc, ◌<◌, ◌≤◌, Option, Some, None, IsSome, List, [], ◌∷◌, ◌++◌, map, length, slice_index, nat_eq, count_by, false, cond, refl, sym, ap, subst, ◌∙◌, arith, length-append}
+use Rattle.std.proofs.Common.{◌≡◌, ℕ, ◌<◌, ◌≤◌, Option, Some, None, IsSome, List, [], ◌∷◌, ◌++◌, map, length, nat_eq, count_by, false, cond, refl, sym, ap, subst, ◌∙◌, arith, length-append}
 use Rattle.std.proofs.lemmas.List.{append_assoc, map-append, length-map}
 use Rattle.std.proofs.lemmas.Bool.Decides.{nat_tests}
 use Rattle.std.specs.List.{AllByRecursion}
 use Rattle.list_facts.proofs.Each.{each_left, each_right}
 use Rattle.compact_record.specs.Bytes.{u16_at}
-use Rattle.page_mirror.specs.Cells.{end_of, origin_in}
+use Rattle.page_mirror.specs.Cells.{end_in, origin_in}
 use Rattle.page_mirror.specs.Words.{next_origin}
 use Rattle.page_mirror.specs.Mirror.{Mirror, Mirrors, IsHeap, origin_of}
 use Rattle.page_mirror.specs.Steps.{HasOrigin}
-use Rattle.page_mirror.specs.Empty.{empty_mirror}
-use Rattle.page_directory.specs.Groups.{Group, records, AreLinked}
-use Rattle.page_directory.specs.Sizes.{MayOwn}
+use Rattle.page_directory.specs.Groups.{records, AreLinked}
 use Rattle.page_directory.proofs.ListLemmas.{counted_apart, linked_right}
-use Rattle.index_page.specs.Rows.{find_row, first_of_rows, IsAt}
+use Rattle.index_page.specs.Rows.{Row, find_row, first_of_rows, IsAt}
 use Rattle.index_page.specs.Changes.{NextIs}
-use Rattle.byte_page.specs.Reading.{places_from, row_in_bytes, rows_in_bytes}
-use Rattle.byte_page.specs.Spelling.{HasRowRecord, SpellsRows, IsPageOfRows}
-use Rattle.byte_page.proofs.PlaceLemmas.{IsListed, found_listed, listed_found, first_place, first_is_at, length-places_from}
+use Rattle.page_rows.specs.Reading.{places_from, row_of_record, row_in_bytes, rows_in_bytes}
+use Rattle.compact_record.specs.Record.{PlacedRecord}
+use Rattle.compact_record.specs.Reading.{HasRecord}
+use Rattle.compact_record.proofs.LawLemmas.{record_there, record_read}
+use Rattle.page_heap.proofs.CellLemmas.{record_in_page}
+use Rattle.page_rows.specs.Spelling.{StandsAsRow, PageParts, SpellsRows, IsPageOfRows}
+use Rattle.page_rows.proofs.PlaceLemmas.{IsListed, found_listed, listed_found, first_place, first_is_at, length-places_from}
 
 -- the places that are read are those of the records
 places_read : (bytes : List ℕ) (m : Mirror) → Mirrors bytes m → (h : ℕ) (hs : List ℕ) (end : ℕ)
@@ -37,8 +39,12 @@ pub record IsWhole (m : Mirror) (inner : List ℕ) : Type 0 where
   pub high : AllByRecursion (λ h. h ≡ 1 → ⊥) inner
   pub rows : m.rows ≡ length inner
 
-pub whole_list : {bytes : List ℕ} {fields : ℕ} {m : Mirror} {gs : List Group} {free inner : List ℕ} → SpellsRows bytes fields m gs free inner → IsWhole m inner
-whole_list {bytes} {fields} {m} {gs} {free} {inner} r =
+pub whole_list : {bytes : List ℕ} {fields : ℕ} {p : PageParts} {loose : List ℕ} → SpellsRows bytes fields p loose → IsWhole p.mirror p.inner
+whole_list {bytes} {fields} {p} r =
+    let m = p.mirror in
+    let gs = p.groups in
+    let free = p.free in
+    let inner = p.inner in
     let order = r.page.order in
     let once : (h : ℕ) → count_by (λ k. nat_eq k h) ((0 ∷ (inner ++ 1 ∷ [])) ++ free) ≤ 1 = rw r.list at order.once in
     let cut : (0 ∷ (inner ++ 1 ∷ [])) ++ free ≡ (0 ∷ inner) ++ 1 ∷ free = simp append_assoc in
@@ -64,18 +70,40 @@ supremum_at r = ap origin_in r.heap.second
 -- a row's record stands behind them
 behind : {count top : ℕ} {cell : _} → IsHeap count cell top → (h : ℕ) → h < count → (h ≡ 0 → ⊥) → (h ≡ 1 → ⊥) → 120 < origin_in (cell h)
 behind {cell = cell} heap h w first second =
-    let end : end_of (cell 1) ≡ 120 = ap end_of heap.second in
+    let end : end_in (cell 1) ≡ 120 = ap end_in heap.second in
     let after = heap.apart 1 h (omega (arith, first, second)) w in
     omega arith
 
 -- the rows that are read are those of the list
-pub rows_spelled : {bytes : List ℕ} {fields : ℕ} {m : Mirror} {gs : List Group} {free inner : List ℕ} → SpellsRows bytes fields m gs free inner
-    → rows_in_bytes bytes fields ≡ map (row_in_bytes bytes fields) (map (origin_of m) inner)
-rows_spelled {bytes} {fields} {m} {gs} {free} {inner} r =
+pub rows_spelled : {bytes : List ℕ} {fields : ℕ} {p : PageParts} {loose : List ℕ} → SpellsRows bytes fields p loose
+    → rows_in_bytes bytes fields ≡ map (row_in_bytes bytes fields) (map (origin_of p.mirror) p.inner)
+rows_spelled {bytes} {fields} {p} r =
+    let m = p.mirror in
+    let inner = p.inner in
     let whole = whole_list r in
     let count : u16_at bytes 54 ≡ length inner = r.page.is.head.n_recs ∙ whole.rows in
     let start : next_origin bytes 99 ≡ next_origin bytes (origin_of m 0) = ap (next_origin bytes) (sym (infimum_at r.page.is).placed) in
     ap (map (row_in_bytes bytes fields)) (rw (count, start) (places_read bytes m r.page.is 0 inner 1 whole.inside whole.linked))
+
+-- the row of a record of the list
+abbrev pub row_of : PageParts → ℕ → Row
+row_of p h = row_of_record (origin_of p.mirror h) (p.of h)
+
+rows_each : (bytes : List ℕ) (fields : ℕ) (p : PageParts) → Mirrors bytes p.mirror → (hs : List ℕ) → AllByRecursion (λ h. h < p.mirror.count) hs
+    → AllByRecursion (StandsAsRow fields p.mirror p.of) hs → map (row_in_bytes bytes fields) (map (origin_of p.mirror) hs) ≡ map (row_of p) hs
+rows_each bytes fields p is [] inside stands = refl
+rows_each bytes fields p is (h ∷ hs) inside stands =
+    let s = stands.0 in
+    let at : HasOrigin bytes p.mirror h (origin_of p.mirror h) = record { is = is; within = inside.0; placed = refl } in
+    let read = record_read bytes (origin_of p.mirror h) fields (p.of h) (record_in_page fields (p.of h) at s.cell s.sound s.count) in
+    rw read (ap (λ (xs : List Row). row_of p h ∷ xs) (rows_each bytes fields p is hs inside.1 stands.1))
+
+-- the rows that are read are those of the records
+pub rows_are : {bytes : List ℕ} {fields : ℕ} {p : PageParts} {loose : List ℕ} → SpellsRows bytes fields p loose → rows_in_bytes bytes fields ≡ map (row_of p) p.inner
+rows_are {bytes} {fields} {p} {loose} r =
+    let m = p.mirror in
+    let stands = each_left (StandsAsRow fields m p.of) p.inner p.free (each_right (StandsAsRow fields m p.of) loose (p.inner ++ p.free) r.rows) in
+    rows_spelled r ∙ rows_each bytes fields p r.page.is p.inner (each_left (λ h. h < m.count) p.inner (1 ∷ []) (whole_list r).inside.1) stands
 
 -- there are as many as the head says
 pub count_rows : (bytes : List ℕ) (fields : ℕ) → length (rows_in_bytes bytes fields) ≡ u16_at bytes 54
@@ -102,10 +130,12 @@ told_first {m = m} r h (x ∷ xs) inside linked low high =
     rw linked.0 (told_some (origin_of m x) (behind r.heap x inside.0 low.0 high.0))
 
 -- the next row of the one at a place
-pub next_is : {bytes : List ℕ} {fields : ℕ} {m : Mirror} {gs : List Group} {free inner : List ℕ} (place next : ℕ)
-    → SpellsRows bytes fields m gs free inner → (l : IsListed (origin_of m) inner place) → next ≡ origin_of m (m.next l.here)
+pub next_is : {bytes : List ℕ} {fields : ℕ} {p : PageParts} (place next : ℕ)
+    → SpellsRows bytes fields p [] → (l : IsListed (origin_of p.mirror) p.inner place) → next ≡ origin_of p.mirror (p.mirror.next l.here)
     → NextIs (rows_in_bytes bytes fields) place (told next)
-next_is {bytes} {fields} {m} {gs} {free} {inner} place next r l leads =
+next_is {bytes} {fields} {p} place next r l leads =
+    let m = p.mirror in
+    let inner = p.inner in
     let whole = whole_list r in
     let row = row_in_bytes bytes fields in
     let end : 0 ∷ (inner ++ 1 ∷ []) ≡ (0 ∷ l.low) ++ l.here ∷ (l.high ++ 1 ∷ []) = ap (λ (xs : List ℕ). 0 ∷ (xs ++ 1 ∷ [])) l.is ∙ simp append_assoc in
@@ -127,76 +157,54 @@ next_is {bytes} {fields} {m} {gs} {free} {inner} place next r l leads =
       next_at = rw cut (first_is_at bytes fields (origin_of m) (l.low ++ l.here ∷ []) l.high);
     })
 
+-- the record of a row that is found
+pub record IsFoundIn (bytes : List ℕ) (fields : ℕ) (m : Mirror) (of : ℕ → PlacedRecord) (inner : List ℕ) (place : ℕ) : Type 0 where
+  pub listed : IsListed (origin_of m) inner place
+  pub at : HasOrigin bytes m listed.here place
+  pub stands : StandsAsRow fields m of listed.here
+
+pub found_in : {bytes : List ℕ} {fields : ℕ} (place : ℕ) → (p : IsPageOfRows bytes fields) → IsSome (find_row place (rows_in_bytes bytes fields))
+    → IsFoundIn bytes fields p.parts.mirror p.parts.of p.parts.inner place
+found_in {bytes} {fields} place p there =
+    let m = p.parts.mirror in
+    let inner = p.parts.inner in
+    let r = p.spells in
+    let l = found_listed bytes fields (origin_of m) inner place (rw (rows_spelled r) at there) in
+    let each = subst (AllByRecursion (λ h. h < m.count)) l.is (each_left (λ h. h < m.count) inner (1 ∷ []) (whole_list r).inside.1) in
+    let rows = subst (AllByRecursion (StandsAsRow fields m p.parts.of)) l.is (each_left (StandsAsRow fields m p.parts.of) inner p.parts.free r.rows) in
+    record {
+      listed = l;
+      at = record { is = r.page.is; within = (each_right (λ h. h < m.count) l.low (l.here ∷ l.high) each).0; placed = l.placed };
+      stands = (each_right (StandsAsRow fields m p.parts.of) l.low (l.here ∷ l.high) rows).0;
+    }
+
 -- a row stands at the place at which one is found, and it is the one that is read there
-pub row_there : {bytes : List ℕ} {fields : ℕ} (place : ℕ) → IsPageOfRows bytes fields → IsSome (find_row place (rows_in_bytes bytes fields)) → HasRowRecord bytes fields place
+pub row_there : {bytes : List ℕ} {fields : ℕ} (place : ℕ) → IsPageOfRows bytes fields → IsSome (find_row place (rows_in_bytes bytes fields)) → HasRecord bytes place fields
 row_there {bytes} {fields} place p there =
-    let m = p.0 in
-    let r = p.4 in
-    let l = found_listed bytes fields (origin_of m) p.3 place (rw (rows_spelled r) at there) in
-    let rows = each_right (λ h. HasRowRecord bytes fields (origin_of m h)) l.low (l.here ∷ l.high) (subst (AllByRecursion (λ h. HasRowRecord bytes fields (origin_of m h))) l.is r.rows) in
-    subst (HasRowRecord bytes fields) l.placed rows.0
+    let f = found_in place p there in
+    let s = f.stands in
+    let r = p.parts.of f.listed.here in
+    record_there bytes place fields r (record_in_page fields r f.at s.cell s.sound s.count)
 
 pub row_found : {bytes : List ℕ} {fields : ℕ} (place : ℕ) → IsPageOfRows bytes fields → IsSome (find_row place (rows_in_bytes bytes fields))
     → find_row place (rows_in_bytes bytes fields) ≡ Some (row_in_bytes bytes fields place)
 row_found {bytes} {fields} place p there =
-    let m = p.0 in
-    let r = p.4 in
-    let l = found_listed bytes fields (origin_of m) p.3 place (rw (rows_spelled r) at there) in
+    let m = p.parts.mirror in
+    let r = p.spells in
+    let l = found_listed bytes fields (origin_of m) p.parts.inner place (rw (rows_spelled r) at there) in
     let row = row_in_bytes bytes fields in
     let rows_are : rows_in_bytes bytes fields ≡ map row (map (origin_of m) (l.low ++ l.here ∷ l.high)) = rows_spelled r ∙ ap (λ (xs : List ℕ). map row (map (origin_of m) xs)) l.is in
     ap (find_row place) rows_are
     ∙ subst (λ (at : ℕ). find_row at (map row (map (origin_of m) (l.low ++ l.here ∷ l.high))) ≡ Some (row at)) l.placed
     (listed_found bytes fields (origin_of m) l.low l.here l.high)
 
--- the record of a row that is found
-pub record IsFoundIn (bytes : List ℕ) (m : Mirror) (inner : List ℕ) (place : ℕ) : Type 0 where
-  pub listed : IsListed (origin_of m) inner place
-  pub at : HasOrigin bytes m listed.here place
-
-pub found_in : {bytes : List ℕ} {fields : ℕ} (place : ℕ) → (p : IsPageOfRows bytes fields) → IsSome (find_row place (rows_in_bytes bytes fields))
-    → IsFoundIn bytes p.0 p.3 place
-found_in {bytes} {fields} place p there =
-    let m = p.0 in
-    let r = p.4 in
-    let l = found_listed bytes fields (origin_of m) p.3 place (rw (rows_spelled r) at there) in
-    let each = subst (AllByRecursion (λ h. h < m.count)) l.is (each_left (λ h. h < m.count) p.3 (1 ∷ []) (whole_list r).inside.1) in
-    record {
-      listed = l;
-      at = record { is = r.page.is; within = (each_right (λ h. h < m.count) l.low (l.here ∷ l.high) each).0; placed = l.placed };
-    }
-
 -- the first row is the one that infimum leads to
-pub first_is : {bytes : List ℕ} {fields : ℕ} {m : Mirror} {gs : List Group} {free inner : List ℕ} (next : ℕ)
-    → SpellsRows bytes fields m gs free inner → next ≡ origin_of m (m.next 0)
+pub first_is : {bytes : List ℕ} {fields : ℕ} {p : PageParts} (next : ℕ)
+    → SpellsRows bytes fields p [] → next ≡ origin_of p.mirror (p.mirror.next 0)
     → IsAt (rows_in_bytes bytes fields) (told next) (first_of_rows (rows_in_bytes bytes fields))
-first_is {bytes} {fields} {m} {inner = inner} next r leads =
+first_is {bytes} {fields} {p} next r leads =
+    let m = p.mirror in
+    let inner = p.inner in
     let whole = whole_list r in
     let first : told next ≡ first_place (origin_of m) inner = ap told leads ∙ told_first r.page.is 0 inner whole.inside.1 whole.linked whole.low whole.high in
     rw (rows_spelled r, first) (first_is_at bytes fields (origin_of m) [] inner)
-
--- two numbers, each counted once
-ends_once : (h : ℕ) → count_by (λ k. nat_eq k h) (0 ∷ 1 ∷ []) ≤ 1
-ends_once zero = omega arith
-ends_once (suc zero) = omega arith
-ends_once (suc (suc h)) = grind (arith, nat_tests)
-
-ends_sized : (s : ℕ) → s < 2 → MayOwn 2 s (slice_index (1 ∷ 1 ∷ []) s)
-ends_sized zero w = record { alone = λ e. refl; some = omega arith; most = omega arith; least = λ a b. absurd (omega arith) }
-ends_sized (suc zero) w = record { alone = λ e. refl; some = omega arith; most = omega arith; least = λ a b. absurd (omega arith) }
-ends_sized (suc (suc s)) w = absurd (omega arith)
-
--- the page without rows
-pub empty_spells : (bytes old : List ℕ) (fields : ℕ) → Mirrors bytes (empty_mirror old)
-    → SpellsRows bytes fields (empty_mirror old) (record { front = []; owner = 0 } ∷ record { front = []; owner = 1 } ∷ []) [] []
-empty_spells bytes old fields r = record {
-  page = record {
-    is = r;
-    groups = record { slots = refl; owned = (record { owner = refl; front = tt }, (record { owner = refl; front = tt }, tt)) };
-    order = record { linked = (refl, tt); once = ends_once; inside = (omega arith, (omega arith, tt)); rows = refl };
-  };
-  sizes = record { two = omega arith; each = ends_sized };
-  list = refl;
-  rows = tt;
-  free_from = refl;
-  free_on = tt;
-}

@@ -1,0 +1,4 @@
+pub mod GroupOfLemmas
+pub mod LinkLemmas
+pub mod EnterLemmas
+pub mod SlotSizeLemmas

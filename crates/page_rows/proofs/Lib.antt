@@ -1,0 +1,11 @@
+pub mod PlaceLemmas
+pub mod SpellingLemmas
+pub mod EmptyRowsLemmas
+pub mod SumLemmas
+pub mod TakenLemmas
+pub mod UnledLemmas
+pub mod RoomLemmas
+pub mod TakingLemmas
+pub mod InsertedLemmas
+pub mod DifferLemmas
+pub mod InsertRowLemmas

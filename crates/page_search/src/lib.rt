@@ -1,0 +1,7 @@
+//! Searches in a page's bytes: which row is the last that a cut leaves out.
+//! It never copies a key, nor writes to a page.
+#![tactic(auto)]
+
+mod walk;
+
+pub use walk::find_before;

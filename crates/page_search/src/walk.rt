@@ -1,0 +1,65 @@
+//! From row to row, up to a cut.
+ghost use Rattle.std.specs.Prelude.{◌≡◌, ◌≤◌, List, length};
+ghost use Rattle.key_tuple.specs.KeyPlace.{At, cut_of};
+ghost use Rattle.index_page.specs.Rows.{Row};
+ghost use Rattle.index_page.specs.Page.{RowsAscend};
+ghost use Rattle.page_rows.specs.Reading.{rows_in_bytes};
+ghost use Rattle.page_rows.specs.Spelling.{IsPageOfRows};
+ghost use Rattle.page_search.specs.Cuts.{CutsRows, IsBehindRows, LeavesOut};
+
+use compact_record::view;
+use key_tuple::{Fields, Mode, compare};
+use page_mirror::{next_of, row_count};
+
+/// Where infimum stands, which leads to the first row.
+const INFIMUM: u16 = 99;
+
+/// Where supremum stands, to which the last row leads.
+const SUPREMUM: u16 = 112;
+
+/// The place of the last row that the mode's cut leaves out, or that of infimum.
+pub fn find_before<A: Fields>(page: &[u8], fields: u8, tuple: &A, mode: Mode) -> u16
+    requires page { IsPageOfRows page.now fields }
+    requires ascend { RowsAscend (rows_in_bytes page.now fields) }
+    requires tuple { length (A.fields_of tuple.now) ≤ fields }
+    ensures { CutsRows page.now fields (cut_of mode (A.fields_of tuple.now)) result }
+{
+    let mut before = INFIMUM;
+    for _ in 0..row_count(page) {
+        match next_out(page, fields, before, tuple, mode) {
+            Some(next) => before = next,
+            None => return before,
+        }
+    }
+    before
+}
+
+/// The place of the next row, if it is one that the cut leaves out.
+fn next_out<A: Fields>(page: &[u8], fields: u8, before: u16, tuple: &A, mode: Mode) -> Option<u16>
+    requires tuple { length (A.fields_of tuple.now) ≤ fields }
+    requires behind { (left : List Row) × (right : List Row)
+        × IsBehindRows page.now fields left right before }
+    ensures { (left right : List Row) → IsBehindRows page.now fields left right before
+        → LeavesOut (cut_of mode (A.fields_of tuple.now)) right result }
+{
+    let next = next_of(page, before);
+    if next == SUPREMUM {
+        return None;
+    }
+    if is_past(mode, tuple, &view(page, next, fields)) {
+        return None;
+    }
+    Some(next)
+}
+
+/// The key is past the mode's cut.
+fn is_past<A: Fields, B: Fields>(mode: Mode, tuple: &A, key: &B) -> bool
+    requires { length (A.fields_of tuple.now) ≤ length (B.fields_of key.now) }
+    ensures { result ≡ cut_of mode (A.fields_of tuple.now) (At (B.fields_of key.now)) }
+{
+    let order = compare(tuple, key);
+    match mode {
+        Mode::Ge | Mode::L => !order.is_gt(),
+        Mode::G | Mode::Le => order.is_lt(),
+    }
+}
