@@ -1,38 +1,15 @@
 //! The maps of some indexes, and what they are asked.
 
+use crate::answers::{Answer, Change, MAX_CHANGES, Said};
 use crate::script::{Field, Key, Line, Mode, Operation, Script};
 use std::collections::BTreeMap;
 use std::collections::btree_map::Entry;
 use std::sync::Mutex;
 
-/// How many changes an index takes.
-const MAX_CHANGES: usize = 1_000_000;
-
-pub enum Said {
-    Ok,
-    Duplicate,
-    Absent,
-    Found(Field),
-    Row(Key, Field),
-    LogFull,
-}
-
-/// What was said, and how many changes its index had had by then.
-pub struct Answer {
-    pub said: Said,
-    pub point: usize,
-}
-
-/// A line that was told `Ok`, and the number of its lane.
-pub struct Change<'a> {
-    pub lane: usize,
-    pub line: &'a Line,
-}
-
 #[derive(Default)]
 pub struct Index<'a> {
     rows: BTreeMap<Key, Field>,
-    pub changes: Vec<Change<'a>>,
+    changes: Vec<Change<'a>>,
 }
 
 impl<'a> Index<'a> {
@@ -105,4 +82,10 @@ fn seek<'a>(
 /// An empty index for each of the schema.
 pub fn new_indexes<'a>(script: &Script) -> Vec<Mutex<Index<'a>>> {
     script.shapes.iter().map(|_| Mutex::default()).collect()
+}
+
+/// The changes that each index has had.
+pub fn into_changes<'a>(indexes: Vec<Mutex<Index<'a>>>) -> Vec<Vec<Change<'a>>> {
+    let changes = |index: Mutex<Index<'a>>| index.into_inner().unwrap().changes;
+    indexes.into_iter().map(changes).collect()
 }

@@ -3,12 +3,14 @@
 //! Each index is a `BTreeMap` under a `Mutex`, each lane a thread. Its report has the form of
 //! `ahi run`; for one lane it has the same bytes.
 
+mod answers;
 mod files;
 mod maps;
 mod report;
 mod script;
 
-use maps::{Answer, Index, new_indexes};
+use answers::Answer;
+use maps::{Index, into_changes, new_indexes};
 use report::write_report;
 use script::{Line, Script};
 use std::process::ExitCode;
@@ -41,7 +43,8 @@ fn run(words: &[String]) -> Result<(), String> {
     let script = Script::load(schema, lanes)?;
     let indexes = new_indexes(&script);
     let answers = work_all(&indexes, &script.lanes);
-    files::print(|out| write_report(out, &script, &answers, &indexes))
+    let changes = into_changes(indexes);
+    files::print(|out| write_report(out, &script, &answers, &changes))
 }
 
 fn main() -> ExitCode {

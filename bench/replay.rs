@@ -4,12 +4,14 @@
 //! It prints the report of plain maps that are worked so. That of a legal report has its very bytes,
 //! and no other's has.
 
+mod answers;
 mod files;
 mod maps;
 mod report;
 mod script;
 
-use maps::{Answer, new_indexes};
+use answers::Answer;
+use maps::{into_changes, new_indexes};
 use report::write_report;
 use script::Script;
 use std::process::ExitCode;
@@ -103,7 +105,8 @@ fn run(words: &[String]) -> Result<(), String> {
             .unwrap()
             .work(turn.lane + 1, line)
     });
-    files::print(|out| write_report(out, &script, &answers, &indexes))
+    let changes = into_changes(indexes);
+    files::print(|out| write_report(out, &script, &answers, &changes))
 }
 
 fn main() -> ExitCode {

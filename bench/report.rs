@@ -1,9 +1,8 @@
 //! The report, in the form that docs/FORMATS.md gives.
 
-use crate::maps::{Answer, Change, Index, Said};
+use crate::answers::{Answer, Change, Said};
 use crate::script::{Field, Key, Line, Operation, Script, Shape};
 use std::io::{self, Write};
-use std::sync::Mutex;
 
 const STATISTICS: &str = "hit 0 off 0 cold 0 short 0 part-busy 0 no-entry 0 block-busy 0 clock 0 \
     unequal 0 by-clock 0 by-busy 0 by-moved 0 by-last 0 built 0 same 0 arena 0 raced 0 worn 0";
@@ -13,14 +12,14 @@ pub fn write_report(
     out: &mut impl Write,
     script: &Script,
     answers: &[Vec<Answer>],
-    indexes: &[Mutex<Index>],
+    changes: &[Vec<Change>],
 ) -> io::Result<()> {
     writeln!(out, "ahi run")?;
     for (lane, (lines, answers)) in (1..).zip(script.lanes.iter().zip(answers)) {
         write_lane(out, lane, lines, answers)?;
     }
-    for (shape, index) in script.shapes.iter().zip(indexes) {
-        write_changes(out, shape, &index.lock().unwrap().changes)?;
+    for (shape, changes) in script.shapes.iter().zip(changes) {
+        write_changes(out, shape, changes)?;
     }
     for shape in &script.shapes {
         writeln!(
