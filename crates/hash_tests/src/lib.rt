@@ -9,6 +9,8 @@ mod changes;
 #[cfg(test)]
 mod drawn;
 #[cfg(test)]
+mod guesses;
+#[cfg(test)]
 mod leaves;
 #[cfg(test)]
 mod partitions;

@@ -1,13 +1,12 @@
 //! Searches in a page, and the rows beside a row.
 ghost use Rattle.std.specs.Prelude.{◌≡◌, ◌≤◌, ◌<◌, length, take, drop, IfSome, IsSome};
-ghost use Rattle.key_tuple.specs.KeyPlace.{At, cut_of};
+ghost use Rattle.key_tuple.specs.KeyPlace.{cut_of};
 ghost use Rattle.index_page.specs.Rows.{IsAt};
 ghost use Rattle.index_page.specs.Search.{AllOut, AllIn, agreement, Finds, nth_row};
 
 use crate::page::Page;
-use crate::record::Record;
 use crate::spot::{Place, Spot};
-use key_tuple::{Fields, Match, Mode, compare, matches};
+use key_tuple::{Fields, Match, Mode, is_past, matches};
 
 impl Page {
     /// The rows around the cut of a mode: `Ge` and `L` cut before the first row that isn't below
@@ -74,17 +73,5 @@ impl Page {
                 },
             ),
         }
-    }
-}
-
-/// The row is past the mode's cut.
-fn is_past<A: Fields>(mode: Mode, tuple: &A, row: &Record) -> bool
-    requires { length (A.fields_of tuple.now) ≤ length row.now.key }
-    ensures { result ≡ cut_of mode (A.fields_of tuple.now) (At row.now.key) }
-{
-    let order = compare(tuple, row);
-    match mode {
-        Mode::Ge | Mode::L => !order.is_gt(),
-        Mode::G | Mode::Le => order.is_lt(),
     }
 }

@@ -24,7 +24,7 @@ pub use laws::{
     sizes_follow_lengths, tuples_cut, tuples_follow_keys,
 };
 pub use mode::{Match, Mode, Params};
-pub use order::{compare, compare_whole, matches};
+pub use order::{compare, compare_whole, is_past, matches};
 pub use sizes::{pointer_size, row_size};
 pub use tuple::Tuple;
 pub use value::Value;

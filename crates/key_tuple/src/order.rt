@@ -1,10 +1,11 @@
 //! The order of tuples and keys, and how far two of them agree.
 ghost use Rattle.std.specs.Prelude.{◌≡◌, ◌<◌, ◌≤◌, length};
 ghost use Rattle.key_tuple.specs.Order.{tuple_cmp, key_cmp};
+ghost use Rattle.key_tuple.specs.KeyPlace.{At, cut_of};
 ghost use Rattle.key_tuple.specs.Figures.{matching, equal_bytes, equal_fields};
 
 use crate::fields::Fields;
-use crate::mode::Match;
+use crate::mode::{Match, Mode};
 use std::cmp::Ordering;
 
 /// How a tuple stands to the first fields of a key: field by field, each byte by byte, a proper
@@ -20,6 +21,19 @@ pub fn compare<A: Fields, B: Fields>(tuple: &A, key: &B) -> Ordering
         }
     }
     Ordering::Equal
+}
+
+/// Whether the key is past the cut that a search with this mode makes.
+#[tactic(auto, unfolding(crate::specs::KeyPlace::not_below, crate::specs::KeyPlace::above))]
+pub fn is_past<A: Fields, B: Fields>(mode: Mode, tuple: &A, key: &B) -> bool
+    requires { length (A.fields_of tuple.now) ≤ length (B.fields_of key.now) }
+    ensures { result ≡ cut_of mode (A.fields_of tuple.now) (At (B.fields_of key.now)) }
+{
+    let order = compare(tuple, key);
+    match mode {
+        Mode::Ge | Mode::L => !order.is_gt(),
+        Mode::G | Mode::Le => order.is_lt(),
+    }
 }
 
 /// How two whole keys stand to each other: where one begins with the other, the shorter comes first.

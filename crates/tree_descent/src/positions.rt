@@ -1,6 +1,6 @@
 //! The position of a tuple: the mode whose cut it is, and whether bounds have it.
 ghost use Rattle.std.specs.Prelude.{◌≡◌, ◌≤◌, ◌↔◌, not, IsTrue, IfSome, length};
-ghost use Rattle.key_tuple.specs.KeyPlace.{At, cut_of};
+ghost use Rattle.key_tuple.specs.KeyPlace.{cut_of};
 ghost use Rattle.key_tuple.specs.Position.{position_cut};
 ghost use Rattle.index_page.specs.Picks.{position_mode};
 ghost use Rattle.tree_law.specs.Pages.{HasFields, low_place, high_place};
@@ -8,7 +8,7 @@ ghost use Rattle.forest_law.specs.State.{bound};
 ghost use Rattle.tree_descent.specs.Leaves.{HasCutWithin};
 
 use forest_world::Frame;
-use key_tuple::{Fields, Key, Mode, compare};
+use key_tuple::{Fields, Key, Mode, is_past};
 
 /// The mode whose cut is the position, where keys have so many fields.
 pub(crate) fn mode_of_position<T: Fields>(fields: u8, mode: Mode, tuple: &T) -> Mode
@@ -40,7 +40,7 @@ fn begins_before<T: Fields>(low: &Option<Key>, tuple: &T, mode: Mode) -> bool
     ensures { result ≡ not (cut_of mode (T.fields_of tuple.now) (low_place (bound low.now))) }
 {
     match low {
-        Some(key) => !is_past(key, tuple, mode),
+        Some(key) => !is_past(mode, tuple, key.tuple()),
         None => true,
     }
 }
@@ -52,20 +52,7 @@ fn ends_past<T: Fields>(high: &Option<Key>, tuple: &T, mode: Mode) -> bool
     ensures { result ≡ cut_of mode (T.fields_of tuple.now) (high_place (bound high.now)) }
 {
     match high {
-        Some(key) => is_past(key, tuple, mode),
+        Some(key) => is_past(mode, tuple, key.tuple()),
         None => true,
-    }
-}
-
-/// Whether the key is past the mode's cut.
-#[tactic(auto, unfolding(key_tuple::specs::KeyPlace::not_below, key_tuple::specs::KeyPlace::above))]
-fn is_past<T: Fields>(key: &Key, tuple: &T, mode: Mode) -> bool
-    requires { length (T.fields_of tuple.now) ≤ length key.now.tuple }
-    ensures { result ≡ cut_of mode (T.fields_of tuple.now) (At key.now.tuple) }
-{
-    let order = compare(tuple, key.tuple());
-    match mode {
-        Mode::Ge | Mode::L => !order.is_gt(),
-        Mode::G | Mode::Le => order.is_lt(),
     }
 }

@@ -1,4 +1,4 @@
-//! LeavesBlock with a row for each letter, which is its key of one field and its value.
+//! Leaves with a row for each letter, which is its key of one field and its value.
 ghost use Rattle.std.specs.Prelude.{◌≡◌, ◌<◌, length, IfSome, IsSome};
 ghost use Rattle.index_page.specs.Rows.{find_row};
 ghost use Rattle.index_page.specs.Changes.{rows_without};
