@@ -1,5 +1,6 @@
 //! A block's frame is taken, tried and given back.
 ghost use Rattle.std.specs.Prelude.{◌<◌, IsTrue, IsFalse};
+ghost use Rattle.latch_space.specs.declared.TheConstants.{MAX_HELD};
 ghost use Rattle.latch_space.specs.Passes.{view, count, IsSamePass};
 ghost use Rattle.latch_space.specs.Spaces.{IsPassOf};
 ghost use Rattle.forest_law.specs.Numbers.{frames_of};
@@ -18,7 +19,7 @@ pub fn take_frame<R: Wait>(space: &ForestSpace, pass: &mut ForestPass, block: u3
     requires own { IsForest space.now × IsPassOf space.now pass.old }
     requires there { block < frames_of (shape_of_pass pass.old) }
     requires lacks { LacksFrame pass.old block }
-    requires room { count pass.old < 16 }
+    requires room { count pass.old < MAX_HELD }
     ensures own { IsSamePass pass.old pass.new × IsPassOf space.now pass.new }
     ensures took { TakesFrame pass.old block pass.new }
     ensures fits { IsFittedTree (view pass.new) }
@@ -32,7 +33,7 @@ pub fn try_frame(space: &ForestSpace, pass: &mut ForestPass, block: u32) -> Take
     requires own { IsForest space.now × IsPassOf space.now pass.old }
     requires there { block < frames_of (shape_of_pass pass.old) }
     requires lacks { LacksFrame pass.old block }
-    requires room { count pass.old < 16 }
+    requires room { count pass.old < MAX_HELD }
     ensures own { IsSamePass pass.old pass.new × IsPassOf space.now pass.new }
     ensures did { TellsFrame pass.old block result pass.new }
     ensures fits { IsFittedTree (view pass.new) }

@@ -1,5 +1,6 @@
 //! The lowest page number that is free is looked for, and a frame for its page.
 ghost use Rattle.std.specs.Prelude.{◌≡◌, ◌<◌, ◌+◌, ◌≤◌, ◌↔◌, Some, length, IsTrue, IfSome, IfNone, IfOk, IfErr};
+ghost use Rattle.latch_space.specs.declared.TheConstants.{MAX_HELD};
 ghost use Rattle.latch_space.specs.Has.{IsKnown};
 ghost use Rattle.latch_space.specs.Passes.{view, count, IsSamePass};
 ghost use Rattle.latch_space.specs.Spaces.{IsPassOf};
@@ -43,7 +44,7 @@ pub(crate) fn hold_room<R: Wait>(
     requires index { index < (shape_of_pass pass.old).indexes }
     requires known { IsKnown pass.old }
     requires pool { HoldsNoPool (view pass.old) }
-    requires room { count pass.old + 2 ≤ 16 }
+    requires room { count pass.old + 2 ≤ MAX_HELD }
     ensures own { IsSamePass pass.old pass.new × IsPassOf space.now pass.new }
     ensures ok { IfOk result (λ r. HoldsFree pass.old r.0 r.1 pass.new) }
     ensures full { IfErr result (λ e. (e ≡ refused.SpaceFull)
@@ -68,7 +69,7 @@ fn try_room<R: Wait>(space: &ForestSpace, pass: &mut ForestPass, index: u32, wai
     requires index { index < (shape_of_pass pass.old).indexes }
     requires known { IsKnown pass.old }
     requires pool { HoldsNoPool (view pass.old) }
-    requires room { count pass.old + 2 ≤ 16 }
+    requires room { count pass.old + 2 ≤ MAX_HELD }
     ensures own { IsSamePass pass.old pass.new × IsPassOf space.now pass.new }
     ensures did { TellsFree pass.old index result pass.new }
     ensures fits { IsFittedTree (view pass.new) }

@@ -1,5 +1,6 @@
 //! One look at the pool for a page. Nothing is waited for while the pool is held.
 ghost use Rattle.std.specs.Prelude.{◌≡◌, ◌<◌, ◌+◌, ◌≤◌, length};
+ghost use Rattle.latch_space.specs.declared.TheConstants.{MAX_HELD};
 ghost use Rattle.latch_space.specs.Has.{IsKnown};
 ghost use Rattle.latch_space.specs.Passes.{view, count, IsSamePass};
 ghost use Rattle.latch_space.specs.Spaces.{IsPassOf};
@@ -48,7 +49,7 @@ pub(crate) fn look_for<R: Wait>(
     requires known { IsKnown pass.old }
     requires others { HoldsOtherPages (view pass.old) page }
     requires pool { HoldsNoPool (view pass.old) }
-    requires room { count pass.old + 2 ≤ 16 }
+    requires room { count pass.old + 2 ≤ MAX_HELD }
     ensures own { IsSamePass pass.old pass.new × IsPassOf space.now pass.new }
     ensures did { TellsLookFor pass.old page result pass.new }
     ensures fits { IsFittedTree (view pass.new) }
@@ -66,7 +67,7 @@ fn find_page(space: &ForestSpace, pass: &mut ForestPass, page: u32) -> Looked
     requires known { IsKnown pass.old }
     requires others { HoldsOtherPages (view pass.old) page }
     requires pool { (t : Object) × (x : Pool) × KnowsPool (view pass.old) t x }
-    requires room { count pass.old < 16 }
+    requires room { count pass.old < MAX_HELD }
     ensures own { IsSamePass pass.old pass.new × IsPassOf space.now pass.new }
     ensures did { (t : Object) (x : Pool) → KnowsPool (view pass.old) t x
         → TellsLook pass.old t x page result pass.new }
@@ -95,7 +96,7 @@ fn hold_named(space: &ForestSpace, pass: &mut ForestPass, page: u32, block: u32)
     requires others { HoldsOtherPages (view pass.old) page }
     requires pool { (t : Object) × (x : Pool) × KnowsPool (view pass.old) t x
         × (where_at x.place.items page ≡ place.InFrame block) }
-    requires room { count pass.old < 16 }
+    requires room { count pass.old < MAX_HELD }
     ensures own { IsSamePass pass.old pass.new × IsPassOf space.now pass.new }
     ensures did { (t : Object) (x : Pool) → KnowsPool (view pass.old) t x
         → TellsLook pass.old t x page result pass.new }
@@ -117,7 +118,7 @@ fn hold_image(space: &ForestSpace, pass: &mut ForestPass, page: u32) -> Looked
     requires known { IsKnown pass.old }
     requires pool { (t : Object) × (x : Pool) × KnowsPool (view pass.old) t x
         × (where_at x.place.items page ≡ place.Image) }
-    requires room { count pass.old < 16 }
+    requires room { count pass.old < MAX_HELD }
     ensures own { IsSamePass pass.old pass.new × IsPassOf space.now pass.new }
     ensures did { (t : Object) (x : Pool) → KnowsPool (view pass.old) t x
         → TellsLook pass.old t x page result pass.new }

@@ -1,5 +1,6 @@
 //! A page gets a number, and gives it back.
 ghost use Rattle.std.specs.Prelude.{◌≡◌, ◌<◌, ◌+◌, ◌≤◌, Err, IfOk};
+ghost use Rattle.latch_space.specs.declared.TheConstants.{MAX_HELD};
 ghost use Rattle.latch_space.specs.Has.{IsKnown};
 ghost use Rattle.latch_space.specs.Passes.{view, count, IsSamePass};
 ghost use Rattle.latch_space.specs.Spaces.{IsPassOf};
@@ -42,7 +43,7 @@ pub fn new_page<R: Wait>(
     requires known { IsKnown pass.old }
     requires inside { HoldsNoOutside (view pass.old) }
     requires pool { HoldsNoPool (view pass.old) }
-    requires room { count pass.old + 2 ≤ 16 }
+    requires room { count pass.old + 2 ≤ MAX_HELD }
     ensures own { IsSamePass pass.old pass.new × IsPassOf space.now pass.new }
     ensures ok { IfOk result (λ b. GetsPage pass.old head b pass.new) }
     ensures full { result ≡ Err refused.SpaceFull
@@ -68,7 +69,7 @@ pub fn free_page<R: Wait>(space: &ForestSpace, pass: &mut ForestPass, block: u32
     requires held { HoldsOutsidePage (view pass.old) block }
     requires known { IsKnown pass.old }
     requires pool { HoldsNoPool (view pass.old) }
-    requires room { count pass.old < 16 }
+    requires room { count pass.old < MAX_HELD }
     ensures own { IsSamePass pass.old pass.new × IsPassOf space.now pass.new }
     ensures freed { FreesPage pass.old block pass.new }
     ensures fits { IsFittedTree (view pass.new) }

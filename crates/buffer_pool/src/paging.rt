@@ -1,5 +1,6 @@
 //! A page is held by its number, in whatever frame it is.
 ghost use Rattle.std.specs.Prelude.{◌<◌, ◌+◌, ◌≤◌, IsTrue};
+ghost use Rattle.latch_space.specs.declared.TheConstants.{MAX_HELD};
 ghost use Rattle.latch_space.specs.Has.{IsKnown};
 ghost use Rattle.latch_space.specs.Passes.{view, count, IsSamePass};
 ghost use Rattle.latch_space.specs.Spaces.{IsPassOf};
@@ -24,7 +25,7 @@ pub fn page_in<R: Wait>(space: &ForestSpace, pass: &mut ForestPass, page: u32, w
     requires known { IsKnown pass.old }
     requires others { HoldsOtherPages (view pass.old) page }
     requires pool { HoldsNoPool (view pass.old) }
-    requires room { count pass.old + 2 ≤ 16 }
+    requires room { count pass.old + 2 ≤ MAX_HELD }
     ensures own { IsSamePass pass.old pass.new × IsPassOf space.now pass.new }
     ensures took { PagesIn pass.old page result pass.new }
     ensures fits { IsFittedTree (view pass.new) }
@@ -52,7 +53,7 @@ pub fn page_if<R: Wait>(
     requires known { IsKnown pass.old }
     requires others { HoldsOtherPages (view pass.old) page }
     requires pool { HoldsNoPool (view pass.old) }
-    requires room { count pass.old + 2 ≤ 16 }
+    requires room { count pass.old + 2 ≤ MAX_HELD }
     ensures own { IsSamePass pass.old pass.new × IsPassOf space.now pass.new }
     ensures did { PagesInIf pass.old page index level result pass.new }
     ensures fits { IsFittedTree (view pass.new) }
@@ -80,7 +81,7 @@ pub fn try_page<R: Wait>(
     requires known { IsKnown pass.old }
     requires others { HoldsOtherPages (view pass.old) page }
     requires pool { HoldsNoPool (view pass.old) }
-    requires room { count pass.old + 2 ≤ 16 }
+    requires room { count pass.old + 2 ≤ MAX_HELD }
     ensures own { IsSamePass pass.old pass.new × IsPassOf space.now pass.new }
     ensures did { TellsPageTry pass.old page result pass.new }
     ensures fits { IsFittedTree (view pass.new) }
@@ -110,7 +111,7 @@ fn hold_page<R: Wait>(
     requires known { IsKnown pass.old }
     requires others { HoldsOtherPages (view pass.old) page }
     requires pool { HoldsNoPool (view pass.old) }
-    requires room { count pass.old + 2 ≤ 16 }
+    requires room { count pass.old + 2 ≤ MAX_HELD }
     ensures own { IsSamePass pass.old pass.new × IsPassOf space.now pass.new }
     ensures did { HoldsIf pass.old page result pass.new }
     ensures fits { IsFittedTree (view pass.new) }

@@ -1,5 +1,6 @@
 //! The pool is taken, looked at, changed and given back.
 ghost use Rattle.std.specs.Prelude.{◌≡◌, ◌<◌};
+ghost use Rattle.latch_space.specs.declared.TheConstants.{MAX_HELD};
 ghost use Rattle.latch_space.specs.Passes.{view, count, IsSamePass};
 ghost use Rattle.latch_space.specs.Spaces.{IsPassOf};
 ghost use Rattle.forest_law.specs.declared.objects.Pool.{Pool};
@@ -16,7 +17,7 @@ use std::sync::Wait;
 pub fn take_pool<R: Wait>(space: &ForestSpace, pass: &mut ForestPass, wait: &R)
     requires own { IsPassOf space.now pass.old }
     requires lacks { LacksPool pass.old }
-    requires room { count pass.old < 16 }
+    requires room { count pass.old < MAX_HELD }
     ensures own { IsSamePass pass.old pass.new × IsPassOf space.now pass.new }
     ensures took { TakesPool pass.old pass.new }
     ensures fits { IsFittedTree (view pass.new) }

@@ -1,5 +1,6 @@
 //! An index's tree is taken, looked at, changed and given back.
 ghost use Rattle.std.specs.Prelude.{◌≡◌, ◌<◌};
+ghost use Rattle.latch_space.specs.declared.TheConstants.{MAX_HELD};
 ghost use Rattle.latch_space.specs.Passes.{view, count, IsSamePass};
 ghost use Rattle.latch_space.specs.Spaces.{IsPassOf};
 ghost use Rattle.forest_law.specs.declared.objects.Tree.{Tree};
@@ -18,7 +19,7 @@ pub fn take_tree<R: Wait>(space: &ForestSpace, pass: &mut ForestPass, index: u32
     requires own { IsForest space.now × IsPassOf space.now pass.old }
     requires there { index < (shape_of_pass pass.old).indexes }
     requires lacks { LacksTree pass.old index }
-    requires room { count pass.old < 16 }
+    requires room { count pass.old < MAX_HELD }
     ensures own { IsSamePass pass.old pass.new × IsPassOf space.now pass.new }
     ensures took { TakesTree pass.old index pass.new }
     ensures fits { IsFittedTree (view pass.new) }

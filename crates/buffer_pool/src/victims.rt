@@ -1,5 +1,6 @@
 //! Room for a page: the frame of the lowest age that one try takes, without its page.
 ghost use Rattle.std.specs.Prelude.{◌≡◌, ◌<◌, Some, is_some};
+ghost use Rattle.latch_space.specs.declared.TheConstants.{MAX_HELD};
 ghost use Rattle.latch_space.specs.Has.{IsKnown};
 ghost use Rattle.latch_space.specs.Passes.{view, count, IsSamePass};
 ghost use Rattle.latch_space.specs.Spaces.{IsPassOf};
@@ -29,7 +30,7 @@ pub(crate) fn make_room(space: &ForestSpace, pass: &mut ForestPass) -> Option<u3
     requires own { IsForest space.now × IsPassOf space.now pass.old }
     requires known { IsKnown pass.old }
     requires pool { (t : Object) × (x : Pool) × KnowsPool (view pass.old) t x }
-    requires room { count pass.old < 16 }
+    requires room { count pass.old < MAX_HELD }
     ensures own { IsSamePass pass.old pass.new × IsPassOf space.now pass.new }
     ensures did { (t : Object) (x : Pool) → KnowsPool (view pass.old) t x
         → TellsRoomFor pass.old t x result pass.new }
@@ -47,7 +48,7 @@ fn try_victim(space: &ForestSpace, pass: &mut ForestPass) -> Option<u32>
     requires own { IsForest space.now × IsPassOf space.now pass.old }
     requires known { IsKnown pass.old }
     requires pool { (t : Object) × (x : Pool) × KnowsPool (view pass.old) t x }
-    requires room { count pass.old < 16 }
+    requires room { count pass.old < MAX_HELD }
     ensures own { IsSamePass pass.old pass.new × IsPassOf space.now pass.new }
     ensures did { (t : Object) (x : Pool) → KnowsPool (view pass.old) t x
         → TellsVictim pass.old x result pass.new }
@@ -72,7 +73,7 @@ fn try_other(space: &ForestSpace, pass: &mut ForestPass, block: u32) -> bool
     requires own { IsForest space.now × IsPassOf space.now pass.old }
     requires there { block < frames_of (shape_of_pass pass.old) }
     requires known { IsKnown pass.old }
-    requires room { count pass.old < 16 }
+    requires room { count pass.old < MAX_HELD }
     ensures own { IsSamePass pass.old pass.new × IsPassOf space.now pass.new }
     ensures did { TellsOther pass.old block result pass.new }
     ensures fits { IsFittedTree (view pass.new) }

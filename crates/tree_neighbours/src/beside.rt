@@ -1,5 +1,6 @@
 //! The leaf beside the one in hand.
 ghost use Rattle.std.specs.Prelude.{ℕ, ◌≡◌, ◌+◌, ◌≤◌, [], ◌∷◌};
+ghost use Rattle.latch_space.specs.declared.TheConstants.{MAX_HELD};
 ghost use Rattle.latch_space.specs.Has.{IsKnown};
 ghost use Rattle.latch_space.specs.Passes.{view, count, IsSamePass};
 ghost use Rattle.latch_space.specs.Spaces.{IsPassOf};
@@ -40,7 +41,7 @@ pub fn take_beside<R: Wait>(
     requires known { IsKnown pass.old }
     requires frames { HoldsNoFrameBut (view pass.old) (block ∷ []) }
     requires pool { HoldsNoPool (view pass.old) }
-    requires room { count pass.old + 2 ≤ 16 }
+    requires room { count pass.old + 2 ≤ MAX_HELD }
     ensures own { IsSamePass pass.old pass.new × IsPassOf space.now pass.new }
     ensures tells { TellsBeside pass.old block index side result pass.new }
     ensures fits { IsFittedTree (view pass.new) }

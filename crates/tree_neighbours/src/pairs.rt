@@ -1,5 +1,6 @@
 //! The way down to the leaf of a search, and to the leaf beside it.
 ghost use Rattle.std.specs.Prelude.{◌≡◌, ◌<◌, ◌+◌, ◌≤◌, [], length};
+ghost use Rattle.latch_space.specs.declared.TheConstants.{MAX_HELD};
 ghost use Rattle.latch_space.specs.Has.{IsKnown};
 ghost use Rattle.latch_space.specs.Passes.{view, count, IsSamePass};
 ghost use Rattle.latch_space.specs.Spaces.{IsPassOf};
@@ -45,7 +46,7 @@ pub fn descend_pair<T: Fields, R: Wait>(
     requires known { IsKnown pass.old }
     requires frames { HoldsNoFrameBut (view pass.old) [] }
     requires pool { HoldsNoPool (view pass.old) }
-    requires room { count pass.old + 3 ≤ 16 }
+    requires room { count pass.old + 3 ≤ MAX_HELD }
     ensures own { IsSamePass pass.old pass.new × IsPassOf space.now pass.new }
     ensures went { DescendsPair pass.old index mode (T.fields_of tuple.now) result pass.new }
     ensures fits { IsFittedTree (view pass.new) }
@@ -76,7 +77,7 @@ fn try_pair<T: Fields, R: Wait>(
     requires known { IsKnown pass.old }
     requires frames { HoldsNoFrameBut (view pass.old) [] }
     requires pool { HoldsNoPool (view pass.old) }
-    requires room { count pass.old + 3 ≤ 16 }
+    requires room { count pass.old + 3 ≤ MAX_HELD }
     ensures own { IsSamePass pass.old pass.new × IsPassOf space.now pass.new }
     ensures tried { TriesPair pass.old index mode (T.fields_of tuple.now) result pass.new }
     ensures fits { IsFittedTree (view pass.new) }

@@ -1,5 +1,6 @@
 //! A root sinks to its only child.
 ghost use Rattle.std.specs.Prelude.{◌<◌, [], ◌∷◌, OnOk, OnErr};
+ghost use Rattle.latch_space.specs.declared.TheConstants.{MAX_HELD};
 ghost use Rattle.latch_space.specs.Has.{IsKnown};
 ghost use Rattle.latch_space.specs.Passes.{view, count, IsSamePass};
 ghost use Rattle.latch_space.specs.Spaces.{IsPassOf};
@@ -35,7 +36,7 @@ pub fn lift<R: Wait>(
     requires known { IsKnown pass.old }
     requires frames { HoldsNoFrameBut (view pass.old) (root ∷ child ∷ []) }
     requires pool { HoldsNoPool (view pass.old) }
-    requires room { count pass.old < 16 }
+    requires room { count pass.old < MAX_HELD }
     ensures own { IsSamePass pass.old pass.new × IsPassOf space.now pass.new }
     ensures ok { OnOk result (LiftsRoot pass.old index root child pass.new) }
     ensures memory { OnErr result (GetsNothing pass.old pass.new) }

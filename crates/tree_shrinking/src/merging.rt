@@ -1,5 +1,6 @@
 //! Two children become one under their parent.
 ghost use Rattle.std.specs.Prelude.{◌≡◌, ◌+◌, ◌<◌, ◌≤◌, ◌^◌, [], ◌∷◌, OnOk, OnErr};
+ghost use Rattle.latch_space.specs.declared.TheConstants.{MAX_HELD};
 ghost use Rattle.latch_space.specs.Has.{IsKnown};
 ghost use Rattle.latch_space.specs.Passes.{view, count, IsSamePass};
 ghost use Rattle.latch_space.specs.Spaces.{IsPassOf};
@@ -35,7 +36,7 @@ pub fn merge_children<R: Wait>(
     requires known { IsKnown pass.old }
     requires frames { HoldsNoFrameBut (view pass.old) (parent ∷ left ∷ right ∷ []) }
     requires pool { HoldsNoPool (view pass.old) }
-    requires room { count pass.old + 2 ≤ 16 }
+    requires room { count pass.old + 2 ≤ MAX_HELD }
     ensures own { IsSamePass pass.old pass.new × IsPassOf space.now pass.new }
     ensures ok { OnOk result (MergesChildren pass.old parent left right index pass.new) }
     ensures memory { OnErr result (GetsNothing pass.old pass.new) }
@@ -66,7 +67,7 @@ fn merge_pair<R: Wait>(
     requires frames { HoldsNoFrameBut (view pass.old) (at.parent ∷ at.child ∷ at.right ∷ []) }
     requires pool { HoldsNoPool (view pass.old) }
     requires few { (shape_of_pass pass.old).pages < 2 ^ 32 }
-    requires room { count pass.old + 2 ≤ 16 }
+    requires room { count pass.old + 2 ≤ MAX_HELD }
     ensures own { IsSamePass pass.old pass.new × IsPassOf space.now pass.new }
     ensures ok { OnOk result (MergesPair pass.old at.parent at.child at.right index pass.new) }
     ensures memory { OnErr result (GetsNothing pass.old pass.new) }

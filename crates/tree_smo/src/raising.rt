@@ -1,5 +1,6 @@
 //! A root rises by a level.
 ghost use Rattle.std.specs.Prelude.{◌≡◌, ◌<◌, ◌+◌, ◌≤◌, [], ◌∷◌, Err, IfOk};
+ghost use Rattle.latch_space.specs.declared.TheConstants.{MAX_HELD};
 ghost use Rattle.latch_space.specs.Has.{IsKnown};
 ghost use Rattle.latch_space.specs.Passes.{view, count, IsSamePass};
 ghost use Rattle.latch_space.specs.Spaces.{IsPassOf};
@@ -36,7 +37,7 @@ pub fn raise_root<R: Wait>(
     requires known { IsKnown pass.old }
     requires frames { HoldsNoFrameBut (view pass.old) (root ∷ []) }
     requires pool { HoldsNoPool (view pass.old) }
-    requires room { count pass.old + 2 ≤ 16 }
+    requires room { count pass.old + 2 ≤ MAX_HELD }
     ensures own { IsSamePass pass.old pass.new × IsPassOf space.now pass.new }
     ensures ok { IfOk result (λ under. RaisesRoot pass.old index root under pass.new) }
     ensures full { result ≡ Err refused.SpaceFull → FindsNoneFree pass.old index pass.new }

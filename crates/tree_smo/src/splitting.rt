@@ -1,5 +1,6 @@
 //! A page is split under its parent.
 ghost use Rattle.std.specs.Prelude.{◌≡◌, ◌+◌, ◌<◌, ◌≤◌, ◌^◌, [], ◌∷◌, None, Err, IfOk};
+ghost use Rattle.latch_space.specs.declared.TheConstants.{MAX_HELD};
 ghost use Rattle.latch_space.specs.Has.{IsKnown};
 ghost use Rattle.latch_space.specs.Passes.{view, count, IsSamePass};
 ghost use Rattle.latch_space.specs.Spaces.{IsPassOf};
@@ -39,7 +40,7 @@ pub fn split_child<R: Wait>(
     requires known { IsKnown pass.old }
     requires frames { HoldsNoFrameBut (view pass.old) (parent ∷ child ∷ []) }
     requires pool { HoldsNoPool (view pass.old) }
-    requires room { count pass.old + 3 ≤ 16 }
+    requires room { count pass.old + 3 ≤ MAX_HELD }
     ensures own { IsSamePass pass.old pass.new × IsPassOf space.now pass.new }
     ensures ok { IfOk result (λ right. SplitsChild pass.old parent child index right pass.new) }
     ensures full { result ≡ Err refused.SpaceFull → FindsNoneFree pass.old index pass.new }
@@ -86,7 +87,7 @@ fn split_planned<R: Wait>(
     requires frames { HoldsNoFrameBut (view pass.old) (plan.parent ∷ plan.child ∷ []) }
     requires pool { HoldsNoPool (view pass.old) }
     requires few { (shape_of_pass pass.old).pages < 2 ^ 32 }
-    requires room { count pass.old + 3 ≤ 16 }
+    requires room { count pass.old + 3 ≤ MAX_HELD }
     ensures own { IsSamePass pass.old pass.new × IsPassOf space.now pass.new }
     ensures ok { IfOk result
         (λ right. SplitsChild pass.old plan.parent plan.child plan.head.index right pass.new) }
@@ -126,7 +127,7 @@ fn split_beside<R: Wait>(
         (plan.parent ∷ plan.child ∷ next_blocks plan.next) }
     requires pool { HoldsNoPool (view pass.old) }
     requires few { (shape_of_pass pass.old).pages < 2 ^ 32 }
-    requires room { count pass.old + 2 ≤ 16 }
+    requires room { count pass.old + 2 ≤ MAX_HELD }
     ensures own { IsSamePass pass.old pass.new × IsPassOf space.now pass.new }
     ensures ok { IfOk result (λ right. SplitsBeside pass.old plan right pass.new) }
     ensures full { result ≡ Err refused.SpaceFull
