@@ -4,8 +4,6 @@
 
 mod hands;
 mod opening;
-#[cfg(test)]
-mod tests;
 mod world;
 
 pub use forest_law::{

@@ -6,8 +6,6 @@ mod changing;
 mod finding;
 mod laws;
 mod setting;
-#[cfg(test)]
-mod tests;
 
 pub use changing::{delete_row, put_row, take_back};
 pub use finding::find_key;

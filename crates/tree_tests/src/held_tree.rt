@@ -1,13 +1,14 @@
 //! A descent goes past a tree that another pass has in hand.
-ghost use Rattle.std.specs.Prelude.{◌≡◌, ◌<◌, ◌≤◌, length, IfSome};
+ghost use Rattle.std.specs.Prelude.{◌≡◌, ◌<◌, ◌≤◌, length};
 ghost use Rattle.latch_space.specs.Passes.{count};
 ghost use Rattle.latch_space.specs.Spaces.{IsPassOf};
 ghost use Rattle.forest_law.specs.State.{fields_for};
 ghost use Rattle.buffer_pool.specs.Forests.{IsForest};
 
+use crate::keys::key_of;
 use buffer_pool::{give_back, give_tree_back, take_tree};
 use forest_world::{ForestPass, ForestSpace, open_forest};
-use key_tuple::{Fields, Key, Mode};
+use key_tuple::{Key, Mode};
 use map_history::Sizes;
 use std::alloc::Global;
 use std::sync::Wait;
@@ -46,18 +47,6 @@ fn found_meanwhile<R: Wait>(
     give_back(space, pass, leaf.block);
     give_tree_back(space, other, 0);
     leaf.block
-}
-
-/// A key of one field.
-fn key_of(alloc: Global, bytes: &[u8]) -> Option<Key>
-    ensures { IfSome result (λ key. length key.tuple ≡ 1) }
-{
-    let field = bytes.to_vec(alloc).ok()?;
-    let fields = vec![in alloc; field].ok()?;
-    match Key::try_new(alloc, fields) {
-        Ok(key) if key.count() == 1 => Some(key),
-        _ => None,
-    }
 }
 
 /// The same of an empty tree.

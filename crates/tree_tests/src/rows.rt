@@ -1,14 +1,15 @@
 //! A worked leaf: a row is put in, found, taken back and taken out.
-ghost use Rattle.std.specs.Prelude.{◌<◌, length, IfSome, IsSome};
+ghost use Rattle.std.specs.Prelude.{IfSome, IsSome};
 ghost use Rattle.leaf_rows.specs.Changing.{LacksRow, WasPut, HasRowOf};
 ghost use Rattle.leaf_rows.specs.Finding.{HasSpot};
 
-use crate::{
-    LeafBefore, delete_row, find_key, grow_value, put_back, put_row, take_back, value_len,
-};
+use crate::keys::{key_of, value_of};
 use forest_law::Frame;
 use index_page::{Page, PageHead, Place, Spot};
 use key_tuple::{Fields, Key, Mode, Value};
+use leaf_rows::{
+    LeafBefore, delete_row, find_key, grow_value, put_back, put_row, take_back, value_len,
+};
 use learning::BlockFigures;
 use std::alloc::Global;
 
@@ -35,33 +36,6 @@ fn leaf_frame(alloc: Global) -> Frame {
         figures: BlockFigures::opening(),
         hashed: None,
     }
-}
-
-fn bytes_of(alloc: Global, bytes: &[u8]) -> Option<Vec<u8>> {
-    bytes.to_vec(alloc).ok()
-}
-
-fn one_field(alloc: Global, field: Vec<u8>) -> Option<Vec<Vec<u8>>>
-    ensures { IfSome result (λ fields. 0 < length fields.items) }
-{
-    vec![in alloc; field].ok()
-}
-
-fn fields_of(alloc: Global, bytes: &[u8]) -> Option<Vec<Vec<u8>>>
-    ensures { IfSome result (λ fields. 0 < length fields.items) }
-{
-    let field = bytes_of(alloc, bytes)?;
-    one_field(alloc, field)
-}
-
-fn key_of(alloc: Global, bytes: &[u8]) -> Option<Key> {
-    let fields = fields_of(alloc, bytes)?;
-    Key::try_new(alloc, fields).ok()
-}
-
-fn value_of(alloc: Global, bytes: &[u8]) -> Option<Value> {
-    let bytes = bytes_of(alloc, bytes)?;
-    Value::try_new(bytes).ok()
 }
 
 /// Where the key belongs, if the page is a leaf for such keys.

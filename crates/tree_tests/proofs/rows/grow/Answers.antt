@@ -1,5 +1,5 @@
 use Rattle.std.proofs.Common.{length, ap, arith}
-use Rattle.leaf_rows.proofs.tests.grow.Goals as goal
+use Rattle.tree_tests.proofs.rows.grow.Goals as goal
 
 pub grow_value-requires-clause-longer : goal.grow_value-requires-clause-longer
 grow_value-requires-clause-longer c = λ key has.

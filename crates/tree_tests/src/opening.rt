@@ -1,7 +1,7 @@
 //! A space of trees opens and closes, with memory at hand.
 ghost use Rattle.std.specs.Prelude.{◌<◌, ◌≤◌};
 
-use crate::open_forest;
+use forest_world::open_forest;
 use map_history::Sizes;
 use std::alloc::Global;
 
