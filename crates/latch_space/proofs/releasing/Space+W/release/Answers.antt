@@ -23,9 +23,9 @@ pub exchange-empty-requires : goal.exchange-empty-requires
 exchange-empty-requires g c = let p = c.pass.inside.parts in let hs = p.seat.me.0.held in let ps = p.hand.items in let i = c.place_of-i.result in let q = c.place_of-i.ensures in let found = ap (λ z. get_elem? z i) (sym c.as_slice.ensures.value) ∙ q.1 in let gone = c.remove-slot.result in let s = place_shows hs ps p.holding p.once i c.args.object (q.0, found, q.2) gone c.remove-slot.ensures.value in
     let front_is : c.turn_by.new.seat.me.1 ≡ (gone.object, None) ∷ others ps i = c.turn_by.ensures.turned ∙ (ap (λ z. drop i z ++ take i z) p.out ∙ front_slots ps i gone s.0) in (c.turn_by.ensures.own.0 ∙ (own_from p _ c.pass.view_is c.args.self.now c.requires.own).0, (None, front _ _ _ front_is))
 
-pub unreachable-requires : goal.unreachable-requires
-unreachable-requires g c = let p = c.pass.inside.parts in let hs = p.seat.me.0.held in let ps = p.hand.items in let i = c.place_of-i.result in let q = c.place_of-i.ensures in let found = ap (λ z. get_elem? z i) (sym c.as_slice.ensures.value) ∙ q.1 in let gone = c.remove-slot.result in let s = place_shows hs ps p.holding p.once i c.args.object (q.0, found, q.2) gone c.remove-slot.ensures.value in
-    let front_is : c.turn_by.new.seat.me.1 ≡ (gone.object, None) ∷ others ps i = c.turn_by.ensures.turned ∙ (ap (λ z. drop i z ++ take i z) p.out ∙ front_slots ps i gone s.0) in absurd (c.in_default.not-None (same_front _ _ _ _ _ _ c.exchange-empty.ensures.2 front_is))
+pub end-requires : goal.end-requires
+end-requires g c = let p = c.pass.inside.parts in let hs = p.seat.me.0.held in let ps = p.hand.items in let i = c.place_of-i.result in let q = c.place_of-i.ensures in let found = ap (λ z. get_elem? z i) (sym c.as_slice.ensures.value) ∙ q.1 in let gone = c.remove-slot.result in let s = place_shows hs ps p.holding p.once i c.args.object (q.0, found, q.2) gone c.remove-slot.ensures.value in
+    let front_is : c.turn_by.new.seat.me.1 ≡ (gone.object, None) ∷ others ps i = c.turn_by.ensures.turned ∙ (ap (λ z. drop i z ++ take i z) p.out ∙ front_slots ps i gone s.0) in same_front _ _ _ _ _ _ c.exchange-empty.ensures.2 front_is
 
 pub store-requires : goal.store-requires
 store-requires g c = let p = c.pass.inside.parts in let hs = p.seat.me.0.held in let ps = p.hand.items in let i = c.place_of-i.result in let q = c.place_of-i.ensures in let found = ap (λ z. get_elem? z i) (sym c.as_slice.ensures.value) ∙ q.1 in let gone = c.remove-slot.result in let s = place_shows hs ps p.holding p.once i c.args.object (q.0, found, q.2) gone c.remove-slot.ensures.value in
@@ -36,7 +36,7 @@ store-requires g c = let p = c.pass.inside.parts in let hs = p.seat.me.0.held in
       omega (arith, all.0, words.0, terms, within, object),
       releases _ _ _ _ _ _ _ _ record { taken = g.W.World.taken; answers_stay = g.W.World.answers_stay; follows_keeps = g.W.World.follows_keeps; refers_stay = g.W.World.refers_stay; refers_new = g.W.World.refers_new; refers_held = g.W.World.refers_held } _ _ _ c.exchange-empty.new.seat.me gone.object h.0 (rest c.turn_by.new.seat.me.1)
           (subst (λ (z : Knows g.row.W-Shape.Denot g.row.W-Object.Denot g.row.W-Change.Denot g.row.W-Answer.Denot). z.low < z.end) (sym same) (let n = p.numbers in omega (arith, n.0, n.1, n.2)))
-          (ap (λ z. z.1) e.3 ∙ ap (λ z. (gone.object, z) ∷ rest c.turn_by.new.seat.me.1) shown) holds
+          (ap (λ z. z.1) e.3 ∙ ap (λ z. (gone.object, z) ∷ rest c.turn_by.new.seat.me.1) (c.new-boxed.ensures ∙ shown)) holds
           (subst (λ (z : Knows g.row.W-Shape.Denot g.row.W-Object.Denot g.row.W-Change.Denot g.row.W-Answer.Denot × ℕ). MayRelease g.W.World.lawful g.W.World.answers g.W.World.refers z.0 z.1) (λ j. (rule_path j, sym s.1 j)) c.requires.rule),
     )
 
