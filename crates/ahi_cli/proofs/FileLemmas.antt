@@ -18,7 +18,7 @@ use Rattle.map_history.specs.declared.line.Line as script
 use Rattle.script.specs.Schema.{SchemaText, schema_of}
 use Rattle.script.specs.Lane.{lane_of, AreLaneLines, FitsFields}
 use Rattle.map_history.specs.Lines.{line_texts}
-use Rattle.lane_work.specs.Workable.{IsOpOf, AreLinesOf}
+use Rattle.lane_law.specs.Lines.{IsOpOf, AreLinesOf}
 use Rattle.ahi_cli.specs.declared.stop.Stop.{Stop}
 use Rattle.ahi_cli.specs.declared.stop.Stop.TheVariants.{Usage, Script, Shelf, TooLarge, Sizes, NoMemory}
 use Rattle.ahi_cli.specs.Stops.{schema_stop, lane_stop, stop_in}

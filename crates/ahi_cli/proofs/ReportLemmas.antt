@@ -12,7 +12,7 @@ use Rattle.map_history.specs.Spelling.{spell}
 use Rattle.map_history.specs.Statistics.{counts_of}
 use Rattle.script.specs.Schema.{SchemaText}
 use Rattle.script.specs.Views.{schema_text}
-use Rattle.index_engine.specs.declared.engine.EnginePass.{EnginePass}
+use Rattle.lane_threads.specs.Passes.{EnginePass}
 use Rattle.lane_law.specs.Reports.{part_with, report_with}
 use Rattle.lane_threads.specs.Together.{lane_texts, RanTogether, AreReported}
 use Rattle.lane_threads.proofs.LegalLemmas.{reported}

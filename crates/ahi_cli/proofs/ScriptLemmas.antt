@@ -4,7 +4,7 @@ use Rattle.std.specs.Option.{ForSome, IsSomeAnd, option_map}
 use Rattle.map_history.specs.LegalReport.{Line}
 use Rattle.script.specs.Schema.{SchemaText}
 use Rattle.script.specs.Views.{schema_text}
-use Rattle.index_engine.specs.declared.error.EngineError.{EngineError}
+use Rattle.lane_threads.specs.Passes.{EngineError}
 use Rattle.settings.specs.declared.setting.Setting.{Setting}
 use Rattle.settings.specs.Limits.{first_broken}
 use Rattle.lane_threads.specs.Together.{lane_texts}

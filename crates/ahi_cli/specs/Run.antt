@@ -9,10 +9,9 @@ use Rattle.map_history.specs.Report.{AnswerLine, IndexPart, Report}
 use Rattle.map_history.specs.Spelling.{spell}
 use Rattle.map_history.specs.Statistics.{counts_of}
 use Rattle.script.specs.Schema.{SchemaText}
-use Rattle.index_engine.specs.declared.engine.EnginePass.{EnginePass}
-use Rattle.index_engine.specs.Engines.{known}
+use Rattle.lane_threads.specs.Passes.{EnginePass, known}
 use Rattle.lane_law.specs.Trail.{IsTrail}
-use Rattle.lane_work.specs.Works.{HasDashes}
+use Rattle.lane_law.specs.Lines.{HasDashes}
 use Rattle.ahi_cli.specs.declared.stop.Stop.{Stop}
 use Rattle.ahi_cli.specs.declared.stop.Stop.TheVariants.{Usage, Script, Shelf, TooLarge, Sizes, NoMemory}
 use Rattle.ahi_cli.specs.Files.{Failures, failures_of, Spells, FailsAt}

@@ -6,7 +6,7 @@ ghost use Rattle.script.specs.declared.TheConstants.{MAX_FILE_BYTES};
 ghost use Rattle.script.specs.Views.{schema_text};
 ghost use Rattle.map_history.specs.declared.TheConstants.{MAX_INDEXES, MAX_LANES};
 ghost use Rattle.map_history.specs.Lines.{line_texts};
-ghost use Rattle.lane_work.specs.Workable.{AreLinesOf};
+ghost use Rattle.lane_law.specs.Lines.{AreLinesOf};
 ghost use Rattle.lane_threads.specs.Together.{lane_texts, AllAreLinesOf};
 ghost use Rattle.ahi_cli.specs.Files.{failures_of, KeepsFiles, StopsLoading, StopsFile, StopsReading, SpellsSchema, SpellsLane, SpellsLanes, Spells};
 ghost use Rattle.ahi_cli.specs.Stops.{schema_stop, lane_stop, flaw_code, refused};

@@ -1,3 +1,4 @@
+pub mod Lines
 pub mod Worked
 pub mod Runs
 pub mod Merged

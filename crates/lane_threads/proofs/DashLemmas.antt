@@ -7,7 +7,7 @@ use Rattle.map_history.specs.LegalReport.{Line, columns_of, columns_in}
 use Rattle.map_history.specs.Statistics.{counts_of}
 use Rattle.map_history.proofs.DashLemmas.{counts_of-dashes}
 use Rattle.list_facts.proofs.Each.{each_append}
-use Rattle.lane_work.specs.Works.{HasDashes}
+use Rattle.lane_law.specs.Lines.{HasDashes}
 
 dashes_of : (answer : Answer) → HasDashes answer → AllByRecursion (λ c. c ≡ dashes) (columns_of answer)
 dashes_of (Replied reply point columns) has = (has, tt)

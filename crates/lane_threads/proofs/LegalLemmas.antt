@@ -30,7 +30,7 @@ use Rattle.lane_law.proofs.TrailLemmas.{trail}
 use Rattle.lane_law.specs.Merged.{IsNumbered, HasMerged}
 use Rattle.lane_law.specs.Reports.{part_with, report_with}
 use Rattle.lane_law.specs.Runs.{RunsAll, AreEntries}
-use Rattle.lane_work.specs.Workable.{IsOpOf, AreLinesOf}
+use Rattle.lane_law.specs.Lines.{IsOpOf, AreLinesOf}
 use Rattle.lane_threads.specs.Together.{lane_texts, AllAreLinesOf, RanTogether, AreReported, lanes_run}
 use Rattle.lane_threads.proofs.DashLemmas.{nothing_counted}
 

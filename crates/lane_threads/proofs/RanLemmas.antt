@@ -17,7 +17,8 @@ use Rattle.index_engine.specs.Engines.{known, IsOf}
 use Rattle.report_text.specs.Texts.{answer_line_text}
 use Rattle.lane_law.specs.Merged.{lane_notes, all_notes}
 use Rattle.lane_law.specs.Worked.{AreInOrder, lane_sayings}
-use Rattle.lane_work.specs.Works.{HasDashes, Works}
+use Rattle.lane_law.specs.Lines.{HasDashes}
+use Rattle.lane_work.specs.Works.{Works}
 use Rattle.lane_threads.specs.Dealt.{IsLane, AreLanes, AreFresh}
 use Rattle.lane_threads.specs.Said.{SayLanes}
 use Rattle.lane_threads.specs.Together.{lane_texts}

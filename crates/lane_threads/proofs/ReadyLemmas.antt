@@ -20,7 +20,8 @@ use Rattle.index_engine.specs.declared.engine.Engine.{Engine}
 use Rattle.index_engine.specs.declared.engine.EnginePass.{EnginePass}
 use Rattle.forest_world.specs.Opening.{forest_terms}
 use Rattle.index_engine.specs.Engines.{known, IsOf}
-use Rattle.lane_work.specs.Workable.{IsWorkableOp, AreWorkable, IsOpOf, AreLinesOf}
+use Rattle.lane_law.specs.Lines.{IsOpOf, AreLinesOf}
+use Rattle.lane_work.specs.Workable.{IsWorkableOp, AreWorkable}
 use Rattle.lane_threads.specs.Ready.{IsReady}
 use Rattle.lane_threads.specs.Together.{AllAreLinesOf}
 

@@ -4,3 +4,4 @@ pub mod Said
 pub mod Together
 pub mod Ready
 pub mod Doing
+pub mod Passes

@@ -25,8 +25,8 @@ use Rattle.lane_law.specs.Reports.{report_with}
 use Rattle.lane_law.specs.Runs.{all_sayings}
 use Rattle.lane_law.specs.Trail.{IsTrail}
 use Rattle.lane_law.specs.Worked.{AreInOrder}
-use Rattle.lane_work.specs.Workable.{AreLinesOf}
-use Rattle.lane_work.specs.Works.{HasDashes}
+use Rattle.lane_law.specs.Lines.{AreLinesOf}
+use Rattle.lane_law.specs.Lines.{HasDashes}
 
 -- the lines of each lane, with their operations
 abbrev pub lane_texts : List (Vec Line Global) → List (List legal.Line)

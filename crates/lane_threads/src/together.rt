@@ -4,7 +4,7 @@ ghost use Rattle.std.specs.List.{AllByRecursion};
 ghost use Rattle.std.specs.Option.{IsSomeAnd};
 ghost use Rattle.map_history.specs.declared.TheConstants.{MAX_INDEXES, MAX_LANES};
 ghost use Rattle.settings.specs.Limits.{first_broken};
-ghost use Rattle.lane_work.specs.Workable.{AreLinesOf};
+ghost use Rattle.lane_law.specs.Lines.{AreLinesOf};
 ghost use Rattle.lane_threads.specs.Together.{lane_texts, RanTogether};
 
 use crate::apart::{Parts, take_apart};

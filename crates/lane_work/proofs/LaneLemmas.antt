@@ -28,7 +28,8 @@ use Rattle.lane_law.specs.Worked.{answered}
 use Rattle.lane_law.proofs.JoinLemmas.{notes_more}
 use Rattle.lane_law.proofs.WorkLemmas.{worked_none, plain_marks, worked_more}
 use Rattle.lane_work.specs.Workable.{IsWorkable, AreWorkable}
-use Rattle.lane_work.specs.Works.{HasDashes, Works, told_notes}
+use Rattle.lane_law.specs.Lines.{HasDashes}
+use Rattle.lane_work.specs.Works.{Works, told_notes}
 use Rattle.lane_work.proofs.NoteLemmas.{noted_by, dashes_told}
 
 -- no line, no work

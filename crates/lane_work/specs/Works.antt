@@ -8,18 +8,12 @@ use Rattle.map_history.specs.Lines.{line_text}
 use Rattle.std.specs.List.{AllByRecursion}
 use Rattle.change_log.specs.Log.{ChangeNote, Log}
 use Rattle.map_history.specs.LegalReport as legal
-use Rattle.map_history.specs.Report.{Answer, Replied, LogFull, SpaceFull, Scanned, AnswerLine, dashes}
+use Rattle.map_history.specs.Report.{AnswerLine}
 use Rattle.call_law.specs.Spoken.{View}
 use Rattle.report_text.specs.Texts.{answer_line_text}
+use Rattle.lane_law.specs.Lines.{HasDashes}
 use Rattle.lane_law.specs.Worked.{Worked}
 use Rattle.lane_law.specs.Merged.{lane_notes}
-
--- an answer that tells of no hash: its columns are dashes
-abbrev pub HasDashes : Answer → Type 0
-HasDashes (Replied reply point columns) = columns ≡ dashes
-HasDashes (LogFull n columns) = columns ≡ dashes
-HasDashes (SpaceFull columns) = columns ≡ dashes
-HasDashes (Scanned pieces) = ⊥
 
 -- The lines were answered one after another by a pass that knew v and knows v': their answers are
 -- printed so, the changes among them are noted, and no column tells of a hash.

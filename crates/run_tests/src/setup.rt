@@ -1,6 +1,5 @@
 //! Runs on files in memory: the schema is the file `s`, and the lanes are `l1`, `l2` and so on.
-use ahi_cli::{Status, run_words};
-use index_engine::EnginePass;
+use ahi_cli::{EnginePass, Status, run_words};
 use io_port::{MemoryShelf, MemorySink};
 use lanes::{Gate, NoGate};
 use std::alloc::Global;

@@ -1,7 +1,6 @@
 //! The pass that lanes leave.
 use crate::setup::{LANE, PLAIN, SCHEMA, Setup, run_leaving};
-use ahi_cli::Status;
-use index_engine::EnginePass;
+use ahi_cli::{EnginePass, Status};
 use script::DEFAULT_SIZES;
 use std::sync::Wait;
 use std::thread::Threads;

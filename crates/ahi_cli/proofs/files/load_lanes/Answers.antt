@@ -4,7 +4,7 @@ use Rattle.std.proofs.lemmas.Result.{err_from_is_err_and}
 use Rattle.std.specs.String.{string_bytes}
 use Rattle.script.specs.Views.{schema_text}
 use Rattle.lane_threads.specs.Together.{lane_texts}
-use Rattle.lane_work.specs.Workable.{AreLinesOf}
+use Rattle.lane_law.specs.Lines.{AreLinesOf}
 use Rattle.ahi_cli.specs.Files.{failures_of, StopsFile, SpellsLanes}
 use Rattle.ahi_cli.specs.Stops.{lane_stop}
 use Rattle.ahi_cli.specs.Words.{names_of}
