@@ -5,9 +5,7 @@ use mathlib.Core.Option.{some, some-injective, some-ne-none}
 use lib.ListN.{get_elem?}
 use Rattle.latch_law.specs.Views.{said_below, said_from, middle, left_part, right_part}
 use Rattle.call_law.specs.Spoken.{View, OwnAnswer}
-use Rattle.index_engine.specs.declared.engine.Engine.{Engine}
-use Rattle.index_engine.specs.declared.engine.EnginePass.{EnginePass}
-use Rattle.index_engine.specs.Engines.{known, IsOf}
+use Rattle.lane_work.specs.Engine.{Engine, EnginePass, known, IsOf}
 use Rattle.lane_threads.specs.Dealt.{said_by, IsSigned, IsLane, AreLanes, IsShare, AreDealt, AddsDealt}
 use Rattle.lane_threads.proofs.ListLemmas.{at_either, within}
 

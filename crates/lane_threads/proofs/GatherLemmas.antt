@@ -7,9 +7,7 @@ use Rattle.latch_law.specs.Views.{both_parts}
 use Rattle.list_facts.specs.Parts.{longer}
 use Rattle.call_law.specs.Spoken.{View, OwnAnswer}
 use Rattle.index_law.specs.State.{Entries}
-use Rattle.index_engine.specs.declared.engine.Engine.{Engine}
-use Rattle.index_engine.specs.declared.engine.EnginePass.{EnginePass}
-use Rattle.index_engine.specs.Engines.{known, IsOf}
+use Rattle.lane_work.specs.Engine.{Engine, EnginePass, known, IsOf}
 use Rattle.lane_threads.specs.Gathered.{Gathers}
 
 longer_none : (xs : List Entries) → longer xs [] ≡ xs

@@ -21,8 +21,7 @@ use Rattle.map_history.specs.declared.line.Line.{Line}
 use Rattle.map_history.specs.Lines.{line_texts}
 use Rattle.index_law.specs.Shape.{Shape}
 use Rattle.index_law.specs.State.{Entries}
-use Rattle.index_engine.specs.declared.engine.EnginePass.{EnginePass}
-use Rattle.index_engine.specs.Engines.{known}
+use Rattle.lane_work.specs.Engine.{EnginePass, known}
 use Rattle.lane_law.proofs.LegalLemmas as proved
 use Rattle.lane_law.proofs.MergedLemmas.{noted_printed, are_entries}
 use Rattle.lane_law.proofs.MergeLemmas.{are_lists}

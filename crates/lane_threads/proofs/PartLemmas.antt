@@ -3,7 +3,7 @@ use Rattle.std.proofs.Common.{◌≡◌, Some, List, [], ◌∷◌, ◌++◌, ma
 use Rattle.std.proofs.lemmas.List.{map-append}
 use Rattle.std.specs.Prelude.{ℕ}
 use Rattle.change_log.specs.Log.{Log}
-use Rattle.index_engine.specs.declared.engine.EnginePass.{EnginePass}
+use Rattle.lane_work.specs.Engine.{EnginePass}
 use Rattle.lane_threads.specs.declared.doer.DoneLane.{DoneLane}
 use Rattle.lane_threads.specs.declared.doer.LaneDoer.{LaneDoer}
 use Rattle.lane_threads.specs.Doing.{AreParts}

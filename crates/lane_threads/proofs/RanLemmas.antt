@@ -11,9 +11,7 @@ use Rattle.map_history.specs.Report.{AnswerLine}
 use Rattle.map_history.specs.declared.line.Line.{Line}
 use Rattle.map_history.specs.Lines.{line_texts}
 use Rattle.call_law.specs.Spoken.{View, Spoken, OwnAnswer, spoken}
-use Rattle.index_engine.specs.declared.engine.Engine.{Engine}
-use Rattle.index_engine.specs.declared.engine.EnginePass.{EnginePass}
-use Rattle.index_engine.specs.Engines.{known, IsOf}
+use Rattle.lane_work.specs.Engine.{Engine, EnginePass, known, IsOf}
 use Rattle.report_text.specs.Texts.{answer_line_text}
 use Rattle.lane_law.specs.Merged.{lane_notes, all_notes}
 use Rattle.lane_law.specs.Worked.{AreInOrder, lane_sayings}

@@ -16,10 +16,8 @@ use Rattle.map_history.specs.declared.sizes.Sizes.{Sizes}
 use Rattle.map_history.specs.declared.line.Line.{Line}
 use Rattle.index_law.specs.Shape.{Shape}
 use Rattle.forest_law.specs.State.{or_zero, fields_for}
-use Rattle.index_engine.specs.declared.engine.Engine.{Engine}
-use Rattle.index_engine.specs.declared.engine.EnginePass.{EnginePass}
+use Rattle.lane_work.specs.Engine.{Engine, EnginePass, known, IsOf}
 use Rattle.forest_world.specs.Opening.{forest_terms}
-use Rattle.index_engine.specs.Engines.{known, IsOf}
 use Rattle.lane_law.specs.Lines.{IsOpOf, AreLinesOf}
 use Rattle.lane_work.specs.Workable.{IsWorkableOp, AreWorkable}
 use Rattle.lane_threads.specs.Ready.{IsReady}

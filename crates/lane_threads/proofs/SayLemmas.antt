@@ -4,13 +4,11 @@ use Rattle.map_history.specs.Report.{AnswerLine}
 use Rattle.map_history.specs.LegalReport.{Line}
 use Rattle.call_law.specs.Spoken.{spoken}
 use Rattle.call_law.proofs.TraceLemmas.{spoken-append}
-use Rattle.index_engine.specs.declared.engine.EnginePass.{EnginePass}
-use Rattle.index_engine.specs.Engines.{known}
+use Rattle.lane_work.specs.Engine.{Engine, EnginePass, known}
 use Rattle.lane_law.specs.Worked.{lane_sayings}
 use Rattle.lane_law.specs.Runs.{all_sayings}
 use Rattle.lane_threads.specs.Dealt.{AreLanes}
 use Rattle.lane_threads.specs.Gathered.{ArePassesOf, AreInRow, all_said, Gathers}
-use Rattle.index_engine.specs.declared.engine.Engine.{Engine}
 use Rattle.lane_threads.specs.Said.{SayLanes}
 
 -- all but the first said what their lanes were answered

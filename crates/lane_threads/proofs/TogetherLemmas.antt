@@ -17,10 +17,8 @@ use Rattle.forest_law.specs.Law.{IsLawful}
 use Rattle.forest_law.specs.References.{IsReference}
 use Rattle.index_law.specs.Rightness.{IsRight}
 use Rattle.call_law.specs.Spoken.{View}
-use Rattle.index_engine.specs.declared.engine.Engine.{Engine}
-use Rattle.index_engine.specs.declared.engine.EnginePass.{EnginePass}
+use Rattle.lane_work.specs.Engine.{Engine, EnginePass, known, IsOf}
 use Rattle.forest_world.specs.Opening.{forest_terms}
-use Rattle.index_engine.specs.Engines.{known, IsOf}
 use Rattle.lane_threads.specs.Dealt.{AreLanes, AreDealt, AreFresh}
 use Rattle.lane_threads.specs.Gathered.{Gathers}
 use Rattle.lane_threads.proofs.SayLemmas.{all_gathered}

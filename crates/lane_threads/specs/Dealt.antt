@@ -3,9 +3,7 @@ use Rattle.std.specs.Prelude.{ℕ, ◌≡◌, ◌+◌, ◌<◌, ◌≤◌, List,
 use mathlib.Core.Option.{some}
 use lib.ListN.{get_elem?}
 use Rattle.call_law.specs.Spoken.{OwnAnswer, View}
-use Rattle.index_engine.specs.declared.engine.Engine.{Engine}
-use Rattle.index_engine.specs.declared.engine.EnginePass.{EnginePass}
-use Rattle.index_engine.specs.Engines.{known, IsOf}
+use Rattle.lane_work.specs.Engine.{Engine, EnginePass, known, IsOf}
 
 -- the answers of the number n
 abbrev pub said_by : ℕ → List OwnAnswer → List OwnAnswer

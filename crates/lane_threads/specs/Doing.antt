@@ -5,9 +5,7 @@ use Rattle.std.specs.declared.alloc.Global.{Global}
 use Rattle.change_log.specs.Log.{Log}
 use Rattle.map_history.specs.declared.line.Line.{Line}
 use Rattle.map_history.specs.Lines.{line_texts}
-use Rattle.index_engine.specs.declared.engine.Engine.{Engine}
-use Rattle.index_engine.specs.declared.engine.EnginePass.{EnginePass}
-use Rattle.index_engine.specs.Engines.{known, IsOf, IsSame}
+use Rattle.lane_work.specs.Engine.{Engine, EnginePass, known, IsOf, IsSame}
 use Rattle.lane_work.specs.Works.{Works}
 use Rattle.lane_threads.specs.declared.doer.DoneLane.{DoneLane}
 use Rattle.lane_threads.specs.declared.doer.LaneDoer.{LaneDoer}

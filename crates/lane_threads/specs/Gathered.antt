@@ -5,9 +5,7 @@ use lib.ListN.{get_elem?}
 use Rattle.list_facts.specs.Parts.{longer}
 use Rattle.call_law.specs.Spoken.{OwnAnswer}
 use Rattle.index_law.specs.State.{Entries}
-use Rattle.index_engine.specs.declared.engine.Engine.{Engine}
-use Rattle.index_engine.specs.declared.engine.EnginePass.{EnginePass}
-use Rattle.index_engine.specs.Engines.{known, IsOf}
+use Rattle.lane_work.specs.Engine.{Engine, EnginePass, known, IsOf}
 
 -- each is a pass of the engine
 abbrev pub ArePassesOf : Engine → List EnginePass → Type 0

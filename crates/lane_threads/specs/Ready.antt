@@ -1,9 +1,7 @@
 -- When a lane's lines can be worked by a pass.
 use Rattle.std.specs.Prelude.{ℕ, ◌≡◌, ◌+◌, List}
 use Rattle.map_history.specs.declared.line.Line.{Line}
-use Rattle.index_engine.specs.declared.engine.Engine.{Engine}
-use Rattle.index_engine.specs.declared.engine.EnginePass.{EnginePass}
-use Rattle.index_engine.specs.Engines.{known, IsOf}
+use Rattle.lane_work.specs.Engine.{Engine, EnginePass, known, IsOf}
 use Rattle.lane_work.specs.Workable.{AreWorkable}
 
 -- The pass is the engine's, the lane has the number after the pass's lowest one, and the lines can

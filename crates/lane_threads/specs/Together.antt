@@ -16,9 +16,8 @@ use Rattle.forest_law.specs.Law.{IsLawful}
 use Rattle.forest_law.specs.References.{IsReference}
 use Rattle.index_law.specs.Rightness.{IsRight}
 use Rattle.call_law.specs.Spoken.{spoken}
-use Rattle.index_engine.specs.declared.engine.EnginePass.{EnginePass}
+use Rattle.lane_work.specs.Engine.{EnginePass, known}
 use Rattle.forest_world.specs.Opening.{forest_terms}
-use Rattle.index_engine.specs.Engines.{known}
 use Rattle.report_text.specs.Texts.{answer_line_text}
 use Rattle.lane_law.specs.Merged.{all_notes}
 use Rattle.lane_law.specs.Reports.{report_with}

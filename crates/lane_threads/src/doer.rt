@@ -1,8 +1,7 @@
 //! A lane before and after it works.
 ghost use Rattle.lane_threads.specs.Ready.{IsReady};
 
-use index_engine::{Engine, EnginePass};
-use lane_work::LaneWork;
+use lane_work::{Engine, EnginePass, LaneWork};
 use map_history::Line;
 use std::alloc::Global;
 

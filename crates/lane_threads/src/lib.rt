@@ -11,6 +11,6 @@ mod laws;
 mod readying;
 mod together;
 
-pub use index_engine::{EngineError, EnginePass};
+pub use lane_work::{EngineError, EnginePass};
 pub use laws::runs_are_legal;
 pub use together::{LanesWork, work_lanes};

@@ -12,7 +12,7 @@ use crate::dealing::deal;
 use crate::gathering::gather;
 use crate::readying::ready_lanes;
 use change_log::LaneLog;
-use index_engine::{Engine, EngineError, EnginePass};
+use lane_work::{Engine, EngineError, EnginePass};
 use lanes::{Gate, run_lanes};
 use map_history::{Line, Sizes};
 use report_text::Texts;

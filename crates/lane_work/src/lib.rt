@@ -5,4 +5,5 @@
 mod lane;
 mod line;
 
+pub use index_engine::{Engine, EngineError, EnginePass};
 pub use lane::{LaneWork, work_lane};

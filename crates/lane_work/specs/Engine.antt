@@ -1,0 +1,5 @@
+-- The engine that lanes work with, its pass and its error, and what a pass of it knows.
+pub use Rattle.index_engine.specs.declared.engine.Engine.{Engine}
+pub use Rattle.index_engine.specs.declared.engine.EnginePass.{EnginePass}
+pub use Rattle.index_engine.specs.declared.error.EngineError.{EngineError}
+pub use Rattle.index_engine.specs.Engines.{known, IsOf, IsSame}
