@@ -1,5 +1,5 @@
-//! Tests of the hash's chains and partitions, and of the law of hashed leaves by the program: what the
-//! law says that a change of rows changes is done in a partition, and compared with a plain recount.
+//! Tests of the hash's chains, partitions and learning, and of the law of hashed leaves by the program:
+//! what the law says that a change of rows changes is done in a partition, and compared with a recount.
 #![tactic(auto)]
 
 #[cfg(test)]
@@ -12,6 +12,8 @@ mod drawn;
 mod guesses;
 #[cfg(test)]
 mod leaves;
+#[cfg(test)]
+mod lessons;
 #[cfg(test)]
 mod partitions;
 #[cfg(test)]

@@ -9,8 +9,6 @@ mod info;
 mod law;
 mod lesson;
 mod recommend;
-#[cfg(test)]
-mod tests;
 mod word;
 
 pub use bounds::{is_descent_of, is_info_of};
