@@ -131,7 +131,7 @@ fn key_text(alloc: Global, index: u64, key: u64) -> Result<String, AllocError> {
 
 /// A seek by the key of this number, or by its first fields.
 fn seek_line(alloc: Global, state: &mut u64, index: u64, key: u64) -> Result<String, AllocError> {
-    let mode = mode_word(draw_below(state, 4));
+    let mode = mode_word(state);
     let shared = draw_below(state, index % 4 + 1);
     let tuple = if shared == 0 {
         key_text(alloc, index, key)?
@@ -141,13 +141,14 @@ fn seek_line(alloc: Global, state: &mut u64, index: u64, key: u64) -> Result<Str
     format!(in alloc; "seek t{index} {mode} {}\n", tuple.as_str())
 }
 
-/// The word of the mode with this number.
-fn mode_word(number: u64) -> &'static str {
-    match number {
-        0 => "ge",
-        1 => "g",
-        2 => "le",
-        _ => "l",
+/// The words of the modes.
+const MODES: [&str; 4] = ["ge", "g", "le", "l"];
+
+/// A mode's word.
+fn mode_word(state: &mut u64) -> &'static str {
+    match MODES.get(draw_below(state, 4) as usize) {
+        Some(word) => word,
+        None => "",
     }
 }
 

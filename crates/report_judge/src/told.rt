@@ -116,7 +116,12 @@ fn answer_of<'a>(line: Line<'a>, words: &[&'a str]) -> Option<Answer<'a>> {
 }
 
 fn point_of(word: &str) -> Option<u64> {
-    number_of(word.strip_prefix('@')?)
+    let (before, number) = word.split_once('@')?;
+    if before.is_empty() {
+        number_of(number)
+    } else {
+        None
+    }
 }
 
 fn read_lists<'a>(
