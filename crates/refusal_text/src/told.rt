@@ -12,8 +12,10 @@ pub enum Told<'a> {
 
 /// Reads the line of a refusal, if it is one.
 pub fn read(line: &[u8]) -> Option<Told<'_>> {
-    let text = str::from_utf8(line).ok()?.strip_suffix('\n')?;
-    let (word, rest) = text.split_once(' ')?;
+    let [text @ .., b'\n'] = line else {
+        return None;
+    };
+    let (word, rest) = str::from_utf8(text).ok()?.split_once(' ')?;
     match word {
         "script" => read_script(rest),
         "shelf" => Some(Told::Shelf {
