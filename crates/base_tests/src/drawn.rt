@@ -137,20 +137,34 @@ fn no_rows(alloc: Global) -> Table {
     }
 }
 
+fn add_head(out: &mut Vec<u8>) -> Result<(), NoMemory> {
+    report_head(out)?;
+    lane_head(out, 1)
+}
+
+/// Appends the changes of both indexes.
+fn add_lists(out: &mut Vec<u8>, tables: &[Table]) -> Result<(), NoMemory> {
+    for (name, table) in ["t", "two"].iter().zip(tables.iter()) {
+        changes_head(out, name, table.count)?;
+        out.extend_from_slice(&table.list)?;
+    }
+    Ok(())
+}
+
+fn add_end(out: &mut Vec<u8>) -> Result<(), NoMemory> {
+    stats(out, "t", &Counts::none())?;
+    stats(out, "two", &Counts::none())?;
+    report_end(out)
+}
+
 /// The report of a lane.
 fn report_of(alloc: Global, lines: &[Line]) -> Result<Vec<u8>, NoMemory> {
     let mut tables = [no_rows(alloc), no_rows(alloc)];
     let mut out = Vec::new(alloc);
-    report_head(&mut out)?;
-    lane_head(&mut out, 1)?;
+    add_head(&mut out)?;
     answer_lines(alloc, &mut tables, &mut out, lines)?;
-    for (name, table) in ["t", "two"].iter().zip(tables.iter()) {
-        changes_head(&mut out, name, table.count)?;
-        out.extend_from_slice(&table.list)?;
-    }
-    stats(&mut out, "t", &Counts::none())?;
-    stats(&mut out, "two", &Counts::none())?;
-    report_end(&mut out)?;
+    add_lists(&mut out, &tables)?;
+    add_end(&mut out)?;
     Ok(out)
 }
 
