@@ -79,19 +79,19 @@ fn two_pages_are_full_at_the_ninth_large_row(rt: HostRuntime) {
     assert!(rt; is_full_at_two(&rt));
 }
 
-/// A second change finds no room in the list, and the first is still seen.
-fn is_full_at_one<R: AllocGlobal + Threads + Wait + Sync>(rt: &R) -> bool {
+/// A third change finds no room in the list, and the two before are still seen.
+fn is_full_at_the_third<R: AllocGlobal + Threads + Wait + Sync>(rt: &R) -> bool {
     is_reported(
         rt,
-        "max_changes 1\nindex t 1\n",
-        "put t a x\nput t b y\nget t a\nget t b\n",
-        "1 ok @1 - -\n2 log-full 1 - -\n3 found x @1 - -\n4 absent @1 - -\nchanges t 1\n1 1 1 put a x\n",
+        "max_changes 2\nindex t 1\n",
+        "put t a x\nput t b y\nput t c z\nget t b\nget t c\n",
+        "1 ok @1 - -\n2 ok @2 - -\n3 log-full 2 - -\n4 found y @2 - -\n5 absent @2 - -\nchanges t 2\n1 1 1 put a x\n2 1 2 put b y\n",
     )
 }
 
 #[test]
-fn a_list_of_one_change_is_full_at_the_second(rt: HostRuntime) {
-    assert!(rt; is_full_at_one(&rt));
+fn a_list_of_two_changes_is_full_at_the_third(rt: HostRuntime) {
+    assert!(rt; is_full_at_the_third(&rt));
 }
 
 /// Schemas whose sizes can't be had, and what is written.
