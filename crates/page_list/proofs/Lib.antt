@@ -1,4 +1,9 @@
-pub mod GroupOfLemmas
 pub mod LinkLemmas
+pub mod GroupOfLemmas
 pub mod EnterLemmas
 pub mod SlotSizeLemmas
+pub mod AroundLemmas
+pub mod PassLemmas
+pub mod PreviousLemmas
+pub mod MendLemmas
+pub mod LeaveLemmas

@@ -15,7 +15,7 @@ use Rattle.page_list.specs.Entering.{Gap, HasGap, CanEnter, Enters, GapGroup, Is
 use Rattle.page_list.proofs.EnterLemmas.{at_gap}
 
 -- another number at a place leaves those beside it
-same_beside : (xs ys : List ℕ) (a b j : ℕ) → (j ≡ length xs → ⊥) → get_or (xs ++ a ∷ ys) j 0 ≡ get_or (xs ++ b ∷ ys) j 0
+pub same_beside : (xs ys : List ℕ) (a b j : ℕ) → (j ≡ length xs → ⊥) → get_or (xs ++ a ∷ ys) j 0 ≡ get_or (xs ++ b ∷ ys) j 0
 same_beside [] ys a b zero other = absurd (other refl)
 same_beside [] ys a b (suc j) other = refl
 same_beside (x ∷ xs) ys a b zero other = refl
@@ -64,7 +64,7 @@ size_here gs g w =
     ap (λ (x : List Group). slice_index (group_sizes x) (length w.early)) w.groups
     ∙ size_at w.early (record { front = w.low ++ w.rest; owner = w.owner }) w.late (length w.early) refl
 
-not_first : (es : List Group) (low : List ℕ) (zs : List ℕ) (p n : ℕ) → zs ++ p ∷ [] ≡ records es ++ low → (length es ≡ 0 → length low ≡ 0) → 1 ≤ length es
+pub not_first : (es : List Group) (low : List ℕ) (zs : List ℕ) (p n : ℕ) → zs ++ p ∷ [] ≡ records es ++ low → (length es ≡ 0 → length low ≡ 0) → 1 ≤ length es
 not_first [] low zs p n e none = absurd (omega (arith, none refl, ap length e, length-append zs (p ∷ [])))
 not_first (x ∷ es) low zs p n e none = omega arith
 
@@ -86,7 +86,7 @@ at_group {bytes} {m} {gs} {free} {g} w h =
     }
 
 -- the first of the rest of a group
-rest_from : (rest : List ℕ) (o : ℕ) (late : List ℕ) (n : ℕ) (high : List ℕ) → n ∷ high ≡ rest ++ o ∷ late → (hs : List ℕ) × (rest ++ o ∷ [] ≡ n ∷ hs)
+pub rest_from : (rest : List ℕ) (o : ℕ) (late : List ℕ) (n : ℕ) (high : List ℕ) → n ∷ high ≡ rest ++ o ∷ late → (hs : List ℕ) × (rest ++ o ∷ [] ≡ n ∷ hs)
 rest_from [] o late n high e = ([], cc)
 rest_from (x ∷ xs) o late n high e = (xs ++ o ∷ [], cc)
 

@@ -3,5 +3,7 @@
 #![tactic(auto)]
 
 mod entering;
+mod leaving;
 
 pub use entering::enter_list;
+pub use leaving::leave_list;
