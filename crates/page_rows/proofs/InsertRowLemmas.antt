@@ -61,14 +61,14 @@ pub record BeforeGap (p : PageParts) (low : List ℕ) : Type 0 where
   pub is : front ++ here ∷ [] ≡ 0 ∷ low
   pub place : place_before (map (row_of p) low) ≡ origin_of p.mirror here
 
-before_gap : {bytes : List ℕ} (p : PageParts) → Mirrors bytes p.mirror → (low : List ℕ) → BeforeGap p low
+pub before_gap : {bytes : List ℕ} (p : PageParts) → Mirrors bytes p.mirror → (low : List ℕ) → BeforeGap p low
 before_gap p is [] = record { front = []; here = 0; is = refl; place = sym (infimum_at is).placed }
 before_gap p is (x ∷ xs) =
     let r = last_of p x xs in
     record { front = 0 ∷ r.front; here = r.here; is = ap (λ (l : List ℕ). 0 ∷ l) r.is; place = r.place }
 
 -- the record behind it
-first_behind : (high : List ℕ) → (n : ℕ) × (rest : List ℕ) × (n ∷ rest ≡ high ++ 1 ∷ [])
+pub first_behind : (high : List ℕ) → (n : ℕ) × (rest : List ℕ) × (n ∷ rest ≡ high ++ 1 ∷ [])
 first_behind [] = (1, [], refl)
 first_behind (x ∷ xs) = (x, xs ++ 1 ∷ [], refl)
 

@@ -30,7 +30,7 @@ inserted_parts q g low high owned hs = record {
 }
 
 -- one element more among those of which something holds
-each_more : (P : ℕ → Type 0) (x : ℕ) (xs ys zs : List ℕ) → P x → AllByRecursion P ((xs ++ ys) ++ zs) → AllByRecursion P ((xs ++ x ∷ ys) ++ zs)
+pub each_more : (P : ℕ → Type 0) (x : ℕ) (xs ys zs : List ℕ) → P x → AllByRecursion P ((xs ++ ys) ++ zs) → AllByRecursion P ((xs ++ x ∷ ys) ++ zs)
 each_more P x xs ys zs here a =
     let both = each_left P (xs ++ ys) zs a in
     each_append P (xs ++ x ∷ ys) zs (each_append P xs (x ∷ ys) (each_left P xs ys both) (here, each_right P xs ys both)) (each_right P (xs ++ ys) zs a)

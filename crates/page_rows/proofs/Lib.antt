@@ -9,3 +9,6 @@ pub mod TakingLemmas
 pub mod InsertedLemmas
 pub mod DifferLemmas
 pub mod InsertRowLemmas
+pub mod FreedLemmas
+pub mod LeftLemmas
+pub mod DeleteRowLemmas

@@ -1,10 +1,12 @@
-//! Rows in a page's bytes: where the page has room for one, and how it comes in.
+//! Rows in a page's bytes: where the page has room for one, how it comes in, and how it goes.
 //! It never compares keys.
 #![tactic(auto)]
 
+mod deleting;
 mod inserting;
 mod room;
 mod taking;
 
+pub use deleting::delete_row;
 pub use inserting::insert_row;
 pub use room::{page_gaps, page_load};
