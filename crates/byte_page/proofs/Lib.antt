@@ -1,3 +1,4 @@
 pub mod FrontLemmas
 pub mod FormLemmas
 pub mod SearchLemmas
+pub mod DeleteLemmas

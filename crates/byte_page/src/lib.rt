@@ -2,6 +2,7 @@
 //! It never holds a row beside its bytes, and never looks at another page.
 #![tactic(auto)]
 
+mod deleting;
 mod front;
 mod inserting;
 mod page;
