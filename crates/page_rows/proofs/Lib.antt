@@ -12,3 +12,6 @@ pub mod InsertRowLemmas
 pub mod FreedLemmas
 pub mod LeftLemmas
 pub mod DeleteRowLemmas
+pub mod BodyLemmas
+pub mod TailLemmas
+pub mod SetLemmas

@@ -2,3 +2,4 @@ pub mod Reading
 pub mod Spelling
 pub mod Inserting
 pub mod Deleting
+pub mod Setting
