@@ -1,5 +1,5 @@
 -- Where a cut parts the rows of a page.
-use Rattle.std.specs.Prelude.{◌≡◌, ℕ, Bool, false, Option, Some, None, List, ◌∷◌, ◌++◌}
+use Rattle.std.specs.Prelude.{◌≡◌, ℕ, ◌≤◌, Bool, false, Option, Some, None, List, ◌∷◌, ◌++◌, length}
 use Rattle.key_tuple.specs.KeyPlace.{KeyPlace, At}
 use Rattle.index_page.specs.Rows.{Row}
 use Rattle.index_page.specs.Page.{RowsAscend}
@@ -16,6 +16,18 @@ pub record CutsRows (bytes : List ℕ) (fields : ℕ) (p : KeyPlace → Bool) (b
   pub before_is : before ≡ place_before left
   pub out : AllOut p left
   pub past : AllIn p right
+
+-- the cut leaves out the rows up to the place `before`; between these and those that it admits there
+-- are at most seven, as many as a slot's owner owns beside itself
+pub record NarrowsRows (bytes : List ℕ) (fields : ℕ) (p : KeyPlace → Bool) (before : ℕ) : Type 0 where
+  pub left : List Row
+  pub middle : List Row
+  pub right : List Row
+  pub rows : rows_in_bytes bytes fields ≡ left ++ (middle ++ right)
+  pub before_is : before ≡ place_before left
+  pub out : AllOut p left
+  pub past : AllIn p right
+  pub few : length middle ≤ 7
 
 -- `before` is the place of the last of the rows on the left
 pub record IsBehindRows (bytes : List ℕ) (fields : ℕ) (left right : List Row) (before : ℕ)

@@ -2,6 +2,7 @@
 //! It never copies a key, nor writes to a page.
 #![tactic(auto)]
 
+mod slots;
 mod walk;
 
 pub use walk::find_before;

@@ -1,21 +1,21 @@
-//! From row to row, up to a cut.
+//! From a slot's owner on, row by row, up to a cut.
 ghost use Rattle.std.specs.Prelude.{◌≡◌, ◌≤◌, List, length};
-ghost use Rattle.key_tuple.specs.KeyPlace.{At, cut_of};
+ghost use Rattle.key_tuple.specs.KeyPlace.{cut_of};
 ghost use Rattle.index_page.specs.Rows.{Row};
 ghost use Rattle.index_page.specs.Page.{RowsAscend};
 ghost use Rattle.page_rows.specs.Reading.{rows_in_bytes};
 ghost use Rattle.page_rows.specs.Spelling.{IsPageOfRows};
 ghost use Rattle.page_search.specs.Cuts.{CutsRows, IsBehindRows, LeavesOut};
 
-use compact_record::view;
-use key_tuple::{Fields, Mode, compare};
-use page_mirror::{next_of, row_count};
-
-/// Where infimum stands, which leads to the first row.
-const INFIMUM: u16 = 99;
+use crate::slots::{admits, owner_before};
+use key_tuple::{Fields, Mode};
+use page_mirror::next_of;
 
 /// Where supremum stands, to which the last row leads.
 const SUPREMUM: u16 = 112;
+
+/// As many rows an owner owns beside itself, at most.
+const BESIDE_OWNER: u8 = 7;
 
 /// The place of the last row that the mode's cut leaves out, or that of infimum.
 pub fn find_before<A: Fields>(page: &[u8], fields: u8, tuple: &A, mode: Mode) -> u16
@@ -24,8 +24,8 @@ pub fn find_before<A: Fields>(page: &[u8], fields: u8, tuple: &A, mode: Mode) ->
     requires tuple { length (A.fields_of tuple.now) ≤ fields }
     ensures { CutsRows page.now fields (cut_of mode (A.fields_of tuple.now)) result }
 {
-    let mut before = INFIMUM;
-    for _ in 0..row_count(page) {
+    let mut before = owner_before(page, fields, tuple, mode);
+    for _ in 0..BESIDE_OWNER {
         match next_out(page, fields, before, tuple, mode) {
             Some(next) => before = next,
             None => return before,
@@ -46,20 +46,8 @@ fn next_out<A: Fields>(page: &[u8], fields: u8, before: u16, tuple: &A, mode: Mo
     if next == SUPREMUM {
         return None;
     }
-    if is_past(mode, tuple, &view(page, next, fields)) {
+    if admits(page, fields, next, tuple, mode) {
         return None;
     }
     Some(next)
-}
-
-/// The key is past the mode's cut.
-fn is_past<A: Fields, B: Fields>(mode: Mode, tuple: &A, key: &B) -> bool
-    requires { length (A.fields_of tuple.now) ≤ length (B.fields_of key.now) }
-    ensures { result ≡ cut_of mode (A.fields_of tuple.now) (At (B.fields_of key.now)) }
-{
-    let order = compare(tuple, key);
-    match mode {
-        Mode::Ge | Mode::L => !order.is_gt(),
-        Mode::G | Mode::Le => order.is_lt(),
-    }
 }

@@ -1,5 +1,4 @@
-use Rattle.std.proofs.Common.{◌≡◌, ◌∙◌, sym, ap, subst, length, arith}
-use Rattle.key_tuple.specs.Order.{FieldList}
+use Rattle.std.proofs.Common.{◌∙◌, sym, ap, subst}
 use Rattle.key_tuple.specs.KeyPlace.{At, cut_of}
 use Rattle.compact_record.specs.Record.{PlacedRecord}
 use Rattle.compact_record.proofs.LawLemmas.{record_there, record_read}
@@ -22,36 +21,23 @@ returns-then-next-eq-SUPREMUM g c = λ left right b.
     let next = c.next_of-next.ensures b.page.parts.mirror r.here r.at in
     subst (AllIn (cut_of c.args.mode (g.A.Fields.fields_of c.args.tuple.now))) (sym (none_behind c.next_of-next.result r (sym next.placed) c.if-next-eq-SUPREMUM.true)) tt
 
-pub view-requires : goal.view-requires
-view-requires g c =
+pub admits-requires-clause-there : goal.admits-requires-clause-there
+admits-requires-clause-there g c =
     let b = c.requires.behind.2 in
     let r = before_rows b in
     let next = c.next_of-next.ensures b.page.parts.mirror r.here r.at in
     let row = row_behind c.next_of-next.result r (sym next.placed) c.if-next-eq-SUPREMUM.false in
     record_there c.args.page.now c.next_of-next.result c.args.fields (b.page.parts.of row.here) row.is
 
-pub is_past-requires : goal.is_past-requires
-is_past-requires g c =
-    let b = c.requires.behind.2 in
-    let r = before_rows b in
-    let next = c.next_of-next.ensures b.page.parts.mirror r.here r.at in
-    let row = row_behind c.next_of-next.result r (sym next.placed) c.if-next-eq-SUPREMUM.false in
-    let here = b.page.parts.of row.here in
-    let read = record_read c.args.page.now c.next_of-next.result c.args.fields here row.is in
-    let size : length c.view.result.key ≡ c.args.fields = ap (λ (x : PlacedRecord). length x.key) (c.view.ensures ∙ read) ∙ row.is.count in
-    omega (arith, size, c.requires.tuple)
-
-pub returns-then-is_past : goal.returns-then-is_past
-returns-then-is_past g c = λ left right b.
+pub returns-then-admits : goal.returns-then-admits
+returns-then-admits g c = λ left right b.
     let tuple = g.A.Fields.fields_of c.args.tuple.now in
     let p = cut_of c.args.mode tuple in
     let r = before_rows b in
     let next = c.next_of-next.ensures b.page.parts.mirror r.here r.at in
     let row = row_behind c.next_of-next.result r (sym next.placed) c.if-next-eq-SUPREMUM.false in
-    let here = b.page.parts.of row.here in
-    let read = record_read c.args.page.now c.next_of-next.result c.args.fields here row.is in
-    let key : c.view.result.key ≡ here.key = ap (λ (x : PlacedRecord). x.key) (c.view.ensures ∙ read) in
-    let admitted = ap (λ (k : FieldList). p (At k)) (sym key) ∙ sym c.is_past.ensures ∙ c.if-is_past.true in
+    let read = record_read c.args.page.now c.next_of-next.result c.args.fields (b.page.parts.of row.here) row.is in
+    let admitted = ap (λ (x : PlacedRecord). p (At x.key)) (sym read) ∙ sym c.admits.ensures ∙ c.if-admits.true in
     subst (AllIn p) (sym row.rows) (all_in p (mode_cuts c.args.mode tuple) (row_of b.page.parts row.here) row.rest (subst RowsAscend row.rows b.ascend) admitted)
 
 pub returns : goal.returns
@@ -61,8 +47,6 @@ returns g c = λ left right b.
     let r = before_rows b in
     let next = c.next_of-next.ensures b.page.parts.mirror r.here r.at in
     let row = row_behind c.next_of-next.result r (sym next.placed) c.if-next-eq-SUPREMUM.false in
-    let here = b.page.parts.of row.here in
-    let read = record_read c.args.page.now c.next_of-next.result c.args.fields here row.is in
-    let key : c.view.result.key ≡ here.key = ap (λ (x : PlacedRecord). x.key) (c.view.ensures ∙ read) in
-    let left_out = ap (λ (k : FieldList). p (At k)) (sym key) ∙ sym c.is_past.ensures ∙ c.if-is_past.false in
+    let read = record_read c.args.page.now c.next_of-next.result c.args.fields (b.page.parts.of row.here) row.is in
+    let left_out = ap (λ (x : PlacedRecord). p (At x.key)) (sym read) ∙ sym c.admits.ensures ∙ c.if-admits.false in
     (row_of b.page.parts row.here, row.rest, row.rows, row.placed, left_out)

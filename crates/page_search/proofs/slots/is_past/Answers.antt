@@ -1,6 +1,6 @@
 use Rattle.std.proofs.Common.{rules}
 use Rattle.key_tuple.specs.KeyPlace.{not_below, above}
-use Rattle.page_search.proofs.walk.is_past.Goals as goal
+use Rattle.page_search.proofs.slots.is_past.Goals as goal
 
 pub returns-in-Ge : goal.returns-in-Ge
 unfolding not_below above

@@ -1,0 +1,93 @@
+use Rattle.std.proofs.Common.{◌∙◌, ◌+◌, ◌-◌, ◌/◌, sym, ap, arith}
+use Rattle.key_tuple.specs.KeyPlace.{At, cut_of}
+use Rattle.compact_record.specs.Record.{PlacedRecord}
+use Rattle.compact_record.proofs.LawLemmas.{record_there, record_read}
+use Rattle.page_directory.proofs.OwnerLemmas.{slots_counted, count_sizes}
+use Rattle.index_page.proofs.CutLemmas.{mode_cuts}
+use Rattle.page_search.proofs.SlotLemmas.{owner_row, owner_there, owner_out, owner_in, first_out, last_in, narrowed}
+use Rattle.page_search.proofs.slots.owner_before.Goals as goal
+
+pub overflow_sub-high : goal.overflow_sub-high
+overflow_sub-high g c =
+    let s = c.requires.page.spells in
+    omega (arith, c.slot_count-high.ensures c.requires.page.parts.mirror s.page.is, slots_counted s.page.groups, s.sizes.two, count_sizes c.requires.page.parts.groups)
+
+pub loop-low-init : goal.loop-low-init
+loop-low-init g c =
+    let page = c.requires.page in
+    let s = page.spells in
+    let p = cut_of c.args.mode (g.A.Fields.fields_of c.args.tuple.now) in
+    let count = c.slot_count-high.ensures page.parts.mirror s.page.is in
+    let slots = slots_counted s.page.groups in
+    let sizes = count_sizes page.parts.groups in
+    let two = s.sizes.two in
+    (page, omega arith, omega arith, first_out p s, last_in p _ s (omega arith))
+
+pub slot_owner-owner-requires : goal.slot_owner-owner-requires
+slot_owner-owner-requires g c =
+    let inv = c.loop-low.invariant in
+    let s = inv.0.spells in
+    let within = inv.2 in
+    (inv.0.parts.mirror, s.page.is, omega (arith, slots_counted s.page.groups))
+
+pub admits-requires-clause-there : goal.admits-requires-clause-there
+admits-requires-clause-there g c =
+    let inv = c.loop-low.invariant in
+    let s = inv.0.spells in
+    let m = inv.0.parts.mirror in
+    let middle = c.loop-low.low + (c.loop-low.high - c.loop-low.low) / 2 in
+    let below = c.loop-low-test.true in
+    let within = inv.2 in
+    let at = c.slot_owner-owner.ensures m s.page.is (omega (arith, slots_counted s.page.groups)) in
+    let o = owner_row middle s (omega arith) (omega arith) in
+    record_there c.args.page.now c.slot_owner-owner.result c.args.fields (inv.0.parts.of o.here) (owner_there o at)
+
+pub loop-low-preserved-then-admits : goal.loop-low-preserved-then-admits
+loop-low-preserved-then-admits g c =
+    let inv = c.loop-low.invariant in
+    let s = inv.0.spells in
+    let m = inv.0.parts.mirror in
+    let middle = c.loop-low.low + (c.loop-low.high - c.loop-low.low) / 2 in
+    let below = c.loop-low-test.true in
+    let within = inv.2 in
+    let tuple = g.A.Fields.fields_of c.args.tuple.now in
+    let p = cut_of c.args.mode tuple in
+    let at = c.slot_owner-owner.ensures m s.page.is (omega (arith, slots_counted s.page.groups)) in
+    let o = owner_row middle s (omega arith) (omega arith) in
+    let read = record_read c.args.page.now c.slot_owner-owner.result c.args.fields (inv.0.parts.of o.here) (owner_there o at) in
+    let admitted = ap (λ (x : PlacedRecord). p (At x.key)) (sym read) ∙ sym c.admits.ensures ∙ c.if-admits.true in
+    (inv.0, omega arith, omega arith, inv.3, owner_in p (mode_cuts c.args.mode tuple) c.requires.ascend o admitted)
+
+pub loop-low-preserved : goal.loop-low-preserved
+loop-low-preserved g c =
+    let inv = c.loop-low.invariant in
+    let s = inv.0.spells in
+    let m = inv.0.parts.mirror in
+    let middle = c.loop-low.low + (c.loop-low.high - c.loop-low.low) / 2 in
+    let below = c.loop-low-test.true in
+    let within = inv.2 in
+    let tuple = g.A.Fields.fields_of c.args.tuple.now in
+    let p = cut_of c.args.mode tuple in
+    let at = c.slot_owner-owner.ensures m s.page.is (omega (arith, slots_counted s.page.groups)) in
+    let o = owner_row middle s (omega arith) (omega arith) in
+    let read = record_read c.args.page.now c.slot_owner-owner.result c.args.fields (inv.0.parts.of o.here) (owner_there o at) in
+    let left_out = ap (λ (x : PlacedRecord). p (At x.key)) (sym read) ∙ sym c.admits.ensures ∙ c.if-admits.false in
+    (inv.0, omega arith, inv.2, owner_out p (mode_cuts c.args.mode tuple) c.requires.ascend o left_out, inv.4)
+
+pub slot_owner-requires : goal.slot_owner-requires
+slot_owner-requires g c =
+    let inv = c.loop-low.invariant in
+    let s = inv.0.spells in
+    let below = inv.1 in
+    let within = inv.2 in
+    (inv.0.parts.mirror, s.page.is, omega (arith, slots_counted s.page.groups))
+
+pub returns : goal.returns
+returns g c =
+    let inv = c.loop-low.invariant in
+    let s = inv.0.spells in
+    let below = inv.1 in
+    let within = inv.2 in
+    let last = c.loop-low-test.false in
+    let at = c.slot_owner.ensures inv.0.parts.mirror s.page.is (omega (arith, slots_counted s.page.groups)) in
+    narrowed (cut_of c.args.mode (g.A.Fields.fields_of c.args.tuple.now)) c.loop-low.low c.loop-low.high c.slot_owner.result s inv.3 inv.4 (omega arith) within at
