@@ -11,7 +11,7 @@ use Rattle.key_tuple.specs.Limits.{IsWithinLimits}
 use Rattle.key_tuple.specs.KeyPlace.{not_below}
 use Rattle.compact_record.specs.declared.kind.RecordKind.{RecordKind}
 use Rattle.compact_record.specs.declared.TheConstants.{LENGTH_LIMIT}
-use Rattle.compact_record.specs.Bytes.{SameOutside}
+use Rattle.compact_record.specs.Bytes.{u16_at, SameOutside}
 use Rattle.compact_record.specs.Kind.{status_bits}
 use Rattle.compact_record.specs.Record.{IsRecord, record_size_of}
 use Rattle.page_mirror.specs.Mirror.{Mirrors}
@@ -104,6 +104,7 @@ pub record Links (old new : List ℕ) (fields : ℕ) (prev next : Option ℕ) : 
   pub head : head_in_bytes new fields ≡ linked (head_in_bytes old fields) prev next
   pub rows : rows_in_bytes new fields ≡ rows_in_bytes old fields
   pub gaps : gaps_in_bytes new fields ≡ gaps_in_bytes old fields
+  pub garbage : u16_at new 46 ≡ u16_at old 46
 
 pub links : {old new : List ℕ} {fields : ℕ} (prev next : Option ℕ) → IsBytePage old fields → SameOutside old new 8 16 → neighbour (u32_at new 8) ≡ prev → neighbour (u32_at new 12) ≡ next
     → IsNeighbour prev → IsNeighbour next → Links old new fields prev next
@@ -129,6 +130,7 @@ links {old} {new} {fields} prev next b same prev_is next_is prev_ok next_ok =
       head = head;
       rows = rows;
       gaps = gaps_by t ∙ sym (gaps_by s);
+      garbage = t.page.is.head.garbage ∙ sym s.page.is.head.garbage;
     }
 
 -- the rows with one more between those that the cut parts

@@ -40,16 +40,18 @@ page_in_bytes bytes fields = record {
   rows = rows_in_bytes bytes fields;
 }
 
--- a page, and where it has bytes for a record
+-- a page, where it has bytes for a record, and how many bytes before HEAP_TOP are in no use
 pub record GappedPage : Type 0 where
   pub page : PageRows
   pub gaps : Gaps
+  pub garbage : ℕ
 
 -- what the bytes of a page are
 abbrev pub form_in_bytes : List ℕ → ℕ → GappedPage
 form_in_bytes bytes fields = record {
   page = page_in_bytes bytes fields;
   gaps = gaps_in_bytes bytes fields;
+  garbage = u16_at bytes 46;
 }
 
 -- what holds of the bytes of each page: they spell rows, and these are in order

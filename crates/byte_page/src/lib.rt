@@ -3,6 +3,7 @@
 #![tactic(auto)]
 
 mod deleting;
+mod copy;
 mod front;
 mod inserting;
 mod page;
@@ -11,6 +12,7 @@ mod search;
 mod tests;
 mod walks;
 
+pub use copy::ByteCopy;
 pub use page::BytePage;
 pub use search::ByteSpot;
 

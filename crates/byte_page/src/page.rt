@@ -11,13 +11,13 @@ use crate::front::{put_links, read_front, write_front};
 use compact_record::{RecordRef, view};
 use index_page::{Gaps, PAGE_ROOM, PageHead};
 use key_tuple::NoMemory;
-use page_mirror::{row_count, write_empty};
+use page_mirror::{garbage, row_count, write_empty};
 use page_rows::{page_gaps, page_load};
 use std::alloc::Global;
 use std::marker::Model;
 
 /// A page of an index that is its bytes, seen as the head and the rows that they spell, each at the
-/// place where its key begins, and where it has bytes for a record.
+/// place where its key begins, where it has bytes for a record, and how many are in no use.
 #[derive(Debug, Drop)]
 pub struct BytePage {
     pub(crate) bytes: Vec<u8>,
@@ -41,6 +41,7 @@ impl BytePage {
         requires next { IsNeighbour head.next }
         ensures head { IfOk result (λ form. form.page.head ≡ head) }
         ensures rows { IfOk result (λ form. form.page.rows ≡ []) }
+        ensures garbage { IfOk result (λ form. form.garbage ≡ 0) }
     {
         let mut bytes = vec![in alloc; 0; PAGE_BYTES]?;
         write_front(&mut bytes, &head);
@@ -65,6 +66,7 @@ impl BytePage {
         ensures head { self.new.page.head ≡ linked self.old.page.head prev next }
         ensures rows { self.new.page.rows ≡ self.old.page.rows }
         ensures gaps { self.new.gaps ≡ self.old.gaps }
+        ensures garbage { self.new.garbage ≡ self.old.garbage }
     {
         put_links(&mut self.bytes, prev, next);
     }
@@ -102,6 +104,13 @@ impl BytePage {
         ensures { result ≡ self.now.gaps }
     {
         page_gaps(&self.bytes, self.fields)
+    }
+
+    /// How many bytes before HEAP_TOP are in no use.
+    pub fn garbage(&self) -> u16
+        ensures { result ≡ self.now.garbage }
+    {
+        garbage(&self.bytes)
     }
 
     /// The row at a place, lent: its key's fields, and what it carries as the tail. `first` and

@@ -62,7 +62,7 @@ impl BytePage {
 }
 
 /// The place itself, if it isn't that of infimum.
-fn place_left(place: u16) -> Option<u16>
+pub(crate) fn place_left(place: u16) -> Option<u16>
     ensures { result ≡ if nat_eq place 99 then None else Some place }
 {
     if place == INFIMUM { None } else { Some(place) }

@@ -1,10 +1,13 @@
 //! From row to row.
 ghost use Rattle.std.specs.Prelude.{◌≡◌, IsSome, Some, None, nat_eq, if◌then◌else◌};
-ghost use Rattle.index_page.specs.Rows.{find_row, first_of_rows, IsAt};
-ghost use Rattle.index_page.specs.Changes.{NextIs};
+ghost use Rattle.index_page.specs.Rows.{find_row, first_of_rows, last_of_rows, IsAt};
+ghost use Rattle.index_page.specs.Changes.{NextIs, PrevIs};
 
 use crate::page::BytePage;
+use crate::search::place_left;
+use key_tuple::{Blank, Mode};
 use page_mirror::next_of;
+use page_search::find_before;
 
 /// Where infimum stands, which leads to the first row.
 pub(crate) const INFIMUM: u16 = 99;
@@ -20,12 +23,29 @@ impl BytePage {
         row_place(next_of(&self.bytes, INFIMUM))
     }
 
+    /// The place of the last row, none on a page with no rows.
+    pub fn last(&self) -> Option<u16>
+        ensures { IsAt self.now.page.rows result (last_of_rows self.now.page.rows) }
+    {
+        let no_fields = Blank { count: 0 };
+        place_left(find_before(&self.bytes, self.fields, &no_fields, Mode::Le))
+    }
+
     /// The place of the next row, none at the last one.
     pub fn next(&self, place: u16) -> Option<u16>
         requires { IsSome (find_row place self.now.page.rows) }
         ensures { NextIs self.now.page.rows place result }
     {
         row_place(next_of(&self.bytes, place))
+    }
+
+    /// The place of the row before, none at the first one.
+    pub fn prev(&self, place: u16) -> Option<u16>
+        requires { IsSome (find_row place self.now.page.rows) }
+        ensures { PrevIs self.now.page.rows place result }
+    {
+        let row = self.row(place);
+        place_left(find_before(&self.bytes, self.fields, &row, Mode::Ge))
     }
 }
 

@@ -1,6 +1,7 @@
 use Rattle.std.proofs.Common.{◌∙◌, sym, subst, ap, List, ℕ}
 use Rattle.std.specs.Vec.{with_items}
 use Rattle.std.proofs.lemmas.List.{with_items_is}
+use Rattle.compact_record.specs.Bytes.{u16_at}
 use Rattle.page_rows.specs.Reading.{rows_in_bytes}
 use Rattle.byte_page.specs.Form.{head_in_bytes, IsBytePage}
 use Rattle.byte_page.proofs.FrontLemmas.{head_same}
@@ -31,3 +32,9 @@ returns-clause-rows c =
     let v = c.in_ok-bytes.bytes in
     let second = with_items_is (with_items v c.write_front.new.page) c.write_empty.new.page (c.write_empty.ensures.len ∙ sym c.in_ok-bytes.ensures.len) in
     ap (λ (b : List ℕ). rows_in_bytes b c.args.head.fields) second ∙ empty_rows c.write_empty.new.page c.deref_mut-2.result.now c.args.head.fields c.write_empty.ensures
+
+pub returns-clause-garbage : goal.returns-clause-garbage
+returns-clause-garbage c =
+    let v = c.in_ok-bytes.bytes in
+    let second = with_items_is (with_items v c.write_front.new.page) c.write_empty.new.page (c.write_empty.ensures.len ∙ sym c.in_ok-bytes.ensures.len) in
+    ap (λ (b : List ℕ). u16_at b 46) second ∙ c.write_empty.ensures.head.garbage

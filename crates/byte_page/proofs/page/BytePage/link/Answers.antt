@@ -1,6 +1,6 @@
 use Rattle.std.proofs.Common.{◌∙◌, sym, subst, ap, List, ℕ}
 use Rattle.std.proofs.lemmas.List.{with_items_is}
-use Rattle.compact_record.specs.Bytes.{SameOutside}
+use Rattle.compact_record.specs.Bytes.{u16_at, SameOutside}
 use Rattle.index_page.specs.Page.{linked}
 use Rattle.page_rows.specs.Reading.{rows_in_bytes}
 use Rattle.page_rows.specs.Inserting.{gaps_in_bytes}
@@ -35,3 +35,10 @@ returns-clause-gaps c =
     let l = links c.args.prev c.args.next c.self.invariant same c.put_links.ensures.prev c.put_links.ensures.next c.requires.prev c.requires.next in
     let written = with_items_is c.self.inside.bytes c.put_links.new.page (c.put_links.ensures.kept.len ∙ c.deref_mut.ensures.len) in
     ap (λ (b : List ℕ). gaps_in_bytes b c.self.inside.fields) written ∙ l.gaps ∙ ap (λ (f : GappedPage). f.gaps) c.self.view_is
+
+pub returns-clause-garbage : goal.returns-clause-garbage
+returns-clause-garbage c =
+    let same = subst (λ (b : List ℕ). SameOutside b c.put_links.new.page 8 16) c.deref_mut.ensures.value c.put_links.ensures.kept in
+    let l = links c.args.prev c.args.next c.self.invariant same c.put_links.ensures.prev c.put_links.ensures.next c.requires.prev c.requires.next in
+    let written = with_items_is c.self.inside.bytes c.put_links.new.page (c.put_links.ensures.kept.len ∙ c.deref_mut.ensures.len) in
+    ap (λ (b : List ℕ). u16_at b 46) written ∙ l.garbage ∙ ap (λ (f : GappedPage). f.garbage) c.self.view_is
