@@ -15,3 +15,4 @@ pub mod DeleteRowLemmas
 pub mod BodyLemmas
 pub mod TailLemmas
 pub mod SetLemmas
+pub mod AppendLemmas

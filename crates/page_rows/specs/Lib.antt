@@ -3,3 +3,4 @@ pub mod Spelling
 pub mod Inserting
 pub mod Deleting
 pub mod Setting
+pub mod Appending
