@@ -2,3 +2,4 @@ pub mod FrontLemmas
 pub mod FormLemmas
 pub mod SearchLemmas
 pub mod DeleteLemmas
+pub mod MovingLemmas

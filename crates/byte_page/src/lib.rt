@@ -3,10 +3,13 @@
 #![tactic(auto)]
 
 mod deleting;
+mod appending;
 mod copy;
 mod front;
 mod inserting;
+mod moving;
 mod page;
+mod reorganising;
 mod search;
 #[cfg(test)]
 mod tests;
