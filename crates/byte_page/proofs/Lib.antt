@@ -3,3 +3,4 @@ pub mod FormLemmas
 pub mod SearchLemmas
 pub mod DeleteLemmas
 pub mod MovingLemmas
+pub mod TailLemmas

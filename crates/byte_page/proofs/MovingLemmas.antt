@@ -187,7 +187,7 @@ may_append {old} {now} {from} {others = others} {place = place} c i is =
     }
 
 -- rows cut at one place are cut alike
-cut_alike : (xs ys : List Row) (x y : Row) (r s : List Row) → PlacesDiffer (xs ++ x ∷ r) → xs ++ x ∷ r ≡ ys ++ y ∷ s → x.place ≡ y.place → r ≡ s
+pub cut_alike : (xs ys : List Row) (x y : Row) (r s : List Row) → PlacesDiffer (xs ++ x ∷ r) → xs ++ x ∷ r ≡ ys ++ y ∷ s → x.place ≡ y.place → r ≡ s
 cut_alike [] [] x y r s d e p = cc
 cut_alike [] (b ∷ ys) x y r s d e p =
     let head : x ≡ b = cc in

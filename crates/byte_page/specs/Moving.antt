@@ -5,7 +5,7 @@ use Rattle.key_tuple.specs.Order.{FieldList}
 use Rattle.key_tuple.specs.KeyPlace.{At, before}
 use Rattle.index_page.specs.declared.TheConstants.{PAGE_ROOM, MAX_CHARGE}
 use Rattle.index_page.specs.Rows.{Row, RowBody, placed_row, find_row, first_of_rows, IsAt, SameRows}
-use Rattle.index_page.specs.Page.{PageRows, RowsAscend}
+use Rattle.index_page.specs.Page.{PageRows, PlacesDiffer, RowsAscend}
 use Rattle.index_page.specs.Moves.{MovesAll, Reorganises}
 use Rattle.index_page.specs.Loads.{charge_of, load_of}
 use Rattle.index_page.specs.Refusals.{insert_refusal}
@@ -65,3 +65,18 @@ pub record MovesAllTo (again : Bool) (old new to_old to_new : PageRows) : Type 0
   pub between : PageRows
   pub stays : StaysUnless again to_old between
   pub moves : MovesAll old new between to_new
+
+-- the last row is gone, which stood at the place; all else is as before
+pub record PopsRow (old new : PageRows) (place : ℕ) : Type 0 where
+  pub front : List Row
+  pub row : Row
+  pub was : old.rows ≡ front ++ row ∷ []
+  pub place_is : row.place ≡ place
+  pub is : new.rows ≡ front
+  pub head : new.head ≡ old.head
+  pub differ : PlacesDiffer old.rows
+
+-- the rows before the one at `first` are left; all else is as before
+pub record KeepsFirst (old new : PageRows) (left : List Row) : Type 0 where
+  pub rows : new.rows ≡ left
+  pub head : new.head ≡ old.head

@@ -54,7 +54,7 @@ impl BytePage {
     }
 
     /// The place of the last row, or that of infimum.
-    fn last_or_infimum(&self) -> Place
+    pub(crate) fn last_or_infimum(&self) -> Place
         ensures { result ≡ place_before self.now.page.rows }
     {
         self.last().unwrap_or(INFIMUM)

@@ -2,9 +2,9 @@
 //! It never holds a row beside its bytes, and never looks at another page.
 #![tactic(auto)]
 
-mod deleting;
 mod appending;
 mod copy;
+mod deleting;
 mod front;
 mod inserting;
 mod moving;

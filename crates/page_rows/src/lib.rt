@@ -2,15 +2,15 @@
 //! It never compares keys.
 #![tactic(auto)]
 
-mod deleting;
 mod appending;
+mod deleting;
 mod inserting;
 mod room;
 mod setting;
 mod taking;
 
-pub use deleting::delete_row;
 pub use appending::append_row;
+pub use deleting::delete_row;
 pub use inserting::insert_row;
 pub use room::{page_gaps, page_load};
 pub use setting::set_value;
