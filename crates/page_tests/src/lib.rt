@@ -7,3 +7,5 @@ mod room;
 mod rows;
 #[cfg(test)]
 mod setup;
+#[cfg(test)]
+mod twins;

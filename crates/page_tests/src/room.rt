@@ -1,16 +1,10 @@
 //! Worked loads, moves and copies.
 use crate::setup::{
-    entry, has_letters, key_of, lettered, page_of, place_at, put_bytes, take_out, value_of,
+    charged, entry, has_letters, key_of, lettered, page_of, place_at, put_bytes, take_out, value_of,
 };
-use index_page::{Body, Page, PageCopy, PageError, Place, charge};
+use index_page::{Body, Page, PageCopy, PageError, Place};
 use key_tuple::{Fields, Key, Value};
 use std::alloc::Global;
-
-/// What a page is charged for a row with this key and value.
-fn charged(key: &Key, value: &Value) -> u16 {
-    key.tuple().is_within_limits();
-    charge(key, Body::Value(value))
-}
 
 /// What a page is charged for a row with a key of one byte and a value of so many.
 fn charge_at(alloc: Global, count: usize) -> Option<u16> {

@@ -2,7 +2,7 @@
 ghost use Rattle.std.specs.Prelude.{◌≡◌, ◌<◌, [], length, IfSome, IsSome};
 ghost use Rattle.index_page.specs.Rows.{find_row};
 
-use index_page::{Body, Page, PageError, PageHead, Place};
+use index_page::{Body, Page, PageError, PageHead, Place, charge};
 use key_tuple::{Blank, Fields, Key, Mode, Value};
 use std::alloc::Global;
 
@@ -50,7 +50,7 @@ pub(crate) fn value_of(alloc: Global, bytes: &[u8]) -> Option<Value> {
 }
 
 /// Puts a value's row in, unless its key is there or the page has children.
-fn put(page: &mut Page, key: &Key, value: &Value) -> Option<Result<Place, PageError>> {
+pub(crate) fn put(page: &mut Page, key: &Key, value: &Value) -> Option<Result<Place, PageError>> {
     let head = *page.head();
     if head.level != 0 || key.count() != head.fields {
         return None;
@@ -61,6 +61,12 @@ fn put(page: &mut Page, key: &Key, value: &Value) -> Option<Result<Place, PageEr
     }
     key.tuple().is_within_limits();
     Some(page.insert_at(&spot, key, Body::Value(value)))
+}
+
+/// What a page is charged for a row with this key and value.
+pub(crate) fn charged(key: &Key, value: &Value) -> u16 {
+    key.tuple().is_within_limits();
+    charge(key, Body::Value(value))
 }
 
 /// Puts a row of these bytes in.
@@ -99,14 +105,14 @@ pub(crate) fn lettered(alloc: Global, letters: &[u8]) -> Option<Page> {
 }
 
 /// The place of the first row.
-fn first(page: &Page) -> Option<Place>
+pub(crate) fn first(page: &Page) -> Option<Place>
     ensures { IfSome result (λ place. IsSome (find_row place page.now.rows)) }
 {
     page.search(&Blank { count: 0 }, Mode::Ge).after
 }
 
 /// The place of the row after that one.
-fn next(page: &Page, place: Place) -> Option<Place>
+pub(crate) fn next(page: &Page, place: Place) -> Option<Place>
     requires { IsSome (find_row place page.now.rows) }
     ensures { IfSome result (λ place. IsSome (find_row place page.now.rows)) }
 {
