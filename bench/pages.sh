@@ -1,5 +1,5 @@
 #!/usr/bin/env bash
-# Measures a page beside a sorted list of pairs, each with 300 rows that are put in, looked up and
+# Measures a page, in rows and in bytes, beside a sorted list of pairs, each with 300 rows that are put in, looked up and
 # taken out again and again: docs/BENCH.md says how. Settings: ROUNDS=3334, for a million of each.
 set -euo pipefail
 export LC_ALL=C
@@ -11,8 +11,10 @@ mkdir -p "$target"
 for name in measure pairs; do
     rustc -O --edition 2024 -o "$target/$name" "$top/bench/$name.rs"
 done
-# proves page_bench and what it stands on, where that isn't done
-(cd "$top/crates/page_bench" && rt run -- 1 >"$target/page_bench.log")
+# proves the two programs and what they stand on, where that isn't done
+for name in page_bench byte_bench; do
+    (cd "$top/crates/$name" && rt run -- 1 >"$target/$name.log")
+done
 
 print_row() {
     rm -f "$target/$1.times"
@@ -25,5 +27,8 @@ print_row() {
 }
 
 print_row page_bench "$top/crates/page_bench/out/page_bench"
+print_row byte_bench "$top/crates/byte_bench/out/byte_bench"
 print_row pairs "$target/pairs"
-cmp "$target/page_bench.found" "$target/pairs.found"
+for name in page_bench byte_bench; do
+    cmp "$target/$name.found" "$target/pairs.found"
+done
