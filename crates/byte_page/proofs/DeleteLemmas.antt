@@ -16,7 +16,7 @@ use Rattle.page_rows.specs.Inserting.{gaps_in_bytes}
 use Rattle.page_rows.specs.Deleting.{FreesGap, CanDeleteRow, DeletesInBytes}
 use Rattle.page_rows.proofs.SpellingLemmas.{row_found}
 use Rattle.page_rows.proofs.DifferLemmas.{rows_differ}
-use Rattle.byte_page.specs.Form.{head_in_bytes, page_in_bytes, GappedPage, form_in_bytes, IsBytePage}
+use Rattle.byte_page.specs.Form.{page_in_bytes, GappedPage, form_in_bytes, IsBytePage}
 use Rattle.byte_page.proofs.FrontLemmas.{head_same}
 
 -- the row that stands at the place
@@ -31,7 +31,7 @@ can_be_deleted b there =
     record { page = b.rows; rows = s.split; place_is = s.place_is }
 
 -- the rows around the one with a number
-get_middle : (left : List Row) (row : Row) (right : List Row) → slice_get (left ++ row ∷ right) (length left) ≡ Some row
+pub get_middle : (left : List Row) (row : Row) (right : List Row) → slice_get (left ++ row ∷ right) (length left) ≡ Some row
 get_middle [] row right = refl
 get_middle (x ∷ left) row right = get_middle left row right
 
@@ -74,8 +74,8 @@ row_goes {old} {new} {fields} {place} b there d =
         head = head;
       };
       gaps = λ x found.
-      let same : row ≡ x = same_some row x (sym (row_found place b.rows there) ∙ found) in
-      subst (λ (y : Row). FreesGap (gaps_in_bytes old fields) (gaps_in_bytes new fields) (charge_of y.key y.body - 1)) same d.gaps;
+          let same : row ≡ x = same_some row x (sym (row_found place b.rows there) ∙ found) in
+          subst (λ (y : Row). FreesGap (gaps_in_bytes old fields) (gaps_in_bytes new fields) (charge_of y.key y.body - 1)) same d.gaps;
     }
 
 -- the same of the form of a page

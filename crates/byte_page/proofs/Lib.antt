@@ -4,3 +4,4 @@ pub mod SearchLemmas
 pub mod DeleteLemmas
 pub mod MovingLemmas
 pub mod TailLemmas
+pub mod SetLemmas

@@ -11,6 +11,7 @@ mod moving;
 mod page;
 mod reorganising;
 mod search;
+mod setting;
 #[cfg(test)]
 mod tests;
 mod walks;
