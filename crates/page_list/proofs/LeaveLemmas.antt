@@ -14,7 +14,7 @@ use Rattle.page_directory.specs.Calls.{Regroups}
 use Rattle.page_directory.proofs.ListLemmas.{linked_right}
 use Rattle.page_directory.proofs.GroupLemmas.{groups_kept}
 use Rattle.page_directory.proofs.OwnerLemmas.{count_sizes, slots_counted, origin_once}
-use Rattle.page_list.specs.Leaving.{Between, CanLeave, GroupAround, linked_out, groups_around, IsLinkedOut, Leaves, heir_of, sizes_mended}
+use Rattle.page_list.specs.Leaving.{Between, CanLeave, GroupAround, linked_out, groups_around, IsLinkedOut, LeavesList, heir_of, sizes_mended}
 use Rattle.page_list.proofs.AroundLemmas.{group_rest, of_group, apart_from, remains}
 use Rattle.page_list.proofs.MendLemmas.{mended_count}
 
@@ -85,7 +85,7 @@ heir_at {bytes} {m} {gs} {free} {b} {at} {before} {owner} w c p_at o_at =
 pub leaves : {b0 b1 b2 b3 : List ℕ} {m : Mirror} {gs : List Group} {free : List ℕ} {b : Between} {at : ℕ} (slot : ℕ) (w : GroupAround gs b) → CanLeave b0 m gs free b at
     → (l : IsLinkedOut b1 m gs free b w)
     → (r : Regroups b2 (linked_out m b l.owned (owners (groups_around gs b w l.group))) (groups_around gs b w l.group) free (sizes_mended slot (group_sizes (groups_around gs b w l.group))))
-    → Mirrors b3 (linked_out m b (changed r.0 b.here 0) (owners r.1)) → Leaves b3 m free b
+    → Mirrors b3 (linked_out m b (changed r.0 b.here 0) (owners r.1)) → LeavesList b3 m free b
 leaves {b3 = b3} {m = m} {gs = gs} {free = free} {b = b} slot w c l r is =
     let hs = groups_around gs b w l.group in
     let old : Group = record { front = w.low ++ w.rest; owner = w.owner } in

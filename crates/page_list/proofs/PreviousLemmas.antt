@@ -9,7 +9,7 @@ use Rattle.page_directory.specs.Groups.{Group, members, records, owners, AreLink
 use Rattle.page_directory.specs.Owners.{first_else}
 use Rattle.page_directory.proofs.ListLemmas.{cut_at, none_left, linked_left, linked_right}
 use Rattle.page_directory.proofs.OwnerLemmas.{owner_named}
-use Rattle.page_list.specs.Leaving.{Between, CanLeave, GroupAround, LeadsTo}
+use Rattle.page_list.specs.Leaving.{Between, CanLeave, GroupAround, LeadsToPrevious}
 use Rattle.page_list.proofs.AroundLemmas.{of_group, apart_from, last_of_second}
 
 first_is : (rest : List ℕ) (p q : ℕ) (xs : List ℕ) → rest ++ p ∷ [] ≡ q ∷ xs → first_else rest p ≡ q
@@ -44,7 +44,7 @@ slot_before {m = m} {gs = gs} {b = b} w c =
 
 -- from the owner of the slot before there is a way
 pub way_to_previous : {bytes : List ℕ} {m : Mirror} {gs : List Group} {free : List ℕ} {b : Between} {at : ℕ} (w : GroupAround gs b) → CanLeave bytes m gs free b at
-    → (rest : List ℕ) × LeadsTo m rest b.p b.here (slice_index m.slots (length w.early - 1))
+    → (rest : List ℕ) × LeadsToPrevious m rest b.p b.here (slice_index m.slots (length w.early - 1))
 way_to_previous {bytes} {m} {gs} {free} {b} w c =
     let s = slot_before w c in
     let few = (of_group w c).few in
@@ -72,16 +72,16 @@ first_apart [] p r a = a.0
 first_apart (x ∷ xs) p r a = a.0
 
 -- the record that leads to r is the last of the way
-pub leads_last : {m : Mirror} (rest : List ℕ) {p r h : ℕ} → LeadsTo m rest p r h → m.next h ≡ r → p ≡ h
+pub leads_last : {m : Mirror} (rest : List ℕ) {p r h : ℕ} → LeadsToPrevious m rest p r h → m.next h ≡ r → p ≡ h
 leads_last [] w is = w.first
 leads_last {m} (x ∷ xs) {p} {r} w is = absurd (first_apart xs p r w.apart.1 (sym (leads_first m.next x xs p r w.linked) ∙ ap m.next w.first ∙ is))
 
-pub leads_over : {m : Mirror} (rest : List ℕ) {p r h : ℕ} → LeadsTo m rest p r h → length rest ≤ 0 → p ≡ h
+pub leads_over : {m : Mirror} (rest : List ℕ) {p r h : ℕ} → LeadsToPrevious m rest p r h → length rest ≤ 0 → p ≡ h
 leads_over [] w none = w.first
 leads_over (x ∷ xs) w none = absurd (omega arith)
 
 -- from another the way goes on
-pub leads_on : {m : Mirror} (rest : List ℕ) {p r h : ℕ} → LeadsTo m rest p r h → (m.next h ≡ r → ⊥) → (rest' : List ℕ) × LeadsTo m rest' p r (m.next h) × (length rest' + 1 ≡ length rest)
+pub leads_on : {m : Mirror} (rest : List ℕ) {p r h : ℕ} → LeadsToPrevious m rest p r h → (m.next h ≡ r → ⊥) → (rest' : List ℕ) × LeadsToPrevious m rest' p r (m.next h) × (length rest' + 1 ≡ length rest)
 leads_on {m} [] w other = absurd (other (ap m.next (sym w.first) ∙ w.linked.0))
 leads_on {m} (x ∷ xs) {p} {r} w other =
     let short = w.short in (

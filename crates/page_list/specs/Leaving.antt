@@ -45,8 +45,8 @@ pub record HasLeft (bytes : List ℕ) (m : Mirror) (free : List ℕ) (b : Betwee
   pub slots : (length hs ≡ length m.slots) ⊎ (length hs + 1 ≡ length m.slots)
 
 -- the record has left the list, which stands in some groups
-abbrev pub Leaves : List ℕ → Mirror → List ℕ → Between → Type 0
-Leaves bytes m free b = (owned : ℕ → ℕ) × (hs : List Group) × HasLeft bytes m free b owned hs
+abbrev pub LeavesList : List ℕ → Mirror → List ℕ → Between → Type 0
+LeavesList bytes m free b = (owned : ℕ → ℕ) × (hs : List Group) × HasLeft bytes m free b owned hs
 
 -- the group of the record
 abbrev pub GroupAround : List Group → Between → Type 0
@@ -59,7 +59,7 @@ pub record IsAround (bytes : List ℕ) (m : Mirror) (gs : List Group) (free : Li
   pub slot_is : slot ≡ length group.early
 
 -- from record h the way to record r leads over `rest`, and over p as the last
-pub record LeadsTo (m : Mirror) (rest : List ℕ) (p r h : ℕ) : Type 0 where
+pub record LeadsToPrevious (m : Mirror) (rest : List ℕ) (p r h : ℕ) : Type 0 where
   pub first : first_else rest p ≡ h
   pub linked : AreLinked m.next (rest ++ p ∷ r ∷ [])
   pub apart : AllByRecursion (λ k. k ≡ r → ⊥) (rest ++ p ∷ [])

@@ -5,7 +5,7 @@ ghost use Rattle.page_mirror.specs.Steps.{HasOrigin};
 ghost use Rattle.page_directory.specs.Groups.{Group};
 ghost use Rattle.page_directory.specs.Sizes.{group_sizes};
 ghost use Rattle.page_directory.specs.Calls.{Regroups};
-ghost use Rattle.page_list.specs.Leaving.{Between, CanLeave, Leaves, GroupAround, IsAround, IsPassedOver, IsLinkedOut, HasShortSlot, sizes_mended, heir_of};
+ghost use Rattle.page_list.specs.Leaving.{Between, CanLeave, LeavesList, GroupAround, IsAround, IsPassedOver, IsLinkedOut, HasShortSlot, sizes_mended, heir_of};
 
 use page_directory::{balance, find_owner, find_slot, owned};
 use page_mirror::{
@@ -18,7 +18,7 @@ pub fn leave_list(page: &mut [u8], at: u16)
     requires { (m : Mirror) × (gs : List Group) × (free : List ℕ) × (b : Between)
         × CanLeave page.old m gs free b at }
     ensures { (m : Mirror) (gs : List Group) (free : List ℕ) (b : Between)
-        → CanLeave page.old m gs free b at → Leaves page.new m free b }
+        → CanLeave page.old m gs free b at → LeavesList page.new m free b }
 {
     let owner = find_owner(page, at);
     let slot = find_slot(page, owner);

@@ -12,7 +12,7 @@ use Rattle.page_mirror.proofs.HeadLemmas.{still}
 use Rattle.page_heap.proofs.CellLemmas.{record_in_page}
 use Rattle.page_directory.specs.Groups.{records, owners}
 use Rattle.page_directory.proofs.GroupLemmas.{count_owners}
-use Rattle.page_list.specs.Leaving.{Between, CanLeave, Leaves, linked_out}
+use Rattle.page_list.specs.Leaving.{Between, CanLeave, LeavesList, linked_out}
 use Rattle.page_list.proofs.AroundLemmas.{apart_from}
 use Rattle.index_page.specs.Rows.{Row}
 use Rattle.index_page.specs.Loads.{charge_of}
@@ -95,11 +95,11 @@ size_between {bytes} {fields} {p} {place = place} {start} {end} r start_is end_i
 
 -- the parts of the page without the record in its list
 abbrev pub parts_left : {b0 b1 : List ℕ} {fields : ℕ} {p : PageParts} {left right : List Row} {row : Row} {place : ℕ} (r : RowBetween b0 fields p left row right place)
-    → Leaves b1 p.mirror p.free r.b → PageParts
+    → LeavesList b1 p.mirror p.free r.b → PageParts
 parts_left {p = p} r l = left_parts p r.b r.low r.high l.0 l.1
 
 pub is_loose : {b0 b1 : List ℕ} {fields : ℕ} {left right : List Row} {row : Row} {place : ℕ} (start end : ℕ) (c : CanDeleteRow b0 fields left row right place)
-    → (r : RowBetween b0 fields c.page.parts left row right place) → (l : Leaves b1 c.page.parts.mirror c.page.parts.free r.b)
+    → (r : RowBetween b0 fields c.page.parts left row right place) → (l : LeavesList b1 c.page.parts.mirror c.page.parts.free r.b)
     → end ≡ start + size_of_record (c.page.parts.of r.b.here) → IsLoose b1 fields (parts_left r l) r.b.here place (end - start)
 is_loose {b0} {b1} {fields} {left} {right} {row} {place} start end c r l size =
     let p = c.page.parts in
@@ -116,7 +116,7 @@ is_loose {b0} {b1} {fields} {left} {right} {row} {place} start end c r l size =
 
 -- the page without the row
 pub row_deleted : {b0 b1 b2 : List ℕ} {fields : ℕ} {left right : List Row} {row : Row} {place : ℕ} (c : CanDeleteRow b0 fields left row right place)
-    → (r : RowBetween b0 fields c.page.parts left row right place) → (l : Leaves b1 c.page.parts.mirror c.page.parts.free r.b)
+    → (r : RowBetween b0 fields c.page.parts left row right place) → (l : LeavesList b1 c.page.parts.mirror c.page.parts.free r.b)
     → SpellsRows b2 fields (freed_parts (parts_left r l) r.b.here) [] → DeletesInBytes b0 b2 fields left row right
 row_deleted {b0} {b1} {b2} {fields} {left} {right} {row} {place} c r l s =
     let p = c.page.parts in
