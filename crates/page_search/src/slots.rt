@@ -8,7 +8,7 @@ ghost use Rattle.page_rows.specs.Spelling.{IsPageOfRows};
 ghost use Rattle.page_search.specs.Cuts.{NarrowsRows};
 
 use compact_record::view;
-use key_tuple::{Fields, Mode, compare};
+use key_tuple::{Fields, Mode, is_past};
 use page_mirror::{slot_count, slot_owner};
 
 /// The place of the last owner that the mode's cut leaves out, or that of infimum.
@@ -39,16 +39,4 @@ pub(crate) fn admits<A: Fields>(page: &[u8], fields: u8, at: u16, tuple: &A, mod
     ensures { result ≡ cut_of mode (A.fields_of tuple.now) (At (record_at page.now at fields).key) }
 {
     is_past(mode, tuple, &view(page, at, fields))
-}
-
-/// The key is past the mode's cut.
-fn is_past<A: Fields, B: Fields>(mode: Mode, tuple: &A, key: &B) -> bool
-    requires { length (A.fields_of tuple.now) ≤ length (B.fields_of key.now) }
-    ensures { result ≡ cut_of mode (A.fields_of tuple.now) (At (B.fields_of key.now)) }
-{
-    let order = compare(tuple, key);
-    match mode {
-        Mode::Ge | Mode::L => !order.is_gt(),
-        Mode::G | Mode::Le => order.is_lt(),
-    }
 }
