@@ -3,3 +3,4 @@ pub mod PartLemmas
 pub mod WritingLemmas
 pub mod ReadingLemmas
 pub mod LawLemmas
+pub mod CopyLemmas

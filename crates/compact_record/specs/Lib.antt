@@ -4,3 +4,4 @@ pub mod Record
 pub mod Lengths
 pub mod Reading
 pub mod Laws
+pub mod Copying

@@ -3,6 +3,7 @@
 #![tactic(auto)]
 
 mod bytes;
+mod copying;
 mod kind;
 mod laws;
 mod lengths;
@@ -13,6 +14,7 @@ mod tests;
 mod writing;
 
 pub use bytes::{get_bytes, get_u16, put_bytes, put_u16};
+pub use copying::copy_record;
 pub use kind::RecordKind;
 pub use laws::{records_read_back, records_stay};
 pub use reading::{Extent, measure};
