@@ -1,5 +1,5 @@
 -- A record that has left the list.
-use Rattle.std.proofs.Common.{◌≡◌, ℕ, ◌<◌, ◌≤◌, List, [], ◌∷◌, ◌++◌, length, nat_eq, true, false, refl, sym, ap, subst, ◌∙◌, arith, length-append, inl, inr}
+use Rattle.std.proofs.Common.{◌≡◌, ℕ, ◌+◌, ◌<◌, ◌≤◌, cond, ◌&&◌, List, [], ◌∷◌, ◌++◌, length, nat_eq, true, false, refl, sym, ap, subst, ◌∙◌, arith, length-append, inl, inr}
 use Rattle.std.proofs.lemmas.List.{append_assoc}
 use Rattle.std.proofs.lemmas.Bool.Decides.{nat_tests}
 use Rattle.std.specs.List.{AllByRecursion}
@@ -13,10 +13,11 @@ use Rattle.page_directory.specs.Owners.{IsRecordOf}
 use Rattle.page_directory.specs.Calls.{Regroups}
 use Rattle.page_directory.proofs.ListLemmas.{linked_right}
 use Rattle.page_directory.proofs.GroupLemmas.{groups_kept}
-use Rattle.page_directory.proofs.OwnerLemmas.{count_sizes, slots_counted, origin_once}
-use Rattle.page_list.specs.Leaving.{Between, CanLeave, GroupAround, linked_out, groups_around, IsLinkedOut, LeavesList, heir_of, sizes_mended}
+use Rattle.page_directory.proofs.OwnerLemmas.{count_sizes, slots_counted, origin_once, sizes_append}
+use Rattle.page_list.specs.Leaving.{Between, CanLeave, GroupAround, linked_out, groups_around, IsLinkedOut, LeavesList, heir_of, sizes_mended, begins_with_few, slots_gone}
 use Rattle.page_list.proofs.AroundLemmas.{group_rest, of_group, apart_from, remains}
 use Rattle.page_list.proofs.MendLemmas.{mended_count}
+use Rattle.page_list.proofs.GoneLemmas.{gone_left}
 
 -- what is known where a record leaves
 pub record AtBetween (m : Mirror) (b : Between) : Type 0 where
@@ -82,11 +83,11 @@ heir_at {bytes} {m} {gs} {free} {b} {at} {before} {owner} w c p_at o_at =
     ]
 
 -- the list without the record, which owns none then
-pub leaves : {b0 b1 b2 b3 : List ℕ} {m : Mirror} {gs : List Group} {free : List ℕ} {b : Between} {at : ℕ} (slot : ℕ) (w : GroupAround gs b) → CanLeave b0 m gs free b at
+pub leaves : {b0 b1 b2 b3 : List ℕ} {m : Mirror} {gs : List Group} {free : List ℕ} {b : Between} {at : ℕ} (slot : ℕ) (w : GroupAround gs b) → CanLeave b0 m gs free b at → slot ≡ length w.early
     → (l : IsLinkedOut b1 m gs free b w)
     → (r : Regroups b2 (linked_out m b l.owned (owners (groups_around gs b w l.group))) (groups_around gs b w l.group) free (sizes_mended slot (group_sizes (groups_around gs b w l.group))))
-    → Mirrors b3 (linked_out m b (changed r.0 b.here 0) (owners r.1)) → LeavesList b3 m free b
-leaves {b3 = b3} {m = m} {gs = gs} {free = free} {b = b} slot w c l r is =
+    → Mirrors b3 (linked_out m b (changed r.0 b.here 0) (owners r.1)) → LeavesList b3 m gs free b
+leaves {b3 = b3} {m = m} {gs = gs} {free = free} {b = b} slot w c slot_is l r is =
     let hs = groups_around gs b w l.group in
     let old : Group = record { front = w.low ++ w.rest; owner = w.owner } in
     let owned' : ℕ → ℕ = changed r.0 b.here 0 in
@@ -96,9 +97,15 @@ leaves {b3 = b3} {m = m} {gs = gs} {free = free} {b = b} slot w c l r is =
     let others : AllByRecursion differ (records r.1) = subst (AllByRecursion differ) (sym list) (each_append differ (b.low ++ b.p ∷ []) (b.n ∷ b.high) a.before a.after) in
     let same = each_weaker differ (λ k. owned' k ≡ r.0 k) (λ k o. changed-other r.0 b.here 0 k o) (records r.1) others in
     let order = r.2.page.order in
+    let n = length l.group.front + 1 in
+    let mended : group_sizes hs ≡ group_sizes w.early ++ n ∷ group_sizes w.late = sizes_append w.early (l.group ∷ w.late) in
     let count : length r.1 ≡ length (sizes_mended slot (group_sizes hs)) = sym (count_sizes r.1) ∙ ap length r.2.sizes in
     let groups : length (group_sizes hs) ≡ length m.slots =
-    count_sizes hs ∙ length-append w.early (l.group ∷ w.late) ∙ sym (length-append w.early (old ∷ w.late)) ∙ ap length (sym w.groups) ∙ sym (slots_counted c.page.groups) in (
+    count_sizes hs ∙ length-append w.early (l.group ∷ w.late) ∙ sym (length-append w.early (old ∷ w.late)) ∙ ap length (sym w.groups) ∙ sym (slots_counted c.page.groups) in
+    let left : length (sizes_mended slot (group_sizes hs)) + cond (nat_eq (n + 1) 4 && begins_with_few (group_sizes w.late)) 1 0 ≡ length (group_sizes hs) =
+    rw mended (mended_count (group_sizes w.early) n (group_sizes w.late) slot (count_sizes w.early ∙ sym slot_is)) in
+    let gone : slots_gone gs b ≡ cond (nat_eq (n + 1) 4 && begins_with_few (group_sizes w.late)) 1 0 =
+    gone_left gs b w n (sym l.short) in (
       owned',
       r.1,
       record {
@@ -110,9 +117,6 @@ leaves {b3 = b3} {m = m} {gs = gs} {free = free} {b = b} slot w c l r is =
         sizes = rw r.2.sizes r.2.sized;
         list = list;
         none = changed-same r.0 b.here 0;
-        slots = elim (mended_count slot (group_sizes hs)) [
-          | inl e ↦ inl (count ∙ e ∙ groups)
-          | inr e ↦ inr (omega (arith, count, e, groups))
-        ];
+        slots = omega (arith, count, left, gone, groups);
       },
     )

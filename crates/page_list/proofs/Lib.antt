@@ -6,4 +6,5 @@ pub mod AroundLemmas
 pub mod PassLemmas
 pub mod PreviousLemmas
 pub mod MendLemmas
+pub mod GoneLemmas
 pub mod LeaveLemmas

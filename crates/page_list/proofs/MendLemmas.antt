@@ -1,6 +1,6 @@
 -- How many records the slots have once a record has left, and how many slots there are.
-use Rattle.std.proofs.Common.{◌≡◌, ℕ, ◌+◌, ◌-◌, ◌<◌, ◌≤◌, Bool, true, false, ◌&&◌, cond, List, ◌∷◌, ◌++◌, length, take, drop, slice_index, nat_eq, nat_le, nat_lt, refl, sym, ap, subst, ◌∙◌, arith, length-append, length-take, length-drop, ◌⊎◌, inl, inr}
-use Rattle.std.proofs.lemmas.List.{get_or_at}
+use Rattle.std.proofs.Common.{◌≡◌, ℕ, ◌+◌, ◌-◌, ◌<◌, ◌≤◌, Bool, true, false, ◌&&◌, cond, List, [], ◌∷◌, ◌++◌, length, take, drop, slice_index, nat_eq, nat_le, nat_lt, refl, sym, ap, subst, ◌∙◌, arith, length-append, length-take, length-drop, inl, inr}
+use Rattle.std.proofs.lemmas.List.{get_or_at, append_assoc}
 use Rattle.std.proofs.lemmas.Bool.{cases_eq}
 use Rattle.std.proofs.lemmas.Bool.Decides.{nat_tests}
 use Rattle.page_mirror.specs.Mirror.{Mirror}
@@ -8,7 +8,7 @@ use Rattle.page_directory.specs.Groups.{Group, owners, HasGroups}
 use Rattle.page_directory.specs.Sizes.{group_sizes, IsSized, IsSizedBut, sizes_balanced, sizes_joined, sizes_moved}
 use Rattle.page_directory.specs.Calls.{CanBalanceSlot, Regroups}
 use Rattle.page_directory.proofs.OwnerLemmas.{sizes_append, count_sizes}
-use Rattle.page_list.specs.Leaving.{Between, CanLeave, GroupAround, IsLinkedOut, groups_around, linked_out, HasShortSlot, sizes_mended}
+use Rattle.page_list.specs.Leaving.{Between, CanLeave, GroupAround, IsLinkedOut, groups_around, linked_out, HasShortSlot, sizes_mended, begins_with_few}
 use Rattle.page_list.proofs.SlotSizeLemmas.{same_beside}
 use Rattle.page_list.proofs.AroundLemmas.{of_group}
 
@@ -98,19 +98,42 @@ mended_other {bytes} {m} {gs} {free} {s} h not =
       },
     )
 
--- as many slots, or one less
-balanced_count : (s n : ℕ) (ns : List ℕ) (b : Bool) → s + 1 < length ns
-    → (length (cond b (sizes_joined s n ns) (sizes_moved s n ns)) ≡ length ns) ⊎ (length (cond b (sizes_joined s n ns) (sizes_moved s n ns)) + 1 ≡ length ns)
-balanced_count s n ns true inner = inr (omega (arith, length-append (take s ns) ((n + 3) ∷ drop (s + 2) ns), length-take s ns, length-drop (s + 2) ns))
-balanced_count s n ns false inner = inl (omega (arith, length-append (take s ns) (4 ∷ (n - 1) ∷ drop (s + 2) ns), length-take s ns, length-drop (s + 2) ns))
+-- a slot with four is one with the next where that has four at most
+balanced_count : (s n : ℕ) (ns : List ℕ) (b : Bool) → s + 1 < length ns → length (cond b (sizes_joined s n ns) (sizes_moved s n ns)) + cond b 1 0 ≡ length ns
+balanced_count s n ns true inner = omega (arith, length-append (take s ns) ((n + 3) ∷ drop (s + 2) ns), length-take s ns, length-drop (s + 2) ns)
+balanced_count s n ns false inner = omega (arith, length-append (take s ns) (4 ∷ (n - 1) ∷ drop (s + 2) ns), length-take s ns, length-drop (s + 2) ns)
 
-pub mended_count : (s : ℕ) (ns : List ℕ) → (length (sizes_mended s ns) ≡ length ns) ⊎ (length (sizes_mended s ns) + 1 ≡ length ns)
-mended_count s ns = go (nat_lt (s + 1) (length ns) && nat_eq (slice_index ns s) 3) refl
-  where
-    go : (b : Bool) → (nat_lt (s + 1) (length ns) && nat_eq (slice_index ns s) 3) ≡ b
-        → (length (cond b (sizes_balanced s ns) ns) ≡ length ns) ⊎ (length (cond b (sizes_balanced s ns) ns) + 1 ≡ length ns)
-    go true e = balanced_count s (slice_index ns (s + 1)) ns (nat_le (slice_index ns (s + 1)) 4) (grind (arith, nat_tests, e))
-    go false e = inl refl
+mended_kept : (s : ℕ) (ns : List ℕ) → (s + 1 < length ns → slice_index ns s ≡ 3 → ⊥) → sizes_mended s ns ≡ ns
+mended_kept s ns not = rw (mended_false s ns not) refl
+
+four_told : (n : ℕ) → n ≡ 3 → nat_eq (n + 1) 4 ≡ true
+four_told n e = grind (arith, nat_tests)
+
+not_four : (n : ℕ) → (n ≡ 3 → ⊥) → nat_eq (n + 1) 4 ≡ false
+not_four n other = grind (arith, nat_tests)
+
+-- where the slot has three left
+three_count : (xs : List ℕ) (n : ℕ) (ys : List ℕ) (s : ℕ) → length xs ≡ s → n ≡ 3 → length (sizes_mended s (xs ++ n ∷ ys)) + cond (begins_with_few ys) 1 0 ≡ length (xs ++ n ∷ ys)
+three_count xs n [] s is three = rw (mended_kept s (xs ++ n ∷ []) (λ i t. absurd (omega (arith, length-append xs (n ∷ []))))) (omega arith)
+three_count xs n (y ∷ ys) s is three =
+    let ns = xs ++ n ∷ y ∷ ys in
+    let inner : s + 1 < length ns = omega (arith, length-append xs (n ∷ y ∷ ys)) in
+    let here : slice_index ns s ≡ 3 = get_or_at xs n (y ∷ ys) 0 s is ∙ three in
+    let shape : ns ≡ (xs ++ n ∷ []) ++ y ∷ ys = sym (append_assoc xs (n ∷ []) (y ∷ ys)) in
+    let next : slice_index ns (s + 1) ≡ y = ap (λ (zs : List ℕ). slice_index zs (s + 1)) shape ∙ get_or_at (xs ++ n ∷ []) y ys 0 (s + 1) (omega (arith, length-append xs (n ∷ []))) in
+    let balanced : sizes_mended s ns ≡ sizes_balanced s ns = rw (mended_true s ns inner here) refl in
+    let whole : length (sizes_balanced s ns) + cond (nat_le (slice_index ns (s + 1)) 4) 1 0 ≡ length ns = balanced_count s (slice_index ns (s + 1)) ns (nat_le (slice_index ns (s + 1)) 4) inner in
+    ap (λ (zs : List ℕ). length zs + cond (nat_le y 4) 1 0) balanced ∙ subst (λ (z : ℕ). length (sizes_balanced s ns) + cond (nat_le z 4) 1 0 ≡ length ns) next whole
+
+-- how many slots are left, where slot s has n left
+pub mended_count : (xs : List ℕ) (n : ℕ) (ys : List ℕ) (s : ℕ) → length xs ≡ s
+    → length (sizes_mended s (xs ++ n ∷ ys)) + cond (nat_eq (n + 1) 4 && begins_with_few ys) 1 0 ≡ length (xs ++ n ∷ ys)
+mended_count xs n ys s is = elim (cases_eq n 3) [
+  | inl three ↦ rw (four_told n three) (three_count xs n ys s is three)
+  | inr other ↦
+      let here : slice_index (xs ++ n ∷ ys) s ≡ n = get_or_at xs n ys 0 s is in
+      rw (not_four n other, mended_kept s (xs ++ n ∷ ys) (λ i t. other (sym here ∙ t))) (omega arith)
+]
 
 pub slot_of : {bytes : List ℕ} {m : Mirror} {gs : List Group} {free : List ℕ} {s : ℕ} → HasShortSlot bytes m gs free s → s < length gs
 slot_of {gs = gs} h = let within = h.sizes.within in omega (arith, count_sizes gs)

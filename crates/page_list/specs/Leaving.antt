@@ -1,5 +1,5 @@
 -- A record that leaves the list.
-use Rattle.std.specs.Prelude.{◌≡◌, ℕ, ◌+◌, ◌-◌, ◌<◌, ◌≤◌, ◌⊎◌, ◌&&◌, List, [], ◌∷◌, ◌++◌, length, slice_index, nat_eq, nat_lt, if◌then◌else◌}
+use Rattle.std.specs.Prelude.{◌≡◌, ℕ, ◌+◌, ◌-◌, ◌<◌, ◌≤◌, Bool, false, ◌&&◌, List, [], ◌∷◌, ◌++◌, length, slice_index, nat_eq, nat_le, nat_lt, if◌then◌else◌}
 use Rattle.std.specs.List.{AllByRecursion}
 use Rattle.page_mirror.specs.Mirror.{Mirror, changed}
 use Rattle.page_mirror.specs.Steps.{HasOrigin}
@@ -34,19 +34,36 @@ linked_out m b owned slots = record m {
   rows = m.rows - 1;
 }
 
+-- the first of these sizes, if there is one, is at most four
+abbrev pub begins_with_few : List ℕ → Bool
+begins_with_few [] = false
+begins_with_few (n ∷ ns) = nat_le n 4
+
+-- with the record of this number in the list its slot goes: the slot has four records and isn't the
+-- last, and the next one has at most four
+abbrev pub slot_goes : List ℕ → ℕ → Bool
+slot_goes [] k = false
+slot_goes (n ∷ ns) k =
+    if nat_lt k n then nat_eq n 4 && begins_with_few ns else slot_goes ns (k - n)
+
+-- how many slots go with the record
+abbrev pub slots_gone : List Group → Between → ℕ
+slots_gone gs b = if slot_goes (group_sizes gs) (length b.low + 1) then 1 else 0
+
 -- the list is without the record, in these groups, and the record owns none; no more of the page
--- changed than slots and owned counts, and there are as many slots as before or one less
-pub record HasLeft (bytes : List ℕ) (m : Mirror) (free : List ℕ) (b : Between) (owned : ℕ → ℕ)
-    (hs : List Group) : Type 0 where
+-- changed than slots and owned counts, and where the record's slot goes there is one slot less
+pub record HasLeft (bytes : List ℕ) (m : Mirror) (gs : List Group) (free : List ℕ) (b : Between)
+    (owned : ℕ → ℕ) (hs : List Group) : Type 0 where
   pub page : HasGroups bytes (linked_out m b owned (owners hs)) hs free
   pub sizes : IsSized (group_sizes hs)
   pub list : records hs ≡ (b.low ++ b.p ∷ []) ++ b.n ∷ b.high
   pub none : owned b.here ≡ 0
-  pub slots : (length hs ≡ length m.slots) ⊎ (length hs + 1 ≡ length m.slots)
+  pub slots : length hs + slots_gone gs b ≡ length m.slots
 
 -- the record has left the list, which stands in some groups
-abbrev pub LeavesList : List ℕ → Mirror → List ℕ → Between → Type 0
-LeavesList bytes m free b = (owned : ℕ → ℕ) × (hs : List Group) × HasLeft bytes m free b owned hs
+abbrev pub LeavesList : List ℕ → Mirror → List Group → List ℕ → Between → Type 0
+LeavesList bytes m gs free b =
+    (owned : ℕ → ℕ) × (hs : List Group) × HasLeft bytes m gs free b owned hs
 
 -- the group of the record
 abbrev pub GroupAround : List Group → Between → Type 0

@@ -1,11 +1,11 @@
 //! A record that leaves the list.
-ghost use Rattle.std.specs.Prelude.{◌≡◌, ◌+◌, ◌≤◌, ◌<◌, List, ℕ};
+ghost use Rattle.std.specs.Prelude.{◌≡◌, ◌+◌, ◌≤◌, ◌<◌, List, ℕ, length};
 ghost use Rattle.page_mirror.specs.Mirror.{Mirror};
 ghost use Rattle.page_mirror.specs.Steps.{HasOrigin};
 ghost use Rattle.page_directory.specs.Groups.{Group};
 ghost use Rattle.page_directory.specs.Sizes.{group_sizes};
 ghost use Rattle.page_directory.specs.Calls.{Regroups};
-ghost use Rattle.page_list.specs.Leaving.{Between, CanLeave, LeavesList, GroupAround, IsAround, IsPassedOver, IsLinkedOut, HasShortSlot, sizes_mended, heir_of};
+ghost use Rattle.page_list.specs.Leaving.{Between, CanLeave, LeavesList, GroupAround, IsAround, IsPassedOver, IsLinkedOut, HasShortSlot, sizes_mended, heir_of, slot_goes};
 
 use page_directory::{balance, find_owner, find_slot, owned};
 use page_mirror::{
@@ -18,7 +18,7 @@ pub fn leave_list(page: &mut [u8], at: u16)
     requires { (m : Mirror) × (gs : List Group) × (free : List ℕ) × (b : Between)
         × CanLeave page.old m gs free b at }
     ensures { (m : Mirror) (gs : List Group) (free : List ℕ) (b : Between)
-        → CanLeave page.old m gs free b at → LeavesList page.new m free b }
+        → CanLeave page.old m gs free b at → LeavesList page.new m gs free b }
 {
     let owner = find_owner(page, at);
     let slot = find_slot(page, owner);
@@ -26,6 +26,24 @@ pub fn leave_list(page: &mut [u8], at: u16)
     pass_over(page, before, at, owner, slot);
     mend_slot(page, slot);
     own(page, at, 0);
+}
+
+/// Whether the slot of the record with the origin `at` goes with it.
+pub fn loses_slot(page: &[u8], at: u16) -> bool
+    requires { (m : Mirror) × (gs : List Group) × (free : List ℕ) × (b : Between)
+        × CanLeave page.now m gs free b at }
+    ensures { (m : Mirror) (gs : List Group) (free : List ℕ) (b : Between)
+        → CanLeave page.now m gs free b at
+        → result ≡ slot_goes (group_sizes gs) (length b.low + 1) }
+{
+    let slot = find_slot(page, find_owner(page, at));
+    if owned(page, slot) != 4 {
+        return false;
+    }
+    if slot + 1 == slot_count(page) {
+        return false;
+    }
+    owned(page, slot + 1) <= 4
 }
 
 /// The origin of the record that leads to the one with the origin `at`, which is of this slot.

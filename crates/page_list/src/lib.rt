@@ -6,4 +6,4 @@ mod entering;
 mod leaving;
 
 pub use entering::enter_list;
-pub use leaving::leave_list;
+pub use leaving::{leave_list, loses_slot};

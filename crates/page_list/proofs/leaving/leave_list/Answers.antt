@@ -99,4 +99,4 @@ returns c = λ m gs free b can.
     let hs = groups_around gs b w l.group in
     let r = c.mend_slot.ensures (linked_out m b l.owned (owners hs)) hs free (short_slot w can slot l) in
     let m2 = linked_out m b r.0 (owners r.1) in
-    leaves c.find_slot-slot.result w can l r (c.own.ensures m2 b.here (still {n = m2} can.here_at r.2.page.is (refl {a = m.count}) (refl {a = m.cell})))
+    leaves c.find_slot-slot.result w can slot l r (c.own.ensures m2 b.here (still {n = m2} can.here_at r.2.page.is (refl {a = m.count}) (refl {a = m.cell})))
