@@ -1,6 +1,6 @@
 -- The rows of a page with one less.
-use Rattle.std.proofs.Common.{◌≡◌, ℕ, ◌+◌, ◌-◌, ◌<◌, List, [], ◌∷◌, ◌++◌, map, refl, sym, ap, ap₂, subst, ◌∙◌, arith, inl, inr}
-use Rattle.std.proofs.lemmas.List.{map-append}
+use Rattle.std.proofs.Common.{◌≡◌, ℕ, ◌+◌, ◌-◌, ◌*◌, ◌<◌, Bool, true, false, cond, List, [], ◌∷◌, ◌++◌, length, length-append, map, refl, sym, ap, ap₂, subst, ◌∙◌, arith}
+use Rattle.std.proofs.lemmas.List.{map-append, length-map}
 use Rattle.std.specs.List.{AllByRecursion}
 use Rattle.list_facts.proofs.Each.{each_left, each_right, each_append}
 use Rattle.compact_record.specs.Record.{finish}
@@ -12,12 +12,17 @@ use Rattle.page_mirror.proofs.HeadLemmas.{still}
 use Rattle.page_heap.proofs.CellLemmas.{record_in_page}
 use Rattle.page_directory.specs.Groups.{records, owners}
 use Rattle.page_directory.proofs.GroupLemmas.{count_owners}
-use Rattle.page_list.specs.Leaving.{Between, CanLeave, LeavesList, linked_out}
+use Rattle.page_directory.specs.Sizes.{group_sizes}
+use Rattle.page_list.specs.Leaving.{Between, CanLeave, LeavesList, linked_out, slot_goes}
 use Rattle.page_list.proofs.AroundLemmas.{apart_from}
 use Rattle.index_page.specs.Rows.{Row}
 use Rattle.index_page.specs.Loads.{charge_of}
 use Rattle.page_rows.specs.Spelling.{size_of_record, StandsAsRow, PageParts, SpellsRows}
-use Rattle.page_rows.specs.Deleting.{IsLoose, freed_parts, CanDeleteRow, DeletesInBytes}
+use Rattle.index_page.specs.declared.room.Gaps.{Gaps}
+use Rattle.page_rows.specs.Slots.{sizes_in_bytes}
+use Rattle.page_rows.specs.Inserting.{gaps_in_bytes}
+use Rattle.page_rows.specs.Deleting.{IsLoose, freed_parts, CanDeleteRow, DeletesInBytes, gaps_after}
+use Rattle.page_rows.proofs.SizeLemmas.{sizes_told}
 use Rattle.page_rows.proofs.SpellingLemmas.{row_of, rows_are, whole_list}
 use Rattle.page_rows.proofs.SumLemmas.{charge_of_record}
 use Rattle.page_rows.proofs.RoomLemmas.{free_there, gaps_are}
@@ -95,11 +100,11 @@ size_between {bytes} {fields} {p} {place = place} {start} {end} r start_is end_i
 
 -- the parts of the page without the record in its list
 abbrev pub parts_left : {b0 b1 : List ℕ} {fields : ℕ} {p : PageParts} {left right : List Row} {row : Row} {place : ℕ} (r : RowBetween b0 fields p left row right place)
-    → LeavesList b1 p.mirror p.free r.b → PageParts
+    → LeavesList b1 p.mirror p.groups p.free r.b → PageParts
 parts_left {p = p} r l = left_parts p r.b r.low r.high l.0 l.1
 
 pub is_loose : {b0 b1 : List ℕ} {fields : ℕ} {left right : List Row} {row : Row} {place : ℕ} (start end : ℕ) (c : CanDeleteRow b0 fields left row right place)
-    → (r : RowBetween b0 fields c.page.parts left row right place) → (l : LeavesList b1 c.page.parts.mirror c.page.parts.free r.b)
+    → (r : RowBetween b0 fields c.page.parts left row right place) → (l : LeavesList b1 c.page.parts.mirror c.page.parts.groups c.page.parts.free r.b)
     → end ≡ start + size_of_record (c.page.parts.of r.b.here) → IsLoose b1 fields (parts_left r l) r.b.here place (end - start)
 is_loose {b0} {b1} {fields} {left} {right} {row} {place} start end c r l size =
     let p = c.page.parts in
@@ -114,9 +119,37 @@ is_loose {b0} {b1} {fields} {left} {right} {row} {place} start end c r l size =
       size_is = omega (arith, size);
     }
 
+-- the row's charge is its record's size and one byte
+charged : {bytes : List ℕ} {fields : ℕ} {p : PageParts} {left right : List Row} {row : Row} {place : ℕ} (r : RowBetween bytes fields p left row right place)
+    → charge_of row.key row.body ≡ size_of_record (p.of r.b.here) + 1
+charged {p = p} r = subst (λ (y : Row). charge_of y.key y.body ≡ size_of_record (p.of r.b.here) + 1) r.row_is (charge_of_record (origin_of p.mirror r.b.here) (p.of r.b.here))
+
+-- the slots and the number of the row tell whether its slot goes
+goes_told : {bytes : List ℕ} {fields : ℕ} {left right : List Row} {row : Row} {place : ℕ} (c : CanDeleteRow bytes fields left row right place) (r : RowBetween bytes fields c.page.parts left row right place)
+    → slot_goes (group_sizes c.page.parts.groups) (length r.b.low + 1) ≡ slot_goes (sizes_in_bytes bytes) (length left + 1)
+goes_told {left = left} c r =
+    let low : length r.b.low ≡ length left =
+    omega (arith, length-append r.b.low (r.b.p ∷ []), ap length r.ends.before, ap length r.left_is, length-map r.low (row_of c.page.parts)) in
+    ap₂ (λ (ns : List ℕ) (k : ℕ). slot_goes ns (k + 1)) (sym (sizes_told c.page.spells.page)) low
+
+-- the gaps where such a record is freed
+pub gaps_told : {bytes : List ℕ} {fields : ℕ} {left right : List Row} {row : Row} {place : ℕ} (c : CanDeleteRow bytes fields left row right place) (r : RowBetween bytes fields c.page.parts left row right place)
+    (gaps : Gaps) → gaps.head ≡ size_of_record (c.page.parts.of r.b.here)
+    → gaps.rest ≡ (gaps_in_bytes bytes fields).rest + cond (slot_goes (group_sizes c.page.parts.groups) (length r.b.low + 1)) 2 0
+    → gaps ≡ gaps_after (gaps_in_bytes bytes fields) (sizes_in_bytes bytes) (length left) (charge_of row.key row.body - 1)
+gaps_told {bytes} {fields} {row = row} c r gaps size rest =
+    let before = gaps_in_bytes bytes fields in
+    let head : gaps.head ≡ charge_of row.key row.body - 1 = omega (arith, size, charged r) in
+    let last = rest ∙ ap (λ (t : Bool). before.rest + cond t 2 0) (goes_told c r) in
+    λ i. record { head = head i; rest = last i }
+
+two_bytes : (t : Bool) → cond t 2 0 ≡ 2 * cond t 1 0
+two_bytes true = refl
+two_bytes false = refl
+
 -- the page without the row
 pub row_deleted : {b0 b1 b2 : List ℕ} {fields : ℕ} {left right : List Row} {row : Row} {place : ℕ} (c : CanDeleteRow b0 fields left row right place)
-    → (r : RowBetween b0 fields c.page.parts left row right place) → (l : LeavesList b1 c.page.parts.mirror c.page.parts.free r.b)
+    → (r : RowBetween b0 fields c.page.parts left row right place) → (l : LeavesList b1 c.page.parts.mirror c.page.parts.groups c.page.parts.free r.b)
     → SpellsRows b2 fields (freed_parts (parts_left r l) r.b.here) [] → DeletesInBytes b0 b2 fields left row right
 row_deleted {b0} {b1} {b2} {fields} {left} {right} {row} {place} c r l s =
     let p = c.page.parts in
@@ -126,18 +159,12 @@ row_deleted {b0} {b1} {b2} {fields} {left} {right} {row} {place} c r l s =
     let before = gaps_are old in
     let after = gaps_are s in
     let there = free_there h p.free s refl in
-    let charged : charge_of row.key row.body ≡ size_of_record (p.of h) + 1 =
-    subst (λ (y : Row). charge_of y.key y.body ≡ size_of_record (p.of h) + 1) r.row_is (charge_of_record (origin_of p.mirror h) (p.of h)) in
+    let goes = slot_goes (group_sizes p.groups) (length r.b.low + 1) in
+    let slots : length l.1 + cond goes 1 0 ≡ length p.mirror.slots = l.2.slots in
     record {
       page = record { parts = final; spells = s };
       rows = rows_are s ∙ map-append (row_of p) r.low r.high ∙ ap₂ (λ (xs ys : List Row). xs ++ ys) r.left_is r.right_is;
-      gaps = record {
-        head = after.head ∙ there.gap ∙ omega (arith, charged);
-        rest = elim l.2.slots [
-          | inl e ↦ inl (omega (arith, before.rest, after.rest, e, count_owners l.1))
-          | inr e ↦ inr (omega (arith, before.rest, after.rest, e, count_owners l.1))
-        ];
-      };
+      gaps = gaps_told c r (gaps_in_bytes b2 fields) (after.head ∙ there.gap) (omega (arith, before.rest, after.rest, slots, count_owners l.1, two_bytes goes));
       low = λ k w. s.page.is.fixed.front k w ∙ sym (old.page.is.fixed.front k w);
       high = λ k v w. s.page.is.fixed.back k v w ∙ sym (old.page.is.fixed.back k v w);
     }

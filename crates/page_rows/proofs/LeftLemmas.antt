@@ -36,7 +36,7 @@ list_between b low high s inner e =
     ∙ ap (λ (xs : List ℕ). xs ++ b.here ∷ (high ++ 1 ∷ [])) (sym e.before) ∙ ap (λ (xs : List ℕ). (b.low ++ b.p ∷ []) ++ b.here ∷ xs) (sym e.behind)
 
 pub left_spells : {b0 b1 : List ℕ} {fields : ℕ} {p : PageParts} (b : Between) (low high : List ℕ) (owned : ℕ → ℕ) (hs : List Group)
-    → SpellsRows b0 fields p [] → p.inner ≡ low ++ b.here ∷ high → BetweenEnds low high b → HasLeft b1 p.mirror p.free b owned hs
+    → SpellsRows b0 fields p [] → p.inner ≡ low ++ b.here ∷ high → BetweenEnds low high b → HasLeft b1 p.mirror p.groups p.free b owned hs
     → SpellsRows b1 fields (left_parts p b low high owned hs) (b.here ∷ [])
 left_spells {b0} {b1} {fields} {p} b low high owned hs s inner ends e =
     let m = p.mirror in

@@ -11,6 +11,7 @@ pub mod DifferLemmas
 pub mod InsertRowLemmas
 pub mod FreedLemmas
 pub mod LeftLemmas
+pub mod SizeLemmas
 pub mod DeleteRowLemmas
 pub mod BodyLemmas
 pub mod TailLemmas

@@ -23,6 +23,7 @@ use Rattle.page_rows.specs.Spelling.{free_origin, size_of_record, PageParts, Spe
 use Rattle.index_page.specs.declared.room.Gaps.{Gaps}
 use Rattle.page_rows.specs.Inserting.{head_gap, gaps_in_bytes}
 use Rattle.page_rows.specs.Setting.{with_tail, set_parts, CanSetValue, SetsInBytes}
+use Rattle.page_rows.proofs.SizeLemmas.{sizes_told}
 use Rattle.page_rows.proofs.SpellingLemmas.{row_of, rows_are, whole_list}
 use Rattle.page_rows.proofs.RoomLemmas.{free_there, no_gap, gaps_are}
 use Rattle.page_rows.proofs.BodyLemmas.{with_body, body_written}
@@ -165,6 +166,7 @@ value_set {b0} {b1} {fields} {left} {right} {row} {place} {end} {value} c end_is
       rows = rows_are s ∙ ap (map (row_of q)) r.inner ∙ map-append (row_of q) r.low (h ∷ r.high)
           ∙ ap₂ (λ (xs ys : List Row). xs ++ ys) (low_is ∙ r.left_is) (ap₂ (λ (x : Row) (xs : List Row). x ∷ xs) here (high_is ∙ r.right_is));
       gaps = gaps_same h value old s (size_set p h value t.long);
+      slots = sizes_told s.page ∙ sym (sizes_told old.page);
       low = λ k w. s.page.is.fixed.front k w ∙ sym (old.page.is.fixed.front k w);
       high = λ k v w. s.page.is.fixed.back k v w ∙ sym (old.page.is.fixed.back k v w);
     }

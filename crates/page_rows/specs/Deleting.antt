@@ -1,14 +1,16 @@
 -- A row that goes from a page.
-use Rattle.std.specs.Prelude.{◌≡◌, ℕ, ◌+◌, ◌-◌, ◌<◌, ◌≤◌, ◌⊎◌, List, [], ◌∷◌, ◌++◌, slice_index, nat_eq, if◌then◌else◌}
+use Rattle.std.specs.Prelude.{◌≡◌, ℕ, ◌+◌, ◌-◌, ◌<◌, ◌≤◌, List, [], ◌∷◌, ◌++◌, length, slice_index, nat_eq, if◌then◌else◌}
 use Rattle.std.specs.List.{AllByRecursion}
 use Rattle.page_mirror.specs.Mirror.{changed, origin_of}
 use Rattle.page_mirror.specs.Steps.{HasOrigin}
 use Rattle.page_directory.specs.Groups.{records}
 use Rattle.page_directory.specs.Owners.{first_else}
+use Rattle.page_list.specs.Leaving.{slot_goes}
 use Rattle.index_page.specs.declared.room.Gaps.{Gaps}
 use Rattle.index_page.specs.Rows.{Row}
 use Rattle.index_page.specs.Loads.{charge_of}
 use Rattle.page_rows.specs.Reading.{rows_in_bytes}
+use Rattle.page_rows.specs.Slots.{sizes_in_bytes}
 use Rattle.page_rows.specs.Spelling.{size_of_record, PageParts, SpellsRows, IsPageOfRows}
 use Rattle.page_rows.specs.Inserting.{gaps_in_bytes}
 
@@ -41,18 +43,21 @@ pub record CanDeleteRow (bytes : List ℕ) (fields : ℕ) (left : List Row) (row
   pub rows : rows_in_bytes bytes fields ≡ left ++ row ∷ right
   pub place_is : row.place ≡ place
 
--- the gaps where a record of this size was freed: it is the free list's head, and as many bytes
--- are left behind all records as before, or two more where a slot went
-pub record FreesGap (old new : Gaps) (size : ℕ) : Type 0 where
-  pub head : new.head ≡ size
-  pub rest : (new.rest ≡ old.rest) ⊎ (new.rest ≡ old.rest + 2)
+-- the gaps once a row is gone before which so many stand, by the gaps and the slots' sizes with it:
+-- its record of so many bytes is the free list's head, and behind all records are as many bytes as
+-- before, or two more where its slot goes. In the list infimum stands before that row, too
+abbrev pub gaps_after : Gaps → List ℕ → ℕ → ℕ → Gaps
+gaps_after gaps sizes before size = record {
+  head = size;
+  rest = gaps.rest + (if slot_goes sizes (before + 1) then 2 else 0);
+}
 
 -- the row is gone, its record is freed, and the bytes around the head's numbers stay
 pub record DeletesInBytes (old new : List ℕ) (fields : ℕ) (left : List Row) (row : Row)
     (right : List Row) : Type 0 where
   pub page : IsPageOfRows new fields
   pub rows : rows_in_bytes new fields ≡ left ++ right
-  pub gaps : FreesGap (gaps_in_bytes old fields) (gaps_in_bytes new fields)
-      (charge_of row.key row.body - 1)
+  pub gaps : gaps_in_bytes new fields ≡ gaps_after (gaps_in_bytes old fields) (sizes_in_bytes old)
+      (length left) (charge_of row.key row.body - 1)
   pub low : (k : ℕ) → k < 38 → slice_index new k ≡ slice_index old k
   pub high : (k : ℕ) → 56 ≤ k → k < 94 → slice_index new k ≡ slice_index old k

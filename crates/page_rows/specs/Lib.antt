@@ -4,3 +4,4 @@ pub mod Inserting
 pub mod Deleting
 pub mod Setting
 pub mod Appending
+pub mod Slots

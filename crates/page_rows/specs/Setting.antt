@@ -5,6 +5,7 @@ use Rattle.page_mirror.specs.Mirror.{changed}
 use Rattle.page_heap.specs.Heap.{cell_of}
 use Rattle.index_page.specs.Rows.{Row, Bytes, placed_row}
 use Rattle.page_rows.specs.Reading.{rows_in_bytes}
+use Rattle.page_rows.specs.Slots.{sizes_in_bytes}
 use Rattle.page_rows.specs.Spelling.{PageParts, IsPageOfRows}
 use Rattle.page_rows.specs.Inserting.{gaps_in_bytes}
 use Rattle.page_rows.specs.Deleting.{CanDeleteRow}
@@ -28,11 +29,13 @@ pub record CanSetValue (bytes : List ℕ) (fields : ℕ) (left : List Row) (row 
   pub carries : row.body ≡ Bytes before
   pub long : length value ≡ length before
 
--- the row has this value; all other rows, the gaps and the bytes around the head's numbers stay
+-- the row has this value; all other rows, the gaps, the slots and the bytes around the head's
+-- numbers stay
 pub record SetsInBytes (old new : List ℕ) (fields : ℕ) (left : List Row) (row : Row)
     (right : List Row) (value : List ℕ) : Type 0 where
   pub page : IsPageOfRows new fields
   pub rows : rows_in_bytes new fields ≡ left ++ placed_row row.place row.key (Bytes value) ∷ right
   pub gaps : gaps_in_bytes new fields ≡ gaps_in_bytes old fields
+  pub slots : sizes_in_bytes new ≡ sizes_in_bytes old
   pub low : (k : ℕ) → k < 38 → slice_index new k ≡ slice_index old k
   pub high : (k : ℕ) → 56 ≤ k → k < 94 → slice_index new k ≡ slice_index old k

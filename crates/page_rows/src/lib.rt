@@ -10,7 +10,7 @@ mod setting;
 mod taking;
 
 pub use appending::append_row;
-pub use deleting::delete_row;
+pub use deleting::{delete_row, gaps_without};
 pub use inserting::insert_row;
 pub use room::{page_gaps, page_load};
 pub use setting::set_value;
