@@ -27,6 +27,8 @@ use Rattle.index_page.specs.Loads.{charge_of, load_of}
 use Rattle.index_page.specs.Changes.{Inserts}
 use Rattle.index_page.specs.Refusals.{takes}
 use Rattle.index_page.proofs.OrderLemmas.{inserted_order, inserts}
+use Rattle.page_rows.specs.Slots.{sizes_in_bytes}
+use Rattle.page_rows.proofs.SizeLemmas.{sizes_told}
 use Rattle.page_rows.specs.Reading.{rows_in_bytes, body_of_kind}
 use Rattle.page_rows.specs.Spelling.{size_of_record, free_origin, StandsAsRow, PageParts, SpellsRows}
 use Rattle.page_rows.specs.Inserting.{head_gap, gaps_in_bytes, CanInsertRow, InsertsInBytes}
@@ -105,6 +107,7 @@ pub record Links (old new : List ℕ) (fields : ℕ) (prev next : Option ℕ) : 
   pub rows : rows_in_bytes new fields ≡ rows_in_bytes old fields
   pub gaps : gaps_in_bytes new fields ≡ gaps_in_bytes old fields
   pub garbage : u16_at new 46 ≡ u16_at old 46
+  pub slots : sizes_in_bytes new ≡ sizes_in_bytes old
 
 pub links : {old new : List ℕ} {fields : ℕ} (prev next : Option ℕ) → IsBytePage old fields → SameOutside old new 8 16 → neighbour (u32_at new 8) ≡ prev → neighbour (u32_at new 12) ≡ next
     → IsNeighbour prev → IsNeighbour next → Links old new fields prev next
@@ -131,6 +134,7 @@ links {old} {new} {fields} prev next b same prev_is next_is prev_ok next_ok =
       rows = rows;
       gaps = gaps_by t ∙ sym (gaps_by s);
       garbage = t.page.is.head.garbage ∙ sym s.page.is.head.garbage;
+      slots = sizes_told t.page ∙ sym (sizes_told s.page);
     }
 
 -- the rows with one more between those that the cut parts

@@ -5,3 +5,5 @@ pub mod DeleteLemmas
 pub mod MovingLemmas
 pub mod TailLemmas
 pub mod SetLemmas
+pub mod ReplaceLemmas
+pub mod AgreeLemmas

@@ -1,7 +1,7 @@
 -- Rows put behind all others of a page.
-use Rattle.std.proofs.Common.{◌≡◌, ◌≢◌, ℕ, zero, suc, ◌+◌, ◌-◌, ◌<◌, ◌≤◌, Bool, true, false, cond, Option, Some, None, List, [], ◌∷◌, ◌++◌, length, nat_lt, refl, sym, ap, ap₂, subst, ◌∙◌, arith, length-append, append-nil, unwrap_or}
+use Rattle.std.proofs.Common.{◌≡◌, ◌≢◌, ℕ, ◌+◌, ◌-◌, ◌≤◌, Bool, true, false, Option, Some, None, List, [], ◌∷◌, ◌++◌, length, nat_lt, refl, sym, ap, subst, ◌∙◌, arith, length-append, append-nil, unwrap_or}
 use Rattle.std.proofs.lemmas.List.{append_assoc}
-use Rattle.std.proofs.lemmas.List.Sums.{sum_by-append, sum_by-cons}
+use Rattle.std.proofs.lemmas.List.Sums.{sum_by-append}
 use Rattle.std.proofs.lemmas.Bool.Decides.{nat_tests}
 use Rattle.std.specs.List.{AllByRecursion}
 use Rattle.list_facts.proofs.Each.{each_left, each_right, each_append}
@@ -32,7 +32,7 @@ use Rattle.page_rows.specs.Appending.{CanAppendRow, AppendsInBytes}
 use Rattle.page_rows.proofs.SumLemmas.{charge_of_record}
 use Rattle.page_rows.proofs.DifferLemmas.{rows_differ}
 use Rattle.page_search.proofs.NextLemmas.{place_before_more}
-use Rattle.byte_page.specs.Form.{head_in_bytes, page_in_bytes, GappedPage, form_in_bytes, IsBytePage}
+use Rattle.byte_page.specs.Form.{head_in_bytes, GappedPage, form_in_bytes, IsBytePage}
 use Rattle.byte_page.specs.Moving.{CanAppend, AppendsRow, CanAppendRows, AppendsRows, StaysUnless}
 use Rattle.byte_page.proofs.FrontLemmas.{head_same}
 use Rattle.byte_page.proofs.FormLemmas.{may_be_written}

@@ -13,6 +13,7 @@ use Rattle.index_page.proofs.RowLemmas.{find_among}
 use Rattle.index_page.proofs.LoadLemmas.{load_of-among}
 use Rattle.index_page.proofs.SetLemmas.{rewritten_order}
 use Rattle.page_rows.specs.Reading.{rows_in_bytes, row_in_bytes}
+use Rattle.page_rows.specs.Slots.{sizes_in_bytes}
 use Rattle.page_rows.specs.Inserting.{gaps_in_bytes}
 use Rattle.page_rows.specs.Setting.{CanSetValue, SetsInBytes}
 use Rattle.page_rows.proofs.SpellingLemmas.{row_found}
@@ -57,6 +58,7 @@ pub record RowSet (old new : List ℕ) (fields place : ℕ) (value : List ℕ) :
   pub page : IsBytePage new fields
   pub sets : Sets (page_in_bytes old fields) (page_in_bytes new fields) place place value
   pub gaps : gaps_in_bytes new fields ≡ gaps_in_bytes old fields
+  pub slots : sizes_in_bytes new ≡ sizes_in_bytes old
 
 pub row_set : {old new : List ℕ} {fields place : ℕ} {value : List ℕ} (b : IsBytePage old fields) (there : IsSome (find_row place (rows_in_bytes old fields)))
     → (let s = row_stands b there in CanSetValue old fields s.left (row_in_bytes old fields place) s.right place value)
@@ -99,14 +101,16 @@ row_set {old} {new} {fields} {place} {value} b there can level short d =
         head = head;
       };
       gaps = d.gaps;
+      slots = d.slots;
     }
 
 -- the same of the form of a page
 pub record SetFrom (old new : GappedPage) (place : ℕ) (value : List ℕ) : Type 0 where
   pub rows : Sets old.page new.page place place value
   pub gaps : new.gaps ≡ old.gaps
+  pub slots : new.slots ≡ old.slots
 
 pub set_from : {old new : List ℕ} {fields place : ℕ} {value : List ℕ} (form : GappedPage) → form_in_bytes old fields ≡ form → RowSet old new fields place value
     → SetFrom form (form_in_bytes new fields) place value
 set_from {old} {new} {fields} {place} {value} form is g =
-    subst (λ (f : GappedPage). SetFrom f (form_in_bytes new fields) place value) is (record { rows = g.sets; gaps = g.gaps })
+    subst (λ (f : GappedPage). SetFrom f (form_in_bytes new fields) place value) is (record { rows = g.sets; gaps = g.gaps; slots = g.slots })

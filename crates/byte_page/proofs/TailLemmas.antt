@@ -2,7 +2,7 @@
 use Rattle.std.proofs.Common.{◌≡◌, ℕ, ◌+◌, ◌<◌, ◌≤◌, Option, Some, None, IsSome, List, [], ◌∷◌, ◌++◌, length, refl, sym, ap, ap₂, subst, ◌∙◌, arith, length-append, append-nil}
 use Rattle.std.proofs.lemmas.List.{append_assoc}
 use Rattle.index_page.specs.declared.head.PageHead.{PageHead}
-use Rattle.index_page.specs.Rows.{Row, find_row, last_row_after, first_of_rows, IsAt, SameRows}
+use Rattle.index_page.specs.Rows.{Row, find_row, SameRows}
 use Rattle.index_page.specs.Page.{PageRows, IsPageInOrder, RowsAscend, PlacesDiffer}
 use Rattle.index_page.specs.Changes.{Deletes}
 use Rattle.index_page.specs.Moves.{MovesTail}

@@ -11,6 +11,7 @@ use Rattle.index_page.specs.Page.{PageRows, IsPageInOrder}
 use Rattle.index_page.specs.Loads.{charge_of}
 use Rattle.index_page.specs.Refusals.{free_of, room_refusal}
 use Rattle.page_rows.specs.Reading.{rows_in_bytes}
+use Rattle.page_rows.specs.Slots.{sizes_in_bytes}
 use Rattle.page_rows.specs.Spelling.{IsPageOfRows}
 use Rattle.page_rows.specs.Inserting.{gaps_in_bytes}
 
@@ -40,11 +41,13 @@ page_in_bytes bytes fields = record {
   rows = rows_in_bytes bytes fields;
 }
 
--- a page, where it has bytes for a record, and how many bytes before HEAP_TOP are in no use
+-- a page, where it has bytes for a record, how many bytes before HEAP_TOP are in no use, and how
+-- many records the owner of each slot owns
 pub record GappedPage : Type 0 where
   pub page : PageRows
   pub gaps : Gaps
   pub garbage : ℕ
+  pub slots : List ℕ
 
 -- what the bytes of a page are
 abbrev pub form_in_bytes : List ℕ → ℕ → GappedPage
@@ -52,6 +55,7 @@ form_in_bytes bytes fields = record {
   page = page_in_bytes bytes fields;
   gaps = gaps_in_bytes bytes fields;
   garbage = u16_at bytes 46;
+  slots = sizes_in_bytes bytes;
 }
 
 -- what holds of the bytes of each page: they spell rows, and these are in order

@@ -1,3 +1,4 @@
 pub mod Form
 pub mod Searching
 pub mod Moving
+pub mod Setting

@@ -56,7 +56,13 @@ impl BytePage {
     }
 
     /// The same for a record of a kind, where there is room for so many bytes.
-    fn put_in<A: Fields>(&mut self, kind: RecordKind, key: &A, tail: &[u8], size: u16) -> Place
+    pub(crate) fn put_in<A: Fields>(
+        &mut self,
+        kind: RecordKind,
+        key: &A,
+        tail: &[u8],
+        size: u16,
+    ) -> Place
         requires fields { length (A.fields_of key.now) ≡ self.old.page.head.fields }
         requires limits { IsWithinLimits (A.fields_of key.now) }
         requires absent { LacksKey (A.fields_of key.now) self.old.page.rows }
@@ -77,7 +83,7 @@ impl BytePage {
 
 /// Why a row that needs so much isn't put in where so much is free and there are these gaps, if it
 /// isn't.
-fn refusal_by(need: u16, free: u16, gaps: Gaps) -> Option<PageError>
+pub(crate) fn refusal_by(need: u16, free: u16, gaps: Gaps) -> Option<PageError>
     requires some { 0 < need }
     requires most { need ≤ MAX_CHARGE }
     ensures { result ≡ room_refusal need free gaps }

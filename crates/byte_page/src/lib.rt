@@ -7,9 +7,13 @@ mod copy;
 mod deleting;
 mod front;
 mod inserting;
+mod laws;
+#[cfg(test)]
+mod long_tests;
 mod moving;
 mod page;
 mod reorganising;
+mod replacing;
 mod search;
 mod setting;
 #[cfg(test)]
@@ -17,6 +21,7 @@ mod tests;
 mod walks;
 
 pub use copy::ByteCopy;
+pub use laws::sets_agree;
 pub use page::BytePage;
 pub use search::ByteSpot;
 

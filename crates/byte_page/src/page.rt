@@ -17,7 +17,8 @@ use std::alloc::Global;
 use std::marker::Model;
 
 /// A page of an index that is its bytes, seen as the head and the rows that they spell, each at the
-/// place where its key begins, where it has bytes for a record, and how many are in no use.
+/// place where its key begins, where it has bytes for a record, how many are in no use, and how
+/// many records each slot has.
 #[derive(Debug, Drop)]
 pub struct BytePage {
     pub(crate) bytes: Vec<u8>,
@@ -67,6 +68,7 @@ impl BytePage {
         ensures rows { self.new.page.rows ≡ self.old.page.rows }
         ensures gaps { self.new.gaps ≡ self.old.gaps }
         ensures garbage { self.new.garbage ≡ self.old.garbage }
+        ensures slots { self.new.slots ≡ self.old.slots }
     {
         put_links(&mut self.bytes, prev, next);
     }

@@ -47,7 +47,7 @@ const ROW_LINES: [Line; 4] = [
 ];
 
 /// The keys of eight rows, and where they stand.
-const EIGHT: [(u8, Place); 8] = [
+pub(crate) const EIGHT: [(u8, Place); 8] = [
     (b'a', 127),
     (b'b', 136),
     (b'c', 145),
@@ -77,7 +77,7 @@ impl Fields for OneByte {
 }
 
 /// The sixteen bytes at a place of the dump.
-fn line_at(at: usize) -> [u8; 16] {
+pub(crate) fn line_at(at: usize) -> [u8; 16] {
     for (start, bytes) in LINES {
         if start == at {
             return bytes;
@@ -120,7 +120,7 @@ fn is_row_dump(bytes: &[u8]) -> bool {
 }
 
 /// Page 3 of index 0 with nothing in it, if there is memory.
-fn page_three(alloc: Global) -> Option<BytePage>
+pub(crate) fn page_three(alloc: Global) -> Option<BytePage>
     ensures fields { IfSome result (λ form. form.page.head.fields ≡ 1) }
     ensures level { IfSome result (λ form. form.page.head.level ≡ 0) }
     ensures rows { IfSome result (λ form. form.page.rows ≡ []) }
@@ -149,7 +149,11 @@ fn page_with_row(alloc: Global) -> Option<BytePage>
 }
 
 /// Offers a row, if its key isn't there: where it stands then, or why it doesn't.
-fn offer(page: &mut BytePage, byte: u8, value: &Value) -> Option<Result<Place, PageError>>
+pub(crate) fn offer(
+    page: &mut BytePage,
+    byte: u8,
+    value: &Value,
+) -> Option<Result<Place, PageError>>
     requires fields { page.old.page.head.fields ≡ 1 }
     requires level { page.old.page.head.level ≡ 0 }
     ensures fields { page.new.page.head.fields ≡ 1 }
@@ -166,18 +170,13 @@ fn offer(page: &mut BytePage, byte: u8, value: &Value) -> Option<Result<Place, P
 }
 
 /// Puts a row in, if its key isn't there, and tells its place.
-fn put(page: &mut BytePage, byte: u8, value: &Value) -> Option<Place>
+pub(crate) fn put(page: &mut BytePage, byte: u8, value: &Value) -> Option<Place>
     requires fields { page.old.page.head.fields ≡ 1 }
     requires level { page.old.page.head.level ≡ 0 }
     ensures fields { page.new.page.head.fields ≡ 1 }
     ensures level { page.new.page.head.level ≡ 0 }
 {
     offer(page, byte, value)?.ok()
-}
-
-/// A value of so many bytes.
-fn value_of(alloc: Global, count: usize) -> Option<Value> {
-    Value::try_new(vec![in alloc; b'x'; count].ok()?).ok()
 }
 
 /// Page 3 with rows of the keys `a` to `h` and values of one byte, if they stand where they do in
@@ -202,81 +201,40 @@ fn has_eight(bytes: &[u8]) -> bool
         && bytes[0x3ff0..0x3ff8] == [0, 0, 0, 0x70, 0, 0x9a, 0, 0x63]
 }
 
-/// Page 3 with rows of the keys `a` to `h` and values of 2,000 bytes.
-fn page_with_long(alloc: Global) -> Option<BytePage>
-    ensures fields { IfSome result (λ form. form.page.head.fields ≡ 1) }
-    ensures level { IfSome result (λ form. form.page.head.level ≡ 0) }
-{
-    let mut page = page_three(alloc)?;
-    let value = value_of(alloc, 2000)?;
-    for (byte, _) in EIGHT {
-        put(&mut page, byte, &value)?;
-    }
-    Some(page)
-}
-
-/// Takes the first row out, and tells where it stood.
-fn take_first(page: &mut BytePage) -> Option<Place>
-    ensures { page.new.page.head ≡ page.old.page.head }
-{
-    let place = page.first()?;
-    page.delete(place);
-    Some(place)
-}
-
-/// Gives the first row this value, if it is as long as the one before, and tells its place.
+/// Gives the first row another value, and tells where it stands then.
 fn set_first(page: &mut BytePage, value: &Value) -> Option<Place>
     requires { page.old.page.head.level ≡ 0 }
 {
     let place = page.first()?;
-    let len = page.row(place).tail().len();
-    if len != value.as_bytes().len() {
-        return None;
-    }
-    page.set_in_place(place, value);
-    Some(place)
+    page.set(place, value).ok()
 }
 
-/// Page 3 with the row, whose value is `y` in place of `x`.
-fn page_with_set_row(alloc: Global) -> Option<BytePage> {
+/// Page 3 with the row, which has another value then, if it stands at this place.
+fn page_with_set_row(alloc: Global, bytes: &[u8], place: Place) -> Option<BytePage> {
     let mut page = page_with_row(alloc)?;
-    let value = Value::try_new(vec![in alloc; b'y'; 1].ok()?).ok()?;
-    set_first(&mut page, &value)?;
-    Some(page)
+    let value = Value::try_new(bytes.to_vec(alloc).ok()?).ok()?;
+    let other = set_first(&mut page, &value)?;
+    if other == place { Some(page) } else { None }
 }
 
-/// What a page with eight long rows says to another one as long.
-fn told_when_full(alloc: Global) -> Option<Result<Place, PageError>> {
-    let mut page = page_with_long(alloc)?;
-    let value = value_of(alloc, 2000)?;
-    offer(&mut page, b'i', &value)
-}
-
-/// What it says to one that is a byte longer, once the first one is gone from place 128.
-fn told_when_scattered(alloc: Global) -> Option<Result<Place, PageError>> {
-    let mut page = page_with_long(alloc)?;
-    let value = value_of(alloc, 2001)?;
-    if take_first(&mut page)? == 128 {
-        offer(&mut page, b'i', &value)
-    } else {
-        None
-    }
-}
-
-/// The head's numbers and the slots are those of the page without the first long row.
-fn has_seven(bytes: &[u8]) -> bool
+/// The page has the row with the value `xyz` behind the freed record of the row with `x`.
+fn has_longer(bytes: &[u8]) -> bool
     requires { length bytes.now ≡ 16384 }
 {
-    bytes[38..48] == [0, 3, 0x3f, 0x40, 0x80, 10, 0, 0x80, 0x07, 0xd9]
-        && bytes[54..56] == [0, 7]
-        && bytes[0x3ff2..0x3ff8] == [0, 0x70, 0x1f, 0xe4, 0, 0x63]
+    bytes[38..48] == [0, 2, 0, 140, 0x80, 4, 0, 127, 0, 9]
+        && bytes[97..99] == [0, 37]
+        && bytes[120..129] == [1, 1, 0, 0, 0x10, 0, 0, b'a', b'x']
+        && bytes[129..136] == [3, 1, 0, 0, 0x18, 0xff, 0xe8]
+        && bytes[136..140] == [b'a', b'x', b'y', b'z']
 }
 
-/// A page with eight long rows, and then without the first one.
-fn page_with_seven(alloc: Global) -> Option<BytePage> {
-    let mut page = page_with_long(alloc)?;
-    take_first(&mut page)?;
-    Some(page)
+/// The page has the row with no value over the record of the row with `x`, of which a byte is left.
+fn has_shorter(bytes: &[u8]) -> bool
+    requires { length bytes.now ≡ 16384 }
+{
+    bytes[38..48] == [0, 2, 0, 129, 0x80, 3, 0, 0, 0, 1]
+        && bytes[97..99] == [0, 28]
+        && bytes[120..129] == [0, 1, 0, 0, 0x10, 0xff, 0xf1, b'a', b'x']
 }
 
 #[test]
@@ -293,44 +251,27 @@ fn a_page_with_a_row_has_the_bytes_of_the_dump(rt: HostRuntime) {
 
 #[test]
 fn a_value_is_written_in_place(rt: HostRuntime) {
-    let same = page_with_set_row(rt.alloc()).map_or(false, |page| page.bytes[0x80] == b'y');
+    let page = page_with_set_row(rt.alloc(), b"y", 127);
+    let same = page.map_or(false, |page| page.bytes[0x80] == b'y');
+    assert!(rt; same);
+}
+
+#[test]
+fn a_longer_value_goes_behind(rt: HostRuntime) {
+    let page = page_with_set_row(rt.alloc(), b"xyz", 136);
+    let same = page.map_or(false, |page| has_longer(&page.bytes));
+    assert!(rt; same);
+}
+
+#[test]
+fn a_shorter_value_takes_the_bytes_of_the_one_before(rt: HostRuntime) {
+    let page = page_with_set_row(rt.alloc(), b"", 127);
+    let same = page.map_or(false, |page| has_shorter(&page.bytes));
     assert!(rt; same);
 }
 
 #[test]
 fn a_page_with_eight_rows_has_three_slots(rt: HostRuntime) {
     let same = page_with_eight(rt.alloc()).map_or(false, |page| has_eight(&page.bytes));
-    assert!(rt; same);
-}
-
-#[test]
-fn a_full_page_tells_what_is_needed_and_what_is_free(rt: HostRuntime) {
-    let told = told_when_full(rt.alloc());
-    let full = matches!(
-        told,
-        Some(Err(PageError::PageFull {
-            need: 2010,
-            free: 172,
-        }))
-    );
-    assert!(rt; full);
-}
-
-#[test]
-fn a_row_longer_than_the_freed_one_is_scattered(rt: HostRuntime) {
-    let told = told_when_scattered(rt.alloc());
-    let scattered = matches!(
-        told,
-        Some(Err(PageError::Scattered {
-            need: 2011,
-            run: 178,
-        }))
-    );
-    assert!(rt; scattered);
-}
-
-#[test]
-fn a_page_from_which_a_row_went_has_it_on_the_free_list(rt: HostRuntime) {
-    let same = page_with_seven(rt.alloc()).map_or(false, |page| has_seven(&page.bytes));
     assert!(rt; same);
 }

@@ -3,13 +3,12 @@ use Rattle.std.specs.Vec.{with_items}
 use Rattle.std.proofs.lemmas.List.{with_items_is}
 use Rattle.compact_record.specs.declared.kind.RecordKind.{RecordKind}
 use Rattle.compact_record.specs.declared.kind.RecordKind.TheVariants as kinds
-use Rattle.compact_record.specs.Bytes.{u16_at}
 use Rattle.index_page.specs.Rows.{Row, placed_row, find_row}
 use Rattle.index_page.specs.Loads.{charge_of}
 use Rattle.index_page.proofs.HalvesLemmas.{some_charge}
-use Rattle.page_rows.specs.Reading.{rows_in_bytes, body_of_kind}
+use Rattle.page_rows.specs.Reading.{body_of_kind}
 use Rattle.page_rows.specs.Appending.{CanAppendRow, AppendsInBytes}
-use Rattle.byte_page.specs.Form.{head_in_bytes, GappedPage, form_in_bytes, IsBytePage}
+use Rattle.byte_page.specs.Form.{GappedPage, form_in_bytes, IsBytePage}
 use Rattle.byte_page.specs.Moving.{AppendsRow}
 use Rattle.byte_page.proofs.MovingLemmas.{some_is, can_append, is_appended}
 use Rattle.byte_page.proofs.page.BytePage.append.Goals as goal

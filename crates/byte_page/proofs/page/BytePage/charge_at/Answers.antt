@@ -1,6 +1,5 @@
 use Rattle.std.proofs.Common.{◌≡◌, ◌∙◌, ◌+◌, ◌-◌, ℕ, List, Some, IsSome, sym, ap, subst, length, arith}
-use Rattle.compact_record.specs.Record.{PlacedRecord, finish}
-use Rattle.compact_record.specs.Reading.{HasRecord, record_at}
+use Rattle.compact_record.specs.Reading.{record_at}
 use Rattle.compact_record.proofs.LawLemmas.{record_size}
 use Rattle.index_page.specs.Rows.{Row, find_row}
 use Rattle.index_page.specs.Loads.{charge_of}

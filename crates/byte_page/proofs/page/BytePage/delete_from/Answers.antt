@@ -1,5 +1,4 @@
 use Rattle.std.proofs.Common.{◌∷◌, ◌∙◌, length, length-append, refl, sym, ap, arith}
-use Rattle.index_page.specs.Rows.{Row}
 use Rattle.byte_page.proofs.TailLemmas.{has_rows, pops_first, pops_other}
 use Rattle.byte_page.proofs.page.BytePage.delete_from.Goals as goal
 

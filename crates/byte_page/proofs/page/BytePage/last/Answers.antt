@@ -1,7 +1,6 @@
-use Rattle.std.proofs.Common.{[], ℕ, List, sym, ap, subst}
+use Rattle.std.proofs.Common.{[], ℕ, List, ap, subst}
 use Rattle.key_tuple.specs.KeyPlace.{above}
 use Rattle.index_page.specs.Rows.{Row, last_of_rows, IsAt}
-use Rattle.page_rows.specs.Reading.{rows_in_bytes}
 use Rattle.page_search.specs.Cuts.{CutsRows}
 use Rattle.byte_page.specs.Form.{GappedPage}
 use Rattle.byte_page.proofs.SearchLemmas.{last_is}

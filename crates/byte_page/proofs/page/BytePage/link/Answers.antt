@@ -2,6 +2,7 @@ use Rattle.std.proofs.Common.{◌∙◌, sym, subst, ap, List, ℕ}
 use Rattle.std.proofs.lemmas.List.{with_items_is}
 use Rattle.compact_record.specs.Bytes.{u16_at, SameOutside}
 use Rattle.index_page.specs.Page.{linked}
+use Rattle.page_rows.specs.Slots.{sizes_in_bytes}
 use Rattle.page_rows.specs.Reading.{rows_in_bytes}
 use Rattle.page_rows.specs.Inserting.{gaps_in_bytes}
 use Rattle.byte_page.specs.Form.{head_in_bytes, GappedPage, IsBytePage}
@@ -42,3 +43,10 @@ returns-clause-garbage c =
     let l = links c.args.prev c.args.next c.self.invariant same c.put_links.ensures.prev c.put_links.ensures.next c.requires.prev c.requires.next in
     let written = with_items_is c.self.inside.bytes c.put_links.new.page (c.put_links.ensures.kept.len ∙ c.deref_mut.ensures.len) in
     ap (λ (b : List ℕ). u16_at b 46) written ∙ l.garbage ∙ ap (λ (f : GappedPage). f.garbage) c.self.view_is
+
+pub returns-clause-slots : goal.returns-clause-slots
+returns-clause-slots c =
+    let same = subst (λ (b : List ℕ). SameOutside b c.put_links.new.page 8 16) c.deref_mut.ensures.value c.put_links.ensures.kept in
+    let l = links c.args.prev c.args.next c.self.invariant same c.put_links.ensures.prev c.put_links.ensures.next c.requires.prev c.requires.next in
+    let written = with_items_is c.self.inside.bytes c.put_links.new.page (c.put_links.ensures.kept.len ∙ c.deref_mut.ensures.len) in
+    ap sizes_in_bytes written ∙ l.slots ∙ ap (λ (f : GappedPage). f.slots) c.self.view_is

@@ -1,4 +1,4 @@
-use Rattle.std.proofs.Common.{◌≡◌, ◌∙◌, ℕ, sym, ap, subst, Some, List, length, arith}
+use Rattle.std.proofs.Common.{◌≡◌, ◌∙◌, ℕ, sym, ap, subst, Some, List, arith}
 use Rattle.key_tuple.specs.KeyPlace.{not_below}
 use Rattle.index_page.specs.Rows.{Row, find_row}
 use Rattle.index_page.specs.Page.{IsRowOf}

@@ -60,4 +60,4 @@ returns c =
     (d.page.spells.page.is.len ∙ sym c.self.invariant.rows.spells.page.is.len ∙ ap length (sym value) ∙ c.deref_mut.ensures.len) in
     let all = set_from c.args.self.now c.self.view_is (subst (λ (b : List ℕ). RowSet bytes b fields c.args.place c.args.value.now) (sym written)
     (subst (λ (v : List ℕ). RowSet bytes c.set_value.new.page fields c.args.place v) c.as_bytes.ensures.bytes put)) in
-    record { rows = all.rows; gaps = all.gaps }
+    record { rows = all.rows; gaps = all.gaps; slots = all.slots }

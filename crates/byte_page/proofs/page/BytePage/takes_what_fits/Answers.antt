@@ -1,7 +1,6 @@
-use Rattle.std.proofs.Common.{◌≡◌, ◌∙◌, ◌-◌, ◌≤◌, true, sym, ap, subst, arith}
+use Rattle.std.proofs.Common.{◌≡◌, ◌∙◌, ◌-◌, ◌≤◌, true, sym, ap, arith}
 use Rattle.index_page.specs.Loads.{charge_of, load_of}
 use Rattle.index_page.specs.Refusals.{free_of, takes}
-use Rattle.page_rows.specs.Inserting.{gaps_in_bytes}
 use Rattle.page_rows.proofs.AppendLemmas.{tight_takes}
 use Rattle.byte_page.specs.Form.{GappedPage}
 use Rattle.byte_page.proofs.MovingLemmas.{same_refusal}
