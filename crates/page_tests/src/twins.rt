@@ -122,6 +122,42 @@ fn delete(twins: &mut Twins, key: &Key) -> bool {
     }
 }
 
+/// Gives the row with that key another value on both pages, if it is there.
+fn set(twins: &mut Twins, key: &Key, value: &Value) -> bool {
+    match (
+        place_of(&twins.plain, key),
+        place_in_bytes(&twins.bytes, key),
+    ) {
+        (Some(plain), Some(bytes)) => set_both(twins, plain, bytes, charged(key, value), value),
+        (None, None) => true,
+        _ => false,
+    }
+}
+
+/// Both rows get the value, or it is refused alike. Where no gap of the page in bytes takes it,
+/// that one refuses it, and the other isn't asked.
+fn set_both(twins: &mut Twins, at: Place, place: Place, need: u16, value: &Value) -> bool
+    requires plain { IsSome (find_row at twins.old.plain.rows) }
+    requires bytes { IsSome (find_row place twins.old.bytes.page.rows) }
+{
+    if twins.plain.head().level != 0 || twins.bytes.head().level != 0 {
+        return false;
+    }
+    let long = twins.bytes.row(place).tail().len() == value.as_bytes().len();
+    let gaps = twins.bytes.gaps_without(place);
+    let fits = long || takes(gaps, need.saturating_sub(1));
+    let run = gaps.rest;
+    match (
+        twins.plain.refusal_to_set(at, value),
+        twins.bytes.set(place, value),
+    ) {
+        (None, Ok(_)) => fits && twins.plain.set(at, value).is_ok(),
+        (None, Err(refusal)) => !fits && refusal == PageError::Scattered { need, run },
+        (Some(plain), Err(bytes)) => plain == bytes,
+        _ => false,
+    }
+}
+
 /// One call on both pages, by a number drawn at random.
 fn call(alloc: Global, twins: &mut Twins, drawn: u32) -> bool {
     let key = key_of(alloc, &(drawn % 256).to_be_bytes());
@@ -135,7 +171,8 @@ fn call(alloc: Global, twins: &mut Twins, drawn: u32) -> bool {
             twins.bytes.reorganise(&mut twins.copy);
             twins.bytes.garbage() == 0
         }
-        1..24 => delete(twins, &key),
+        1..20 => delete(twins, &key),
+        20..36 => set(twins, &key, &value),
         _ => insert(twins, &key, &value),
     }
 }
