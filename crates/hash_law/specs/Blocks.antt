@@ -2,7 +2,7 @@
 use Rattle.std.specs.Prelude.{ℕ, ◌≡◌, ◌+◌, ◌≤◌, ◌<◌, ◌%◌, ◌==◌, if◌then◌else◌, Bool, Option, Some, None, is_some, List, [], length}
 use Rattle.key_tuple.specs.declared.mode.Params.{Params}
 use Rattle.key_tuple.specs.Order.{FieldList}
-use Rattle.key_tuple.specs.Fold.{asked_fields}
+use Rattle.key_tuple.specs.Fold.{fold_of, asked_fields}
 use Rattle.learning.specs.declared.event.BlockFigures.{BlockFigures}
 use Rattle.index_page.specs.Page.{PageRows}
 use Rattle.chain_arena.specs.declared.node.Node.{Node}
@@ -28,6 +28,10 @@ counts_as_hashed part block = is_some block.hashed
 -- the folds of keys: of an index, by the parameters that it is hashed with
 abbrev pub Folds : Type 0
 Folds = ℕ → Params → FieldList → ℕ
+
+-- the folds that are hashes of keys, cut to so many bits
+abbrev pub folds_of : ℕ → Folds
+folds_of bits index params key = fold_of index key params bits
 
 module _ (folds : Folds) (parts : ℕ) where
   -- the entries in partition k of the block b, with this page, hashed for this index and so

@@ -11,7 +11,8 @@ use Rattle.hash_law.specs.Changes.{leader, follower, brought_in, driven_out, Exc
 use Rattle.hash_law.proofs.RowChangeLemmas.{rows_change}
 use Rattle.hash_upkeep.specs.declared.hashing.Hashing.{Hashing}
 use Rattle.hash_upkeep.specs.declared.change.RowChange.{RowChange}
-use Rattle.hash_upkeep.specs.Hashing.{folds_of, row_node, row_nodes, row_entries}
+use Rattle.hash_law.specs.Blocks.{folds_of}
+use Rattle.hash_upkeep.specs.Hashing.{row_node, row_nodes, row_entries}
 use Rattle.hash_upkeep.specs.Change.{few_nodes, ChangesAt}
 
 -- the neighbour that decides of a node, and the one of which it decides

@@ -11,7 +11,8 @@ use Rattle.hash_law.proofs.RowLemmas.{nodes_of-append, entries_own}
 use Rattle.hash_upkeep.specs.declared.hashing.Hashing.{Hashing}
 use Rattle.hash_upkeep.specs.declared.upkeep.Upkeep.{Upkeep}
 use Rattle.hash_upkeep.specs.declared.upkeep.Upkeep.TheVariants.{Kept, Dropped}
-use Rattle.hash_upkeep.specs.Hashing.{folds_of, row_nodes, row_entries}
+use Rattle.hash_law.specs.Blocks.{folds_of}
+use Rattle.hash_upkeep.specs.Hashing.{row_nodes, row_entries}
 use Rattle.hash_upkeep.specs.Cover.{count_with, AreCovered, Renews}
 use Rattle.hash_upkeep.specs.Upkeep.{IfKept, kept_entries}
 use Rattle.hash_upkeep.proofs.CoverLemmas.{count_with-append, has_shares}

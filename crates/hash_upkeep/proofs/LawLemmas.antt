@@ -5,11 +5,11 @@ use Rattle.index_page.specs.Page.{PageRows}
 use Rattle.index_page.proofs.WithoutLemmas.{deleted_is, put_without}
 use Rattle.chain_arena.specs.declared.node.Node.{Node}
 use Rattle.hash_law.specs.Entries.{NodesAt, entries, representatives}
-use Rattle.hash_law.specs.Blocks.{part_for, due, entries_owed}
+use Rattle.hash_law.specs.Blocks.{folds_of, part_for, due, entries_owed}
 use Rattle.hash_law.proofs.RowLemmas.{nodes_of-append, nodes_follow}
 use Rattle.hash_upkeep.specs.declared.hashing.Hashing.{Hashing}
 use Rattle.hash_upkeep.specs.declared.moves.Move.{Move}
-use Rattle.hash_upkeep.specs.Hashing.{folds_of, row_nodes, row_entries, nodes_if, entries_if}
+use Rattle.hash_upkeep.specs.Hashing.{row_nodes, row_entries, nodes_if, entries_if}
 use Rattle.hash_upkeep.specs.Cover.{count_with, AreCovered}
 use Rattle.hash_upkeep.specs.Moves.{from_was, to_was}
 use Rattle.hash_upkeep.specs.Laws.{RowsComeAndGo, WrittenRowsKeepEntries, ExactNodesAreCovered, MovesAreCovered, EntriesAreOwed}

@@ -12,7 +12,8 @@ use Rattle.hash_law.specs.Entries.{has_fold, unless_alike, first_or, firsts, las
 use Rattle.hash_law.specs.Laws.{node_if}
 use Rattle.hash_law.proofs.RowLemmas.{nodes_follow}
 use Rattle.hash_upkeep.specs.declared.hashing.Hashing.{Hashing}
-use Rattle.hash_upkeep.specs.Hashing.{folds_of, row_node, row_nodes, row_entries}
+use Rattle.hash_law.specs.Blocks.{folds_of}
+use Rattle.hash_upkeep.specs.Hashing.{row_node, row_nodes, row_entries}
 use Rattle.hash_upkeep.specs.Walk.{rows_starting, nodes_from_node, entries_behind}
 
 -- from a row's place on there are the row and those after it

@@ -1,17 +1,13 @@
 -- How a leaf is hashed, and the nodes and entries of its rows.
 use Rattle.std.specs.Prelude.{ℕ, ◌≡◌, ◌≤◌, Option, Some, None, List, []}
 use Rattle.key_tuple.specs.declared.mode.Params.{Params}
-use Rattle.key_tuple.specs.Fold.{fold_of, asked_fields}
+use Rattle.key_tuple.specs.Fold.{asked_fields}
 use Rattle.index_page.specs.Rows.{Row}
 use Rattle.index_page.specs.Page.{PageRows}
 use Rattle.chain_arena.specs.declared.node.Node.{Node}
-use Rattle.hash_law.specs.Blocks.{Folds}
+use Rattle.hash_law.specs.Blocks.{folds_of}
 use Rattle.hash_law.specs.Entries.{node_of, nodes_of, entries}
 use Rattle.hash_upkeep.specs.declared.hashing.Hashing.{Hashing}
-
--- the folds of keys, cut to so many bits
-abbrev pub folds_of : ℕ → Folds
-folds_of bits index params key = fold_of index key params bits
 
 -- the node of a row that is hashed so
 abbrev pub row_node : Hashing → Row → Node

@@ -8,10 +8,10 @@ use Rattle.index_page.specs.Moves.{MovesTail, MovesAll, Reorganises}
 use Rattle.chain_arena.specs.declared.node.Node.{Node}
 use Rattle.hash_partition.specs.Part.{Part}
 use Rattle.hash_law.specs.Entries.{NodesAt}
-use Rattle.hash_law.specs.Blocks.{HashBlock, part_for, due}
+use Rattle.hash_law.specs.Blocks.{folds_of, HashBlock, part_for, due}
 use Rattle.hash_upkeep.specs.declared.hashing.Hashing.{Hashing}
 use Rattle.hash_upkeep.specs.declared.moves.Move.{Move}
-use Rattle.hash_upkeep.specs.Hashing.{folds_of, row_nodes, row_entries, entries_if}
+use Rattle.hash_upkeep.specs.Hashing.{row_nodes, row_entries, entries_if}
 use Rattle.hash_upkeep.specs.Cover.{AreCovered}
 use Rattle.hash_upkeep.specs.Moves.{from_was, to_was, AreBothCovered}
 

@@ -3,7 +3,8 @@ ghost use Rattle.std.specs.Prelude.{◌≡◌, IfSome, IsSome, Option, Some};
 ghost use Rattle.index_page.specs.Rows.{Row, find_row, IsAt};
 ghost use Rattle.hash_law.specs.Entries.{has_fold};
 ghost use Rattle.hash_law.specs.Laws.{node_if};
-ghost use Rattle.hash_upkeep.specs.Hashing.{CanHash, folds_of, hashing_if, row_node};
+ghost use Rattle.hash_law.specs.Blocks.{folds_of};
+ghost use Rattle.hash_upkeep.specs.Hashing.{CanHash, hashing_if, row_node};
 
 use chain_arena::Node;
 use index_page::{Page, Place};

@@ -4,7 +4,8 @@ use Rattle.index_page.specs.Rows.{find_row, first_of_rows, last_of_rows}
 use Rattle.index_page.proofs.RowLemmas.{find_among}
 use Rattle.hash_law.specs.Entries.{first_or, last_or}
 use Rattle.hash_law.proofs.RowLemmas.{nodes_follow}
-use Rattle.hash_upkeep.specs.Hashing.{folds_of, row_node, row_nodes}
+use Rattle.hash_law.specs.Blocks.{folds_of}
+use Rattle.hash_upkeep.specs.Hashing.{row_node, row_nodes}
 use Rattle.hash_upkeep.proofs.ChangeLemmas.{changes_at}
 use Rattle.hash_upkeep.proofs.change.row_change_at.Goals as goal
 use Rattle.hash_upkeep.proofs.change.row_change_at.Goals.{After-node_beside-after}

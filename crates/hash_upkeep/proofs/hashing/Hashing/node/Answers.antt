@@ -2,7 +2,7 @@ use Rattle.std.proofs.Common.{sym, ap, ◌∙◌}
 use Rattle.std.proofs.lemmas.Option.{same_Some}
 use Rattle.index_page.specs.Rows.{Row}
 use Rattle.index_page.proofs.RowLemmas.{find_stands}
-use Rattle.hash_upkeep.specs.Hashing.{folds_of}
+use Rattle.hash_law.specs.Blocks.{folds_of}
 use Rattle.hash_upkeep.proofs.hashing.Hashing.node.Goals as goal
 
 pub returns : goal.returns
