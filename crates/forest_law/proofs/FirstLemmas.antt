@@ -7,6 +7,7 @@ use mathlib.Core.Option as maybe
 use lib.ListN.{get_elem?}
 use Rattle.list_facts.proofs.Places.{inside, there, reads}
 use Rattle.index_page.specs.Page.{PageRows}
+use Rattle.hash_partition.specs.Part.{empty_part}
 use Rattle.index_law.specs.Shape.{Shape}
 use Rattle.forest_law.specs.declared.objects.Stored.{Stored}
 use Rattle.forest_law.specs.declared.objects.Pool.{Pool}
@@ -86,22 +87,30 @@ first_pool_is sh pool room places images ages tick = record {
         image_beyond pool.images.items n (omega (arith, count, most))
         ∙ sym (first_none sh n (omega (arith, room, most)))
 
--- the pool, the trees behind it and the frames behind these are the first objects
-pub first_objects_are : (sh : Shape) (pool : Pool) (a b c : List Object)
+-- the pool, the trees behind it, the partitions behind these and the frames behind those are the
+-- first objects
+pub first_objects_are : (sh : Shape) (pool : Pool) (a b c d : List Object)
     → a ≡ object.Pool pool ∷ [] → IsFirstPool sh pool
     → AddsEach a b sh.indexes (λ i. object.Tree (first_tree i))
-    → AddsEach b c (frames_of sh) (λ k. object.Frame first_frame) → AreFirstObjects sh c
-first_objects_are sh pool a b c is first trees frames = record {
-  counted = (let t = trees.counted in let f = frames.counted in omega (arith, t, f, one));
+    → AddsEach b c sh.parts (λ k. object.Part (empty_part sh.nodes sh.blocks))
+    → AddsEach c d (frames_of sh) (λ k. object.Frame first_frame) → AreFirstObjects sh d
+first_objects_are sh pool a b c d is first trees parts frames = record {
+  counted = (let t = trees.counted in let p = parts.counted in let f = frames.counted in
+      omega (arith, t, p, f, one));
   pool = pool;
-  pool_at = frames.kept 0 (object.Pool pool)
-      (trees.kept 0 (object.Pool pool) (ap (λ z. get_elem? z 0) is));
+  pool_at = frames.kept 0 (object.Pool pool) (parts.kept 0 (object.Pool pool)
+      (trees.kept 0 (object.Pool pool) (ap (λ z. get_elem? z 0) is)));
   pool_is = first;
   trees = λ i low. frames.kept (1 + i) (object.Tree (first_tree i))
+      (parts.kept (1 + i) (object.Tree (first_tree i))
       (subst (λ n. get_elem? b (n + i) ≡ some (object.Tree (first_tree i))) one
-      (trees.each i low));
-  frames = λ k low. subst (λ n. get_elem? c (n + k) ≡ some (object.Frame first_frame))
-      (let t = trees.counted in omega (arith, t, one)) (frames.each k low);
+      (trees.each i low)));
+  parts = λ k low. frames.kept (1 + sh.indexes + k) (object.Part (empty_part sh.nodes sh.blocks))
+      (subst (λ n. get_elem? c (n + k) ≡ some (object.Part (empty_part sh.nodes sh.blocks)))
+      (let t = trees.counted in omega (arith, t, one)) (parts.each k low));
+  frames = λ k low. subst (λ n. get_elem? d (n + k) ≡ some (object.Frame first_frame))
+      (let t = trees.counted in let p = parts.counted in omega (arith, t, p, one))
+      (frames.each k low);
 }
   where
     one : length a ≡ 1

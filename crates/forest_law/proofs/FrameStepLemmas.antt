@@ -30,6 +30,7 @@ use Rattle.forest_law.specs.Lists.{MayChange}
 use Rattle.forest_law.specs.Budget.{Pays}
 use Rattle.forest_law.specs.Clocked.{IsLaterObject}
 use Rattle.forest_law.specs.Outside.{KeepsOneOutside}
+use Rattle.forest_law.specs.HashKept.{KeepsHash}
 use Rattle.forest_law.specs.Law.{Follows}
 use Rattle.forest_law.specs.Steps.{Rests, FrameStep, TreeStep, ClockSuits, MakesFrameStep, MakesTreeStep, IsNoFrameOf, IsNoTreeOf, MakeSteps}
 use Rattle.forest_law.proofs.ObjectLemmas.{same_frame, same_block}
@@ -237,8 +238,8 @@ module _ (sh : Shape) (before news : List (Option Object)) (steps : List FrameSt
       → (maps maps' : ℕ → Map) → MapsLead change maps maps'
       → IsStep heights heights' maps maps' (page_changes (turns_of steps)))
       → MayChange sh before change → Pays sh change (page_changes (turns_of steps))
-      → OutsideSuits sh before steps → Follows sh before news change
-  frames_follow change suit pages allowed pays suits = record {
+      → OutsideSuits sh before steps → KeepsHash sh before news → Follows sh before news change
+  frames_follow change suit pages allowed pays suits hash = record {
     kinds = kinds;
     turns = turns_of steps;
     each = each_turn steps make.each;
@@ -250,4 +251,5 @@ module _ (sh : Shape) (before news : List (Option Object)) (steps : List FrameSt
     clocks = clocks suit;
     pays = pays;
     outside = outside suits;
+    hash = hash;
   }

@@ -22,6 +22,7 @@ use Rattle.forest_law.specs.Lists.{IsOnLeaf}
 use Rattle.forest_law.specs.Law.{AreLawfulObjects, Follows}
 use Rattle.forest_law.proofs.ObjectLemmas.{Leads}
 use Rattle.forest_law.proofs.KindsLemmas.{kinds_stay}
+use Rattle.forest_law.proofs.HashKeptLemmas.{hash_stays}
 use Rattle.forest_law.proofs.TreesLemmas.{heights_lead}
 use Rattle.forest_law.proofs.PlacesLemmas.{CountsLead}
 use Rattle.forest_law.proofs.PlacedLemmas.{places_counted, pages_lead, placed_stay}
@@ -93,10 +94,12 @@ module _ (sh : Shape) (xs ys : List Object) (before news : List (Option Object))
         ages = many.aged ∙ law.counted.ages;
         fields = law.counted.fields;
         lists = longer ∙ law.counted.lists;
+        hash = law.counted.hash;
       };
       kinds = kinds_stay sh xs ys before news leads law.kinds f.kinds;
       placed = placed_stay sh xs ys before news leads law.kinds f.kinds f.turns law.placed f.each
           f.frames f.pool;
+      hashed = hash_stays sh xs ys before news leads f.kinds law.hashed f.hash;
       lists = lawful;
       pages = pages_stay;
     }

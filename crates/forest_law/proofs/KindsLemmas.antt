@@ -2,15 +2,16 @@
 use Rattle.std.proofs.Common.{◌≡◌, ◌⊎◌, inl, inr, ℕ, List, Option, Some, sym, ap, subst, ◌∙◌}
 use mathlib.Core.Option.{some, some-injective}
 use lib.ListN.{get_elem?}
+use Rattle.hash_partition.specs.Part.{Part}
 use Rattle.index_law.specs.Shape.{Shape}
 use Rattle.forest_law.specs.declared.objects.Frame.{Frame}
 use Rattle.forest_law.specs.declared.objects.Pool.{Pool}
 use Rattle.forest_law.specs.declared.objects.Object.{Object}
 use Rattle.forest_law.specs.declared.objects.Object.TheVariants as object
-use Rattle.forest_law.specs.Numbers.{pool_id, tree_id, frame_id}
-use Rattle.forest_law.specs.Objects.{IsFrameOf, IsTreeAt, Becomes}
+use Rattle.forest_law.specs.Numbers.{pool_id, tree_id, part_id, frame_id}
+use Rattle.forest_law.specs.Objects.{IsFrameOf, IsPartOf, IsTreeAt, Becomes}
 use Rattle.forest_law.specs.Kinds.{AreKinds, KeepsKind}
-use Rattle.forest_law.proofs.ObjectLemmas.{Stays, Changes, Leads, kept_frame, kept_pool, kept_tree}
+use Rattle.forest_law.proofs.ObjectLemmas.{Stays, Changes, Leads, kept_frame, kept_part, kept_pool, kept_tree}
 
 module _ (sh : Shape) (xs ys : List Object) (before news : List (Option Object))
     (leads : Leads xs ys before news) (kinds : AreKinds sh xs)
@@ -70,6 +71,14 @@ module _ (sh : Shape) (xs ys : List Object) (before news : List (Option Object))
       (subst (λ x. KeepsKind x c.new) old (keeps (tree_id i) c.old c.new c.becomes)) in
       record { tree = u.0; at = c.is ∙ ap some u.1; index = u.2 ∙ t.index; root = u.3 ∙ t.root }
 
+  part : (k : ℕ) (p : Part) → IsPartOf sh xs k p → Changes xs ys before news (part_id sh k)
+      → (q : Part) × IsPartOf sh ys k q
+  part k p at c = let old : c.old ≡ object.Part p =
+      some-injective c.old (object.Part p) (sym c.was ∙ at) in
+      let q = kept_part p c.new
+      (subst (λ x. KeepsKind x c.new) old (keeps (part_id sh k) c.old c.new c.becomes)) in
+      (q.0, c.is ∙ ap some q.1)
+
   pub kinds_stay : AreKinds sh ys
   kinds_stay = record {
     pool = elim (leads.fate pool_id) [
@@ -79,6 +88,10 @@ module _ (sh : Shape) (xs ys : List Object) (before news : List (Option Object))
     trees = λ i below. (let t = kinds.trees i below in elim (leads.fate (tree_id i)) [
       | inl stays ↦ record { tree = t.tree; at = stays.same ∙ t.at; index = t.index; root = t.root }
       | inr c ↦ tree i t c
+    ]);
+    parts = λ k below. (let p = kinds.parts k below in elim (leads.fate (part_id sh k)) [
+      | inl stays ↦ (p.0, stays.same ∙ p.1)
+      | inr c ↦ part k p.0 p.1 c
     ]);
     frames = λ b below. (let f = kinds.frames b below in elim (frame_fate b f.0 f.1) [
       | inl stays ↦ (f.0, stays.same ∙ f.1)

@@ -7,6 +7,10 @@ pub mod KindsLemmas
 pub mod TreesLemmas
 pub mod PlacesLemmas
 pub mod PlacedLemmas
+pub mod HashKeptLemmas
+pub mod HashLemmas
+pub mod HashLawLemmas
+pub mod FirstHashLemmas
 pub mod KeepingLemmas
 pub mod BudgetKeptLemmas
 pub mod OutsideLemmas
@@ -25,6 +29,7 @@ pub mod PoolStepLemmas
 pub mod FramePageLemmas
 pub mod HolderLemmas
 pub mod ImageLemmas
+pub mod OnePutHashLemmas
 pub mod OnePutLemmas
 pub mod PigeonLemmas
 pub mod ShortLemmas

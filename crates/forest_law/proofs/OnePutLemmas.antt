@@ -1,7 +1,7 @@
 -- The root of a space that was just opened is restored, and a put on it leads to a lawful state.
 use Rattle.std.specs.declared.alloc.Global.{Global}
 use Rattle.std.specs.declared.vec.Vec.{Vec}
-use Rattle.std.proofs.Common.{◌≡◌, ◌≢◌, ◌⊎◌, inl, inr, ℕ, zero, suc, ◌+◌, ◌<◌, [], ◌∷◌, List, length, set, true, false, refl, sym, ap, subst, ◌∙◌, arith, Option, Some, None}
+use Rattle.std.proofs.Common.{◌≡◌, ◌≢◌, ◌⊎◌, inl, inr, ℕ, zero, suc, ◌+◌, ◌<◌, ◌≤◌, [], ◌∷◌, List, length, set, true, false, refl, sym, ap, subst, ◌∙◌, arith, Option, Some, None}
 use mathlib.Core.Option.{some, some-injective, some-ne-none}
 use lib.ListN.{get_elem?}
 use Rattle.key_tuple.specs.Order.{FieldList}
@@ -12,6 +12,7 @@ use Rattle.map_history.specs.Map.{AreLawful}
 use Rattle.map_history.specs.Report.{Columns}
 use Rattle.map_history.proofs.HistoryLemmas.{lawful-none, lawful-push}
 use Rattle.index_page.specs.Rows.{Bytes, Row, placed_row}
+use Rattle.hash_partition.specs.Part.{empty_part}
 use Rattle.tree_law.specs.Pages.{Page, first_page, is_own}
 use Rattle.index_law.specs.Answers.{MadeChange}
 use Rattle.forest_law.specs.Lists.{AreLawfulLists}
@@ -26,7 +27,8 @@ use Rattle.forest_law.specs.declared.objects.Where.TheVariants.{InFrame}
 use Rattle.forest_law.specs.declared.objects.Object.{Object}
 use Rattle.forest_law.specs.declared.objects.Object.TheVariants as object
 use Rattle.forest_law.specs.State.{where_of, image_of, page_where, pages_of, fields_for, maps_of}
-use Rattle.forest_law.specs.Objects.{Becomes, IsFrameOf}
+use Rattle.forest_law.specs.Objects.{Becomes, IsFrameOf, IsPartOf}
+use Rattle.forest_law.specs.Counted.{SuitsHash}
 use Rattle.forest_law.specs.Budget.{ArePaid}
 use Rattle.forest_law.specs.Law.{AreLawfulObjects, Follows}
 use Rattle.forest_law.specs.Opening.{empty_image, first_frame, first_tree, IsFirstPool, AreFirstObjects}
@@ -41,6 +43,7 @@ use Rattle.forest_law.proofs.OpeningLemmas.{first_lawful, first_paid}
 use Rattle.forest_law.proofs.FirstLemmas.{first_free}
 use Rattle.forest_law.proofs.HolderLemmas.{none_outside}
 use Rattle.forest_law.proofs.RowStepLemmas.{row_follows}
+use Rattle.forest_law.proofs.OnePutHashLemmas.{restore_keeps, put_keeps}
 use Rattle.forest_law.proofs.PoolStepLemmas.{restores_follows}
 
 -- the same items but for one, which is another
@@ -57,7 +60,8 @@ pool_after pool = record pool {
   images = with_item pool.images 0 None;
 }
 
-module _ (key : FieldList) (pool : Pool) (first : IsFirstPool (one_index (length key)) pool) where
+module _ (key : FieldList) (keyed : 1 ≤ length key) (pool : Pool)
+    (first : IsFirstPool (one_index (length key)) pool) where
   abbrev shape : Shape
   shape = one_index (length key)
 
@@ -78,11 +82,12 @@ module _ (key : FieldList) (pool : Pool) (first : IsFirstPool (one_index (length
   one_image = let count = first.stored in omega (arith, count)
 
   -- nothing else is in hand
-  no_other : (k : ℕ) (x y : Object) → Becomes known restored k x y → k ≢ 0 → k ≢ 2 → Rests x y
+  no_other : (k : ℕ) (x y : Object) → Becomes known restored k x y → k ≢ 0 → k ≢ 3 → Rests x y
   no_other zero x y b isnt away = absurd (isnt refl)
   no_other (suc zero) x y b isnt away = absurd (none_is_not x b.0)
-  no_other (suc (suc zero)) x y b isnt away = absurd (away refl)
-  no_other (suc (suc (suc k))) x y b isnt away = absurd (some-ne-none (Some x) (sym b.0))
+  no_other (suc (suc zero)) x y b isnt away = absurd (none_is_not x b.0)
+  no_other (suc (suc (suc zero))) x y b isnt away = absurd (away refl)
+  no_other (suc (suc (suc (suc k)))) x y b isnt away = absurd (some-ne-none (Some x) (sym b.0))
 
   restores : RestoresPage shape known restored
   restores = record {
@@ -120,6 +125,7 @@ module _ (key : FieldList) (pool : Pool) (first : IsFirstPool (one_index (length
 
   pub restore_follows : Follows shape known restored None
   restore_follows = restores_follows shape known restored restores
+      (restore_keeps key keyed pool (pool_after pool))
 
   -- the objects of the opening, and those after the root is restored
   abbrev opening : List Object
@@ -138,14 +144,15 @@ module _ (key : FieldList) (pool : Pool) (first : IsFirstPool (one_index (length
     is = refl;
   })
   fate_then (suc zero) = inl (record { same = refl; free = λ x e. none_is_not x e })
-  fate_then (suc (suc zero)) = inr (record {
+  fate_then (suc (suc zero)) = inl (record { same = refl; free = λ x e. none_is_not x e })
+  fate_then (suc (suc (suc zero))) = inr (record {
     old = object.Frame first_frame;
     new = object.Frame (root_before key);
     becomes = (refl, refl);
     was = refl;
     is = refl;
   })
-  fate_then (suc (suc (suc k))) =
+  fate_then (suc (suc (suc (suc k)))) =
       inl (record { same = refl; free = λ x e. some-ne-none (Some x) (sym e) })
 
   -- what is in hand is so among the objects
@@ -154,9 +161,10 @@ module _ (key : FieldList) (pool : Pool) (first : IsFirstPool (one_index (length
   in_objects p f zero x e = ap some (same_some (object.Pool p) x
       (some-injective (Some (object.Pool p)) (Some x) e))
   in_objects p f (suc zero) x e = absurd (none_is_not x e)
-  in_objects p f (suc (suc zero)) x e = ap some (same_some (object.Frame f) x
+  in_objects p f (suc (suc zero)) x e = absurd (none_is_not x e)
+  in_objects p f (suc (suc (suc zero))) x e = ap some (same_some (object.Frame f) x
       (some-injective (Some (object.Frame f)) (Some x) e))
-  in_objects p f (suc (suc (suc k))) x e = absurd (some-ne-none (Some x) (sym e))
+  in_objects p f (suc (suc (suc (suc k)))) x e = absurd (some-ne-none (Some x) (sym e))
 
   leads_then : Leads opening after known restored
   leads_then = record {
@@ -169,6 +177,10 @@ module _ (key : FieldList) (pool : Pool) (first : IsFirstPool (one_index (length
   tree_at zero low = refl
   tree_at (suc i) low = absurd (omega (arith, low))
 
+  part_at : (k : ℕ) → k < 1 → IsPartOf shape opening k (empty_part 0 1)
+  part_at zero low = refl
+  part_at (suc k) low = absurd (omega (arith, low))
+
   frame_at : (b : ℕ) → b < 1 → IsFrameOf shape opening b first_frame
   frame_at zero low = refl
   frame_at (suc b) low = absurd (omega (arith, low))
@@ -180,11 +192,24 @@ module _ (key : FieldList) (pool : Pool) (first : IsFirstPool (one_index (length
     pool_at = refl;
     pool_is = first;
     trees = tree_at;
+    parts = part_at;
     frames = frame_at;
   }
 
+  suits : SuitsHash shape
+  suits = record {
+    parts = omega arith;
+    some = omega arith;
+    fit = omega arith;
+    keyed = keyed_at;
+  }
+    where
+      keyed_at : (i : ℕ) → i < 1 → 1 ≤ fields_for shape i
+      keyed_at zero low = keyed
+      keyed_at (suc i) low = absurd (omega (arith, low))
+
   opening_lawful : AreLawfulObjects shape opening ([] ∷ [])
-  opening_lawful = first_lawful shape opening firsts refl
+  opening_lawful = first_lawful shape opening firsts refl suits
 
   -- the state in which the root is restored is lawful
   pub restored_lawful : AreLawfulObjects shape after ([] ∷ [])
@@ -216,11 +241,12 @@ module _ (key : FieldList) (value : List ℕ) where
   news = frame_in_hand (root_after key value)
 
   -- nothing else is in hand
-  alone : (k : ℕ) (x y : Object) → Becomes before news k x y → k ≢ 2 → Rests x y
+  alone : (k : ℕ) (x y : Object) → Becomes before news k x y → k ≢ 3 → Rests x y
   alone zero x y b isnt = absurd (none_is_not x b.0)
   alone (suc zero) x y b isnt = absurd (none_is_not x b.0)
-  alone (suc (suc zero)) x y b isnt = absurd (isnt refl)
-  alone (suc (suc (suc k))) x y b isnt = absurd (some-ne-none (Some x) (sym b.0))
+  alone (suc (suc zero)) x y b isnt = absurd (none_is_not x b.0)
+  alone (suc (suc (suc zero))) x y b isnt = absurd (isnt refl)
+  alone (suc (suc (suc (suc k)))) x y b isnt = absurd (some-ne-none (Some x) (sym b.0))
 
   makes : MakeSteps sh before news
       (frame_step hand 0 root (record root { rows = row ∷ [] }) ∷ []) []
@@ -275,9 +301,9 @@ module _ (key : FieldList) (value : List ℕ) where
     }
 
     put_follows : Follows sh before news (Some change)
-    put_follows = row_follows sh before news change put_on_leaf
+    put_follows = row_follows sh before news change put_on_leaf (put_keeps key value)
 
-    module _ (pool : Pool) (first : IsFirstPool sh pool) where
+    module _ (keyed : 1 ≤ length key) (pool : Pool) (first : IsFirstPool sh pool) where
       abbrev xs : List Object
       xs = objects_with (pool_after pool) (root_before key)
 
@@ -287,29 +313,32 @@ module _ (key : FieldList) (value : List ℕ) where
       fate : (k : ℕ) → Stays xs ys before news k ⊎ Changes xs ys before news k
       fate zero = inl (record { same = refl; free = λ x e. none_is_not x e })
       fate (suc zero) = inl (record { same = refl; free = λ x e. none_is_not x e })
-      fate (suc (suc zero)) = inr (record {
+      fate (suc (suc zero)) = inl (record { same = refl; free = λ x e. none_is_not x e })
+      fate (suc (suc (suc zero))) = inr (record {
         old = object.Frame (root_before key);
         new = object.Frame (root_after key value);
         becomes = (refl, refl);
         was = refl;
         is = refl;
       })
-      fate (suc (suc (suc k))) =
+      fate (suc (suc (suc (suc k)))) =
           inl (record { same = refl; free = λ x e. some-ne-none (Some x) (sym e) })
 
       was : (k : ℕ) (x : Object) → get_elem? before k ≡ some (Some x) → get_elem? xs k ≡ some x
       was zero x e = absurd (none_is_not x e)
       was (suc zero) x e = absurd (none_is_not x e)
-      was (suc (suc zero)) x e = ap some (same_some (object.Frame (root_before key)) x
+      was (suc (suc zero)) x e = absurd (none_is_not x e)
+      was (suc (suc (suc zero))) x e = ap some (same_some (object.Frame (root_before key)) x
           (some-injective (Some (object.Frame (root_before key))) (Some x) e))
-      was (suc (suc (suc k))) x e = absurd (some-ne-none (Some x) (sym e))
+      was (suc (suc (suc (suc k)))) x e = absurd (some-ne-none (Some x) (sym e))
 
       is : (k : ℕ) (y : Object) → get_elem? news k ≡ some (Some y) → get_elem? ys k ≡ some y
       is zero y e = absurd (none_is_not y e)
       is (suc zero) y e = absurd (none_is_not y e)
-      is (suc (suc zero)) y e = ap some (same_some (object.Frame (root_after key value)) y
+      is (suc (suc zero)) y e = absurd (none_is_not y e)
+      is (suc (suc (suc zero))) y e = ap some (same_some (object.Frame (root_after key value)) y
           (some-injective (Some (object.Frame (root_after key value))) (Some y) e))
-      is (suc (suc (suc k))) y e = absurd (some-ne-none (Some y) (sym e))
+      is (suc (suc (suc (suc k)))) y e = absurd (some-ne-none (Some y) (sym e))
 
       leads : Leads xs ys before news
       leads = record { fate = fate; was = was; is = is }
@@ -332,13 +361,13 @@ module _ (key : FieldList) (value : List ℕ) where
 
       objects_lawful : AreLawfulObjects sh ys new_lists
       objects_lawful = objects_stay sh xs ys before news leads old_lists
-          (restored_lawful key pool first) new_lists (Some change) put_follows
+          (restored_lawful key keyed pool first) new_lists (Some change) put_follows
           (refl, maps_else) refl refl lists_lawful
 
       objects_paid : ArePaid sh ys new_lists
       objects_paid = budget_lasts sh xs ys before news leads old_lists
-          (restored_lawful key pool first) new_lists (Some change) put_follows
-          (refl, maps_else) refl (restored_paid key pool first)
+          (restored_lawful key keyed pool first) new_lists (Some change) put_follows
+          (refl, maps_else) refl (restored_paid key keyed pool first)
 
       -- the root is the one page, and it is of the trees
       no_outside : (n : ℕ) (page : Page) → pages_of sh ys n ≡ Some page
@@ -346,7 +375,7 @@ module _ (key : FieldList) (value : List ℕ) where
       no_outside zero page is = ap (λ (p : Page). is_own zero p.prev)
           (sym (same_some (record root { rows = row ∷ [] }) page
           (sym (ap (λ o. page_where sh ys 0 (where_of o))
-          (set_here pool.place.items 0 (InFrame 0) (one_place key pool first))) ∙ is)))
+          (set_here pool.place.items 0 (InFrame 0) (one_place key keyed pool first))) ∙ is)))
       no_outside (suc n) page is = absurd (none_is_some (sym (ap (page_where sh ys (suc n))
           (ap where_of (set_else pool.place.items 0 (suc n) (InFrame 0) (λ e. omega (arith, e)))
           ∙ (first.places (suc n) ∙ first_free 1 (suc n) (omega arith)))) ∙ is))
@@ -356,17 +385,17 @@ module _ (key : FieldList) (value : List ℕ) where
 
 pub one_put_is_lawful : OnePutIsLawful
 one_put_is_lawful = record {
-  restores = λ pool key first. record {
+  restores = λ pool key keyed first. record {
     now = pool_after pool;
     place = refl;
     images = refl;
     ages = refl;
-    follows = restore_follows key pool first;
+    follows = restore_follows key keyed pool first;
     lawful = λ value columns latches most passes. record {
-      objects = objects_lawful key value columns pool first;
-      budget = objects_paid key value columns pool first;
+      objects = objects_lawful key value columns keyed pool first;
+      budget = objects_paid key value columns keyed pool first;
       outside = none_outside (state_after (pool_after pool) key value columns latches most passes)
-          (no_outside key value columns pool first);
+          (no_outside key value columns keyed pool first);
     };
   };
   follows = λ key value columns. put_follows key value columns;

@@ -1,5 +1,5 @@
 -- A space of trees begins lawfully.
-use Rattle.std.proofs.Common.{◌≡◌, ◌⊎◌, inl, inr, ℕ, ◌-◌, ◌<◌, ◌≤◌, nat_lt, true, false, cond, List, [], length, replicate, sym, ap, subst, ◌∙◌, arith, refl, Some, None}
+use Rattle.std.proofs.Common.{◌≡◌, ◌⊎◌, inl, inr, ℕ, ◌-◌, ◌+◌, ◌<◌, ◌≤◌, nat_lt, true, false, cond, List, [], length, replicate, sym, ap, subst, ◌∙◌, arith, refl, Some, None}
 use Rattle.std.proofs.lemmas.Bool.{cases_lt}
 use Rattle.std.proofs.lemmas.Bool.Decides.{nat_tests}
 use mathlib.Core.Option.{some, some-injective}
@@ -10,6 +10,7 @@ use Rattle.list_facts.proofs.Places.{inside, same_some, replicate_is}
 use Rattle.map_history.specs.Map.{AreLawful, map_after}
 use Rattle.map_history.proofs.HistoryLemmas.{lawful-none}
 use Rattle.index_page.specs.Page.{PageRows}
+use Rattle.hash_partition.specs.Part.{empty_part}
 use Rattle.latch_law.specs.Opening.{opened}
 use Rattle.tree_law.specs.Pages.{Page, AreLawfulPages, first_page, first_pages, is_own}
 use Rattle.tree_law.proofs.OpeningLemmas.{opening_lawful}
@@ -19,15 +20,15 @@ use Rattle.forest_law.specs.declared.objects.Frame.{Frame}
 use Rattle.forest_law.specs.declared.objects.Stored.{Stored}
 use Rattle.forest_law.specs.declared.objects.Where.TheVariants.{Free, InFrame, Image}
 use Rattle.forest_law.specs.declared.objects.Object.{Object}
-use Rattle.forest_law.specs.declared.objects.Object.TheVariants as object
-use Rattle.forest_law.specs.Numbers.{tree_id, frame_id, frames_of}
+use Rattle.forest_law.specs.Numbers.{tree_id, part_id, frame_id}
 use Rattle.forest_law.specs.State.{page_stored, places_of, images_of, ages_of, image_at, images, height_of, where_at, places, page_where, pages_of, heights_of, list_of, maps_of, fields_for}
 use Rattle.forest_law.specs.Objects.{IsFrameOf}
 use Rattle.forest_law.specs.Placed.{IsImaged}
 use Rattle.forest_law.specs.Budget.{ArePaid}
+use Rattle.forest_law.specs.Counted.{SuitsHash}
 use Rattle.forest_law.specs.Law.{AreLawfulObjects}
 use Rattle.forest_law.specs.Opening.{empty_image, first_image, first_frame, first_tree, AreFirstObjects, ForestsOpenLawfully}
-use Rattle.forest_law.proofs.ObjectLemmas.{same_frame}
+use Rattle.forest_law.proofs.FirstHashLemmas.{first_frame_is, first_hashed}
 use Rattle.forest_law.proofs.BudgetKeptLemmas.{budget_opens}
 use Rattle.forest_law.proofs.HolderLemmas.{none_outside}
 
@@ -79,10 +80,18 @@ module _ (sh : Shape) (objects : List Object)
           → heights_of objects i ≡ 0
       high most maybe.none e = ap height_of e
       high most (maybe.some x) e = let within = inside objects (tree_id i) x e in
-          let all = first.counted in
-          let same : tree_id i ≡ frame_id sh (i - sh.indexes) = omega (arith, most) in
-          ap (λ k. height_of (get_elem? objects k)) same
-          ∙ ap height_of (first.frames (i - sh.indexes) (omega (arith, most, within, all)))
+          let all = first.counted in elim (cases_lt i (sh.indexes + sh.parts)) [
+            | inl low ↦
+                (let same : tree_id i ≡ part_id sh (i - sh.indexes) = omega (arith, most) in
+                ap (λ k. height_of (get_elem? objects k)) same
+                ∙ ap height_of (first.parts (i - sh.indexes) (omega (arith, most, low))))
+            | inr beyond ↦
+                (let same : tree_id i ≡ frame_id sh (i - sh.indexes - sh.parts) =
+                omega (arith, beyond) in
+                ap (λ k. height_of (get_elem? objects k)) same
+                ∙ ap height_of (first.frames (i - sh.indexes - sh.parts)
+                (omega (arith, beyond, within, all))))
+          ]
 
       pick : (i < sh.indexes) ⊎ (sh.indexes ≤ i) → heights_of objects i ≡ 0
       pick (inl low) = ap height_of (first.trees i low)
@@ -134,14 +143,8 @@ module _ (sh : Shape) (objects : List Object)
 
   -- no frame has a page
   no_page : (b : ℕ) (f : Frame) (p : PageRows) → IsFrameOf sh objects b f → f.page ≡ Some p → ⊥
-  no_page b f p at paged = none_is p (ap (λ (z : Frame). z.page)
-      (same_frame first_frame f
-      (some-injective (object.Frame first_frame) (object.Frame f)
-      (sym (first.frames b within) ∙ at))) ∙ paged)
-    where
-      within : b < frames_of sh
-      within = let low = inside objects (frame_id sh b) (object.Frame f) at in
-          let all = first.counted in omega (arith, low, all)
+  no_page b f p at paged = none_is p
+      (ap (λ (z : Frame). z.page) (first_frame_is sh objects first b f at) ∙ paged)
 
   lists_are : (i : ℕ) → maps_of (replicate sh.indexes []) i ≡ []
   lists_are i = pick (get_elem? (replicate sh.indexes []) i) refl
@@ -152,9 +155,9 @@ module _ (sh : Shape) (objects : List Object)
       pick (maybe.some xs) e = ap (λ z. map_after (changes (list_of z))) e
           ∙ ap (λ z. map_after (changes z)) (sym (replicate_is sh.indexes i [] xs e))
 
-  pub first_lawful : length sh.fields ≡ sh.indexes
+  pub first_lawful : length sh.fields ≡ sh.indexes → SuitsHash sh
       → AreLawfulObjects sh objects (replicate sh.indexes [])
-  first_lawful fields = record {
+  first_lawful fields suits = record {
     counted = record {
       objects = first.counted;
       places = ap (λ z. length (places_of z)) first.pool_at ∙ first.pool_is.counted;
@@ -163,6 +166,7 @@ module _ (sh : Shape) (objects : List Object)
           ∙ (ap length first.pool_is.ages ∙ length-replicate sh.blocks 0);
       fields = fields;
       lists = length-replicate sh.indexes [];
+      hash = suits;
     };
     kinds = record {
       pool = (first.pool, first.pool_at);
@@ -172,6 +176,7 @@ module _ (sh : Shape) (objects : List Object)
         index = refl;
         root = refl;
       };
+      parts = λ k low. (empty_part sh.nodes sh.blocks, first.parts k low);
       frames = λ b low. (first_frame, first.frames b low);
     };
     placed = record {
@@ -180,6 +185,7 @@ module _ (sh : Shape) (objects : List Object)
       imaged = imaged;
       stored = stored;
     };
+    hashed = first_hashed sh objects first;
     lists = λ i xs e. subst (λ z. AreLawful (changes z))
         (replicate_is sh.indexes i [] xs e) lawful-none;
     pages = subst
@@ -213,8 +219,8 @@ module _ (sh : Shape) (objects : List Object)
           ∙ (sym (pages_are n) ∙ is)))
 
 pub opens_lawfully : ForestsOpenLawfully
-opens_lawfully sh objects most passes fields room first = record {
-  objects = first_lawful sh objects first fields;
+opens_lawfully sh objects most passes fields room suits first = record {
+  objects = first_lawful sh objects first fields suits;
   budget = first_paid sh objects first;
   outside = none_outside (opened sh objects sh.indexes most passes) (no_outside sh objects first);
 }

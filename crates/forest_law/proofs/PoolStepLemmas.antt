@@ -26,6 +26,7 @@ use Rattle.forest_law.specs.Placed.{KeepsPage, TurnsPage}
 use Rattle.forest_law.specs.Trees.{HeightsLead, TreeTurns, TreeRests}
 use Rattle.forest_law.specs.Clocked.{IsLaterObject}
 use Rattle.forest_law.specs.Budget.{Pays}
+use Rattle.forest_law.specs.HashKept.{KeepsHash}
 use Rattle.forest_law.specs.Law.{Follows}
 use Rattle.forest_law.specs.Steps.{Rests, InHand, ClockStands}
 use Rattle.forest_law.specs.PoolSteps.{PoolStep, BringsPage, TakesPage, EvictsPage, RestoresPage}
@@ -145,8 +146,8 @@ module _ (sh : Shape) (before news : List (Option Object)) (number : ℕ)
 
   -- such a step follows
   turn_follows : (from to : Where) (was is : Option Page) → TurnsAlone from to was is
-      → Follows sh before news None
-  turn_follows from to was is t = record {
+      → KeepsHash sh before news → Follows sh before news None
+  turn_follows from to was is t hash = record {
     kinds = kinds;
     turns = turn from to was is ∷ [];
     each = (t.seen, tt);
@@ -170,6 +171,7 @@ module _ (sh : Shape) (before news : List (Option Object)) (number : ℕ)
           (frames_beside (turn from to was is) t.away t.frame) t.outside;
       framed = (t.tree, tt);
     };
+    hash = hash;
   }
 
   -- the page of a frame has the turn's number
@@ -241,8 +243,8 @@ module _ (sh : Shape) (before news : List (Option Object)) (number : ℕ)
 
 -- a page that comes follows
 pub brings_follows : (sh : Shape) (before news : List (Option Object)) → BringsPage sh before news
-    → Follows sh before news None
-brings_follows sh before news br = turn_follows sh before news br.number br.hand br.old br.new
+    → KeepsHash sh before news → Follows sh before news None
+brings_follows sh before news br hash = turn_follows sh before news br.number br.hand br.old br.new
     br.step
     Free (InFrame br.hand.block) None (Some br.page) (record {
       seen = record {
@@ -267,12 +269,12 @@ brings_follows sh before news br = turn_follows sh before news br.number br.hand
         each = ((λ page e own. refl), tt);
       });
       tree = λ to. absurd (not_image br.hand.block to);
-    })
+    }) hash
 
 -- a page that goes follows
 pub takes_follows : (sh : Shape) (before news : List (Option Object)) → TakesPage sh before news
-    → Follows sh before news None
-takes_follows sh before news tk = turn_follows sh before news tk.number tk.hand tk.old tk.new
+    → KeepsHash sh before news → Follows sh before news None
+takes_follows sh before news tk hash = turn_follows sh before news tk.number tk.hand tk.old tk.new
     tk.step
     (InFrame tk.hand.block) Free (Some tk.page) None (record {
       seen = record {
@@ -293,12 +295,12 @@ takes_follows sh before news tk = turn_follows sh before news tk.number tk.hand 
           (record { old = Some tk.page; new = None; was = tk.outside; is = tt });
       outside = inl ((λ page e. absurd (none_is page e)), tt);
       tree = λ to page e. absurd (none_is page e);
-    })
+    }) hash
 
 -- a page that goes to its image follows
 pub evicts_follows : (sh : Shape) (before news : List (Option Object)) → EvictsPage sh before news
-    → Follows sh before news None
-evicts_follows sh before news ev = turn_follows sh before news ev.number ev.hand ev.old ev.new
+    → KeepsHash sh before news → Follows sh before news None
+evicts_follows sh before news ev hash = turn_follows sh before news ev.number ev.hand ev.old ev.new
     ev.step
     (InFrame ev.hand.block) Image (Some ev.page) (Some ev.page) (record {
       seen = record {
@@ -331,12 +333,13 @@ evicts_follows sh before news ev = turn_follows sh before news ev.number ev.hand
         tt,
       );
       tree = λ to. of_trees ev.number ev.page ev.tree;
-    })
+    }) hash
 
 -- a page that comes from its image follows
 pub restores_follows : (sh : Shape) (before news : List (Option Object))
-    → RestoresPage sh before news → Follows sh before news None
-restores_follows sh before news re = turn_follows sh before news re.number re.hand re.old re.new
+    → RestoresPage sh before news → KeepsHash sh before news
+    → Follows sh before news None
+restores_follows sh before news re hash = turn_follows sh before news re.number re.hand re.old re.new
     re.step Image (InFrame re.hand.block) (Some re.page) (Some re.page) (record {
       seen = record {
         was = (
@@ -368,7 +371,7 @@ restores_follows sh before news re = turn_follows sh before news re.number re.ha
         tt,
       );
       tree = λ to. of_trees re.number re.page re.tree;
-    })
+    }) hash
 
 pub pages_come_and_go : PagesComeAndGo
 pages_come_and_go = record {

@@ -16,6 +16,7 @@ use Rattle.forest_law.specs.Steps.{FrameRests, Rests, FrameStep, ClockSuits}
 -- what is at rest stays of its kind
 pub rests_kind : (x y : Object) → Rests x y → KeepsKind x y
 rests_kind (object.Frame x) (object.Frame y) r = tt
+rests_kind (object.Part x) (object.Part y) r = tt
 rests_kind (object.Pool x) (object.Pool y) r = tt
 rests_kind (object.Tree x) (object.Tree y) r = (ap (λ t. t.index) r, ap (λ t. t.root) r)
 rests_kind x y r = absurd r
@@ -30,6 +31,7 @@ frame_rests_later x y r = stays_later (mark_of x) (mark_of y) r.clock
 -- and so is any object at rest
 pub rests_later : (x y : Object) → Rests x y → IsLaterObject x y
 rests_later (object.Frame x) (object.Frame y) r = frame_rests_later x y r
+rests_later (object.Part x) (object.Part y) r = later_itself (object_mark (object.Part x))
 rests_later (object.Pool x) (object.Pool y) r = later_itself (object_mark (object.Pool x))
 rests_later (object.Tree x) (object.Tree y) r = later_itself (object_mark (object.Tree x))
 rests_later x y r = absurd r

@@ -11,6 +11,7 @@ use Rattle.index_law.specs.Shape.{Shape}
 use Rattle.forest_law.specs.declared.objects.Object.{Object}
 use Rattle.forest_law.specs.Turns.{page_changes}
 use Rattle.forest_law.specs.Budget.{Pays}
+use Rattle.forest_law.specs.HashKept.{KeepsHash}
 use Rattle.forest_law.specs.Law.{Follows}
 use Rattle.forest_law.specs.Steps.{InHand, FrameStep, frame_step, ClockStands, ClockSuits}
 use Rattle.forest_law.specs.Restructures.{HandsOfHalves, up_before, up_after, beyond_steps, split_steps, merge_steps, raise_steps, lift_steps, SplitsInHand, MergesInHand, RaisesInHand, LiftsInHand, RearrangesInHand}
@@ -80,8 +81,9 @@ module _ (left right parent : ℕ) (h : TwoHalves left right parent) (hands : Ha
 
 module _ (sh : Shape) (before news : List (Option Object)) where
   -- a split follows
-  pub split_follows : SplitsInHand sh before news → Follows sh before news None
-  split_follows s = let h = s.split.halves in
+  pub split_follows : SplitsInHand sh before news → KeepsHash sh before news
+      → Follows sh before news None
+  split_follows s hash = let h = s.split.halves in
       let steps = split_steps s.left s.right s.parent h s.hands in
       frames_follow sh before news steps [] s.make None (
         inl s.left_rises,
@@ -114,11 +116,12 @@ module _ (sh : Shape) (before news : List (Option Object)) where
                 h.beyond h.whole_prev h.cut_prev (λ n e. (h.beyond_tree n e).1),
           ),
         ),
-      ))
+      )) hash
 
   -- a merge follows
-  pub merge_follows : MergesInHand sh before news → Follows sh before news None
-  merge_follows m = let h = m.merge.halves in
+  pub merge_follows : MergesInHand sh before news → KeepsHash sh before news
+      → Follows sh before news None
+  merge_follows m hash = let h = m.merge.halves in
       let steps = merge_steps m.left m.right m.parent h m.hands in
       frames_follow sh before news steps [] m.make None (
         inl m.left_rises,
@@ -151,11 +154,12 @@ module _ (sh : Shape) (before news : List (Option Object)) where
             ),
           ),
         ),
-      ))
+      )) hash
 
   -- a raise follows
-  pub raise_follows : RaisesInHand sh before news → Follows sh before news None
-  raise_follows r = let m = r.moves in
+  pub raise_follows : RaisesInHand sh before news → KeepsHash sh before news
+      → Follows sh before news None
+  raise_follows r hash = let m = r.moves in
       let steps = raise_steps r.root r.under r.storeys m.top m.below in
       frames_follow sh before news steps (m.tree ∷ []) m.make None
       (inl m.top_rises, (inl m.below_rises, tt))
@@ -167,11 +171,12 @@ module _ (sh : Shape) (before news : List (Option Object)) where
             ∙ ap suc (sym on.was ∙ ap hs m.index)));
         heights = λ i ne. sym (on.others i (λ e. ne (e ∙ m.index)));
       }) same))) tt (raise_is_paid sh r.root r.under r.storeys r.two)
-      (inl ((λ own. own), ((λ own. r.storeys.under_own), tt)))
+      (inl ((λ own. own), ((λ own. r.storeys.under_own), tt))) hash
 
   -- a lift follows
-  pub lift_follows : LiftsInHand sh before news → Follows sh before news None
-  lift_follows r = let m = r.moves in
+  pub lift_follows : LiftsInHand sh before news → KeepsHash sh before news
+      → Follows sh before news None
+  lift_follows r hash = let m = r.moves in
       let steps = lift_steps r.root r.under r.storeys m.top m.below in
       frames_follow sh before news steps (m.tree ∷ []) m.make None
       (inl m.top_rises, (inl m.below_rises, tt))
@@ -183,18 +188,19 @@ module _ (sh : Shape) (before news : List (Option Object)) where
             ∙ ap suc (sym on.is ∙ ap hs' m.index)));
         heights = λ i ne. on.others i (λ e. ne (e ∙ m.index));
       }) same))) tt (lift_is_paid sh r.root r.under r.storeys)
-      (inr (r.alone, r.under, (not_outside r.root None refl, ((λ own. refl), tt))))
+      (inr (r.alone, r.under, (not_outside r.root None refl, ((λ own. refl), tt)))) hash
 
   -- a page that is rearranged follows
-  pub rearrange_follows : RearrangesInHand sh before news → Follows sh before news None
-  rearrange_follows r =
+  pub rearrange_follows : RearrangesInHand sh before news → KeepsHash sh before news
+      → Follows sh before news None
+  rearrange_follows r hash =
       let step = frame_step r.hand r.number r.page (record r.page { rows = r.rows }) in
       frames_follow sh before news (step ∷ []) [] r.make None (inl r.rises, tt)
       (λ hs hs' lead maps maps' same. inr (Rearrange r.number
       (record { page = r.page; rows = r.rows; same = r.same })
       (heights_stay sh before news (step ∷ []) r.make hs hs' lead) same)) tt
       (rearrange_is_paid sh r.number (record { page = r.page; rows = r.rows; same = r.same }))
-      (inl ((λ own. own), tt))
+      (inl ((λ own. own), tt)) hash
 
 pub restructures_follow : RestructuresFollow
 restructures_follow = record {

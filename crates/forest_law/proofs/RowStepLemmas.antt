@@ -15,6 +15,7 @@ use Rattle.index_law.specs.Shape.{Shape}
 use Rattle.forest_law.specs.declared.objects.Object.{Object}
 use Rattle.forest_law.specs.Turns.{page_changes}
 use Rattle.forest_law.specs.Trees.{MapsLead}
+use Rattle.forest_law.specs.HashKept.{KeepsHash}
 use Rattle.forest_law.specs.Law.{Follows}
 use Rattle.forest_law.specs.Steps.{InHand, FrameStep, frame_step, ClockSuits, MakeSteps}
 use Rattle.forest_law.specs.RowSteps.{SetsRow, ChangesRow, ChangesLeaf}
@@ -94,10 +95,11 @@ module _ (hand : InHand) (n : ℕ) (page : Page) (rows : List Row) where
 
 module _ (sh : Shape) (before news : List (Option Object)) where
   -- a step in which all is at rest follows
-  pub rest_follows : MakeSteps sh before news [] [] → Follows sh before news None
-  rest_follows make = frames_follow sh before news [] [] make None tt
+  pub rest_follows : MakeSteps sh before news [] [] → KeepsHash sh before news
+      → Follows sh before news None
+  rest_follows make hash = frames_follow sh before news [] [] make None tt
       (λ h h' lead maps maps' same. inl (refl, heights_stay sh before news [] make h h' lead, same))
-      tt (rest_is_paid sh) (inl tt)
+      tt (rest_is_paid sh) (inl tt) hash
 
   -- the leaf's row and the map become what the change makes of them
   row_writes : (d : ℕ × MadeChange) (c : ChangesLeaf sh before news d) (maps maps' : ℕ → Map)
@@ -121,9 +123,9 @@ module _ (sh : Shape) (before news : List (Option Object)) where
 
   -- a change of a row follows
   pub row_follows : (d : ℕ × MadeChange) → ChangesLeaf sh before news d
-      → Follows sh before news (Some d)
+      → KeepsHash sh before news → Follows sh before news (Some d)
   unfolding row_writes
-  row_follows d c = let leaf = c.allows in
+  row_follows d c hash = let leaf = c.allows in
       frames_follow sh before news (step c.hand c.number c.page c.rows ∷ []) [] c.make (Some d)
       (change_suits c.hand c.number c.page c.rows d.1.change c.changes, tt)
       (λ h h' lead maps maps' change. inr (Writes c.number (row_writes d c maps maps' change)
@@ -141,7 +143,7 @@ module _ (sh : Shape) (before news : List (Option Object)) where
       })
       (row_is_paid sh d c.number (page_changes (turns_of (step c.hand c.number c.page c.rows ∷ [])))
       (λ maps maps' change. (row_writes d c maps maps' change, refl, refl)))
-      (inl ((λ own. own), tt))
+      (inl ((λ own. own), tt)) hash
 
 pub row_changes_follow : RowChangesFollow
 row_changes_follow = record { rest = rest_follows; row = row_follows }

@@ -11,7 +11,7 @@ use Rattle.forest_law.specs.State.{height_of, heights_of}
 use Rattle.forest_law.specs.Objects.{Becomes}
 use Rattle.forest_law.specs.Kinds.{KeepsKind}
 use Rattle.forest_law.specs.Trees.{TreeTurns, TreeRests, HeightsLead}
-use Rattle.forest_law.proofs.ObjectLemmas.{Changes, Leads, not_tree_frame, not_tree_pool}
+use Rattle.forest_law.proofs.ObjectLemmas.{Changes, Leads, not_tree_frame, not_tree_part, not_tree_pool}
 
 module _ (xs ys : List Object) (before news : List (Option Object))
     (leads : Leads xs ys before news)
@@ -43,6 +43,11 @@ module _ (xs ys : List Object) (before news : List (Option Object))
   changed i (object.Frame f) (object.Frame g) c was is =
       inr (record {
         free = no_tree i (object.Frame f) c was (λ t e. not_tree_frame f t e);
+        same = ap height_of (c.is ∙ ap some is) ∙ sym (ap height_of (c.was ∙ ap some was));
+      })
+  changed i (object.Part p) (object.Part q) c was is =
+      inr (record {
+        free = no_tree i (object.Part p) c was (λ t e. not_tree_part p t e);
         same = ap height_of (c.is ∙ ap some is) ∙ sym (ap height_of (c.was ∙ ap some was));
       })
   changed i (object.Pool f) (object.Pool g) c was is =

@@ -22,17 +22,21 @@ use Rattle.forest_law.specs.Turns.{Turn, page_changes, IsTurn}
 use Rattle.forest_law.specs.Placed.{ArePlaced, KeepsPage, TurnsPage, PlacesStay, PlacesTurn}
 use Rattle.forest_law.specs.Trees.{HeightsLead, MapsLead, IsStep}
 use Rattle.forest_law.specs.Lists.{MayChange}
+use Rattle.forest_law.specs.Hashed.{IsHashExact}
+use Rattle.forest_law.specs.HashKept.{KeepsHash}
 use Rattle.forest_law.specs.Clocked.{IsLaterObject}
 use Rattle.forest_law.specs.Budget.{ArePaid, Pays}
 use Rattle.forest_law.specs.Outside.{AreOutsideHeld, KeepsOneOutside}
 
 -- lawful objects and lists: all is counted and of its kind, each page has one place, in a frame or
--- as an image, each list is lawful, and the pages form the trees that hold the lists' maps
+-- as an image, the hash is exact, each list is lawful, and the pages form the trees that hold the
+-- lists' maps
 pub record AreLawfulObjects (shape : Shape) (objects : List Object)
     (entries : List Entries) : Type 0 where
   pub counted : AreCounted shape objects entries
   pub kinds : AreKinds shape objects
   pub placed : ArePlaced shape objects
+  pub hashed : IsHashExact shape objects
   pub lists : AreLawfulLists entries
   pub pages : AreLawfulPages shape.indexes (fields_for shape) (heights_of objects)
       (maps_of entries) (pages_of shape objects)
@@ -47,8 +51,8 @@ pub record IsLawful (w : ForestState) : Type 0 where
 -- what may follow: each held object stays of its kind and becomes a later one; the pages that take
 -- part are seen in hand and make one move, whatever the trees and maps of others are; each other
 -- held frame keeps its page; the pool names the places and has the images; the pages that are left
--- are in order; the change is allowed, and pays for what the pages weigh more; and one page outside
--- the trees is in hand at most
+-- are in order; the change is allowed, and pays for what the pages weigh more; one page outside the
+-- trees is in hand at most; and what is in hand keeps the hash exact
 pub record Follows (shape : Shape) (before news : List (Option Object))
     (change : Option (ℕ × MadeChange)) : Type 0 where
   pub kinds : (k : ℕ) (x y : Object) → Becomes before news k x y → KeepsKind x y
@@ -66,6 +70,7 @@ pub record Follows (shape : Shape) (before news : List (Option Object))
   pub clocks : (k : ℕ) (x y : Object) → Becomes before news k x y → IsLaterObject x y
   pub pays : Pays shape change (page_changes turns)
   pub outside : KeepsOneOutside shape before news turns
+  pub hash : KeepsHash shape before news
 
 -- what a pass may do by what it knows
 abbrev pub MayFollow : Knows Shape Object MadeChange Saying → List (Option Object)

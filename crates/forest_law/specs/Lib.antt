@@ -7,11 +7,15 @@ pub mod Turns
 pub mod Placed
 pub mod Trees
 pub mod Lists
+pub mod Hashed
+pub mod HashKept
+pub mod HashSteps
 pub mod Clocked
 pub mod Budget
 pub mod Outside
 pub mod Law
 pub mod OutsideLaws
+pub mod HashLaws
 pub mod Opening
 pub mod References
 pub mod WorldLaws

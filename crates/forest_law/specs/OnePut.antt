@@ -1,11 +1,12 @@
 -- A put on the root of a space that was just opened, once it is in a frame, and the state that it
 -- leads to.
-use Rattle.std.specs.Prelude.{ℕ, ◌≡◌, Option, Some, None, List, [], ◌∷◌, length, set}
+use Rattle.std.specs.Prelude.{ℕ, ◌≡◌, ◌≤◌, Option, Some, None, List, [], ◌∷◌, length, set}
 use Rattle.key_tuple.specs.Order.{FieldList}
 use Rattle.map_history.specs.Map.{Put}
 use Rattle.map_history.specs.Report.{Columns}
 use Rattle.index_page.specs.Page.{PageRows}
 use Rattle.index_page.specs.Rows.{Bytes, placed_row}
+use Rattle.hash_partition.specs.Part.{empty_part}
 use Rattle.index_law.specs.Answers.{MadeChange}
 use Rattle.index_law.specs.Shape.{Shape}
 use Rattle.index_law.specs.State.{Entries}
@@ -31,13 +32,13 @@ abbrev pub list_with : FieldList → List ℕ → Columns → Entries
 list_with key value columns =
     record { change = record { change = Put key value; columns = columns }; by = 0 } ∷ []
 
--- a space of one index and one page, for keys of so many fields
+-- a space of one index, one page and one partition, for keys of so many fields
 abbrev pub one_index : ℕ → Shape
 one_index fields = record {
   indexes = 1;
   fields = fields ∷ [];
   pages = 1;
-  parts = 0;
+  parts = 1;
   blocks = 1;
   nodes = 0;
   fold_bits = 1;
@@ -55,17 +56,21 @@ root_before key = new_frame (Some (empty_page 0 (length key)))
 abbrev pub root_after : FieldList → List ℕ → Frame
 root_after key value = new_frame (Some (leaf_with key value))
 
--- of three objects the first and the last are in hand, the pool and a frame
+-- of four objects the first and the last are in hand, the pool and a frame
 abbrev pub pool_in_hand : Pool → Frame → List (Option Object)
-pool_in_hand pool f = Some (object.Pool pool) ∷ None ∷ Some (object.Frame f) ∷ []
+pool_in_hand pool f = Some (object.Pool pool) ∷ None ∷ None ∷ Some (object.Frame f) ∷ []
 
--- of three objects the last is in hand, a frame
+-- of four objects the last is in hand, a frame
 abbrev pub frame_in_hand : Frame → List (Option Object)
-frame_in_hand f = None ∷ None ∷ Some (object.Frame f) ∷ []
+frame_in_hand f = None ∷ None ∷ None ∷ Some (object.Frame f) ∷ []
 
--- the pool, the tree of the one index, and a frame
+-- the pool, the tree of the one index, the one partition, and a frame
 abbrev pub objects_with : Pool → Frame → List Object
-objects_with pool f = object.Pool pool ∷ object.Tree (first_tree 0) ∷ object.Frame f ∷ []
+objects_with pool f = object.Pool pool
+    ∷ object.Tree (first_tree 0)
+    ∷ object.Part (empty_part 0 1)
+    ∷ object.Frame f
+    ∷ []
 
 -- the state after the root was restored, with this pool, and the put was made
 abbrev pub state_after : Pool → FieldList → List ℕ → Columns → List ℕ → (most passes : ℕ)
@@ -91,10 +96,11 @@ pub record RestoresRoot (pool : Pool) (key : FieldList) : Type 0 where
   pub lawful : (value : List ℕ) (columns : Columns) (latches : List ℕ) (most passes : ℕ)
       → IsLawful (state_after now key value columns latches most passes)
 
--- a restore of the root follows, and so does the put on it, and the state after both is lawful
+-- a restore of the root follows, and so does the put on it, and the state after both is lawful,
+-- whatever the key is, if it has a field
 pub record OnePutIsLawful : Type 0 where
-  pub restores : (pool : Pool) (key : FieldList) → IsFirstPool (one_index (length key)) pool
-      → RestoresRoot pool key
+  pub restores : (pool : Pool) (key : FieldList) → 1 ≤ length key
+      → IsFirstPool (one_index (length key)) pool → RestoresRoot pool key
   pub follows : (key : FieldList) (value : List ℕ) (columns : Columns)
       → Follows (one_index (length key)) (frame_in_hand (root_before key))
       (frame_in_hand (root_after key value)) (Some (0, put_of key value columns))

@@ -7,6 +7,7 @@ use Rattle.index_page.specs.Page.{PageRows}
 use Rattle.index_page.specs.declared.head.PageHead.{PageHead}
 use Rattle.index_law.specs.Shape.{Shape}
 use Rattle.learning.specs.Opening.{opening_block}
+use Rattle.hash_partition.specs.Part.{empty_part}
 use Rattle.forest_law.specs.declared.objects.Frame.{Frame}
 use Rattle.forest_law.specs.declared.objects.Stored.{Stored}
 use Rattle.forest_law.specs.declared.objects.Pool.{Pool}
@@ -17,7 +18,8 @@ use Rattle.forest_law.specs.declared.objects.Object.{Object}
 use Rattle.forest_law.specs.declared.objects.Object.TheVariants as object
 use Rattle.forest_law.specs.Numbers.{pool_id, tree_id, frame_id, frames_of}
 use Rattle.forest_law.specs.State.{where_at, image_at, fields_for}
-use Rattle.forest_law.specs.Objects.{IsFrameOf}
+use Rattle.forest_law.specs.Objects.{IsFrameOf, IsPartOf}
+use Rattle.forest_law.specs.Counted.{SuitsHash}
 use Rattle.forest_law.specs.Law.{IsLawful}
 
 -- the head of an index's first page
@@ -78,7 +80,7 @@ pub record IsFirstPool (shape : Shape) (pool : Pool) : Type 0 where
   pub ages : pool.ages ≡ replicate shape.blocks 0
   pub tick : pool.tick ≡ 0
 
--- the objects are the pool, the trees and the frames as they begin
+-- the objects are the pool, the trees, the partitions and the frames as they begin
 pub record AreFirstObjects (shape : Shape) (objects : List Object) : Type 0 where
   pub counted : length objects ≡ frame_id shape (frames_of shape)
   pub pool : Pool
@@ -86,15 +88,17 @@ pub record AreFirstObjects (shape : Shape) (objects : List Object) : Type 0 wher
   pub pool_is : IsFirstPool shape pool
   pub trees : (i : ℕ) → i < shape.indexes
       → get_elem? objects (tree_id i) ≡ some (object.Tree (first_tree i))
+  pub parts : (k : ℕ) → k < shape.parts
+      → IsPartOf shape objects k (empty_part shape.nodes shape.blocks)
   pub frames : (b : ℕ) → b < frames_of shape → IsFrameOf shape objects b first_frame
 
 -- a space that begins with these objects, whatever its other numbers are, begins lawfully, where
--- there is a page for each index
+-- there is a page for each index, and the sizes suit the hash
 abbrev pub ForestsOpenLawfully : Type 0
 ForestsOpenLawfully =
     (shape : Shape) (objects : List Object) (most passes : ℕ)
     → length shape.fields ≡ shape.indexes → shape.indexes ≤ shape.pages
-    → AreFirstObjects shape objects
+    → SuitsHash shape → AreFirstObjects shape objects
     → IsLawful (opened shape objects shape.indexes most passes)
 
 -- n items were added behind the old ones, one for each number, by a function of the numbers

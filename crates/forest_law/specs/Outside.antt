@@ -67,5 +67,6 @@ HasNoOutside f =
 -- the object may be given back: it is no frame that has a page outside the trees
 abbrev pub MayGoBack : Object → Type 0
 MayGoBack (object.Frame f) = HasNoOutside f
+MayGoBack (object.Part p) = Unit {0}
 MayGoBack (object.Pool p) = Unit {0}
 MayGoBack (object.Tree t) = Unit {0}

@@ -70,12 +70,14 @@ mark_of f = record { clock = f.clock; guards = numbered_if f.page f.low f.high }
 -- what a reference to an object looks at: what is no frame guards nothing
 abbrev pub object_mark : Object → ClockMark
 object_mark (object.Frame f) = mark_of f
+object_mark (object.Part p) = record { clock = 0; guards = None }
 object_mark (object.Pool p) = record { clock = 0; guards = None }
 object_mark (object.Tree t) = record { clock = 0; guards = None }
 
 -- the page of an object, if it is a frame that has one
 abbrev pub page_of : maybe.Option Object → Option Page
 page_of (some (object.Frame f)) = page_in f
+page_of (some (object.Part p)) = None
 page_of (some (object.Pool p)) = None
 page_of (some (object.Tree t)) = None
 page_of maybe.none = None
@@ -84,6 +86,7 @@ page_of maybe.none = None
 abbrev pub places_of : maybe.Option Object → List Where
 places_of (some (object.Pool p)) = p.place.items
 places_of (some (object.Frame f)) = []
+places_of (some (object.Part p)) = []
 places_of (some (object.Tree t)) = []
 places_of maybe.none = []
 
@@ -91,6 +94,7 @@ places_of maybe.none = []
 abbrev pub images_of : maybe.Option Object → List (Option Stored)
 images_of (some (object.Pool p)) = p.images.items
 images_of (some (object.Frame f)) = []
+images_of (some (object.Part p)) = []
 images_of (some (object.Tree t)) = []
 images_of maybe.none = []
 
@@ -98,6 +102,7 @@ images_of maybe.none = []
 abbrev pub ages_of : maybe.Option Object → List ℕ
 ages_of (some (object.Pool p)) = p.ages
 ages_of (some (object.Frame f)) = []
+ages_of (some (object.Part p)) = []
 ages_of (some (object.Tree t)) = []
 ages_of maybe.none = []
 
@@ -106,6 +111,7 @@ abbrev pub height_of : maybe.Option Object → ℕ
 height_of (some (object.Tree t)) = t.height
 height_of (some (object.Pool p)) = 0
 height_of (some (object.Frame f)) = 0
+height_of (some (object.Part p)) = 0
 height_of maybe.none = 0
 
 -- a place, or that the number is free where there is none

@@ -22,9 +22,11 @@ pub record FrameRests (x y : Frame) : Type 0 where
   pub high : y.high ≡ x.high
   pub clock : x.clock ≤ y.clock
 
--- an object that plays no part: a frame or the pool at rest, or a tree as it was
+-- an object that plays no part in the pages: a frame or the pool at rest, any partition, or a tree as
+-- it was
 abbrev pub Rests : Object → Object → Type 0
 Rests (object.Frame x) (object.Frame y) = FrameRests x y
+Rests (object.Part x) (object.Part y) = Unit {0}
 Rests (object.Pool x) (object.Pool y) = PoolRests x y
 Rests (object.Tree x) (object.Tree y) = y ≡ x
 Rests x y = ⊥

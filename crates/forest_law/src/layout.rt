@@ -1,7 +1,8 @@
 //! How many there are of each, and the numbers of the objects.
-ghost use Rattle.std.specs.Prelude.{◌≡◌, ◌^◌, ◌<◌, ◌+◌, IfOk, length};
+ghost use Rattle.std.specs.Prelude.{◌≡◌, ◌^◌, ◌<◌, ◌≤◌, ◌+◌, ◌%◌, IfOk, length};
 ghost use Rattle.index_law.specs.Shape.{shape_for};
-ghost use Rattle.forest_law.specs.Numbers.{pool_id, tree_id, frame_id};
+ghost use Rattle.hash_law.specs.Blocks.{part_for};
+ghost use Rattle.forest_law.specs.Numbers.{pool_id, tree_id, part_id, frame_id};
 
 use key_tuple::NoMemory;
 use map_history::Sizes;
@@ -9,7 +10,8 @@ use std::alloc::Global;
 use std::marker::Model;
 
 /// How many indexes, pages, blocks and partitions there are. It is fixed for good, and it alone
-/// knows which number an object has: the pool first, then the trees, then the frames.
+/// knows which number an object has: the pool first, then the trees, then the partitions, then the
+/// frames.
 #[derive(Debug, Drop)]
 pub struct ForestLayout {
     pub(crate) indexes: u32,
@@ -17,26 +19,27 @@ pub struct ForestLayout {
     pub(crate) pages: u32,
     pub(crate) parts: u32,
     pub(crate) blocks: u32,
+    pub(crate) cells: u32,
     pub(crate) nodes: u32,
     pub(crate) fold_bits: u8,
 }
 
 impl Model for ForestLayout {
     ghost use Rattle.index_law.specs.Shape.{Shape};
-    ghost use Rattle.forest_law.specs.Numbers.{shape_of_layout};
-    ghost use Rattle.std.specs.Prelude.{◌≡◌, length};
+    ghost use Rattle.forest_law.specs.Numbers.{shape_of_layout, IsLayout};
 
     ghost Value = { Shape };
 
     ghost view = { shape_of_layout };
 
-    ghost invariant = { λ l. length l.fields.items ≡ l.indexes };
+    ghost invariant = { IsLayout };
 }
 
 impl ForestLayout {
     /// The shape of some sizes, for indexes with so many fields each.
     pub fn try_new(alloc: Global, sizes: &Sizes, fields: &[u8]) -> Result<ForestLayout, NoMemory>
         requires few { length fields.now < 2 ^ 32 }
+        requires cells { 1 ≤ sizes.now.cells }
         requires bits { sizes.now.fold_bits < 256 }
         ensures { IfOk result (λ layout. layout ≡ shape_for sizes.now fields.now) }
     {
@@ -46,6 +49,7 @@ impl ForestLayout {
             pages: sizes.pages,
             parts: sizes.parts,
             blocks: sizes.blocks,
+            cells: sizes.cells,
             nodes: sizes.nodes,
             fold_bits: sizes.fold_bits as u8,
         })
@@ -73,11 +77,34 @@ impl ForestLayout {
         1 + index
     }
 
+    /// The partition of an index.
+    pub fn part_for(&self, index: u32) -> u32
+        requires { 0 < self.now.parts }
+        ensures { result ≡ part_for self.now.parts index }
+    {
+        index % self.parts
+    }
+
+    /// The number of a partition.
+    pub fn part_id(&self, part: u32) -> u32
+        requires { part_id self.now part < 2 ^ 32 }
+        ensures { result ≡ part_id self.now part }
+    {
+        1 + self.indexes + part
+    }
+
+    /// How many bits a fold has.
+    pub fn fold_bits(&self) -> u8
+        ensures { result ≡ self.now.fold_bits }
+    {
+        self.fold_bits
+    }
+
     /// The number of a block's frame.
     pub fn frame_id(&self, block: u32) -> u32
         requires { frame_id self.now block < 2 ^ 32 }
         ensures { result ≡ frame_id self.now block }
     {
-        1 + self.indexes + block
+        1 + self.indexes + self.parts + block
     }
 }

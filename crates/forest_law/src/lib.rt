@@ -2,6 +2,7 @@
 //! are lawful, and which steps may be made. Nothing here searches, and nothing waits.
 #![tactic(auto)]
 
+mod hash;
 mod law;
 mod layout;
 mod objects;
@@ -9,6 +10,7 @@ mod opening;
 mod pages;
 mod steps;
 
+pub use hash::{blocks_ask_the_same, hash_is_kept, hashes_are_exact, nodes_lead_to_frames};
 pub use law::{
     answers_stay_right, forests_open_lawfully, full_pools_are_short, outside_is_held,
     references_last, releases_stay_lawful, steps_stay_lawful, takes_stay_lawful,

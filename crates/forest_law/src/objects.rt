@@ -1,5 +1,6 @@
 //! What lies under a latch.
 use block_ages::Ages;
+use hash_partition::Partition;
 use index_page::Page;
 use key_tuple::Key;
 use learning::BlockFigures;
@@ -84,6 +85,8 @@ pub struct Tree {
 pub enum Object {
     /// A block's frame.
     Frame(Frame),
+    /// A partition of the hash.
+    Part(Partition),
     /// The pool.
     Pool(Pool),
     /// An index's tree.

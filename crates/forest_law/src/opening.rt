@@ -1,5 +1,6 @@
 //! What a space of trees begins with.
 ghost use Rattle.std.specs.Prelude.{◌≡◌, ◌≤◌, IfOk, OnOk, []};
+ghost use Rattle.hash_partition.specs.Part.{empty_part};
 ghost use Rattle.forest_law.specs.declared.objects.Object.TheVariants as object;
 ghost use Rattle.forest_law.specs.Opening.{empty_page, first_image, new_frame, first_frame};
 ghost use Rattle.forest_law.specs.Opening.{first_tree, first_where};
@@ -8,13 +9,14 @@ ghost use Rattle.forest_law.specs.Opening.{IsFirstPool, AreFirstObjects, AddsEac
 use crate::layout::ForestLayout;
 use crate::objects::{Frame, Object, Pool, Stored, Tree, Where};
 use block_ages::Ages;
+use hash_partition::Partition;
 use index_page::{Page, PageHead};
 use key_tuple::NoMemory;
 use learning::BlockFigures;
 use std::alloc::Global;
 
-/// The pool, a tree for each index, and a frame for each block: each index's empty root is an
-/// image, and no frame has a page.
+/// The pool, a tree for each index, the partitions, and a frame for each block: each index's empty
+/// root is an image, no partition has a node, and no frame a page.
 pub fn first_forest(alloc: Global, layout: &ForestLayout) -> Result<Vec<Object>, NoMemory>
     requires room { layout.now.indexes ≤ layout.now.pages }
     ensures { IfOk result (λ objects. AreFirstObjects layout.now objects.items) }
@@ -22,6 +24,7 @@ pub fn first_forest(alloc: Global, layout: &ForestLayout) -> Result<Vec<Object>,
     let mut objects = Vec::new(alloc);
     objects.push(Object::Pool(first_pool(alloc, layout)?))?;
     push_trees(&mut objects, layout.indexes)?;
+    push_parts(alloc, &mut objects, layout)?;
     push_frames(&mut objects, layout.blocks)?;
     Ok(objects)
 }
@@ -102,6 +105,22 @@ fn push_trees(objects: &mut Vec<Object>, indexes: u32) -> Result<(), NoMemory>
             root: index,
             height: 0,
         }))?;
+    }
+    Ok(())
+}
+
+/// The partitions, without nodes, behind what is there.
+fn push_parts(
+    alloc: Global,
+    objects: &mut Vec<Object>,
+    layout: &ForestLayout,
+) -> Result<(), NoMemory>
+    ensures { OnOk result (AddsEach objects.old.items objects.new.items layout.now.parts
+        (λ k. object.Part (empty_part layout.now.nodes layout.now.blocks))) }
+{
+    for _part in 0..layout.parts {
+        let partition = Partition::new(alloc, layout.cells, layout.nodes, layout.blocks)?;
+        objects.push(Object::Part(partition))?;
     }
     Ok(())
 }

@@ -10,4 +10,4 @@ returns-in_ok-page c =
     subst (λ (z : Shape). Some (record { page = c.in_ok-page.page; low = None; high = None })
     ≡ first_image z c.args.n) c.layout.view_is
     (root_is (shape_of_layout c.layout.inside) c.args.n c.index.result.now c.in_ok-page.page
-    c.if-n-layout.true c.layout.invariant c.index.ensures c.in_ok-page.ensures)
+    c.if-n-layout.true c.layout.invariant.fields c.index.ensures c.in_ok-page.ensures)
