@@ -22,6 +22,7 @@ use Rattle.forest_world.specs.HandLaws.{HandsMakeSteps, PoolInHand, HandsChangeT
 -- an object that is what it was is at rest
 pub rests_itself : (x : Object) → Rests x x
 rests_itself (object.Frame f) = record { page = refl; low = refl; high = refl; clock = omega arith }
+rests_itself (object.Part p) = tt
 rests_itself (object.Pool p) = record { places = refl; images = refl; ages = refl }
 rests_itself (object.Tree t) = refl
 

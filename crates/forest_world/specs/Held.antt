@@ -7,6 +7,7 @@ use Rattle.latch_space.specs.declared.pass.PassOf.{PassOf}
 use Rattle.latch_space.specs.Has.{Has}
 use Rattle.latch_space.specs.Passes.{view, Lacks, Shows}
 use Rattle.tree_law.specs.Pages.{IsOrderly}
+use Rattle.hash_partition.specs.Part.{Part}
 use Rattle.index_law.specs.Answers.{MadeChange, Saying}
 use Rattle.index_law.specs.Shape.{Shape}
 use Rattle.forest_law.specs.declared.objects.Frame.{Frame}
@@ -14,7 +15,7 @@ use Rattle.forest_law.specs.declared.objects.Pool.{Pool}
 use Rattle.forest_law.specs.declared.objects.Tree.{Tree}
 use Rattle.forest_law.specs.declared.objects.Object.{Object}
 use Rattle.forest_law.specs.declared.objects.Object.TheVariants as object
-use Rattle.forest_law.specs.Numbers.{pool_id, tree_id, frame_id, frames_of}
+use Rattle.forest_law.specs.Numbers.{pool_id, tree_id, part_id, frame_id, frames_of}
 use Rattle.forest_law.specs.State.{fields_for}
 use Rattle.forest_law.specs.Counted.{CountsStay}
 use Rattle.forest_law.specs.Turns.{HasPage}
@@ -33,9 +34,21 @@ shape_of_pass p = (view p).terms.shape
 abbrev pub HasFrame : TreePass → ℕ → Frame → Frame → Type 0
 HasFrame p b f g = Has p (frame_id (shape_of_pass p) b) (object.Frame f) (object.Frame g)
 
+-- it holds the block's frame
+abbrev pub HoldsFrame : TreePass → ℕ → Type 0
+HoldsFrame p b = (f : Frame) × (g : Frame) × HasFrame p b f g
+
 -- it holds the index's tree, which is known to be t and now is u
 abbrev pub HasTree : TreePass → ℕ → Tree → Tree → Type 0
 HasTree p i t u = Has p (tree_id i) (object.Tree t) (object.Tree u)
+
+-- it holds partition k, which is known to be x and now is y
+abbrev pub HasPart : TreePass → ℕ → Part → Part → Type 0
+HasPart p k x y = Has p (part_id (shape_of_pass p) k) (object.Part x) (object.Part y)
+
+-- it holds partition k
+abbrev pub HoldsPart : TreePass → ℕ → Type 0
+HoldsPart p k = (x : Part) × (y : Part) × HasPart p k x y
 
 -- it holds the pool, which is known to be x and now is y
 abbrev pub HasPool : TreePass → Pool → Pool → Type 0

@@ -1,3 +1,4 @@
 pub mod Held
+pub mod HashHands
 pub mod HandLaws
 pub mod Opening

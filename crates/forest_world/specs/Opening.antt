@@ -6,7 +6,7 @@ use Rattle.index_law.specs.Shape.{Shape, shape_for}
 use Rattle.forest_law.specs.Numbers.{frame_id, frames_of}
 
 -- the terms of a space of these sizes, for indexes with so many fields each, and so many passes: an
--- object for the pool, for each index and for each block
+-- object for the pool, for each index, for each partition and for each block
 abbrev pub forest_terms : Sizes → List ℕ → ℕ → Terms Shape
 forest_terms sizes fields passes = let shape = shape_for sizes fields in record {
   shape = shape;

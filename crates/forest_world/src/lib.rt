@@ -9,6 +9,6 @@ mod world;
 pub use forest_law::{
     ForestLayout, Frame, Object, Pool, Stored, Tree, Where, first_forest, forests_open_lawfully,
 };
-pub use hands::{hands_change_the_pool, hands_make_steps, known_is_at_rest};
+pub use hands::{hands_change_the_pool, hands_keep_the_hash, hands_make_steps, known_is_at_rest};
 pub use opening::open_forest;
 pub use world::{ForestPass, ForestSpace, ForestWorld};

@@ -3,6 +3,8 @@ ghost use Rattle.std.specs.Prelude.{◌≡◌, ◌<◌, ◌≤◌, ◌+◌, ◌^
 ghost use Rattle.latch_law.specs.Rule.{first_view};
 ghost use Rattle.latch_space.specs.Passes.{view, count};
 ghost use Rattle.latch_space.specs.Spaces.{IsPassOf};
+ghost use Rattle.index_law.specs.Shape.{shape_for};
+ghost use Rattle.forest_law.specs.Counted.{SuitsHash};
 ghost use Rattle.forest_world.specs.Opening.{forest_terms};
 
 use crate::world::{ForestPass, ForestSpace};
@@ -20,8 +22,9 @@ pub fn open_forest(
     passes: u32,
 ) -> Result<(ForestSpace, ForestPass), NoMemory>
     requires room { length fields.now ≤ sizes.now.pages }
-    requires few { 1 + length fields.now + sizes.now.blocks < 2 ^ 32 }
-    requires bits { sizes.now.fold_bits < 256 }
+    requires few { 1 + length fields.now + sizes.now.parts + sizes.now.blocks < 2 ^ 32 }
+    requires cells { 1 ≤ sizes.now.cells }
+    requires hash { SuitsHash (shape_for sizes.now fields.now) }
     requires passes { 0 < passes }
     ensures own { IfOk result (λ r. IsPassOf r.0 r.1) }
     ensures terms { IfOk result (λ r. r.0.terms ≡ forest_terms sizes.now fields.now passes) }

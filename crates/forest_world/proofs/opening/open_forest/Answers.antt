@@ -13,4 +13,4 @@ open-requires-clause-lawful c = let fields = c.args.fields.now in
     subst (λ (s : Shape). IsLawful (opened s objects (length fields) most c.args.passes))
     (sym c.in_ok-layout.ensures)
     (c.forests_open_lawfully.ensures (shape_for c.args.sizes.now fields) objects most c.args.passes
-    refl c.requires.room first)
+    refl c.requires.room c.requires.hash first)
