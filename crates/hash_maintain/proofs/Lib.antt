@@ -1,0 +1,10 @@
+pub mod LeafLemmas
+pub mod PassLemmas
+pub mod PartLemmas
+pub mod HoldLemmas
+pub mod UpkeepLemmas
+pub mod BuildLemmas
+pub mod HandLawLemmas
+pub mod MoveLemmas
+pub mod MovingLemmas
+pub mod MoveLawLemmas

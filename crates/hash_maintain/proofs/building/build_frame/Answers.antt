@@ -1,0 +1,61 @@
+use Rattle.std.proofs.Common.{◌≡◌, sym, ap, ◌∙◌}
+use Rattle.latch_law.specs.declared.knows.Terms.{Terms}
+use Rattle.index_page.specs.declared.head.PageHead.{PageHead}
+use Rattle.hash_law.specs.Blocks.{part_for}
+use Rattle.index_law.specs.Shape.{Shape}
+use Rattle.forest_world.specs.Held.{shape_of_pass}
+use Rattle.hash_maintain.proofs.BuildLemmas.{page_index, leaf_of, build_so, builds}
+use Rattle.hash_maintain.proofs.building.build_frame.Goals as goal
+
+pub leaf_page-requires : goal.leaf_page-requires
+leaf_page-requires g c = (c.requires.leaf.leaf.page, c.requires.leaf.leaf.page_is)
+
+pub rehash-answer-requires-clause-leaf : goal.rehash-answer-requires-clause-leaf
+rehash-answer-requires-clause-leaf g c =
+    let p = c.args.pass.now in let f = c.args.frame.now in
+    let layout = c.shape-layout.ensures ∙ ap (λ (t : Terms Shape). t.shape) (sym c.requires.own.1) in
+    let part_is : c.part_for-part.result ≡ part_for (shape_of_pass p).parts c.head.result.now.index =
+    c.part_for-part.ensures
+    ∙ ap (λ (s : Shape). part_for s.parts c.head.result.now.index) layout in
+    let bits_are : c.fold_bits.result ≡ (shape_of_pass p).fold_bits =
+    c.fold_bits.ensures ∙ ap (λ (s : Shape). s.fold_bits) layout in
+    let same : c.requires.leaf.index ≡ c.head.result.now.index =
+    page_index f c.requires.leaf.index c.leaf_page.result.now c.requires.leaf.leaf c.leaf_page.ensures
+    ∙ ap (λ (h : PageHead). h.index) (sym c.head.ensures) in
+    leaf_of p c.args.block c.part_for-part.result c.head.result.now.index c.fold_bits.result c.args.params f
+    part_is bits_are c.requires.leaf same
+
+pub rehash-answer-requires-clause-exact : goal.rehash-answer-requires-clause-exact
+rehash-answer-requires-clause-exact g c =
+    let p = c.args.pass.now in let f = c.args.frame.now in
+    let layout = c.shape-layout.ensures ∙ ap (λ (t : Terms Shape). t.shape) (sym c.requires.own.1) in
+    let part_is : c.part_for-part.result ≡ part_for (shape_of_pass p).parts c.head.result.now.index =
+    c.part_for-part.ensures
+    ∙ ap (λ (s : Shape). part_for s.parts c.head.result.now.index) layout in
+    let bits_are : c.fold_bits.result ≡ (shape_of_pass p).fold_bits =
+    c.fold_bits.ensures ∙ ap (λ (s : Shape). s.fold_bits) layout in
+    let same : c.requires.leaf.index ≡ c.head.result.now.index =
+    page_index f c.requires.leaf.index c.leaf_page.result.now c.requires.leaf.leaf c.leaf_page.ensures
+    ∙ ap (λ (h : PageHead). h.index) (sym c.head.ensures) in
+    build_so p c.args.block c.part_for-part.result c.head.result.now.index c.fold_bits.result c.args.params f
+    part_is bits_are c.requires.leaf same c.entries_are_owed.ensures c.requires.tidy
+    c.hold_part_out-partition.new.pass c.hold_part_out-partition.result
+    c.hold_part_out-partition.ensures.out
+
+pub returns-clause-builds : goal.returns-clause-builds
+returns-clause-builds g c = λ isnt.
+    (let p = c.args.pass.now in let f = c.args.frame.now in
+    let layout = c.shape-layout.ensures ∙ ap (λ (t : Terms Shape). t.shape) (sym c.requires.own.1) in
+    let part_is : c.part_for-part.result ≡ part_for (shape_of_pass p).parts c.head.result.now.index =
+    c.part_for-part.ensures
+    ∙ ap (λ (s : Shape). part_for s.parts c.head.result.now.index) layout in
+    let bits_are : c.fold_bits.result ≡ (shape_of_pass p).fold_bits =
+    c.fold_bits.ensures ∙ ap (λ (s : Shape). s.fold_bits) layout in
+    let same : c.requires.leaf.index ≡ c.head.result.now.index =
+    page_index f c.requires.leaf.index c.leaf_page.result.now c.requires.leaf.leaf c.leaf_page.ensures
+    ∙ ap (λ (h : PageHead). h.index) (sym c.head.ensures) in
+    builds p c.args.block c.part_for-part.result c.head.result.now.index c.fold_bits.result c.args.params f
+    part_is bits_are c.requires.leaf same c.hold_part_out-partition.new.pass
+    c.part_back.new.pass c.hold_part_out-partition.result c.rehash-answer.new.part
+    c.rehash-answer.new.frame c.rehash-answer.result c.hold_part_out-partition.ensures.out
+    c.part_back.ensures.back c.rehash-answer.ensures.part (c.rehash-answer.ensures.anew isnt))

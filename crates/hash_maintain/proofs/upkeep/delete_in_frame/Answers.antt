@@ -1,0 +1,34 @@
+use Rattle.std.proofs.Common.{ap, refl}
+use Rattle.latch_law.specs.declared.knows.Terms.{Terms}
+use Rattle.index_law.specs.Shape.{Shape}
+use Rattle.hash_upkeep.specs.Upkeep.{upkeep_of}
+use Rattle.hash_maintain.specs.Leaves.{without_row}
+use Rattle.hash_maintain.proofs.UpkeepLemmas.{IsCall, is_call, hashed_so, was_so, row_keeps}
+use Rattle.hash_maintain.proofs.upkeep.delete_in_frame.Goals as goal
+
+pub row_goes-answer-requires-clause-exact : goal.row_goes-answer-requires-clause-exact
+row_goes-answer-requires-clause-exact g c = let p = c.args.pass.now in let f = c.args.frame.now in
+    let call : IsCall p c.args.block c.part_for-part.result c.args.frame.now c.in-Some.how =
+    is_call p c.args.block c.part_for-part.result c.fold_bits.result c.args.frame.now c.in-Some.how
+    c.shape-layout.result.now c.args.space.now.terms.shape c.hashing_of.result c.shape-layout.ensures
+    (ap (λ (t : Terms Shape). t.shape) c.requires.own.1) c.fold_bits.ensures c.hashing_of.ensures
+    c.in-Some.is c.part_for-part.ensures in
+    let so = hashed_so p c.args.block c.part_for-part.result f c.in-Some.how call in
+    let leaf = c.requires.row in
+    was_so p c.args.block c.part_for-part.result f c.in-Some.how call c.entries_are_owed.ensures
+    c.hold_part_out-partition.new.pass c.hold_part_out-partition.result f leaf.page leaf.page_is
+    refl refl (c.requires.exact c.in-Some.how.index so.index) c.hold_part_out-partition.ensures.out
+
+pub returns-in-Some-clause-keeps : goal.returns-in-Some-clause-keeps
+returns-in-Some-clause-keeps g c = λ how e. let p = c.args.pass.now in
+    let call : IsCall p c.args.block c.part_for-part.result c.args.frame.now c.in-Some.how =
+    is_call p c.args.block c.part_for-part.result c.fold_bits.result c.args.frame.now c.in-Some.how
+    c.shape-layout.result.now c.args.space.now.terms.shape c.hashing_of.result c.shape-layout.ensures
+    (ap (λ (t : Terms Shape). t.shape) c.requires.own.1) c.fold_bits.ensures c.hashing_of.ensures
+    c.in-Some.is c.part_for-part.ensures in
+    row_keeps p c.args.block c.part_for-part.result c.args.frame.now c.in-Some.how call
+    c.hold_part_out-partition.new.pass c.part_back.new.pass c.hold_part_out-partition.result
+    c.row_goes-answer.new.part (without_row c.args.place c.row_goes-answer.new.frame) c.args.place
+    (λ spare brought driven. upkeep_of spare brought driven) c.row_goes-answer.result
+    c.hold_part_out-partition.ensures.out c.part_back.ensures.back c.row_goes-answer.ensures.part
+    c.row_goes-answer.ensures.answer how e

@@ -1,0 +1,41 @@
+use Rattle.std.proofs.Common.{sym, ap, subst, refl}
+use Rattle.latch_law.specs.declared.knows.Terms.{Terms}
+use Rattle.index_law.specs.Shape.{Shape}
+use Rattle.hash_maintain.specs.Parting.{HasRoomFor}
+use Rattle.hash_maintain.proofs.UpkeepLemmas.{IsCall, is_call, hashed_so, was_so, drops}
+use Rattle.hash_maintain.proofs.upkeep.drop_frame.Goals as goal
+
+pub unhash-requires-clause-exact : goal.unhash-requires-clause-exact
+unhash-requires-clause-exact g c = let p = c.args.pass.now in let f = c.args.frame.now in
+    let call : IsCall p c.args.block c.part_for-part.result c.args.frame.now c.in-Some.how =
+    is_call p c.args.block c.part_for-part.result c.fold_bits.result c.args.frame.now c.in-Some.how
+    c.shape-layout.result.now c.args.space.now.terms.shape c.hashing_of.result c.shape-layout.ensures
+    (ap (λ (t : Terms Shape). t.shape) c.requires.own.1) c.fold_bits.ensures c.hashing_of.ensures
+    c.in-Some.is c.part_for-part.ensures in
+    let so = hashed_so p c.args.block c.part_for-part.result f c.in-Some.how call in
+    let leaf = c.requires.tidy.leaf c.in-Some.how.index so.index in
+    was_so p c.args.block c.part_for-part.result f c.in-Some.how call c.entries_are_owed.ensures
+    c.hold_part_out-partition.new.pass c.hold_part_out-partition.result f leaf.page leaf.page_is
+    refl refl (c.requires.exact c.in-Some.how.index so.index) c.hold_part_out-partition.ensures.out
+
+pub returns-in-Some-clause-drops : goal.returns-in-Some-clause-drops
+returns-in-Some-clause-drops g c = λ how e. let p = c.args.pass.now in
+    let call : IsCall p c.args.block c.part_for-part.result c.args.frame.now c.in-Some.how =
+    is_call p c.args.block c.part_for-part.result c.fold_bits.result c.args.frame.now c.in-Some.how
+    c.shape-layout.result.now c.args.space.now.terms.shape c.hashing_of.result c.shape-layout.ensures
+    (ap (λ (t : Terms Shape). t.shape) c.requires.own.1) c.fold_bits.ensures c.hashing_of.ensures
+    c.in-Some.is c.part_for-part.ensures in
+    drops p c.args.block c.part_for-part.result c.args.frame.now c.in-Some.how call
+    c.hold_part_out-partition.new.pass c.part_back.new.pass c.hold_part_out-partition.result
+    c.unhash.new.part c.unhash.new.frame c.hold_part_out-partition.ensures.out
+    c.part_back.ensures.back c.unhash.ensures.part how e
+
+pub hold_part_out-partition-requires-clause-room : goal.hold_part_out-partition-requires-clause-room
+hold_part_out-partition-requires-clause-room g c = let p = c.args.pass.now in
+    let call : IsCall p c.args.block c.part_for-part.result c.args.frame.now c.in-Some.how =
+    is_call p c.args.block c.part_for-part.result c.fold_bits.result c.args.frame.now c.in-Some.how
+    c.shape-layout.result.now c.args.space.now.terms.shape c.hashing_of.result c.shape-layout.ensures
+    (ap (λ (t : Terms Shape). t.shape) c.requires.own.1) c.fold_bits.ensures c.hashing_of.ensures
+    c.in-Some.is c.part_for-part.ensures in
+    let so = hashed_so p c.args.block c.part_for-part.result c.args.frame.now c.in-Some.how call in
+    subst (HasRoomFor p) (sym call.part) (c.requires.room c.in-Some.how.index so.index)
