@@ -1,1 +1,2 @@
 pub mod TraceLemmas
+pub mod TableLemmas

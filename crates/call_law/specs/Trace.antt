@@ -59,6 +59,7 @@ pub record SparesTrees (shape : Shape) (added : Added) : Type 0 where
 -- the object is a frame
 abbrev pub is_frame : Object → Bool
 is_frame (object.Frame f) = true
+is_frame (object.Part p) = false
 is_frame (object.Pool p) = false
 is_frame (object.Tree t) = false
 
