@@ -1,5 +1,5 @@
 -- What is added to what a pass knows, which trees that spares, and what stays in hand.
-use Rattle.std.proofs.Common.{◌≡◌, ◌≢◌, ℕ, suc, List, [], ◌∷◌, ◌++◌, inl, inr, sym, ap, subst, ◌∙◌, refl, arith, append-nil, Option}
+use Rattle.std.proofs.Common.{◌≡◌, ◌≢◌, ℕ, suc, ◌<◌, List, [], ◌∷◌, ◌++◌, inl, inr, sym, ap, subst, ◌∙◌, refl, arith, append-nil, Option}
 use Rattle.std.specs.List.{AllByRecursion}
 use Rattle.std.proofs.lemmas.Bool.{cases_eq}
 use mathlib.Core.Option.{some}
@@ -22,9 +22,9 @@ use Rattle.index_law.specs.State.{Entries}
 use Rattle.forest_law.specs.declared.objects.Frame.{Frame}
 use Rattle.forest_law.specs.declared.objects.Tree.{Tree}
 use Rattle.forest_law.specs.declared.objects.Object.{Object}
-use Rattle.forest_law.specs.Numbers.{pool_id, tree_id, frame_id}
+use Rattle.forest_law.specs.Numbers.{pool_id, tree_id, part_id, frame_id}
 use Rattle.forest_world.specs.Held.{TreePass}
-use Rattle.call_law.specs.Hands.{KnowsFrame, KnowsTree, HoldsTheRest}
+use Rattle.call_law.specs.Hands.{KnowsFrame, KnowsTree, HoldsNoPart, HoldsTheRest}
 use Rattle.call_law.specs.Spoken.{View, OwnAnswer}
 use Rattle.call_law.specs.Trace.{SameNumbers, SeesMore, Added, Adds, IsNoTree, SparesTrees}
 use Rattle.call_law.proofs.TraceLemmas.{both_added}
@@ -179,6 +179,17 @@ module _ (v v' : View) where
           ∙ (ap (λ (t : Terms Shape). get_elem? v'.held (frame_id t.shape b)) (sym same.terms)
           ∙ knows.1),
     )
+
+  -- a partition of the rest is lacked as before
+  pub parts_still : (ks : List ℕ) → SameNumbers v v' → HoldsTheRest v v' ks
+      → ((k : ℕ) → k < v.terms.shape.parts
+      → AllByRecursion (λ (j : ℕ). part_id v.terms.shape k ≢ j) ks)
+      → HoldsNoPart v → HoldsNoPart v'
+  parts_still ks same rest apart lacks k below =
+      let shape : v'.terms.shape ≡ v.terms.shape = ap (λ (t : Terms Shape). t.shape) same.terms in
+      let less = subst (λ (s : Shape). k < s.parts) shape below in
+      ap (λ (s : Shape). get_elem? v'.held (part_id s k)) shape
+      ∙ (rest (part_id v.terms.shape k) (apart k less) ∙ lacks k less)
 
   -- a tree of the rest is known as before
   pub tree_still : (ks : List ℕ) → HoldsTheRest v v' ks → (i : ℕ)

@@ -12,7 +12,7 @@ use Rattle.forest_law.specs.declared.objects.Object.{Object}
 use Rattle.forest_law.specs.declared.objects.Object.TheVariants as object
 use Rattle.forest_law.specs.Numbers.{pool_id, frame_id}
 use Rattle.forest_world.specs.Held.{TreePass, shape_of_pass}
-use Rattle.call_law.specs.Hands.{HoldsNoPool}
+use Rattle.call_law.specs.Hands.{HoldsNoTable}
 use Rattle.call_law.specs.Trace.{Added, is_frame, frame_references}
 use Rattle.call_law.proofs.TraceLemmas.{both_added}
 use Rattle.buffer_pool.specs.Calls.{Does}
@@ -20,7 +20,7 @@ use Rattle.buffer_pool.specs.Causes.{AreUnchanged, ChangesPoolSo}
 use Rattle.buffer_pool.specs.Hands.{LacksFrame}
 use Rattle.buffer_pool.specs.Looking.{GivesNothing, FindsNone}
 use Rattle.buffer_pool.specs.Pages.{HoldsOtherPages, PagesIn, RefusesPage}
-use Rattle.buffer_pool.proofs.AddedLemmas.{none_added, held_adds, none_spares, frame_before}
+use Rattle.buffer_pool.proofs.AddedLemmas.{none_added, held_adds, none_spares, frame_before, parts_still}
 use Rattle.buffer_pool.proofs.CallLemmas.{does_both, does_none}
 use Rattle.buffer_pool.proofs.ClearLemmas.{unchanged_once, comes_before_too}
 use Rattle.buffer_pool.proofs.FitsLemmas.{live_still}
@@ -82,8 +82,12 @@ module _ (p q : TreePass) (gives : GivesNothing p q) where
       (frame_before (view p) (view q) [] gives.got.silently.does.adds.numbers
       gives.got.silently.does.rest b tt f knows)
 
-  pub gives_no_pool : HoldsNoPool (view p) → HoldsNoPool (view q)
-  gives_no_pool lacks = gives.got.silently.does.rest pool_id tt ∙ lacks
+  pub gives_no_table : HoldsNoTable (view p) → HoldsNoTable (view q)
+  gives_no_table lacks = record {
+    pool = gives.got.silently.does.rest pool_id tt ∙ lacks.pool;
+    parts = parts_still (view p) (view q) [] gives.got.silently.does.adds.numbers
+        gives.got.silently.does.rest (λ k below. tt) lacks.parts;
+  }
 
   gives_lacks : (b : ℕ) → LacksFrame q b → LacksFrame p b
   gives_lacks b lacked = sym (gives.got.silently.does.rest (frame_id (shape_of_pass p) b) tt)

@@ -9,12 +9,15 @@ use Rattle.forest_law.specs.declared.objects.Stored.{Stored}
 use Rattle.forest_law.specs.declared.objects.Pool.{Pool}
 use Rattle.forest_law.specs.declared.objects.Where.TheVariants.{InFrame}
 use Rattle.forest_law.specs.declared.objects.Object.{Object}
+use Rattle.forest_law.specs.HashKept.{KeepsHash}
 use Rattle.forest_law.specs.Law.{Follows}
 use Rattle.forest_law.specs.PoolSteps.{PoolStep}
 use Rattle.forest_law.specs.State.{page_within, where_at, image_at, fields_for}
 use Rattle.forest_law.specs.Turns.{HasPage}
 use Rattle.forest_law.proofs.PoolStepLemmas.{pages_come_and_go}
 use Rattle.forest_world.specs.Held.{TreePass, shape_of_pass}
+use Rattle.forest_world.specs.HashHands.{FrameRestsHash}
+use Rattle.hash_maintain.proofs.PassLemmas.{knows_forest}
 use Rattle.buffer_pool.specs.Ages.{IsAged}
 use Rattle.buffer_pool.specs.Forests.{IsFittedTree}
 use Rattle.buffer_pool.specs.Frames.{TakesOut}
@@ -22,6 +25,7 @@ use Rattle.buffer_pool.specs.Pools.{TakesPoolOut}
 use Rattle.buffer_pool.specs.Tries.{HoldsPoolAndFrame}
 use Rattle.buffer_pool.specs.Causes.{HasAged}
 use Rattle.buffer_pool.specs.Turning.{PutsPage, loaded_with, KeepsOthers, MayTurn, TurnsBack, MayBring, BringsTo}
+use Rattle.buffer_pool.proofs.HashRestLemmas.{known_tidy, empty_bare, load_rests}
 use Rattle.buffer_pool.proofs.KnownLemmas.{image_room}
 use Rattle.buffer_pool.proofs.PutLemmas.{put_place, put_image, puts_keeps, aged_rests, keeps_then, put_aged}
 use Rattle.buffer_pool.proofs.TurnLemmas.{frame_is, pool_is, may_turn, turned}
@@ -73,8 +77,9 @@ module _ (p p1 p2 : TreePass) (b : ℕ) (frame : Frame) (pool : Pool) (out : Tak
     bring_follows : (news : List (Option Object))
         → PoolStep (shape_of_pass p) (known_values p) news n
         (record { block = b; old = may.frame; new = g }) may.pool z
+        → KeepsHash (shape_of_pass p) (known_values p) news
         → Follows (shape_of_pass p) (known_values p) news None
-    bring_follows news step = pages_come_and_go.brings (shape_of_pass p) (known_values p) news
+    bring_follows news step hash = pages_come_and_go.brings (shape_of_pass p) (known_values p) news
         (record {
           number = n;
           hand = record { block = b; old = may.frame; new = g };
@@ -93,14 +98,24 @@ module _ (p p1 p2 : TreePass) (b : ℕ) (frame : Frame) (pool : Pool) (out : Tak
           alone = may.alone;
           order = empty_order (fields_for (shape_of_pass p)) page may.rows may.fields;
           clock = subst (λ (f : Frame). may.frame.clock ≤ f.clock) (sym made_is) (omega arith);
-        })
+        }) hash
+
+    -- the frame isn't hashed, and rests so
+    bare : may.frame.hashed ≡ None
+    bare = empty_bare may.frame
+        (known_tidy (view p) fitted b may.frame may.both.frame) may.empty
+
+    bring_rests : FrameRestsHash (shape_of_pass p) b may.frame g
+    bring_rests = load_rests (shape_of_pass p) b may.frame (unbounded page) g made_is bare
+        (subst (λ m. 1 ≤ m) (sym may.fields)
+        ((knows_forest p fitted).hash.keyed page.head.index may.index))
 
     -- the page may come
     pub may_bring : MayTurn p2 b g z
     may_bring = may_turn p p1 p2 b frame pool out outside may.taken may.pool may.frame may.both g z
         n
         (keeps_then may.pool n y z (puts_keeps may.pool n (InFrame b) None y puts)
-        (aged_rests y b z aged)) bring_follows
+        (aged_rests y b z aged)) bring_rests bring_follows
 
     -- and then the frame has it
     pub brings : (t : Object) (x : Pool) (f : Frame) → HoldsPoolAndFrame p b t x f
@@ -117,6 +132,7 @@ module _ (p p1 p2 : TreePass) (b : ℕ) (frame : Frame) (pool : Pool) (out : Tak
       paged = ap (λ (w : Frame). w.page) made;
       low = ap (λ (w : Frame). w.low) made;
       high = ap (λ (w : Frame). w.high) made;
+      hashed = ap (λ (w : Frame). w.hashed) made_is ∙ bare;
       aged = subst (λ (w : Pool). HasAged w b z)
           (pool_is p p1 p2 b frame pool out outside t x f both)
           (put_aged pool b y z put.ages put.tick aged);

@@ -10,6 +10,7 @@ use Rattle.forest_law.specs.declared.objects.Stored.{Stored}
 use Rattle.forest_law.specs.declared.objects.Pool.{Pool}
 use Rattle.forest_law.specs.declared.objects.Where.TheVariants.{Free}
 use Rattle.forest_law.specs.declared.objects.Object.{Object}
+use Rattle.forest_law.specs.HashKept.{KeepsHash}
 use Rattle.forest_law.specs.Law.{Follows}
 use Rattle.forest_law.specs.PoolSteps.{PoolStep}
 use Rattle.forest_law.specs.State.{page_within, where_at, image_at}
@@ -22,6 +23,7 @@ use Rattle.buffer_pool.specs.Pools.{TakesPoolOut}
 use Rattle.buffer_pool.specs.Tries.{HoldsPoolAndFrame}
 use Rattle.buffer_pool.specs.Turning.{PutsPage, UnloadsFrame, MayTurn, TurnsBack, MayFree, FreesFrom}
 use Rattle.buffer_pool.proofs.EvictLemmas.{unloaded_had, evicted_named, unloaded_place, unloaded_image}
+use Rattle.buffer_pool.proofs.HashRestLemmas.{unload_rests}
 use Rattle.buffer_pool.proofs.PutLemmas.{put_place, put_image, puts_keeps, ageless_rests, keeps_then}
 use Rattle.buffer_pool.proofs.TurnLemmas.{frame_is, pool_is, may_turn, turned}
 
@@ -46,8 +48,9 @@ module _ (p p1 p2 : TreePass) (b : ℕ) (frame : Frame) (pool : Pool) (out : Tak
     drop_follows : (news : List (Option Object))
         → PoolStep (shape_of_pass p) (known_values p) news n
         (record { block = b; old = may.frame; new = g }) may.pool z
+        → KeepsHash (shape_of_pass p) (known_values p) news
         → Follows (shape_of_pass p) (known_values p) news None
-    drop_follows news step = pages_come_and_go.takes (shape_of_pass p) (known_values p) news
+    drop_follows news step hash = pages_come_and_go.takes (shape_of_pass p) (known_values p) news
         (record {
           number = n;
           hand = record { block = b; old = may.frame; new = g };
@@ -78,13 +81,14 @@ module _ (p p1 p2 : TreePass) (b : ℕ) (frame : Frame) (pool : Pool) (out : Tak
             ap (λ (q : PageRows). q.rows) (sym page_same) ∙ may.rows,
           );
           clock = unloads.clock;
-        })
+        }) hash
 
     -- the page may go
     pub may_drop : MayTurn p2 b g z
     may_drop = may_turn p p1 p2 b frame pool out outside may.taken may.pool may.frame may.both g z n
         (keeps_then may.pool n y z (puts_keeps may.pool n Free None y puts)
-        (ageless_rests y b z ageless)) drop_follows
+        (ageless_rests y b z ageless))
+        (unload_rests (shape_of_pass p) b may.frame s g unloads may.hashed) drop_follows
 
   -- and then its number is free
   pub drops : (page : PageRows) (t : Object) (x : Pool) (f : Frame) → HoldsPoolAndFrame p b t x f

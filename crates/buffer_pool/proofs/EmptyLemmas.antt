@@ -8,14 +8,17 @@ use Rattle.forest_law.specs.declared.objects.Pool.{Pool}
 use Rattle.forest_law.specs.declared.objects.Object.{Object}
 use Rattle.forest_law.specs.Numbers.{pool_id, frame_id}
 use Rattle.forest_world.specs.Held.{TreePass, shape_of_pass}
+use Rattle.call_law.specs.Hands.{HoldsNoPart}
 use Rattle.buffer_pool.specs.Calls.{Does}
 use Rattle.buffer_pool.specs.Forests.{IsFittedTree}
 use Rattle.buffer_pool.specs.Pages.{HasNumber}
-use Rattle.buffer_pool.specs.Tries.{tries_alone, KnowsPool, HoldsPoolAndFrame}
+use Rattle.buffer_pool.specs.Tries.{tries_and_given, KnowsPool, HoldsPoolAndFrame}
 use Rattle.buffer_pool.specs.Turning.{EmptiesFrame}
 use Rattle.buffer_pool.specs.Victims.{HoldsVictim, HoldsRoom}
 use Rattle.buffer_pool.proofs.KnownLemmas.{named_number}
-use Rattle.buffer_pool.proofs.VictimLemmas.{tries_none, tries_both, tries_among, tries_shape, tried_left}
+use Rattle.buffer_pool.proofs.AddedLemmas.{parts_still}
+use Rattle.buffer_pool.proofs.GivingLemmas.{giving_none, giving_both}
+use Rattle.buffer_pool.proofs.VictimLemmas.{tries_none, tries_among, tries_shape, tried_left}
 
 -- a frame has a page, or none
 pub page_of_some : (o : Option PageRows) → is_some o ≡ true → (page : PageRows) × (o ≡ Some page)
@@ -39,12 +42,11 @@ pub empties_itself : (p : TreePass) (b : ℕ) (t : Object) (x : Pool) (f : Frame
 empties_itself p b t x f both fitted empty = record {
   pool = x;
   frame = f;
-  turns = record {
-    tries = tries_among p p [] (pool_id ∷ frame_id (shape_of_pass p) b ∷ []) (λ j apart. tt)
-        (tries_none p both.known);
-    both = both;
-    count = refl;
-  };
+  tries = giving_none p p (pool_id ∷ frame_id (shape_of_pass p) b ∷ [])
+      (tries_among p p [] (pool_id ∷ frame_id (shape_of_pass p) b ∷ []) (λ j apart. tt)
+      (tries_none p both.known));
+  both = both;
+  count = refl;
   empty = empty;
   clears = record {
     gone = λ m named. absurd (none_is_some
@@ -75,30 +77,39 @@ module _ (p q : TreePass) (x : Pool) (b : ℕ) (victim : HoldsVictim p x b q) (t
   victim_shape : shape_of_pass q ≡ shape_of_pass p
   victim_shape = tries_shape p q (frame_id (shape_of_pass p) b ∷ []) victim.holds.tries
 
+  -- and no partition, as before
+  pub victim_parts : HoldsNoPart (view p) → HoldsNoPart (view q)
+  victim_parts = parts_still (view p) (view q) (frame_id (shape_of_pass p) b ∷ [])
+      victim.holds.tries.does.adds.numbers victim.holds.tries.does.rest
+      (λ k below. ((λ e. omega (arith, e, below)), tt))
+
   -- and there is room once its page is gone
   pub holds_room : (r : TreePass) → EmptiesFrame q b t x r → HoldsRoom p b t x r
   holds_room r emptied =
       let ks = pool_id ∷ frame_id (shape_of_pass p) b ∷ [] in
       record {
-        tries = tries_both p q r ks
+        tries = giving_both p q r ks
+            (giving_none p q ks
             (tries_among p q (frame_id (shape_of_pass p) b ∷ []) ks
-            (λ j apart. (apart.1.0, tt)) victim.holds.tries)
+            (λ j apart. (apart.1.0, tt)) victim.holds.tries))
             (record {
-              refused = emptied.turns.tries.refused;
+              refused = emptied.tries.refused;
+              references = emptied.tries.references;
+              parts = emptied.tries.parts;
               does = subst
                   (λ (s : Shape). Does q r (pool_id ∷ frame_id s b ∷ [])
-                  (tries_alone emptied.turns.tries.refused)) victim_shape
-                  emptied.turns.tries.does;
+                  (tries_and_given emptied.tries.refused emptied.tries.references)) victim_shape
+                  emptied.tries.does;
             });
         took = λ c below before lacks. tried_left (frame_id (shape_of_pass p) c)
-            victim.holds.tries.refused emptied.turns.tries.refused
+            victim.holds.tries.refused emptied.tries.refused
             (victim.took c below before lacks);
         lacked = victim.holds.lacked;
         pool = emptied.pool;
-        knew = emptied.turns.both.pool;
+        knew = emptied.both.pool;
         clears = emptied.clears;
         frame = emptied.frame;
-        knows = emptied.turns.both.frame;
+        knows = emptied.both.frame;
         empty = emptied.empty;
-        count = (let a = emptied.turns.count in let e = victim.holds.count in omega (arith, a, e));
+        count = (let a = emptied.count in let e = victim.holds.count in omega (arith, a, e));
       }

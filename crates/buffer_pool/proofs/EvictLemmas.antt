@@ -8,6 +8,7 @@ use Rattle.forest_law.specs.declared.objects.Stored.{Stored}
 use Rattle.forest_law.specs.declared.objects.Pool.{Pool}
 use Rattle.forest_law.specs.declared.objects.Where.TheVariants.{InFrame, Image}
 use Rattle.forest_law.specs.declared.objects.Object.{Object}
+use Rattle.forest_law.specs.HashKept.{KeepsHash}
 use Rattle.forest_law.specs.Law.{Follows}
 use Rattle.forest_law.specs.Outside.{HasNoOutside}
 use Rattle.forest_law.specs.PoolSteps.{PoolStep}
@@ -19,8 +20,9 @@ use Rattle.latch_space.specs.Passes.{view, known_values}
 use Rattle.buffer_pool.specs.Forests.{IsFittedTree}
 use Rattle.buffer_pool.specs.Frames.{TakesOut}
 use Rattle.buffer_pool.specs.Pools.{TakesPoolOut}
-use Rattle.buffer_pool.specs.Tries.{HoldsPoolAndFrame}
-use Rattle.buffer_pool.specs.Turning.{PutsPage, UnloadsFrame, MayTurn, TurnsBack, EmptiesFrame}
+use Rattle.buffer_pool.specs.Tries.{HoldsPoolAndFrame, TurnsBoth}
+use Rattle.buffer_pool.specs.Turning.{PutsPage, UnloadsFrame, MayTurn, TurnsBack, ClearsBlock}
+use Rattle.buffer_pool.proofs.HashRestLemmas.{unload_rests}
 use Rattle.buffer_pool.proofs.KnownLemmas.{frame_named, named_number, number_in, frame_order, image_room}
 use Rattle.buffer_pool.proofs.PutLemmas.{put_place, put_image, puts_keeps}
 use Rattle.buffer_pool.proofs.TurnLemmas.{frame_is, pool_is, may_turn, turned}
@@ -92,8 +94,9 @@ module _ (p p1 p2 : TreePass) (b : ℕ) (frame : Frame) (pool : Pool) (out : Tak
     evict_follows : HasNoOutside f → (news : List (Option Object))
         → PoolStep (shape_of_pass p) (known_values p) news n
         (record { block = b; old = f; new = g }) x y
+        → KeepsHash (shape_of_pass p) (known_values p) news
         → Follows (shape_of_pass p) (known_values p) news None
-    evict_follows inside news step =
+    evict_follows inside news step hash =
         pages_come_and_go.evicts (shape_of_pass p) (known_values p) news
         (record {
           number = n;
@@ -113,27 +116,28 @@ module _ (p p1 p2 : TreePass) (b : ℕ) (frame : Frame) (pool : Pool) (out : Tak
           empty = ap (λ (z : Frame). z.page) unloads.empty;
           order = unloaded_order;
           clock = unloads.clock;
-        })
+        }) hash
 
     -- the page may go
-    pub may_evict : HasNoOutside f → MayTurn p2 b g y
-    may_evict inside = may_turn p p1 p2 b frame pool out outside t x f both g y n
-        (puts_keeps x n Image (Some s) y puts) (evict_follows inside)
+    pub may_evict : HasNoOutside f → f.hashed ≡ None → MayTurn p2 b g y
+    may_evict inside bare = may_turn p p1 p2 b frame pool out outside t x f both g y n
+        (puts_keeps x n Image (Some s) y puts)
+        (unload_rests (shape_of_pass p) b f s g unloads bare) (evict_follows inside)
 
-    -- and then the frame has none
-    pub evicts : (q : TreePass) → TurnsBack p2 b g y q → EmptiesFrame p b t x q
-    evicts q back = record {
-      pool = y;
-      frame = g;
-      turns = turned p p1 p2 b frame pool out outside t x f both g y q back;
-      empty = ap (λ (z : Frame). z.page) unloads.empty;
-      clears = record {
-        gone = λ m named. ap (where_at y.place.items) (evicted_only m named)
-            ∙ put_place x n Image (Some s) y puts place_below;
-        keeps = λ m other.
-            ((puts_keeps x n Image (Some s) y puts).elsewhere m
-            (λ e. other (ap (where_at x.place.items) e ∙ evicted_named))).place;
-        ages = puts.ages;
-        tick = puts.tick;
-      };
+    -- and then the frame has none, and what was in it is an image
+    pub evict_turns : (q : TreePass) → TurnsBack p2 b g y q → TurnsBoth p b t q y g
+    evict_turns q back = turned p p1 p2 b frame pool out outside t x f both g y q back
+
+    pub evict_empty : g.page ≡ None
+    evict_empty = ap (λ (z : Frame). z.page) unloads.empty
+
+    pub evict_clears : ClearsBlock x b y
+    evict_clears = record {
+      gone = λ m named. ap (where_at y.place.items) (evicted_only m named)
+          ∙ put_place x n Image (Some s) y puts place_below;
+      keeps = λ m other.
+          ((puts_keeps x n Image (Some s) y puts).elsewhere m
+          (λ e. other (ap (where_at x.place.items) e ∙ evicted_named))).place;
+      ages = puts.ages;
+      tick = puts.tick;
     }

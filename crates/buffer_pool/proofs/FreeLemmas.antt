@@ -15,7 +15,7 @@ use Rattle.forest_law.specs.declared.objects.Object.{Object}
 use Rattle.forest_law.specs.declared.objects.Object.TheVariants as object
 use Rattle.forest_law.specs.Numbers.{pool_id, frame_id}
 use Rattle.forest_world.specs.Held.{TreePass, shape_of_pass, HasPool}
-use Rattle.call_law.specs.Hands.{HoldsNoPool}
+use Rattle.call_law.specs.Hands.{HoldsNoTable}
 use Rattle.call_law.specs.Spoken.{spoken}
 use Rattle.call_law.specs.Trace.{Added, AreGivenAt, fulls}
 use Rattle.call_law.proofs.TraceLemmas.{both_added}
@@ -25,13 +25,14 @@ use Rattle.buffer_pool.specs.FreeNumbers.{HoldsFree}
 use Rattle.buffer_pool.specs.Looking.{GivesNothing}
 use Rattle.buffer_pool.specs.NewPages.{IsLowestFree, HasNoneFree, FindsNoneFree}
 use Rattle.buffer_pool.specs.Pools.{TakesPool, GivesPool}
-use Rattle.buffer_pool.specs.Tries.{tries_alone}
+use Rattle.buffer_pool.specs.Tries.{tries_and_given}
 use Rattle.buffer_pool.specs.Victims.{HoldsRoom}
 use Rattle.buffer_pool.proofs.AddedLemmas.{only_refused, only_given}
-use Rattle.buffer_pool.proofs.AgainLemmas.{frames-append, both_unchanged, gives_shape, gives_lacked}
+use Rattle.buffer_pool.proofs.AgainLemmas.{frames-append, gives_shape, gives_lacked}
 use Rattle.buffer_pool.proofs.CallLemmas.{does_both, does_none, does_among, does_again, gave_pool}
 use Rattle.buffer_pool.proofs.ClearLemmas.{victim_before}
 use Rattle.buffer_pool.proofs.FrameLemmas.{one_held}
+use Rattle.buffer_pool.proofs.GivingLemmas.{parts_no_frames, parts_leave, unchanged_leaves, leaves_both}
 use Rattle.buffer_pool.proofs.GiveLemmas.{first, first_shape, pool_taken, lacks_before, lacks_then}
 use Rattle.buffer_pool.proofs.KnownLemmas.{places_counted}
 use Rattle.buffer_pool.proofs.PoolLemmas.{same_pool}
@@ -40,7 +41,7 @@ use Rattle.buffer_pool.proofs.VictimLemmas.{in_right, tried_right}
 free_is_not : (b : ℕ) → Free ≡ InFrame b → ⊥
 free_is_not b e = absurd cc
 
-module _ (p p1 : TreePass) (known : IsKnown p) (lacks : HoldsNoPool (view p))
+module _ (p p1 : TreePass) (known : IsKnown p) (lacks : HoldsNoTable (view p))
     (took : TakesPool p p1) where
   -- the pool that is looked at is the one that was taken
   pub found_is : (found : Pool) → ((x y : Pool) → HasPool p1 x y → found ≡ y) → found ≡ took.pool
@@ -59,7 +60,7 @@ module _ (p p1 : TreePass) (known : IsKnown p) (lacks : HoldsNoPool (view p))
         (only_given pool_id gave.taken (object.Pool gave.pool))
         (does_both p p1 p2 (pool_id ∷ []) (only_refused took.refused) full.added
         (first p p1 known lacks took) (does_none p1 p2 full.added (pool_id ∷ []) full.does))
-        (gave_pool p2 p3 full.does.known gave)) (gave.lacks ∙ sym lacks)
+        (gave_pool p2 p3 full.does.known gave)) (gave.lacks ∙ sym lacks.pool)
 
     gave_is : holding gave.taken (object.Pool gave.pool)
         ≡ holding (object.Pool took.pool) (object.Pool took.pool)
@@ -104,7 +105,8 @@ module _ (p p1 : TreePass) (known : IsKnown p) (lacks : HoldsNoPool (view p))
       (object.Pool took.pool) took.pool (pool_taken p p1 known lacks took) in
       let shape = first_shape p p1 known lacks took in
       let ks = pool_id ∷ frame_id (shape_of_pass p) b ∷ [] in
-      let a = only_refused took.refused in let c = tries_alone room.tries.refused in
+      let a = only_refused took.refused in let c = tries_and_given room.tries.refused
+      room.tries.references in
       record {
         silently = record {
           added = both_added a c;
@@ -115,8 +117,8 @@ module _ (p p1 : TreePass) (known : IsKnown p) (lacks : HoldsNoPool (view p))
               room.tries.does);
           silent = refl;
         };
-        none = refl;
-        unchanged = tt;
+        none = parts_no_frames room.tries.references room.tries.parts;
+        unchanged = parts_leave room.tries.references room.tries.parts;
         pool = took.pool;
         now = room.pool;
         held = room.knew;
@@ -152,7 +154,8 @@ module _ (p q r : TreePass) (gives : GivesNothing p q) where
           silent = λ k. gives.got.silently.silent k ++ free.silently.silent k;
         };
         none = frames-append a.references c.references ∙ (λ k. gives.none k ++ free.none k);
-        unchanged = both_unchanged a.references c.references gives.unchanged free.unchanged;
+        unchanged = leaves_both a.references c.references
+            (unchanged_leaves a.references gives.unchanged) free.unchanged;
         pool = free.pool;
         now = free.now;
         held = free.held;

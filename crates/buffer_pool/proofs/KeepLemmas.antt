@@ -37,7 +37,8 @@ module _ (p q : TreePass) (k : ℕ) (terms : (view q).terms ≡ (view p).terms)
       (has_still p q k (frame_id (shape_of_pass p) c) (object.Frame f) (object.Frame g) others
       apart has)
 
-  out_kept : (c : ℕ) (f : Frame) → frame_id (shape_of_pass p) c ≢ k → HasOut p c f → HasOut q c f
+  pub out_kept : (c : ℕ) (f : Frame) → frame_id (shape_of_pass p) c ≢ k → HasOut p c f → HasOut q c
+      f
   out_kept c f apart out = let o = others (frame_id (shape_of_pass p) c) apart in
       let n = ap (λ (s : Shape). frame_id s c) (sym same_shape) in
       record {

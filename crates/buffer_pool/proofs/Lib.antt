@@ -6,6 +6,7 @@ pub mod PoolLemmas
 pub mod AddedLemmas
 pub mod CallLemmas
 pub mod PutLemmas
+pub mod HashRestLemmas
 pub mod TurnLemmas
 pub mod InsideLemmas
 pub mod KnownLemmas
@@ -17,8 +18,13 @@ pub mod DropLemmas
 pub mod SetAgeLemmas
 pub mod AgainLemmas
 pub mod VictimLemmas
+pub mod GivingLemmas
 pub mod EmptyLemmas
 pub mod PageLemmas
+pub mod PartLemmas
+pub mod UnhashLemmas
+pub mod UnhashedLemmas
+pub mod UnhashBlockLemmas
 pub mod LookLemmas
 pub mod FitsLemmas
 pub mod GiveLemmas

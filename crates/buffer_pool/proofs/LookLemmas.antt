@@ -32,12 +32,13 @@ use Rattle.buffer_pool.proofs.AddedLemmas.{frame_still}
 use Rattle.buffer_pool.proofs.CallLemmas.{took_frame}
 use Rattle.buffer_pool.proofs.ClearLemmas.{cleared_aged, made_room}
 use Rattle.buffer_pool.proofs.FrameLemmas.{one_held}
+use Rattle.buffer_pool.proofs.GivingLemmas.{giving_none, giving_both, giving_shape}
 use Rattle.buffer_pool.proofs.InsideLemmas.{taken_inside}
 use Rattle.buffer_pool.proofs.KnownLemmas.{page_there, block_below}
 use Rattle.buffer_pool.proofs.PageLemmas.{fits_before, lacks_if}
 use Rattle.buffer_pool.proofs.PoolLemmas.{same_pool}
 use Rattle.buffer_pool.proofs.TurnLemmas.{frame_not_pool}
-use Rattle.buffer_pool.proofs.VictimLemmas.{tried_left, tries_both, tries_among, tries_shape}
+use Rattle.buffer_pool.proofs.VictimLemmas.{tried_left, tries_both, tries_among}
 
 image_is_not : (b : ℕ) → Image ≡ InFrame b → ⊥
 image_is_not b e = absurd cc
@@ -104,10 +105,10 @@ module _ (p : TreePass) (t : Object) (x : Pool) (held : KnowsPool (view p) t x) 
         let k = frame_id (shape_of_pass p) b in
         let ks = pool_id ∷ k ∷ [] in
         record {
-          tries = tries_both p q r ks
+          tries = giving_none p r ks (tries_both p q r ks
               (tries_among p q (k ∷ []) ks (λ j apart. (apart.1.0, tt))
               (record { refused = took.refused; does = first }))
-              (tries_among q r (pool_id ∷ []) ks (λ j apart. (apart.0, tt)) aged.tries);
+              (tries_among q r (pool_id ∷ []) ks (λ j apart. (apart.0, tt)) aged.tries));
           pool = aged.pool;
           knew = aged.knows;
           lacked = lacks;
@@ -153,14 +154,14 @@ module _ (p q : TreePass) (t : Object) (x : Pool) (n b : ℕ) (room : HoldsRoom 
       → RestoresTo q b n t room.pool r → HoldsPageToo p n b t x r
   holds_restored stored r restored = let ks = pool_id ∷ frame_id (shape_of_pass p) b ∷ [] in
       record {
-        tries = tries_both p q r ks room.tries
-            (record {
+        tries = giving_both p q r ks room.tries
+            (giving_none q r ks (record {
               refused = restored.turns.tries.refused;
               does = subst
                   (λ (s : Shape). Does q r (pool_id ∷ frame_id s b ∷ [])
-                  (tries_alone restored.turns.tries.refused)) (tries_shape p q ks room.tries)
+                  (tries_alone restored.turns.tries.refused)) (giving_shape p q ks room.tries)
                   restored.turns.tries.does;
-            });
+            }));
         pool = restored.pool;
         knew = restored.turns.both.pool;
         lacked = room.lacked;

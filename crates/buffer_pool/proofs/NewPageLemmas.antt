@@ -1,5 +1,5 @@
 -- A new page is in a frame that is held, and the pool is given back.
-use Rattle.std.proofs.Common.{◌≡◌, ℕ, [], ◌∷◌, ◌++◌, inl, inr, sym, ap, subst, ◌∙◌, arith, Some}
+use Rattle.std.proofs.Common.{◌≡◌, ℕ, ◌<◌, [], ◌∷◌, ◌++◌, inl, inr, sym, ap, subst, ◌∙◌, arith, Some}
 use Rattle.list_facts.proofs.Each.{each_append}
 use Rattle.latch_law.specs.declared.knows.Terms.{Terms}
 use Rattle.latch_law.specs.Views.{holding}
@@ -13,7 +13,7 @@ use Rattle.forest_law.specs.declared.objects.Object.TheVariants as object
 use Rattle.forest_law.specs.Numbers.{pool_id, frame_id}
 use Rattle.forest_law.specs.State.{where_at, fields_for}
 use Rattle.forest_world.specs.Held.{TreePass, shape_of_pass}
-use Rattle.call_law.specs.Hands.{HoldsNoPool, HoldsNoOutside}
+use Rattle.call_law.specs.Hands.{HoldsNoTable, HoldsNoOutside}
 use Rattle.call_law.specs.Trace.{Added}
 use Rattle.call_law.proofs.TraceLemmas.{both_added}
 use Rattle.buffer_pool.specs.Calls.{Does}
@@ -25,10 +25,11 @@ use Rattle.buffer_pool.specs.Pools.{GivesPool}
 use Rattle.buffer_pool.specs.Tries.{tries_alone, HoldsPoolAndFrame}
 use Rattle.buffer_pool.specs.Turning.{KeepsOthers, MayBring, BringsTo}
 use Rattle.buffer_pool.proofs.AddedLemmas.{only_given, frame_still}
-use Rattle.buffer_pool.proofs.AgainLemmas.{frames-append, both_unchanged}
+use Rattle.buffer_pool.proofs.AgainLemmas.{frames-append}
 use Rattle.buffer_pool.proofs.CallLemmas.{does_both, does_among, does_again, gave_pool}
-use Rattle.buffer_pool.proofs.ClearLemmas.{unchanged_once, cleared_aged, made_room}
+use Rattle.buffer_pool.proofs.ClearLemmas.{cleared_aged, made_room}
 use Rattle.buffer_pool.proofs.FrameLemmas.{one_held}
+use Rattle.buffer_pool.proofs.GivingLemmas.{leaves_once, leaves_both}
 use Rattle.buffer_pool.proofs.InsideLemmas.{inside_still}
 use Rattle.buffer_pool.proofs.KnownLemmas.{places_counted}
 use Rattle.buffer_pool.proofs.TurnLemmas.{frame_not_pool}
@@ -53,9 +54,10 @@ module _ (p p1 : TreePass) (head : PageHead) (n b : ℕ) (free : HoldsFree p n b
   module _ (page : PageRows) (heads : page.head ≡ (outside_page head n).head)
       (rows : page.rows ≡ []) where
     -- the page may come
-    pub may_new : IsFittedTree (view p1) → head.fields ≡ fields_for (shape_of_pass p) head.index
+    pub may_new : IsFittedTree (view p1) → head.index < (shape_of_pass p).indexes
+        → head.fields ≡ fields_for (shape_of_pass p) head.index
         → HoldsNoOutside (view p) → MayBring p1 b page
-    may_new fitted fields inside =
+    may_new fitted indexed fields inside =
         let counted = places_counted fitted.whole fitted.is_lawful (view p1) fitted.fits
         (object.Pool free.pool) free.now free.held in
         let number = ap (λ (h : PageHead). h.number) heads in
@@ -68,6 +70,8 @@ module _ (p p1 : TreePass) (head : PageHead) (n b : ℕ) (free : HoldsFree p n b
           empty = free.empty;
           below = omega (arith, counted, number, pages, below);
           free = ap (where_at free.now.place.items) number ∙ free.free;
+          index = subst (λ (s : Shape). page.head.index < s.indexes) (sym same_shape)
+              (subst (λ (h : PageHead). h.index < (shape_of_pass p).indexes) (sym heads) indexed);
           own = ap (λ (h : PageHead). h.prev) heads ∙ ap Some (sym number);
           rows = rows;
           alone = inside_still p p1 b free.frame free.knows free.empty same_shape
@@ -80,7 +84,7 @@ module _ (p p1 : TreePass) (head : PageHead) (n b : ℕ) (free : HoldsFree p n b
 
     -- and is there once the pool was given back
     module _ (q1 q : TreePass) (brings : BringsTo p1 b page (object.Pool free.pool) free.now q1)
-        (gave : GivesPool q1 q) (lacks : HoldsNoPool (view p)) where
+        (gave : GivesPool q1 q) (lacks : HoldsNoTable (view p)) where
       abbrev a : Added
       a = free.silently.added
 
@@ -107,7 +111,7 @@ module _ (p p1 : TreePass) (head : PageHead) (n b : ℕ) (free : HoldsFree p n b
           (subst (λ (s : Shape). Does p1 q1 (pool_id ∷ frame_id s b ∷ []) c) same_shape
           brings.turns.tries.does))
           (does_among q1 q given (pool_id ∷ []) ls (λ j apart. (apart.0, tt)) last))
-          (gave.lacks ∙ sym lacks)
+          (gave.lacks ∙ sym lacks.pool)
 
       pub gets_page : GetsPage p head b q
       gets_page = record {
@@ -128,8 +132,8 @@ module _ (p p1 : TreePass) (head : PageHead) (n b : ℕ) (free : HoldsFree p n b
         };
         once = each_append (ChangesPoolSo free.pool brings.pool) (a.references ++ [])
             given.references
-            (unchanged_once free.pool brings.pool (a.references ++ [])
-            (both_unchanged a.references [] free.unchanged tt))
+            (leaves_once free.pool brings.pool (a.references ++ [])
+            (leaves_both a.references [] free.unchanged tt))
             ((λ is. inr (λ i. reference pool_id (gave_is i).taken (gave_is i).known)), tt);
         number = n;
         lowest = free.lowest;
@@ -152,6 +156,7 @@ module _ (p p1 : TreePass) (head : PageHead) (n b : ℕ) (free : HoldsFree p n b
           page = brings.paged ∙ ap Some (page_is page head n heads rows);
           low = brings.low;
           high = brings.high;
+          hashed = brings.hashed;
         };
         count = (let x = free.count in let y = brings.turns.count in let z = gave.count in
             omega (arith, x, y, z));

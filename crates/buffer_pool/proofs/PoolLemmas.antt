@@ -27,6 +27,7 @@ use Rattle.buffer_pool.proofs.KeepLemmas.{keeps_beside_pool, rest_kept, rest_but
 abbrev the_pool : Pool → Object → Pool
 the_pool d (object.Pool x) = x
 the_pool d (object.Frame f) = d
+the_pool d (object.Part p) = d
 the_pool d (object.Tree t) = d
 
 -- objects that are one are one pool

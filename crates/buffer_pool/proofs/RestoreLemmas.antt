@@ -10,12 +10,15 @@ use Rattle.forest_law.specs.declared.objects.Pool.{Pool}
 use Rattle.forest_law.specs.declared.objects.Where.TheVariants.{InFrame}
 use Rattle.forest_law.specs.declared.objects.Object.{Object}
 use Rattle.forest_law.specs.Images.{TellsImage}
+use Rattle.forest_law.specs.HashKept.{KeepsHash}
 use Rattle.forest_law.specs.Law.{Follows}
 use Rattle.forest_law.specs.PoolSteps.{PoolStep}
 use Rattle.forest_law.specs.State.{page_within, where_at, image_at, fields_for}
 use Rattle.forest_law.specs.Turns.{HasPage}
 use Rattle.forest_law.proofs.PoolStepLemmas.{pages_come_and_go}
 use Rattle.forest_world.specs.Held.{TreePass, shape_of_pass}
+use Rattle.forest_world.specs.HashHands.{FrameRestsHash}
+use Rattle.hash_maintain.proofs.PassLemmas.{knows_forest}
 use Rattle.buffer_pool.specs.Ages.{IsAged}
 use Rattle.buffer_pool.specs.Forests.{IsFittedTree}
 use Rattle.buffer_pool.specs.Frames.{TakesOut}
@@ -24,6 +27,7 @@ use Rattle.buffer_pool.specs.Tries.{HoldsPoolAndFrame}
 use Rattle.buffer_pool.specs.Causes.{HasAged}
 use Rattle.buffer_pool.specs.Turning.{PutsPage, loaded_with, KeepsOthers, MayTurn, TurnsBack, MayRestore, RestoresTo}
 use Rattle.buffer_pool.proofs.InsideLemmas.{image_inside, page_inside}
+use Rattle.buffer_pool.proofs.HashRestLemmas.{known_tidy, empty_bare, load_rests}
 use Rattle.buffer_pool.proofs.KnownLemmas.{image_there, images_are, places_counted, images_counted}
 use Rattle.buffer_pool.proofs.PutLemmas.{put_place, put_image, puts_keeps, aged_rests, keeps_then, put_aged}
 use Rattle.buffer_pool.proofs.TurnLemmas.{frame_is, pool_is, may_turn, turned}
@@ -100,8 +104,10 @@ module _ (p p1 p2 : TreePass) (b : ℕ) (frame : Frame) (pool : Pool) (out : Tak
     restore_follows : (news : List (Option Object))
         → PoolStep (shape_of_pass p) (known_values p) news n
         (record { block = b; old = may.frame; new = g }) may.pool z
+        → KeepsHash (shape_of_pass p) (known_values p) news
         → Follows (shape_of_pass p) (known_values p) news None
-    restore_follows news step = pages_come_and_go.restores (shape_of_pass p) (known_values p) news
+    restore_follows news step hash = pages_come_and_go.restores (shape_of_pass p) (known_values p)
+        news
         (record {
           number = n;
           hand = record { block = b; old = may.frame; new = g };
@@ -122,14 +128,30 @@ module _ (p p1 p2 : TreePass) (b : ℕ) (frame : Frame) (pool : Pool) (out : Tak
           order = subst (λ (w : Shape). IsOrderly (fields_for w) page) fitted.fits.shape
               tells.order;
           clock = subst (λ (f : Frame). may.frame.clock ≤ f.clock) (sym made_is) (omega arith);
-        })
+        }) hash
+
+    -- the page's index is one of the space's, so its keys have a field
+    index_below : s.page.head.index < (shape_of_pass p).indexes
+    index_below = subst (λ (w : Shape). s.page.head.index < w.indexes) fitted.fits.shape
+        (tells.sound tree).index
+
+    fields_are : s.page.head.fields ≡ fields_for (shape_of_pass p) s.page.head.index
+    fields_are = tells.order.fields
+        ∙ ap (λ (w : Shape). fields_for w s.page.head.index) fitted.fits.shape
+
+    restore_rests : FrameRestsHash (shape_of_pass p) b may.frame g
+    restore_rests = load_rests (shape_of_pass p) b may.frame s g made_is
+        (empty_bare may.frame
+        (known_tidy (view p) fitted b may.frame may.both.frame) may.empty)
+        (subst (λ m. 1 ≤ m) (sym fields_are)
+        ((knows_forest p fitted).hash.keyed s.page.head.index index_below))
 
     -- the page may come
     pub may_restore : MayTurn p2 b g z
     may_restore = may_turn p p1 p2 b frame pool out outside may.taken may.pool may.frame may.both g
         z n
         (keeps_then may.pool n y z (puts_keeps may.pool n (InFrame b) None y puts)
-        (aged_rests y b z aged)) restore_follows
+        (aged_rests y b z aged)) restore_rests restore_follows
 
     -- and then the frame has it
     pub restores : (t : Object) (x : Pool) (f : Frame) → HoldsPoolAndFrame p b t x f

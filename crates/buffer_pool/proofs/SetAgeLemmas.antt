@@ -18,6 +18,7 @@ use Rattle.forest_law.specs.Steps.{Rests}
 use Rattle.forest_law.proofs.RowStepLemmas.{row_changes_follow}
 use Rattle.forest_world.specs.Held.{TreePass, shape_of_pass, HasPool, RestsBeyond}
 use Rattle.forest_world.specs.HandLaws.{StepsInHand}
+use Rattle.forest_world.specs.HashHands.{HandsKeepTheHash}
 use Rattle.forest_world.proofs.HandLemmas.{hands_make_steps, rests_itself}
 use Rattle.buffer_pool.specs.Ages.{IsAged}
 use Rattle.buffer_pool.specs.Forests.{TreeView, IsFittedTree}
@@ -27,6 +28,7 @@ use Rattle.buffer_pool.specs.Turning.{SetsAge}
 use Rattle.buffer_pool.proofs.AddedLemmas.{held_adds, none_spares}
 use Rattle.buffer_pool.proofs.CallLemmas.{pool_has}
 use Rattle.buffer_pool.proofs.FrameLemmas.{one_held}
+use Rattle.buffer_pool.proofs.HashRestLemmas.{pool_rests}
 use Rattle.buffer_pool.proofs.KnownLemmas.{ages_counted}
 use Rattle.buffer_pool.proofs.PutLemmas.{aged_rests}
 use Rattle.buffer_pool.proofs.KeepLemmas.{learnt_same}
@@ -82,9 +84,11 @@ module _ (p p1 : TreePass) (known : IsKnown p) (pool : Pool) (out : TakesPoolOut
     steps = hands_make_steps p2 [] [] (record { each = tt; tops = tt; others = all_rest })
 
     -- the step follows
-    pub age_follows : Follows (shape_of_pass p2) (known_values p2) (values p2) None
-    age_follows =
+    pub age_follows : HandsKeepTheHash
+        → Follows (shape_of_pass p2) (known_values p2) (values p2) None
+    age_follows law =
         row_changes_follow.rest (shape_of_pass p2) (known_values p2) (values p2) steps.make
+        (law.rests p2 (pool_rests p2 (λ j h apart holds. known_else j h apart.0 holds)))
 
     pub age_whole : (k : ℕ) (h : Holding Object) → Holds (view p2) k h
         → (z : Object) × Shows p2 k z

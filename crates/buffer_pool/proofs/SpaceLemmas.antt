@@ -34,7 +34,7 @@ objects_of s p forest own =
 pub number_fits : (s s' : Shape) (b n : ℕ) → s' ≡ s → b < frames_of s
     → n ≡ frame_id s (frames_of s) → n < 2 ^ 32 → frame_id s' b < 2 ^ 32
 number_fits s s' b n same below is few = let e = ap (λ (z : Shape). z.indexes) same in
-    omega (arith, e, below, is, few)
+    let parts = ap (λ (z : Shape). z.parts) same in omega (arith, e, parts, below, is, few)
 
 -- a frame that is known is one of the frames
 pub known_below : (p : TreePass) (b : ℕ) (t x : Object)

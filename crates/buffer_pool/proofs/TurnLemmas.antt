@@ -15,12 +15,14 @@ use Rattle.forest_law.specs.declared.objects.Frame.{Frame}
 use Rattle.forest_law.specs.declared.objects.Pool.{Pool}
 use Rattle.forest_law.specs.declared.objects.Object.{Object}
 use Rattle.forest_law.specs.declared.objects.Object.TheVariants as object
+use Rattle.forest_law.specs.HashKept.{KeepsHash}
 use Rattle.forest_law.specs.Law.{Follows}
 use Rattle.forest_law.specs.Numbers.{pool_id, frame_id}
 use Rattle.forest_law.specs.PoolSteps.{PoolStep}
 use Rattle.forest_law.specs.Steps.{InHand}
 use Rattle.forest_world.specs.Held.{TreePass, shape_of_pass, HasFrame, HasPool, IsKnownBeyond}
 use Rattle.forest_world.specs.HandLaws.{PoolInHand}
+use Rattle.forest_world.specs.HashHands.{FrameRestsHash, HandsKeepTheHash}
 use Rattle.forest_world.proofs.HandLemmas.{hands_change_the_pool, known_is_at_rest}
 use Rattle.buffer_pool.specs.Forests.{TreeView}
 use Rattle.buffer_pool.specs.Frames.{TakesOut, PutsBack}
@@ -30,6 +32,7 @@ use Rattle.buffer_pool.specs.Tries.{HoldsPoolAndFrame, TurnsBoth}
 use Rattle.buffer_pool.specs.Turning.{KeepsOthers, MayTurn, TurnsBack}
 use Rattle.buffer_pool.proofs.AddedLemmas.{held_adds, none_spares}
 use Rattle.buffer_pool.proofs.CallLemmas.{frame_has, pool_has}
+use Rattle.buffer_pool.proofs.HashRestLemmas.{frame_rests}
 use Rattle.buffer_pool.proofs.KeepLemmas.{learnt_same}
 
 -- no frame is the pool
@@ -90,13 +93,19 @@ module _ (p p1 : TreePass) (b : ℕ) (g : Frame) (y : Pool) (may : MayTurn p b g
         })
 
     -- the step follows
-    pub turn_follows : Follows (shape_of_pass p2) (known_values p2) (values p2) None
-    turn_follows = subst
+    pub turn_follows : HandsKeepTheHash
+        → Follows (shape_of_pass p2) (known_values p2) (values p2) None
+    turn_follows law = subst
         (λ (v : TreeView). Follows v.terms.shape (knowns v.held) (values p2) None) (sym same_view)
         (may.follows (values p2)
         (subst
         (λ (v : TreeView). PoolStep v.terms.shape (knowns v.held) (values p2) may.number hand
-        may.pool y) same_view pool_steps.step))
+        may.pool y) same_view pool_steps.step)
+        (subst (λ (v : TreeView). KeepsHash v.terms.shape (knowns v.held) (values p2)) same_view
+        (law.rests p2
+        (frame_rests p2 b may.old g has_frame
+        (subst (λ (s : Shape). FrameRestsHash s b may.old g) (sym same_shape) may.rests)
+        known_beyond))))
 
     pub turn_whole : (k : ℕ) (h : Holding Object) → Holds (view p2) k h
         → (x : Object) × Shows p2 k x
@@ -180,11 +189,13 @@ module _ (p p1 p2 : TreePass) (b : ℕ) (frame : Frame) (pool : Pool) (out : Tak
       }
 
   pub may_turn : (g : Frame) (y : Pool) (n : ℕ) → KeepsOthers x n y
+      → FrameRestsHash (shape_of_pass p) b f g
       → ((news : List (Option Object))
       → PoolStep (shape_of_pass p) (known_values p) news n (record { block = b; old = f; new = g })
-      x y → Follows (shape_of_pass p) (known_values p) news None)
+      x y → KeepsHash (shape_of_pass p) (known_values p) news
+      → Follows (shape_of_pass p) (known_values p) news None)
       → MayTurn p2 b g y
-  may_turn g y n keeps follows = record {
+  may_turn g y n keeps rests follows = record {
     old = f;
     out = frame_waits;
     pool = x;
@@ -197,9 +208,11 @@ module _ (p p1 p2 : TreePass) (b : ℕ) (frame : Frame) (pool : Pool) (out : Tak
         ∙ both.known j h (sym (ap (λ (v : TreeView). get_elem? v.held j) out_view) ∙ held));
     number = n;
     keeps = keeps;
+    rests = subst (λ (s : Shape). FrameRestsHash s b f g) (sym out_shape) rests;
     follows = subst
         (λ (v : TreeView). (news : List (Option Object))
         → PoolStep v.terms.shape (knowns v.held) news n (record { block = b; old = f; new = g }) x y
+        → KeepsHash v.terms.shape (knowns v.held) news
         → Follows v.terms.shape (knowns v.held) news None) (sym out_view) follows;
   }
 

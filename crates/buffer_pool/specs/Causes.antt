@@ -28,6 +28,11 @@ pub record HeldPool (added : Added) (pool : Pool) : Type 0 where
 abbrev pub AreUnchanged : List (Reference Object) → Type 0
 AreUnchanged qs = AllByRecursion (λ (q : Reference Object). q.taken ≡ q.released) qs
 
+-- each time the pool was given back it was as it was taken
+abbrev pub LeavesPool : List (Reference Object) → Type 0
+LeavesPool qs =
+    AllByRecursion (λ (q : Reference Object). q.object ≡ pool_id → q.taken ≡ q.released) qs
+
 -- what was given back isn't the pool, or is as it was taken, or is the pool y, which was taken as x
 abbrev pub ChangesPoolSo : Pool → Pool → Reference Object → Type 0
 ChangesPoolSo x y q = q.object ≡ pool_id

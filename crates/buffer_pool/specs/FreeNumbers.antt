@@ -14,7 +14,7 @@ use Rattle.call_law.specs.Trace.{frame_references}
 use Rattle.buffer_pool.specs.declared.free_numbers.Found.{Found}
 use Rattle.buffer_pool.specs.declared.free_numbers.Found.TheVariants as found
 use Rattle.buffer_pool.specs.Calls.{DoesSilently}
-use Rattle.buffer_pool.specs.Causes.{AreUnchanged, TookVictim}
+use Rattle.buffer_pool.specs.Causes.{LeavesPool, TookVictim}
 use Rattle.buffer_pool.specs.Hands.{LacksFrame}
 use Rattle.buffer_pool.specs.Looking.{GivesNothing}
 use Rattle.buffer_pool.specs.NewPages.{IsLowestFree, FindsNoneFree}
@@ -23,11 +23,11 @@ use Rattle.buffer_pool.specs.Turning.{ClearsBlock}
 
 -- the pool is held, and with it the block's frame, whose turn it was to make room, without a page;
 -- the number was the lowest that was free in the pool as it was taken, and is free; no frame was
--- given back
+-- given back, and the pool was each time as it was taken
 pub record HoldsFree (p : TreePass) (n b : ℕ) (q : TreePass) : Type 0 where
   pub silently : DoesSilently p q (pool_id ∷ frame_id (shape_of_pass p) b ∷ [])
   pub none : frame_references silently.added.references ≡ []
-  pub unchanged : AreUnchanged silently.added.references
+  pub unchanged : LeavesPool silently.added.references
   pub pool : Pool
   pub now : Pool
   pub held : KnowsPool (view q) (object.Pool pool) now

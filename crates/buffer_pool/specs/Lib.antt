@@ -10,6 +10,7 @@ pub mod Tries
 pub mod Causes
 pub mod Pages
 pub mod NewPages
+pub mod Parts
 pub mod Turning
 pub mod Victims
 pub mod Looking

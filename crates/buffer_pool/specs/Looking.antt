@@ -17,13 +17,14 @@ use Rattle.buffer_pool.specs.Calls.{GetsNothing}
 use Rattle.buffer_pool.specs.Causes.{AreUnchanged, HasAged, ComesBy}
 use Rattle.buffer_pool.specs.Hands.{LacksFrame}
 use Rattle.buffer_pool.specs.Pages.{IsLive, HasNumber, PagesIn, GaveNone, RefusesPage}
-use Rattle.buffer_pool.specs.Tries.{Tries, IsTried, KnowsPool}
+use Rattle.buffer_pool.specs.Tries.{TriesGivingParts, IsTried, KnowsPool}
 use Rattle.buffer_pool.specs.Victims.{TriedInVain}
 
--- the page is held in the block's frame besides, for a cause, and the pool is held still
+-- the page is held in the block's frame besides, for a cause, and the pool is held still;
+-- partitions alone were given back
 pub record HoldsPageToo (p : TreePass) (n b : ℕ) (t : Object) (x : Pool)
     (q : TreePass) : Type 0 where
-  pub tries : Tries p q (pool_id ∷ frame_id (shape_of_pass p) b ∷ [])
+  pub tries : TriesGivingParts p q (pool_id ∷ frame_id (shape_of_pass p) b ∷ [])
   pub pool : Pool
   pub knew : KnowsPool (view q) t pool
   pub lacked : LacksFrame p b

@@ -36,11 +36,12 @@ HasNoneFree pool = (n : ℕ) → n < length pool.place.items → where_at pool.p
 abbrev pub outside_page : PageHead → ℕ → PageRows
 outside_page head n = record { head = record head { number = n; prev = Some n }; rows = [] }
 
--- the frame has that page, and no bounds
+-- the frame has that page, and no bounds, and isn't hashed
 pub record HasOutsidePage (f : Frame) (head : PageHead) (n : ℕ) : Type 0 where
   pub page : f.page ≡ Some (outside_page head n)
   pub low : f.low ≡ None
   pub high : f.high ≡ None
+  pub hashed : f.hashed ≡ None
 
 -- the lowest number that was free in the pool, as it was held, has a new page outside the trees,
 -- which is held in the frame of the block b: that made room for it, and has a new age; no frame was

@@ -1,12 +1,15 @@
--- What a pass does while it holds the pool: it tries, and nothing that it gives back or says is
--- added.
-use Rattle.std.specs.Prelude.{ℕ, ◌≡◌, [], ◌∷◌, List}
+-- What a pass does while it holds the pool: it tries, it gives back partitions alone, and it says
+-- nothing.
+use Rattle.std.specs.Prelude.{ℕ, ◌≡◌, ◌≢◌, [], ◌∷◌, List}
+use Rattle.std.specs.List.{AllByRecursion}
+use Rattle.latch_law.specs.declared.knows.Reference.{Reference}
 use Rattle.latch_law.specs.declared.knows.Refusal.{Refusal}
 use Rattle.latch_law.specs.Rule.{Holds}
 use Rattle.latch_law.specs.Views.{holding}
 use Rattle.latch_space.specs.Has.{IsKnown}
 use Rattle.latch_space.specs.Passes.{view, count}
 use Rattle.tree_law.specs.TreeShape.{In}
+use Rattle.hash_partition.specs.Part.{Part}
 use Rattle.forest_law.specs.declared.objects.Frame.{Frame}
 use Rattle.forest_law.specs.declared.objects.Pool.{Pool}
 use Rattle.forest_law.specs.declared.objects.Object.{Object}
@@ -27,6 +30,22 @@ tries_alone fs = record { said = []; refused = fs; references = [] }
 pub record Tries (p q : TreePass) (ks : List ℕ) : Type 0 where
   pub refused : List (Refusal Object)
   pub does : Does p q ks (tries_alone refused)
+
+-- what was given back is a partition, and stands at another number than the pool
+abbrev pub IsOfPart : Reference Object → Type 0
+IsOfPart q = (part : Part) × (q.released ≡ object.Part part) × (q.object ≢ pool_id)
+
+-- some refused tries and some references, and nothing else
+abbrev pub tries_and_given : List (Refusal Object) → List (Reference Object) → Added
+tries_and_given fs qs = record { said = []; refused = fs; references = qs }
+
+-- the pass has added refused tries, and partitions given back, and nothing else, none of a tree; it
+-- holds the rest of what it held, beside the objects of these numbers
+pub record TriesGivingParts (p q : TreePass) (ks : List ℕ) : Type 0 where
+  pub refused : List (Refusal Object)
+  pub references : List (Reference Object)
+  pub parts : AllByRecursion IsOfPart references
+  pub does : Does p q ks (tries_and_given refused references)
 
 -- one of these tries was of the object k
 pub record IsTried (k : ℕ) (fs : List (Refusal Object)) : Type 0 where

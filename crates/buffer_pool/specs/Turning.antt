@@ -5,6 +5,7 @@ use Rattle.latch_law.specs.Views.{holding, settling}
 use Rattle.latch_space.specs.Has.{IsKnown}
 use Rattle.latch_space.specs.Passes.{view, known_values, count}
 use Rattle.clock_law.specs.ModifyClock.{raised, ClockRises}
+use Rattle.learning.specs.Opening.{opening_block}
 use Rattle.index_page.specs.Page.{PageRows}
 use Rattle.forest_law.specs.declared.objects.Frame.{Frame}
 use Rattle.forest_law.specs.declared.objects.Stored.{Stored}
@@ -17,17 +18,19 @@ use Rattle.forest_law.specs.Numbers.{pool_id, frame_id}
 use Rattle.forest_law.specs.State.{where_at, fields_for}
 use Rattle.forest_law.specs.Counted.{CountsStay}
 use Rattle.forest_law.specs.Placed.{KeepsPlace}
+use Rattle.forest_law.specs.HashKept.{KeepsHash}
 use Rattle.forest_law.specs.Law.{Follows}
 use Rattle.forest_law.specs.Outside.{HasNoOutside}
 use Rattle.forest_law.specs.PoolSteps.{PoolStep}
 use Rattle.forest_world.specs.Held.{TreePass, shape_of_pass, IsKnownBeyond}
+use Rattle.forest_world.specs.HashHands.{FrameRestsHash}
 use Rattle.call_law.specs.Hands.{HoldsTheRest, HoldsNoOutside}
 use Rattle.buffer_pool.specs.Hands.{HasOut}
 use Rattle.buffer_pool.specs.Pools.{HasPoolOut}
 use Rattle.buffer_pool.specs.Pages.{HasNumber}
 use Rattle.buffer_pool.specs.Ages.{IsAged}
 use Rattle.buffer_pool.specs.Causes.{HasAged, GoesToImage}
-use Rattle.buffer_pool.specs.Tries.{Tries, KnowsPool, HoldsPoolAndFrame, TurnsBoth}
+use Rattle.buffer_pool.specs.Tries.{Tries, TriesGivingParts, KnowsPool, HoldsPoolAndFrame, TurnsBoth}
 
 -- the page of the number has this place and this image, and all else in the pool is as it was
 pub record PutsPage (x : Pool) (n : ℕ) (to : Where) (image : Option Stored)
@@ -45,9 +48,14 @@ pub record UnloadsFrame (f : Frame) (s : Stored) (g : Frame) : Type 0 where
   pub empty : g ≡ record f { page = None; low = None; high = None; clock = raised f.clock }
   pub clock : ClockRises f.clock g.clock
 
--- the frame with this page in these bounds
+-- the frame with this page in these bounds, and the figures that a block begins with
 abbrev pub loaded_with : Frame → Stored → Frame
-loaded_with f s = record f { page = Some s.page; low = s.low; high = s.high }
+loaded_with f s = record f {
+  page = Some s.page;
+  low = s.low;
+  high = s.high;
+  figures = opening_block;
+}
 
 -- the pool has as many entries as before, and keeps the place and the image of each page but that
 -- of the number
@@ -55,8 +63,8 @@ pub record KeepsOthers (x : Pool) (n : ℕ) (y : Pool) : Type 0 where
   pub counted : CountsStay x y
   pub elsewhere : (m : ℕ) → m ≢ n → KeepsPlace x y m
 
--- the block's frame and the pool were taken out, and it follows that they come back as these; all
--- else that is held is what it is known to be
+-- the block's frame and the pool were taken out, and it follows that they come back as these, where
+-- that keeps the hash: the frame rests for it, and all else that is held is what it is known to be
 pub record MayTurn (p : TreePass) (b : ℕ) (g : Frame) (y : Pool) : Type 0 where
   pub old : Frame
   pub out : HasOut p b old
@@ -65,9 +73,11 @@ pub record MayTurn (p : TreePass) (b : ℕ) (g : Frame) (y : Pool) : Type 0 wher
   pub others : IsKnownBeyond p (pool_id ∷ frame_id (shape_of_pass p) b ∷ [])
   pub number : ℕ
   pub keeps : KeepsOthers pool number y
+  pub rests : FrameRestsHash (shape_of_pass p) b old g
   pub follows : (news : List (Option Object))
       → PoolStep (shape_of_pass p) (known_values p) news number
       (record { block = b; old = old; new = g }) pool y
+      → KeepsHash (shape_of_pass p) (known_values p) news
       → Follows (shape_of_pass p) (known_values p) news None
 
 -- they are back, and known as they are; all else that is held is what it was and what it is known
@@ -93,11 +103,13 @@ pub record ClearsBlock (x : Pool) (b : ℕ) (y : Pool) : Type 0 where
   pub ages : y.ages ≡ x.ages
   pub tick : y.tick ≡ x.tick
 
--- the block's frame has no page, and what was in it is an image
+-- the block's frame has no page, and what was in it is an image; partitions alone were given back
 pub record EmptiesFrame (p : TreePass) (b : ℕ) (t : Object) (x : Pool) (q : TreePass) : Type 0 where
   pub pool : Pool
   pub frame : Frame
-  pub turns : TurnsBoth p b t q pool frame
+  pub tries : TriesGivingParts p q (pool_id ∷ frame_id (shape_of_pass p) b ∷ [])
+  pub both : HoldsPoolAndFrame q b t pool frame
+  pub count : count q ≡ count p
   pub empty : frame.page ≡ None
   pub clears : ClearsBlock x b pool
 
@@ -141,12 +153,13 @@ pub record MayBring (p : TreePass) (b : ℕ) (page : PageRows) : Type 0 where
   pub empty : frame.page ≡ None
   pub below : page.head.number < length pool.place.items
   pub free : where_at pool.place.items page.head.number ≡ Free
+  pub index : page.head.index < (shape_of_pass p).indexes
   pub own : page.head.prev ≡ Some page.head.number
   pub rows : page.rows ≡ []
   pub fields : page.head.fields ≡ fields_for (shape_of_pass p) page.head.index
   pub alone : HoldsNoOutside (view p)
 
--- the page has come to the block's frame, under its number, with no bounds
+-- the page has come to the block's frame, under its number, with no bounds, and isn't hashed
 pub record BringsTo (p : TreePass) (b : ℕ) (page : PageRows) (t : Object) (x : Pool)
     (q : TreePass) : Type 0 where
   pub pool : Pool
@@ -157,9 +170,11 @@ pub record BringsTo (p : TreePass) (b : ℕ) (page : PageRows) (t : Object) (x :
   pub paged : frame.page ≡ Some page
   pub low : frame.low ≡ None
   pub high : frame.high ≡ None
+  pub hashed : frame.hashed ≡ None
   pub aged : HasAged x b pool
 
--- the pool and the block's frame are held, which has an empty page outside the trees
+-- the pool and the block's frame are held, which has an empty page outside the trees, and isn't
+-- hashed
 pub record MayFree (p : TreePass) (b : ℕ) (page : PageRows) : Type 0 where
   pub taken : Object
   pub pool : Pool
@@ -168,6 +183,7 @@ pub record MayFree (p : TreePass) (b : ℕ) (page : PageRows) : Type 0 where
   pub paged : frame.page ≡ Some page
   pub own : page.head.prev ≡ Some page.head.number
   pub rows : page.rows ≡ []
+  pub hashed : frame.hashed ≡ None
 
 -- the page of the frame is gone: its number is free, and the frame has none, at a clock that rose
 pub record FreesFrom (p : TreePass) (b n : ℕ) (t : Object) (x : Pool) (f : Frame)

@@ -10,7 +10,7 @@ use Rattle.forest_world.specs.Held.{TreePass, shape_of_pass}
 use Rattle.call_law.specs.Hands.{KnowsFrame}
 use Rattle.buffer_pool.specs.Causes.{TookVictim}
 use Rattle.buffer_pool.specs.Hands.{LacksFrame}
-use Rattle.buffer_pool.specs.Tries.{Tries, IsTried, KnowsPool}
+use Rattle.buffer_pool.specs.Tries.{Tries, TriesGivingParts, IsTried, KnowsPool}
 use Rattle.buffer_pool.specs.Turning.{ClearsBlock}
 
 -- the block's frame is held besides, and has no page outside the trees
@@ -48,9 +48,10 @@ abbrev pub TellsVictim : TreePass → Pool → Option ℕ → TreePass → Type 
 TellsVictim p x (Some b) q = HoldsVictim p x b q
 TellsVictim p x None q = TriedInVain p q
 
--- such a frame is held besides, and has no page; what was in it is an image
+-- such a frame is held besides, and has no page; what was in it is an image, and partitions alone
+-- were given back
 pub record HoldsRoom (p : TreePass) (b : ℕ) (t : Object) (x : Pool) (q : TreePass) : Type 0 where
-  pub tries : Tries p q (pool_id ∷ frame_id (shape_of_pass p) b ∷ [])
+  pub tries : TriesGivingParts p q (pool_id ∷ frame_id (shape_of_pass p) b ∷ [])
   pub took : TookVictim p x b tries.refused
   pub lacked : LacksFrame p b
   pub pool : Pool

@@ -7,7 +7,7 @@ ghost use Rattle.latch_space.specs.Spaces.{IsPassOf};
 ghost use Rattle.index_page.specs.Page.{IsNeighbour};
 ghost use Rattle.forest_law.specs.declared.objects.Where.TheVariants as place;
 ghost use Rattle.forest_world.specs.Held.{shape_of_pass};
-ghost use Rattle.call_law.specs.Hands.{HoldsNoPool};
+ghost use Rattle.call_law.specs.Hands.{HoldsNoTable};
 ghost use Rattle.buffer_pool.specs.declared.error.PoolError.TheVariants as refused;
 ghost use Rattle.buffer_pool.specs.Forests.{IsForest, IsFittedTree};
 ghost use Rattle.buffer_pool.specs.FreeNumbers.{HoldsFree, TellsFree};
@@ -43,8 +43,8 @@ pub(crate) fn hold_room<R: Wait>(
     requires own { IsForest space.now × IsPassOf space.now pass.old }
     requires index { index < (shape_of_pass pass.old).indexes }
     requires known { IsKnown pass.old }
-    requires pool { HoldsNoPool (view pass.old) }
-    requires room { count pass.old + 2 ≤ MAX_HELD }
+    requires tables { HoldsNoTable (view pass.old) }
+    requires room { count pass.old + 3 ≤ MAX_HELD }
     ensures own { IsSamePass pass.old pass.new × IsPassOf space.now pass.new }
     ensures ok { IfOk result (λ r. HoldsFree pass.old r.0 r.1 pass.new) }
     ensures full { IfErr result (λ e. (e ≡ refused.SpaceFull)
@@ -68,8 +68,8 @@ fn try_room<R: Wait>(space: &ForestSpace, pass: &mut ForestPass, index: u32, wai
     requires own { IsForest space.now × IsPassOf space.now pass.old }
     requires index { index < (shape_of_pass pass.old).indexes }
     requires known { IsKnown pass.old }
-    requires pool { HoldsNoPool (view pass.old) }
-    requires room { count pass.old + 2 ≤ MAX_HELD }
+    requires tables { HoldsNoTable (view pass.old) }
+    requires room { count pass.old + 3 ≤ MAX_HELD }
     ensures own { IsSamePass pass.old pass.new × IsPassOf space.now pass.new }
     ensures did { TellsFree pass.old index result pass.new }
     ensures fits { IsFittedTree (view pass.new) }
@@ -81,7 +81,7 @@ fn try_room<R: Wait>(space: &ForestSpace, pass: &mut ForestPass, index: u32, wai
         give_pool_back(space, pass);
         return Found::NoneFree;
     };
-    let Some(block) = make_room(space, pass) else {
+    let Some(block) = make_room(space, pass, wait) else {
         give_pool_back(space, pass);
         return Found::NoRoom;
     };

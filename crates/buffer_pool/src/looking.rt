@@ -9,7 +9,7 @@ ghost use Rattle.forest_law.specs.declared.objects.Pool.{Pool};
 ghost use Rattle.forest_law.specs.declared.objects.Where.TheVariants as place;
 ghost use Rattle.forest_law.specs.State.{where_at};
 ghost use Rattle.forest_world.specs.Held.{shape_of_pass};
-ghost use Rattle.call_law.specs.Hands.{HoldsNoPool};
+ghost use Rattle.call_law.specs.Hands.{HoldsNoPart, HoldsNoTable};
 ghost use Rattle.buffer_pool.specs.Forests.{IsForest, IsFittedTree};
 ghost use Rattle.buffer_pool.specs.Looking.{TellsLook, TellsLookFor};
 ghost use Rattle.buffer_pool.specs.Pages.{HoldsOtherPages};
@@ -48,26 +48,27 @@ pub(crate) fn look_for<R: Wait>(
     requires there { page < (shape_of_pass pass.old).pages }
     requires known { IsKnown pass.old }
     requires others { HoldsOtherPages (view pass.old) page }
-    requires pool { HoldsNoPool (view pass.old) }
-    requires room { count pass.old + 2 ≤ MAX_HELD }
+    requires tables { HoldsNoTable (view pass.old) }
+    requires room { count pass.old + 3 ≤ MAX_HELD }
     ensures own { IsSamePass pass.old pass.new × IsPassOf space.now pass.new }
     ensures did { TellsLookFor pass.old page result pass.new }
     ensures fits { IsFittedTree (view pass.new) }
 {
     take_pool(space, pass, wait);
-    let found = find_page(space, pass, page);
+    let found = find_page(space, pass, page, wait);
     give_pool_back(space, pass);
     found
 }
 
 // The same with the pool in hand.
-fn find_page(space: &ForestSpace, pass: &mut ForestPass, page: u32) -> Looked
+fn find_page<R: Wait>(space: &ForestSpace, pass: &mut ForestPass, page: u32, wait: &R) -> Looked
     requires own { IsForest space.now × IsPassOf space.now pass.old }
     requires there { page < (shape_of_pass pass.old).pages }
     requires known { IsKnown pass.old }
     requires others { HoldsOtherPages (view pass.old) page }
     requires pool { (t : Object) × (x : Pool) × KnowsPool (view pass.old) t x }
-    requires room { count pass.old < MAX_HELD }
+    requires parts { HoldsNoPart (view pass.old) }
+    requires room { count pass.old + 2 ≤ MAX_HELD }
     ensures own { IsSamePass pass.old pass.new × IsPassOf space.now pass.new }
     ensures did { (t : Object) (x : Pool) → KnowsPool (view pass.old) t x
         → TellsLook pass.old t x page result pass.new }
@@ -77,7 +78,7 @@ fn find_page(space: &ForestSpace, pass: &mut ForestPass, page: u32) -> Looked
     match place_of(pool(space, pass), page) {
         Where::Free => Looked::Free,
         Where::InFrame(block) => hold_named(space, pass, page, block),
-        Where::Image => hold_image(space, pass, page),
+        Where::Image => hold_image(space, pass, page, wait),
     }
 }
 
@@ -113,18 +114,19 @@ fn hold_named(space: &ForestSpace, pass: &mut ForestPass, page: u32, block: u32)
 }
 
 // The page comes from its image to a frame, where one can be had.
-fn hold_image(space: &ForestSpace, pass: &mut ForestPass, page: u32) -> Looked
+fn hold_image<R: Wait>(space: &ForestSpace, pass: &mut ForestPass, page: u32, wait: &R) -> Looked
     requires own { IsForest space.now × IsPassOf space.now pass.old }
     requires known { IsKnown pass.old }
     requires pool { (t : Object) × (x : Pool) × KnowsPool (view pass.old) t x
         × (where_at x.place.items page ≡ place.Image) }
-    requires room { count pass.old < MAX_HELD }
+    requires parts { HoldsNoPart (view pass.old) }
+    requires room { count pass.old + 2 ≤ MAX_HELD }
     ensures own { IsSamePass pass.old pass.new × IsPassOf space.now pass.new }
     ensures did { (t : Object) (x : Pool) → KnowsPool (view pass.old) t x
         → TellsLook pass.old t x page result pass.new }
     ensures fits { IsFittedTree (view pass.new) }
 {
-    let Some(block) = make_room(space, pass) else {
+    let Some(block) = make_room(space, pass, wait) else {
         return Looked::NoRoom;
     };
     restore(space, pass, block, page);

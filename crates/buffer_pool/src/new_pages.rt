@@ -7,7 +7,7 @@ ghost use Rattle.latch_space.specs.Spaces.{IsPassOf};
 ghost use Rattle.index_page.specs.Page.{IsNeighbour};
 ghost use Rattle.forest_law.specs.State.{fields_for};
 ghost use Rattle.forest_world.specs.Held.{shape_of_pass};
-ghost use Rattle.call_law.specs.Hands.{HoldsNoOutside, HoldsNoPool};
+ghost use Rattle.call_law.specs.Hands.{HoldsNoOutside, HoldsNoTable};
 ghost use Rattle.buffer_pool.specs.declared.error.PoolError.TheVariants as refused;
 ghost use Rattle.buffer_pool.specs.Calls.{GetsNothing};
 ghost use Rattle.buffer_pool.specs.Forests.{IsForest, IsFittedTree};
@@ -17,6 +17,7 @@ ghost use Rattle.buffer_pool.specs.NewPages.{GetsPage, FindsNoneFree, FreesPage}
 use crate::error::PoolError;
 use crate::frames::give_back;
 use crate::free_numbers::hold_room;
+use crate::parts::unhash_block;
 use crate::placing::{bring, drop_page};
 use crate::pools::{give_pool_back, take_pool};
 use forest_world::{ForestPass, ForestSpace};
@@ -42,8 +43,8 @@ pub fn new_page<R: Wait>(
     requires next { IsNeighbour head.next }
     requires known { IsKnown pass.old }
     requires inside { HoldsNoOutside (view pass.old) }
-    requires pool { HoldsNoPool (view pass.old) }
-    requires room { count pass.old + 2 ≤ MAX_HELD }
+    requires tables { HoldsNoTable (view pass.old) }
+    requires room { count pass.old + 3 ≤ MAX_HELD }
     ensures own { IsSamePass pass.old pass.new × IsPassOf space.now pass.new }
     ensures ok { IfOk result (λ b. GetsPage pass.old head b pass.new) }
     ensures full { result ≡ Err refused.SpaceFull
@@ -68,12 +69,13 @@ pub fn free_page<R: Wait>(space: &ForestSpace, pass: &mut ForestPass, block: u32
     requires own { IsForest space.now × IsPassOf space.now pass.old }
     requires held { HoldsOutsidePage (view pass.old) block }
     requires known { IsKnown pass.old }
-    requires pool { HoldsNoPool (view pass.old) }
+    requires tables { HoldsNoTable (view pass.old) }
     requires room { count pass.old < MAX_HELD }
     ensures own { IsSamePass pass.old pass.new × IsPassOf space.now pass.new }
     ensures freed { FreesPage pass.old block pass.new }
     ensures fits { IsFittedTree (view pass.new) }
 {
+    unhash_block(space, pass, block, wait);
     take_pool(space, pass, wait);
     drop_page(space, pass, block);
     give_pool_back(space, pass);

@@ -5,7 +5,7 @@ ghost use Rattle.latch_space.specs.Has.{IsKnown};
 ghost use Rattle.latch_space.specs.Passes.{view, count, IsSamePass};
 ghost use Rattle.latch_space.specs.Spaces.{IsPassOf};
 ghost use Rattle.forest_world.specs.Held.{shape_of_pass};
-ghost use Rattle.call_law.specs.Hands.{HoldsNoPool};
+ghost use Rattle.call_law.specs.Hands.{HoldsNoTable};
 ghost use Rattle.buffer_pool.specs.Forests.{IsForest, IsFittedTree};
 ghost use Rattle.buffer_pool.specs.Pages.{IsLive, HoldsOtherPages};
 ghost use Rattle.buffer_pool.specs.Pages.{PagesIn, PagesInIf, TellsPageTry, HasTreePage};
@@ -24,8 +24,8 @@ pub fn page_in<R: Wait>(space: &ForestSpace, pass: &mut ForestPass, page: u32, w
     requires live { IsLive (view pass.old) page }
     requires known { IsKnown pass.old }
     requires others { HoldsOtherPages (view pass.old) page }
-    requires pool { HoldsNoPool (view pass.old) }
-    requires room { count pass.old + 2 ≤ MAX_HELD }
+    requires tables { HoldsNoTable (view pass.old) }
+    requires room { count pass.old + 3 ≤ MAX_HELD }
     ensures own { IsSamePass pass.old pass.new × IsPassOf space.now pass.new }
     ensures took { PagesIn pass.old page result pass.new }
     ensures fits { IsFittedTree (view pass.new) }
@@ -52,8 +52,8 @@ pub fn page_if<R: Wait>(
     requires there { page < (shape_of_pass pass.old).pages }
     requires known { IsKnown pass.old }
     requires others { HoldsOtherPages (view pass.old) page }
-    requires pool { HoldsNoPool (view pass.old) }
-    requires room { count pass.old + 2 ≤ MAX_HELD }
+    requires tables { HoldsNoTable (view pass.old) }
+    requires room { count pass.old + 3 ≤ MAX_HELD }
     ensures own { IsSamePass pass.old pass.new × IsPassOf space.now pass.new }
     ensures did { PagesInIf pass.old page index level result pass.new }
     ensures fits { IsFittedTree (view pass.new) }
@@ -80,8 +80,8 @@ pub fn try_page<R: Wait>(
     requires live { IsLive (view pass.old) page }
     requires known { IsKnown pass.old }
     requires others { HoldsOtherPages (view pass.old) page }
-    requires pool { HoldsNoPool (view pass.old) }
-    requires room { count pass.old + 2 ≤ MAX_HELD }
+    requires tables { HoldsNoTable (view pass.old) }
+    requires room { count pass.old + 3 ≤ MAX_HELD }
     ensures own { IsSamePass pass.old pass.new × IsPassOf space.now pass.new }
     ensures did { TellsPageTry pass.old page result pass.new }
     ensures fits { IsFittedTree (view pass.new) }
@@ -110,8 +110,8 @@ fn hold_page<R: Wait>(
     requires there { page < (shape_of_pass pass.old).pages }
     requires known { IsKnown pass.old }
     requires others { HoldsOtherPages (view pass.old) page }
-    requires pool { HoldsNoPool (view pass.old) }
-    requires room { count pass.old + 2 ≤ MAX_HELD }
+    requires tables { HoldsNoTable (view pass.old) }
+    requires room { count pass.old + 3 ≤ MAX_HELD }
     ensures own { IsSamePass pass.old pass.new × IsPassOf space.now pass.new }
     ensures did { HoldsIf pass.old page result pass.new }
     ensures fits { IsFittedTree (view pass.new) }

@@ -18,7 +18,7 @@ use crate::ages::{forget_age, touch};
 use crate::hands::frame_out;
 use crate::pools::{pool_back, pool_out};
 use crate::turning::{load, put_page, turn, unload};
-use forest_world::{ForestPass, ForestSpace, Stored, Where};
+use forest_world::{ForestPass, ForestSpace, Stored, Where, hands_keep_the_hash};
 use index_page::Page;
 
 /// The block gets a new age.
@@ -33,6 +33,7 @@ pub(crate) fn set_age(space: &ForestSpace, pass: &mut ForestPass, block: u32)
     ensures fits { IsFittedTree (view pass.new) }
 {
     pass.fits();
+    hands_keep_the_hash();
     let mut pool = pool_out(space, pass);
     touch(&mut pool, block);
     pool_back(space, pass, pool);

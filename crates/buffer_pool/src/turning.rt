@@ -10,7 +10,8 @@ ghost use Rattle.buffer_pool.specs.Turning.{PutsPage, UnloadsFrame, loaded_with,
 
 use crate::hands::frame_back;
 use crate::pools::pool_back;
-use forest_world::{ForestPass, ForestSpace, Frame, Pool, Stored, Where};
+use forest_world::{ForestPass, ForestSpace, Frame, Pool, Stored, Where, hands_keep_the_hash};
+use learning::BlockFigures;
 use std::mem;
 
 /// The frame and the pool, which were taken out, come back as these, and that is made known.
@@ -21,6 +22,7 @@ pub(crate) fn turn(space: &ForestSpace, pass: &mut ForestPass, block: u32, frame
     ensures turned { TurnsBack pass.old block frame pool pass.new }
     ensures fits { IsFittedTree (view pass.new) }
 {
+    hands_keep_the_hash();
     frame_back(space, pass, block, frame);
     pool_back(space, pass, pool);
     space.settle(pass);
@@ -57,12 +59,13 @@ pub(crate) fn unload(mut frame: Frame) -> (Frame, Stored)
     (frame, Stored { page, low, high })
 }
 
-/// The frame with this page in these bounds.
+/// The frame with this page in these bounds, and the figures that a block begins with.
 pub(crate) fn load(mut frame: Frame, stored: Stored) -> Frame
     ensures { result ≡ loaded_with frame stored }
 {
     frame.page = Some(stored.page);
     frame.low = stored.low;
     frame.high = stored.high;
+    frame.figures = BlockFigures::opening();
     frame
 }

@@ -1,5 +1,5 @@
 //! Room for a page: the frame of the lowest age that one try takes, without its page.
-ghost use Rattle.std.specs.Prelude.{◌≡◌, ◌<◌, Some, is_some};
+ghost use Rattle.std.specs.Prelude.{◌≡◌, ◌<◌, ◌+◌, ◌≤◌, Some, is_some};
 ghost use Rattle.latch_space.specs.declared.TheConstants.{MAX_HELD};
 ghost use Rattle.latch_space.specs.Has.{IsKnown};
 ghost use Rattle.latch_space.specs.Passes.{view, count, IsSamePass};
@@ -11,6 +11,7 @@ ghost use Rattle.forest_law.specs.declared.objects.Pool.{Pool};
 ghost use Rattle.forest_law.specs.Numbers.{frames_of};
 ghost use Rattle.forest_law.specs.Outside.{HasNoOutside};
 ghost use Rattle.forest_world.specs.Held.{shape_of_pass};
+ghost use Rattle.call_law.specs.Hands.{HoldsNoPart};
 ghost use Rattle.buffer_pool.specs.Forests.{IsForest, IsFittedTree};
 ghost use Rattle.buffer_pool.specs.Tries.{KnowsPool, HoldsPoolAndFrame};
 ghost use Rattle.buffer_pool.specs.Turning.{EmptiesFrame};
@@ -18,19 +19,26 @@ ghost use Rattle.buffer_pool.specs.Victims.{TellsOther, TellsVictim, TellsRoomFo
 
 use crate::frames::{holds_frame, try_frame};
 use crate::hands::{frame, frame_out};
+use crate::parts::unhash_block;
 use crate::pools::{pool, pool_out};
 use crate::turning::{put_page, turn, unload};
 use forest_world::{ForestPass, ForestSpace, Frame, Where};
 use latch_space::Take;
+use std::sync::Wait;
 
 /// Holds the frame of the lowest age that one try takes, and of equal ages that of the lowest
 /// block, and sees to it that it has no page: its page goes to its image. Frames that the pass
 /// holds are passed over. The pool is held, so nothing is waited for.
-pub(crate) fn make_room(space: &ForestSpace, pass: &mut ForestPass) -> Option<u32>
+pub(crate) fn make_room<R: Wait>(
+    space: &ForestSpace,
+    pass: &mut ForestPass,
+    wait: &R,
+) -> Option<u32>
     requires own { IsForest space.now × IsPassOf space.now pass.old }
     requires known { IsKnown pass.old }
     requires pool { (t : Object) × (x : Pool) × KnowsPool (view pass.old) t x }
-    requires room { count pass.old < MAX_HELD }
+    requires parts { HoldsNoPart (view pass.old) }
+    requires room { count pass.old + 2 ≤ MAX_HELD }
     ensures own { IsSamePass pass.old pass.new × IsPassOf space.now pass.new }
     ensures did { (t : Object) (x : Pool) → KnowsPool (view pass.old) t x
         → TellsRoomFor pass.old t x result pass.new }
@@ -39,7 +47,7 @@ pub(crate) fn make_room(space: &ForestSpace, pass: &mut ForestPass) -> Option<u3
     let Some(block) = try_victim(space, pass) else {
         return None;
     };
-    empty_frame(space, pass, block);
+    empty_frame(space, pass, block, wait);
     Some(block)
 }
 
@@ -89,10 +97,12 @@ fn try_other(space: &ForestSpace, pass: &mut ForestPass, block: u32) -> bool
 }
 
 // The page of the block's frame, if it has one, goes to its image.
-fn empty_frame(space: &ForestSpace, pass: &mut ForestPass, block: u32)
+fn empty_frame<R: Wait>(space: &ForestSpace, pass: &mut ForestPass, block: u32, wait: &R)
     requires own { IsForest space.now × IsPassOf space.now pass.old }
     requires both { (t : Object) × (x : Pool) × (f : Frame)
         × HoldsPoolAndFrame pass.old block t x f × HasNoOutside f }
+    requires parts { HoldsNoPart (view pass.old) }
+    requires room { count pass.old < MAX_HELD }
     ensures own { IsSamePass pass.old pass.new × IsPassOf space.now pass.new }
     ensures empty { (t : Object) (x : Pool) (f : Frame) → HoldsPoolAndFrame pass.old block t x f
         → EmptiesFrame pass.old block t x pass.new }
@@ -102,7 +112,7 @@ fn empty_frame(space: &ForestSpace, pass: &mut ForestPass, block: u32)
     if !has_page(frame(space, pass, block)) {
         return;
     }
-    evict(space, pass, block);
+    evict(space, pass, block, wait);
 }
 
 // Whether the frame has a page.
@@ -112,17 +122,20 @@ fn has_page(frame: &Frame) -> bool
     frame.page.is_some()
 }
 
-// The page of the block's frame goes to its image, with its bounds.
-fn evict(space: &ForestSpace, pass: &mut ForestPass, block: u32)
+// The page of the block's frame goes to its image, with its bounds. Its nodes leave the hash first.
+fn evict<R: Wait>(space: &ForestSpace, pass: &mut ForestPass, block: u32, wait: &R)
     requires own { IsForest space.now × IsPassOf space.now pass.old }
     requires both { (t : Object) × (x : Pool) × (f : Frame) × (page : PageRows)
         × HoldsPoolAndFrame pass.old block t x f × (f.page ≡ Some page) × HasNoOutside f }
+    requires parts { HoldsNoPart (view pass.old) }
+    requires room { count pass.old < MAX_HELD }
     ensures own { IsSamePass pass.old pass.new × IsPassOf space.now pass.new }
     ensures empty { (t : Object) (x : Pool) (f : Frame) → HoldsPoolAndFrame pass.old block t x f
         → EmptiesFrame pass.old block t x pass.new }
     ensures fits { IsFittedTree (view pass.new) }
 {
     pass.fits();
+    unhash_block(space, pass, block, wait);
     let frame = frame_out(space, pass, block);
     let mut pool = pool_out(space, pass);
     let (frame, stored) = unload(frame);

@@ -1,5 +1,5 @@
 use Rattle.std.proofs.Common.{◌<◌, sym, subst, refl, arith}
-use Rattle.buffer_pool.proofs.AgainLemmas.{passes_both, gives_none, gives_shape, gives_no_pool, gives_both}
+use Rattle.buffer_pool.proofs.AgainLemmas.{passes_both, gives_none, gives_shape, gives_no_table, gives_both}
 use Rattle.buffer_pool.proofs.FreeLemmas.{gives_free, gives_full}
 use Rattle.buffer_pool.proofs.free_numbers.hold_room.Goals as goal
 
@@ -20,9 +20,9 @@ try_room-requires-clause-index g c = subst (λ s. c.args.index < s.indexes)
 pub try_room-requires-clause-known : goal.try_room-requires-clause-known
 try_room-requires-clause-known g c = c.loop.invariant.gives.got.silently.does.known
 
-pub try_room-requires-clause-pool : goal.try_room-requires-clause-pool
-try_room-requires-clause-pool g c = gives_no_pool c.args.pass.now c.loop.pass
-    c.loop.invariant.gives c.requires.pool
+pub try_room-requires-clause-tables : goal.try_room-requires-clause-tables
+try_room-requires-clause-tables g c = gives_no_table c.args.pass.now c.loop.pass
+    c.loop.invariant.gives c.requires.tables
 
 pub try_room-requires-clause-room : goal.try_room-requires-clause-room
 try_room-requires-clause-room g c = let same = c.loop.invariant.gives.got.count in

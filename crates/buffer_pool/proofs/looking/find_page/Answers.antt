@@ -7,30 +7,30 @@ use Rattle.buffer_pool.proofs.VictimLemmas.{tries_none}
 use Rattle.buffer_pool.proofs.looking.find_page.Goals as goal
 
 pub pool-requires : goal.pool-requires
-pool-requires c = let h = c.requires.pool in
+pool-requires g c = let h = c.requires.pool in
     (h.1, h.1, pool_has c.args.pass.now c.requires.known h.0 h.1 h.2)
 
 pub place_of-requires : goal.place_of-requires
-place_of-requires c = let h = c.requires.pool in let f = c.fits.ensures in
+place_of-requires g c = let h = c.requires.pool in let f = c.fits.ensures in
     let counted = places_counted f.whole f.is_lawful (view c.args.pass.now) f.fits h.0 h.1 h.2 in
     let same = ap (λ z. length z.place.items) (c.pool.ensures h.1 h.1
     (pool_has c.args.pass.now c.requires.known h.0 h.1 h.2)) in
     let there = c.requires.there in omega (arith, counted, same, there)
 
 pub hold_named-requires-clause-pool : goal.hold_named-requires-clause-pool
-hold_named-requires-clause-pool c = let h = c.requires.pool in
+hold_named-requires-clause-pool g c = let h = c.requires.pool in
     let same = ap (λ z. where_at z.place.items c.args.page) (c.pool.ensures h.1 h.1
     (pool_has c.args.pass.now c.requires.known h.0 h.1 h.2)) in
     (h.0, h.1, h.2, sym same ∙ (sym c.place_of.ensures ∙ c.in-InFrame.is))
 
 pub hold_image-requires-clause-pool : goal.hold_image-requires-clause-pool
-hold_image-requires-clause-pool c = let h = c.requires.pool in
+hold_image-requires-clause-pool g c = let h = c.requires.pool in
     let same = ap (λ z. where_at z.place.items c.args.page) (c.pool.ensures h.1 h.1
     (pool_has c.args.pass.now c.requires.known h.0 h.1 h.2)) in
     (h.0, h.1, h.2, sym same ∙ (sym c.place_of.ensures ∙ c.in-Image.is))
 
 pub returns-in-Free-clause-did : goal.returns-in-Free-clause-did
-returns-in-Free-clause-did c = λ t x held.
+returns-in-Free-clause-did g c = λ t x held.
     let same = ap (λ z. where_at z.place.items c.args.page) (c.pool.ensures x x
     (pool_has c.args.pass.now c.requires.known t x held)) in
     record {

@@ -5,12 +5,12 @@ use Rattle.buffer_pool.proofs.LookLemmas.{one_pool, room_restores, holds_restore
 use Rattle.buffer_pool.proofs.looking.hold_image.Goals as goal
 
 pub restore-requires-clause-may : goal.restore-requires-clause-may
-restore-requires-clause-may c = let h = c.requires.pool in
+restore-requires-clause-may g c = let h = c.requires.pool in
     room_restores c.args.pass.now c.make_room.new.pass h.0 h.1 c.args.page c.in-Some.block
     (c.in-Some.ensures.did h.0 h.1 h.2) h.3
 
 pub returns-clause-did : goal.returns-clause-did
-returns-clause-did c = λ t x held. let room = c.in-Some.ensures.did t x held in
+returns-clause-did g c = λ t x held. let room = c.in-Some.ensures.did t x held in
     let h = c.requires.pool in
     holds_restored c.args.pass.now c.make_room.new.pass t x c.args.page c.in-Some.block room
     (subst (λ z. where_at z.place.items c.args.page ≡ Image)

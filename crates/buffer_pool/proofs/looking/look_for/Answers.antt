@@ -1,7 +1,7 @@
 use Rattle.std.proofs.Common.{◌<◌, sym, ap, subst}
 use Rattle.forest_law.specs.declared.objects.Object.TheVariants as object
 use Rattle.buffer_pool.proofs.CallLemmas.{pool_has}
-use Rattle.buffer_pool.proofs.GiveLemmas.{first, pool_taken, others_then, looks_for}
+use Rattle.buffer_pool.proofs.GiveLemmas.{first, pool_taken, parts_then, others_then, looks_for}
 use Rattle.buffer_pool.proofs.LookLemmas.{pool_after}
 use Rattle.buffer_pool.proofs.looking.look_for.Goals as goal
 
@@ -11,25 +11,29 @@ find_page-found-requires-clause-there g c = subst (λ s. c.args.page < s.pages)
 
 pub find_page-found-requires-clause-known : goal.find_page-found-requires-clause-known
 find_page-found-requires-clause-known g c =
-    (first c.args.pass.now c.take_pool.new.pass c.requires.known c.requires.pool
+    (first c.args.pass.now c.take_pool.new.pass c.requires.known c.requires.tables
     c.take_pool.ensures.took).known
 
 pub find_page-found-requires-clause-others : goal.find_page-found-requires-clause-others
 find_page-found-requires-clause-others g c =
-    others_then c.args.pass.now c.take_pool.new.pass c.requires.known c.requires.pool
+    others_then c.args.pass.now c.take_pool.new.pass c.requires.known c.requires.tables
     c.take_pool.ensures.took c.args.page c.requires.others
 
 pub find_page-found-requires-clause-pool : goal.find_page-found-requires-clause-pool
 find_page-found-requires-clause-pool g c = let took = c.take_pool.ensures.took in (
   object.Pool took.pool,
   took.pool,
-  pool_taken c.args.pass.now c.take_pool.new.pass c.requires.known c.requires.pool took,
+  pool_taken c.args.pass.now c.take_pool.new.pass c.requires.known c.requires.tables took,
 )
+
+pub find_page-found-requires-clause-parts : goal.find_page-found-requires-clause-parts
+find_page-found-requires-clause-parts g c = parts_then c.args.pass.now c.take_pool.new.pass
+    c.requires.known c.requires.tables c.take_pool.ensures.took
 
 pub give_pool_back-requires-clause-held : goal.give_pool_back-requires-clause-held
 give_pool_back-requires-clause-held g c = let took = c.take_pool.ensures.took in
     let p1 = c.take_pool.new.pass in let q1 = c.find_page-found.new.pass in
-    let taken = pool_taken c.args.pass.now p1 c.requires.known c.requires.pool took in
+    let taken = pool_taken c.args.pass.now p1 c.requires.known c.requires.tables took in
     let after = pool_after p1 q1 (object.Pool took.pool) took.pool c.args.page
     c.find_page-found.result taken
     (c.find_page-found.ensures.did (object.Pool took.pool) took.pool taken) in
@@ -38,7 +42,7 @@ give_pool_back-requires-clause-held g c = let took = c.take_pool.ensures.took in
 pub returns-clause-did : goal.returns-clause-did
 returns-clause-did g c = let took = c.take_pool.ensures.took in
     let p1 = c.take_pool.new.pass in let q1 = c.find_page-found.new.pass in
-    looks_for c.args.pass.now p1 c.requires.known c.requires.pool took q1
+    looks_for c.args.pass.now p1 c.requires.known c.requires.tables took q1
     c.give_pool_back.new.pass c.give_pool_back.ensures.gave c.args.page c.find_page-found.result
     (c.find_page-found.ensures.did (object.Pool took.pool) took.pool
-    (pool_taken c.args.pass.now p1 c.requires.known c.requires.pool took))
+    (pool_taken c.args.pass.now p1 c.requires.known c.requires.tables took))

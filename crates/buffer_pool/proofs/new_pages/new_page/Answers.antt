@@ -17,7 +17,7 @@ pub bring-requires-clause-may : goal.bring-requires-clause-may
 bring-requires-clause-may g c = may_new c.args.pass.now c.hold_room.new.pass c.args.head
     c.in_ok-number.number c.in_ok-number.block c.in_ok-number.ensures.ok c.restart.new.self
     (c.restart.ensures.head ∙ c.own_head-2.ensures) c.restart.ensures.rows
-    c.hold_room.ensures.fits c.requires.fields c.requires.inside
+    c.hold_room.ensures.fits c.requires.index c.requires.fields c.requires.inside
 
 pub give_pool_back-requires-clause-held : goal.give_pool_back-requires-clause-held
 give_pool_back-requires-clause-held g c = let free = c.in_ok-number.ensures.ok in
@@ -37,4 +37,4 @@ returns-clause-ok g c = let free = c.in_ok-number.ensures.ok in
     c.give_pool_back.new.pass
     (c.bring.ensures.brought (object.Pool free.pool) free.now free.frame
     (free_both c.args.pass.now c.hold_room.new.pass c.args.head c.in_ok-number.number
-    c.in_ok-number.block free)) c.give_pool_back.ensures.gave c.requires.pool
+    c.in_ok-number.block free)) c.give_pool_back.ensures.gave c.requires.tables

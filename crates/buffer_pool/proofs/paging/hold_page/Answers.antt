@@ -1,5 +1,5 @@
 use Rattle.std.proofs.Common.{◌<◌, sym, subst, refl, arith}
-use Rattle.buffer_pool.proofs.AgainLemmas.{passes_both, gives_none, gives_shape, gives_others, gives_no_pool, gives_both, gives_pages, gives_finds_none, refused_gives}
+use Rattle.buffer_pool.proofs.AgainLemmas.{passes_both, gives_none, gives_shape, gives_others, gives_no_table, gives_both, gives_pages, gives_finds_none, refused_gives}
 use Rattle.buffer_pool.proofs.paging.hold_page.Goals as goal
 
 pub loop-init : goal.loop-init
@@ -23,9 +23,9 @@ pub look_for-requires-clause-others : goal.look_for-requires-clause-others
 look_for-requires-clause-others g c = gives_others c.args.pass.now c.loop.pass
     c.loop.invariant.gives c.args.page c.requires.others
 
-pub look_for-requires-clause-pool : goal.look_for-requires-clause-pool
-look_for-requires-clause-pool g c = gives_no_pool c.args.pass.now c.loop.pass
-    c.loop.invariant.gives c.requires.pool
+pub look_for-requires-clause-tables : goal.look_for-requires-clause-tables
+look_for-requires-clause-tables g c = gives_no_table c.args.pass.now c.loop.pass
+    c.loop.invariant.gives c.requires.tables
 
 pub look_for-requires-clause-room : goal.look_for-requires-clause-room
 look_for-requires-clause-room g c = let same = c.loop.invariant.gives.got.count in

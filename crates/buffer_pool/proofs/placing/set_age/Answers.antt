@@ -30,6 +30,7 @@ settle-requires-clause-rule c = let h = c.requires.pool in
     age_follows c.args.pass.now c.pool_out-pool.new.pass c.requires.known
     c.pool_out-pool.result c.pool_out-pool.ensures.out h.0 h.1 h.2
     c.args.block c.touch.new.pool c.touch.ensures c.pool_back.new.pass c.pool_back.ensures.back
+    c.hands_keep_the_hash.ensures
 
 pub returns-clause-aged : goal.returns-clause-aged
 returns-clause-aged c = λ t x held.

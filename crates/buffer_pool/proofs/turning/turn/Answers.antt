@@ -20,6 +20,7 @@ pub settle-requires-clause-rule : goal.settle-requires-clause-rule
 settle-requires-clause-rule c =
     turn_follows c.args.pass.now c.frame_back.new.pass c.args.block c.args.frame c.args.pool
     c.requires.may c.frame_back.ensures.back c.pool_back.new.pass c.pool_back.ensures.back
+    c.hands_keep_the_hash.ensures
 
 pub returns-clause-turned : goal.returns-clause-turned
 returns-clause-turned c =

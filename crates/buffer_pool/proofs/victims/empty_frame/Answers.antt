@@ -4,11 +4,11 @@ use Rattle.buffer_pool.proofs.EmptyLemmas.{page_of_some, page_of_none, empties_i
 use Rattle.buffer_pool.proofs.victims.empty_frame.Goals as goal
 
 pub frame-requires-clause-held : goal.frame-requires-clause-held
-frame-requires-clause-held c = let h = c.requires.both in
+frame-requires-clause-held g c = let h = c.requires.both in
     (h.2, h.2, frame_has c.args.pass.now h.3.known c.args.block h.2 h.3.frame)
 
 pub returns-then-not-has_page-clause-empty : goal.returns-then-not-has_page-clause-empty
-returns-then-not-has_page-clause-empty c = λ t x f both.
+returns-then-not-has_page-clause-empty g c = λ t x f both.
     empties_itself c.args.pass.now c.args.block t x f both c.fits.ensures
     (page_of_none f.page
     (ap (λ z. is_some z.page)
@@ -16,7 +16,7 @@ returns-then-not-has_page-clause-empty c = λ t x f both.
     ∙ (sym c.has_page.ensures ∙ c.if-not-has_page.true)))
 
 pub evict-requires-clause-both : goal.evict-requires-clause-both
-evict-requires-clause-both c = let h = c.requires.both in
+evict-requires-clause-both g c = let h = c.requires.both in
     let has = frame_has c.args.pass.now h.3.known c.args.block h.2 h.3.frame in
     let page = page_of_some h.2.page
     (ap (λ z. is_some z.page) (sym (c.frame.ensures h.2 h.2 has))

@@ -1,59 +1,98 @@
-use Rattle.std.proofs.Common.{ap, ◌∙◌}
+use Rattle.std.proofs.Common.{ap, ◌∙◌, refl}
+use Rattle.hash_maintain.specs.Leaves.{unhashed}
 use Rattle.buffer_pool.proofs.CallLemmas.{frame_has, pool_has}
-use Rattle.buffer_pool.proofs.EvictLemmas.{unloaded_place, unloaded_image, may_evict, evicts}
+use Rattle.buffer_pool.proofs.EvictLemmas.{unloaded_place, unloaded_image, may_evict, evict_turns, evict_empty, evict_clears}
+use Rattle.buffer_pool.proofs.GivingLemmas.{unhashed_both, unhashed_empties}
 use Rattle.buffer_pool.proofs.TurnLemmas.{frame_is}
 use Rattle.buffer_pool.proofs.victims.evict.Goals as goal
 
 pub frame_out-frame-requires-clause-held : goal.frame_out-frame-requires-clause-held
-frame_out-frame-requires-clause-held c = let h = c.requires.both in
-    (h.2, h.2, frame_has c.args.pass.now h.4.known c.args.block h.2 h.4.frame)
+frame_out-frame-requires-clause-held g c = let h = c.requires.both in
+    let both = unhashed_both c.args.pass.now c.unhash_block.new.pass c.args.block
+    c.unhash_block.ensures.did h.0 h.1 h.2 h.4 in (
+      unhashed h.2,
+      unhashed h.2,
+      frame_has c.unhash_block.new.pass both.known c.args.block
+          (unhashed h.2) both.frame,
+    )
 
 pub pool_out-pool-requires-clause-held : goal.pool_out-pool-requires-clause-held
-pool_out-pool-requires-clause-held c = let h = c.requires.both in (
-  h.1,
-  h.1,
-  c.frame_out-frame.ensures.out.hand.pool h.1 h.1
-      (pool_has c.args.pass.now h.4.known h.0 h.1 h.4.pool),
-)
+pool_out-pool-requires-clause-held g c = let h = c.requires.both in
+    let both = unhashed_both c.args.pass.now c.unhash_block.new.pass c.args.block
+    c.unhash_block.ensures.did h.0 h.1 h.2 h.4 in (
+      h.1,
+      h.1,
+      c.frame_out-frame.ensures.out.hand.pool h.1 h.1
+          (pool_has c.unhash_block.new.pass both.known h.0 h.1 both.pool),
+    )
 
 pub unload-frame-requires : goal.unload-frame-requires
-unload-frame-requires c = let h = c.requires.both in (
-  h.3,
-  ap (λ f. f.page)
-      (frame_is c.args.pass.now c.frame_out-frame.new.pass c.pool_out-pool.new.pass c.args.block
-      c.frame_out-frame.result c.pool_out-pool.result c.frame_out-frame.ensures.out
-      c.pool_out-pool.ensures.out h.0 h.1 h.2 h.4) ∙ h.5,
-)
+unload-frame-requires g c = let h = c.requires.both in
+    let both = unhashed_both c.args.pass.now c.unhash_block.new.pass c.args.block
+    c.unhash_block.ensures.did h.0 h.1 h.2 h.4 in (
+      h.3,
+      ap (λ f. f.page)
+          (frame_is c.unhash_block.new.pass c.frame_out-frame.new.pass c.pool_out-pool.new.pass
+          c.args.block
+          c.frame_out-frame.result c.pool_out-pool.result c.frame_out-frame.ensures.out
+          c.pool_out-pool.ensures.out h.0 h.1 (unhashed h.2) both) ∙ h.5,
+    )
 
 pub put_page-requires-clause-place : goal.put_page-requires-clause-place
-put_page-requires-clause-place c = let h = c.requires.both in
-    unloaded_place c.args.pass.now c.frame_out-frame.new.pass c.pool_out-pool.new.pass
+put_page-requires-clause-place g c = let h = c.requires.both in
+    let both = unhashed_both c.args.pass.now c.unhash_block.new.pass c.args.block
+    c.unhash_block.ensures.did h.0 h.1 h.2 h.4 in
+    unloaded_place c.unhash_block.new.pass c.frame_out-frame.new.pass c.pool_out-pool.new.pass
     c.args.block c.frame_out-frame.result c.pool_out-pool.result c.frame_out-frame.ensures.out
-    c.pool_out-pool.ensures.out h.0 h.1 h.2 h.4 c.fits.ensures c.unload-frame.result.0
+    c.pool_out-pool.ensures.out h.0 h.1 (unhashed h.2) both c.unhash_block.ensures.fits
+    c.unload-frame.result.0
     c.unload-frame.result.1 c.unload-frame.ensures c.head.result.now.number
     (ap (λ z. z.number) c.head.ensures)
 
 pub put_page-requires-clause-image : goal.put_page-requires-clause-image
-put_page-requires-clause-image c = let h = c.requires.both in
-    unloaded_image c.args.pass.now c.frame_out-frame.new.pass c.pool_out-pool.new.pass
+put_page-requires-clause-image g c = let h = c.requires.both in
+    let both = unhashed_both c.args.pass.now c.unhash_block.new.pass c.args.block
+    c.unhash_block.ensures.did h.0 h.1 h.2 h.4 in
+    unloaded_image c.unhash_block.new.pass c.frame_out-frame.new.pass c.pool_out-pool.new.pass
     c.args.block c.frame_out-frame.result c.pool_out-pool.result c.frame_out-frame.ensures.out
-    c.pool_out-pool.ensures.out h.0 h.1 h.2 h.4 c.fits.ensures c.unload-frame.result.0
+    c.pool_out-pool.ensures.out h.0 h.1 (unhashed h.2) both c.unhash_block.ensures.fits
+    c.unload-frame.result.0
     c.unload-frame.result.1 c.unload-frame.ensures c.head.result.now.number
     (ap (λ z. z.number) c.head.ensures)
 
 pub turn-requires-clause-may : goal.turn-requires-clause-may
-turn-requires-clause-may c = let h = c.requires.both in
-    may_evict c.args.pass.now c.frame_out-frame.new.pass c.pool_out-pool.new.pass
+turn-requires-clause-may g c = let h = c.requires.both in
+    let both = unhashed_both c.args.pass.now c.unhash_block.new.pass c.args.block
+    c.unhash_block.ensures.did h.0 h.1 h.2 h.4 in
+    may_evict c.unhash_block.new.pass c.frame_out-frame.new.pass c.pool_out-pool.new.pass
     c.args.block c.frame_out-frame.result c.pool_out-pool.result c.frame_out-frame.ensures.out
-    c.pool_out-pool.ensures.out h.0 h.1 h.2 h.4 c.fits.ensures c.unload-frame.result.0
+    c.pool_out-pool.ensures.out h.0 h.1 (unhashed h.2) both c.unhash_block.ensures.fits
+    c.unload-frame.result.0
     c.unload-frame.result.1 c.unload-frame.ensures c.head.result.now.number
-    (ap (λ z. z.number) c.head.ensures) c.put_page.new.pool c.put_page.ensures.puts h.6
+    (ap (λ z. z.number) c.head.ensures) c.put_page.new.pool c.put_page.ensures.puts h.6 refl
+
+pub unhash_block-requires-clause-held : goal.unhash_block-requires-clause-held
+unhash_block-requires-clause-held g c = let h = c.requires.both in (h.2, h.4.frame)
+
+pub unhash_block-requires-clause-known : goal.unhash_block-requires-clause-known
+unhash_block-requires-clause-known g c = c.requires.both.4.known
 
 pub returns-clause-empty : goal.returns-clause-empty
-returns-clause-empty c = λ t x f both.
-    evicts c.args.pass.now c.frame_out-frame.new.pass c.pool_out-pool.new.pass
-    c.args.block c.frame_out-frame.result c.pool_out-pool.result c.frame_out-frame.ensures.out
-    c.pool_out-pool.ensures.out t x f both c.fits.ensures c.unload-frame.result.0
-    c.unload-frame.result.1 c.unload-frame.ensures c.head.result.now.number
-    (ap (λ z. z.number) c.head.ensures) c.put_page.new.pool c.put_page.ensures.puts
-    c.turn.new.pass c.turn.ensures.turned
+returns-clause-empty g c = λ t x f both.
+    let u = c.unhash_block.new.pass in let p1 = c.frame_out-frame.new.pass in
+    let p2 = c.pool_out-pool.new.pass in let b = c.args.block in
+    let frame = c.frame_out-frame.result in let pool = c.pool_out-pool.result in
+    let out = c.frame_out-frame.ensures.out in let outside = c.pool_out-pool.ensures.out in
+    let did = c.unhash_block.ensures.did in
+    let then = unhashed_both c.args.pass.now u b did t x f both in
+    let fits = c.unhash_block.ensures.fits in let y = c.put_page.new.pool in
+    let puts = c.put_page.ensures.puts in let g' = c.unload-frame.result.0 in
+    let s = c.unload-frame.result.1 in let unloads = c.unload-frame.ensures in
+    let n = c.head.result.now.number in let number = ap (λ z. z.number) c.head.ensures in
+    unhashed_empties c.args.pass.now u b did t x c.turn.new.pass y g'
+    (evict_turns u p1 p2 b frame pool out outside t x (unhashed f) then fits g' s unloads n number
+    y puts c.turn.new.pass c.turn.ensures.turned)
+    (evict_empty u p1 p2 b frame pool out outside t x (unhashed f) then fits g' s unloads n number
+    y puts)
+    (evict_clears u p1 p2 b frame pool out outside t x (unhashed f) then fits g' s unloads n number
+    y puts)
