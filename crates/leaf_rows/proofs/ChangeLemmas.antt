@@ -16,7 +16,7 @@ use Rattle.tree_law.specs.Pages.{row_pairs}
 use Rattle.clock_law.specs.ModifyClock.{last_clock}
 use Rattle.clock_law.proofs.LaterLemmas.{changes}
 use Rattle.forest_law.specs.declared.objects.Frame.{Frame}
-use Rattle.leaf_rows.specs.Changing.{PutsRow, HasRowOf, TakesRowOut}
+use Rattle.leaf_rows.specs.Changing.{PutsRow, HasRowOf, TakesRowOut, hashed_as}
 use Rattle.leaf_rows.specs.Laws.{RowsAreTakenOut}
 use Rattle.leaf_rows.proofs.ValueLemmas.{not_before, pairs_ascend}
 
@@ -81,11 +81,12 @@ module _ (f g : Frame) (place : ℕ) (key : FieldList) (value : List ℕ)
         head = sym puts.head;
       }))
 
-  -- the frame without a row that was put in is what it was, where the clock is as it was
-  pub taken_back : record g { page = option_map (page_without place) g.page } ≡ f
+  -- the frame without a row that was put in is what it was, where the clock is as it was, but for how
+  -- it is hashed
+  pub taken_back : record g { page = option_map (page_without place) g.page } ≡ hashed_as g f
   taken_back =
       ap (λ (h : Frame). record h { page = option_map (page_without place) h.page }) puts.kept
-      ∙ ap (λ o. record f { page = o }) (ap Some put_page ∙ sym puts.had)
+      ∙ ap (λ o. hashed_as g (record f { page = o })) (ap Some put_page ∙ sym puts.had)
 
 -- the rows without the one at a place are those around it
 rows_around : (page : PageRows) (place : ℕ) (row : Row) → IsPageInOrder page

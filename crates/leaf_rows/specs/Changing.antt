@@ -36,13 +36,17 @@ pub record IsFullFor (f : Frame) (key : FieldList) (value : List ℕ) (e : PageE
   pub more : free_of page < charge_of key (Bytes value)
   pub is : e ≡ PageFull (charge_of key (Bytes value)) (free_of page)
 
--- the key's row was put in at the place, and all else in the frame is as before: as a map the leaf
--- is what a put makes of it
+-- the frame f, hashed as g is
+abbrev pub hashed_as : Frame → Frame → Frame
+hashed_as g f = record f { figures = g.figures; hashed = g.hashed }
+
+-- the key's row was put in at the place, and all else in the frame is as before, but perhaps how it
+-- is hashed: as a map the leaf is what a put makes of it
 pub record PutsRow (f g : Frame) (place : ℕ) (key : FieldList) (value : List ℕ) : Type 0 where
   pub page : PageRows
   pub new : PageRows
   pub had : f.page ≡ Some page
-  pub kept : g ≡ record f { page = Some new }
+  pub kept : g ≡ hashed_as g (record f { page = Some new })
   pub head : new.head ≡ page.head
   pub absent : value_at key (row_pairs page.rows) ≡ None
   pub there : find_row place new.rows ≡ Some (placed_row place key (Bytes value))

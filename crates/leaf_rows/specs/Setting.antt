@@ -14,7 +14,7 @@ use Rattle.tree_law.specs.Pages.{row_pairs}
 use Rattle.clock_law.specs.ModifyClock.{raised}
 use Rattle.forest_law.specs.declared.objects.Frame.{Frame}
 use Rattle.forest_law.specs.RowSteps.{SetsRow}
-use Rattle.leaf_rows.specs.Changing.{HasRowOf}
+use Rattle.leaf_rows.specs.Changing.{HasRowOf, hashed_as}
 
 -- the rows, of which the one at a place has this value
 abbrev pub rows_with : ℕ → List ℕ → List Row → List Row
@@ -48,14 +48,14 @@ IsLongerValue f place value = (key : FieldList) (has : HasRowOf f place key)
 abbrev pub SetsSomewhere : PageRows → PageRows → ℕ → List ℕ → Type 0
 SetsSomewhere old new place value = (other : ℕ) × Sets old new place other value
 
--- the key's row got this value, and all else in the frame is as before but for its clock: as a map
--- the leaf is what a set makes of it
+-- the key's row got this value, and all else in the frame is as before, but for its clock and perhaps
+-- how it is hashed: as a map the leaf is what a set makes of it
 pub record SetsValue (f g : Frame) (key : FieldList) (value : List ℕ) : Type 0 where
   pub page : PageRows
   pub new : PageRows
   pub before : List ℕ
   pub had : f.page ≡ Some page
-  pub kept : g ≡ record f { page = Some new; clock = g.clock }
+  pub kept : g ≡ hashed_as g (record f { page = Some new; clock = g.clock })
   pub head : new.head ≡ page.head
   pub level : page.head.level ≡ 0
   pub has : value_at key (row_pairs page.rows) ≡ Some before

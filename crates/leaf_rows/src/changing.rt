@@ -11,9 +11,11 @@ ghost use Rattle.index_page.specs.Refusals.{insert_refusal};
 ghost use Rattle.index_page.specs.Rows.{Bytes, placed_row, find_row};
 ghost use Rattle.tree_law.specs.Pages.{row_pairs};
 ghost use Rattle.clock_law.specs.ModifyClock.{last_clock};
+ghost use Rattle.forest_law.specs.HashSteps.{KeepsHashing};
 ghost use Rattle.leaf_rows.specs.Finding.{HasSpot};
 ghost use Rattle.leaf_rows.specs.Changing.{LacksRow, PutsRow, WasPut, HasSomeRow, TakesRowOut};
 ghost use Rattle.leaf_rows.specs.Changing.{row_refusal, IsFullFor, HasRowOf, frame_without};
+ghost use Rattle.leaf_rows.specs.Changing.{hashed_as};
 
 use crate::laws::refusals_are_full;
 use forest_law::Frame;
@@ -32,6 +34,7 @@ pub fn put_row(frame: &mut Frame, spot: &Spot, key: &Key, value: &Value) -> Resu
     ensures full { IfErr result (λ e. (e ≡ error.NoMemory)
         ⊎ IsFullFor frame.old key.now.tuple value.now e) }
     ensures err { OnErr result (frame.new ≡ frame.old) }
+    ensures hash { KeepsHashing frame.old frame.new }
 {
     refusals_are_full();
     match &mut frame.page {
@@ -77,11 +80,11 @@ fn insert_at(page: &mut Page, spot: &Spot, key: &Key, value: &Value) -> Result<P
 }
 
 /// Takes a row out again that `put_row` put in, while the clock stays: the frame is what it was
-/// before. It takes no memory.
+/// before, hashed as it is now. It takes no memory.
 pub fn take_back(frame: &mut Frame, place: Place)
     requires { WasPut frame.old place }
     ensures { (f : Frame) (key : FieldList) (value : List ℕ) → PutsRow f frame.old place key value →
-        frame.new ≡ f }
+        frame.new ≡ hashed_as frame.old f }
 {
     match &mut frame.page {
         Some(page) => delete(page, place),

@@ -2,6 +2,7 @@
 ghost use Rattle.std.specs.Prelude.{◌≡◌, ◌≤◌, ◌⊎◌, ◌==◌, ℕ, List, length, Some, Err};
 ghost use Rattle.std.specs.Prelude.{IfOk, IfErr, OnOk, OnErr, IfSome, IsSome};
 ghost use Rattle.key_tuple.specs.Order.{FieldList};
+ghost use Rattle.forest_law.specs.HashSteps.{KeepsHashing};
 ghost use Rattle.index_page.specs.declared.error.PageError.TheVariants as error;
 ghost use Rattle.index_page.specs.Page.{IsPageInOrder};
 ghost use Rattle.index_page.specs.Refusals.{set_refusal};
@@ -92,6 +93,7 @@ pub fn grow_value(
     ensures cause { IfErr result (λ e. (e ≡ error.NoMemory)
         ⊎ (value_refusal frame.old place value.now ≡ Some e)) }
     ensures err { OnErr result (frame.new ≡ frame.old) }
+    ensures hash { KeepsHashing frame.old frame.new }
 {
     let page = match &mut frame.page {
         Some(page) => page,

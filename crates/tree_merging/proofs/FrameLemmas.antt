@@ -88,12 +88,16 @@ merges_frame l l1 m r r1 n u s c left right rise other =
         page = (sym (ap (λ (f : Frame). f.page) left)) i;
         high = (sym (ap (λ (f : Frame). f.high) left)) i;
         clock = m.clock;
+        figures = (sym (ap (λ (f : Frame). f.figures) left)) i;
+        hashed = (sym (ap (λ (f : Frame). f.hashed) left)) i;
       }));
       right = right ∙ (λ i. (let x = c.right i in record x {
         page = (sym (ap (λ (f : Frame). f.page) right)) i;
         low = None;
         high = None;
         clock = n.clock;
+        figures = (sym (ap (λ (f : Frame). f.figures) right)) i;
+        hashed = (sym (ap (λ (f : Frame). f.hashed) right)) i;
       }));
     }
 
@@ -131,11 +135,15 @@ lifts_frame t t1 m b b1 n c root child rise other = record {
   root = root ∙ (λ i. (let x = c.root i in record x {
     page = (sym (ap (λ (f : Frame). f.page) root)) i;
     clock = m.clock;
+    figures = (sym (ap (λ (f : Frame). f.figures) root)) i;
+    hashed = (sym (ap (λ (f : Frame). f.hashed) root)) i;
   }));
   child = child ∙ (λ i. (let x = c.child i in record x {
     page = (sym (ap (λ (f : Frame). f.page) child)) i;
     low = None;
     high = None;
     clock = n.clock;
+    figures = (sym (ap (λ (f : Frame). f.figures) child)) i;
+    hashed = (sym (ap (λ (f : Frame). f.hashed) child)) i;
   }));
 }

@@ -39,7 +39,7 @@ pub record SuitsMerge (l r u : Frame) : Type 0 where
 
 -- the rows of the right frame's page are behind those of the left one's, which reaches to where the
 -- right one ended. The right page is empty, with no bounds; both clocks rise, and all else in the
--- frames is as before
+-- frames but how they are hashed is as before
 pub record MergesFrame (l l' r r' : Frame) (at : FieldList) : Type 0 where
   pub page : PageRows
   pub whole : PageRows
@@ -54,8 +54,21 @@ pub record MergesFrame (l l' r r' : Frame) (at : FieldList) : Type 0 where
   pub reaches : l'.high ≡ r.high
   pub rises : ClockRises l.clock l'.clock
   pub right_rises : ClockRises r.clock r'.clock
-  pub left : l' ≡ record l { page = l'.page; high = l'.high; clock = l'.clock }
-  pub right : r' ≡ record r { page = r'.page; low = None; high = None; clock = r'.clock }
+  pub left : l' ≡ record l {
+    page = l'.page;
+    high = l'.high;
+    clock = l'.clock;
+    figures = l'.figures;
+    hashed = l'.hashed;
+  }
+  pub right : r' ≡ record r {
+    page = r'.page;
+    low = None;
+    high = None;
+    clock = r'.clock;
+    figures = r'.figures;
+    hashed = r'.hashed;
+  }
 
 -- the pages of two frames suit a merge
 pub record SuitsPairIn (l r : Frame) : Type 0 where

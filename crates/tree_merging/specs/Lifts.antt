@@ -51,7 +51,7 @@ pub record LiftsIn (t t' b b' : Frame) : Type 0 where
   pub lifts : LiftsPage page top under gone
 
 -- the page of the root's frame has the rows of that of the other frame, which is empty, with no
--- bounds. Both clocks rise, and all else in the frames is as before
+-- bounds. Both clocks rise, and all else in the frames but how they are hashed is as before
 pub record LiftsFrame (t t' b b' : Frame) : Type 0 where
   pub page : PageRows
   pub top : PageRows
@@ -64,8 +64,20 @@ pub record LiftsFrame (t t' b b' : Frame) : Type 0 where
   pub lifts : LiftsPage page top under gone
   pub rises : ClockRises t.clock t'.clock
   pub under_rises : ClockRises b.clock b'.clock
-  pub root : t' ≡ record t { page = t'.page; clock = t'.clock }
-  pub child : b' ≡ record b { page = b'.page; low = None; high = None; clock = b'.clock }
+  pub root : t' ≡ record t {
+    page = t'.page;
+    clock = t'.clock;
+    figures = t'.figures;
+    hashed = t'.hashed;
+  }
+  pub child : b' ≡ record b {
+    page = b'.page;
+    low = None;
+    high = None;
+    clock = b'.clock;
+    figures = b'.figures;
+    hashed = b'.hashed;
+  }
 
 -- the page is of a root's index and number of fields, a level lower, with no neighbours, in a frame
 -- with no bounds

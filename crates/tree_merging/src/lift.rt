@@ -1,5 +1,6 @@
 //! A root that sinks to the page under it, and takes its rows.
 ghost use Rattle.std.specs.Prelude.{◌≡◌, OnOk, OnErr};
+ghost use Rattle.forest_law.specs.HashSteps.{KeepsHashing};
 ghost use Rattle.tree_merging.specs.Lifts.{SuitsLift, SuitsLiftFrames, LiftsPage, LiftsIn, LiftsFrame};
 
 use forest_law::Frame;
@@ -9,13 +10,14 @@ use std::alloc::Global;
 use tree_restructure::rise;
 
 /// Moves all rows of a root's only child to the root, in place of the pointer to it. The root gets
-/// the child's level, the child has no rows and no bounds then, and the clocks of both rise. After
-/// `NoMemory` both frames are as before.
+/// the child's level, the child has no rows and no bounds then, the clocks of both rise, and both
+/// frames are hashed as before. After `NoMemory` they are as before.
 pub fn lift_frames(alloc: Global, root: &mut Frame, child: &mut Frame) -> Result<(), NoMemory>
     requires { SuitsLiftFrames root.old child.old }
     ensures ok { OnOk result (LiftsFrame root.old root.new child.old child.new) }
     ensures err { OnErr result (root.new ≡ root.old) }
     ensures child_err { OnErr result (child.new ≡ child.old) }
+    ensures hash { KeepsHashing root.old root.new × KeepsHashing child.old child.new }
 {
     lift_in(alloc, root, child)?;
     child.low = None;

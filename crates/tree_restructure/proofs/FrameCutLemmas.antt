@@ -39,12 +39,16 @@ cuts_frame l l1 m r r1 n at key high c k h left right rise other = record {
     page = (sym (ap (λ (f : Frame). f.page) left)) i;
     high = (sym (ap (λ (f : Frame). f.high) left)) i;
     clock = m.clock;
+    figures = (sym (ap (λ (f : Frame). f.figures) left)) i;
+    hashed = (sym (ap (λ (f : Frame). f.hashed) left)) i;
   }));
   right = right ∙ (λ i. (let x = c.right i in record x {
     page = (sym (ap (λ (f : Frame). f.page) right)) i;
     low = (sym (ap (λ (f : Frame). f.low) right)) i;
     high = (sym (ap (λ (f : Frame). f.high) right)) i;
     clock = n.clock;
+    figures = (sym (ap (λ (f : Frame). f.figures) right)) i;
+    hashed = (sym (ap (λ (f : Frame). f.hashed) right)) i;
   }));
 }
 
@@ -68,12 +72,16 @@ raises_frame t t1 m b b1 n c root under rise other = record {
   root = root ∙ (λ i. (let x = c.root i in record x {
     page = (sym (ap (λ (f : Frame). f.page) root)) i;
     clock = m.clock;
+    figures = (sym (ap (λ (f : Frame). f.figures) root)) i;
+    hashed = (sym (ap (λ (f : Frame). f.hashed) root)) i;
   }));
   under = under ∙ (λ i. (let x = c.under i in record x {
     page = (sym (ap (λ (f : Frame). f.page) under)) i;
     low = None;
     high = None;
     clock = n.clock;
+    figures = (sym (ap (λ (f : Frame). f.figures) under)) i;
+    hashed = (sym (ap (λ (f : Frame). f.hashed) under)) i;
   }));
 }
 

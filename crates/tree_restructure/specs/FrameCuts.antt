@@ -27,7 +27,8 @@ pub record SuitsFrames (l r : Frame) (place : ℕ) (at : FieldList) : Type 0 whe
   pub has_fresh : r.page ≡ Some fresh
   pub suits : SuitsPages page fresh place at
 
--- the page of the left frame is cut into that of the right one, and all else in both is as before
+-- the page of the left frame is cut into that of the right one, and all else in both is as before, but
+-- for how they are hashed
 pub record CutsIn (l l' r r' : Frame) (at : FieldList) : Type 0 where
   pub page : PageRows
   pub stays : PageRows
@@ -35,14 +36,14 @@ pub record CutsIn (l l' r r' : Frame) (at : FieldList) : Type 0 where
   pub new : PageRows
   pub had : l.page ≡ Some page
   pub had_fresh : r.page ≡ Some fresh
-  pub left : l' ≡ record l { page = Some stays }
-  pub right : r' ≡ record r { page = Some new }
+  pub left : l' ≡ record l { page = Some stays; figures = l'.figures; hashed = l'.hashed }
+  pub right : r' ≡ record r { page = Some new; figures = r'.figures; hashed = r'.hashed }
   pub blank : IsBlankBeside page fresh
   pub cuts : CutsPage page stays fresh new at
 
 -- the page of the left frame is cut at a key into that of the right one. The left page ends at the
 -- key, and the right one reaches from there to where the left one ended. Both clocks rise, and all
--- else in the frames is as before
+-- else in the frames is as before, but for how they are hashed
 pub record CutsFrame (l l' r r' : Frame) (at : FieldList) : Type 0 where
   pub page : PageRows
   pub stays : PageRows
@@ -59,5 +60,18 @@ pub record CutsFrame (l l' r r' : Frame) (at : FieldList) : Type 0 where
   pub reaches : r'.high ≡ l.high
   pub rises : ClockRises l.clock l'.clock
   pub right_rises : ClockRises r.clock r'.clock
-  pub left : l' ≡ record l { page = l'.page; high = l'.high; clock = l'.clock }
-  pub right : r' ≡ record r { page = r'.page; low = r'.low; high = r'.high; clock = r'.clock }
+  pub left : l' ≡ record l {
+    page = l'.page;
+    high = l'.high;
+    clock = l'.clock;
+    figures = l'.figures;
+    hashed = l'.hashed;
+  }
+  pub right : r' ≡ record r {
+    page = r'.page;
+    low = r'.low;
+    high = r'.high;
+    clock = r'.clock;
+    figures = r'.figures;
+    hashed = r'.hashed;
+  }

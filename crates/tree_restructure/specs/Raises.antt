@@ -46,7 +46,7 @@ pub record RaisesPage (page top fresh new : PageRows) : Type 0 where
   pub new_order : IsPageInOrder new
 
 -- the page of the root's frame rises over that of the other frame, and all else in both is as
--- before
+-- before, but for how they are hashed
 pub record RaisesIn (t t' b b' : Frame) : Type 0 where
   pub page : PageRows
   pub top : PageRows
@@ -54,13 +54,13 @@ pub record RaisesIn (t t' b b' : Frame) : Type 0 where
   pub new : PageRows
   pub had : t.page ≡ Some page
   pub had_fresh : b.page ≡ Some fresh
-  pub root : t' ≡ record t { page = Some top }
-  pub under : b' ≡ record b { page = Some new }
+  pub root : t' ≡ record t { page = Some top; figures = t'.figures; hashed = t'.hashed }
+  pub under : b' ≡ record b { page = Some new; figures = b'.figures; hashed = b'.hashed }
   pub blank : IsBlankBeside page fresh
   pub raises : RaisesPage page top fresh new
 
 -- the page of the root's frame rises over that of the other frame, which gets no bounds. Both
--- clocks rise, and all else in the frames is as before
+-- clocks rise, and all else in the frames is as before, but for how they are hashed
 pub record RaisesFrame (t t' b b' : Frame) : Type 0 where
   pub page : PageRows
   pub top : PageRows
@@ -74,8 +74,20 @@ pub record RaisesFrame (t t' b b' : Frame) : Type 0 where
   pub raises : RaisesPage page top fresh new
   pub rises : ClockRises t.clock t'.clock
   pub under_rises : ClockRises b.clock b'.clock
-  pub root : t' ≡ record t { page = t'.page; clock = t'.clock }
-  pub under : b' ≡ record b { page = b'.page; low = None; high = None; clock = b'.clock }
+  pub root : t' ≡ record t {
+    page = t'.page;
+    clock = t'.clock;
+    figures = t'.figures;
+    hashed = t'.hashed;
+  }
+  pub under : b' ≡ record b {
+    page = b'.page;
+    low = None;
+    high = None;
+    clock = b'.clock;
+    figures = b'.figures;
+    hashed = b'.hashed;
+  }
 
 -- the page is that of its index's number, with no neighbours, in a frame with no bounds
 pub record IsRootIn (page : PageRows) (f : Frame) : Type 0 where

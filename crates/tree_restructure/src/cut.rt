@@ -1,5 +1,6 @@
 //! A page that is cut in two.
 ghost use Rattle.std.specs.Prelude.{◌≡◌, ◌<◌, length, IfOk, OnOk, OnErr};
+ghost use Rattle.forest_law.specs.HashSteps.{KeepsHashing};
 ghost use Rattle.tree_restructure.specs.Cuts.{HalvesAt, SuitsPages, CutsPage};
 ghost use Rattle.tree_restructure.specs.FrameCuts.{CanBeCut, IsCutOf, SuitsFrames, CutsIn, CutsFrame};
 
@@ -49,6 +50,7 @@ fn cut_of_page(alloc: Global, page: &Page) -> Result<Cut, NoMemory>
 pub fn cut_frame(left: &mut Frame, right: &mut Frame, cut: Cut) -> Result<(), NoMemory>
     requires { SuitsFrames left.old right.old cut.place cut.key.tuple }
     ensures ok { OnOk result (CutsFrame left.old left.new right.old right.new cut.key.tuple) }
+    ensures hash { KeepsHashing left.old left.new × KeepsHashing right.old right.new }
     ensures err { OnErr result (left.new ≡ left.old) }
     ensures right_err { OnErr result (right.new ≡ right.old) }
 {
@@ -66,6 +68,7 @@ pub fn cut_frame(left: &mut Frame, right: &mut Frame, cut: Cut) -> Result<(), No
 fn cut_in(left: &mut Frame, right: &mut Frame, cut: &Cut) -> Result<(), NoMemory>
     requires { SuitsFrames left.old right.old cut.now.place cut.now.key.tuple }
     ensures ok { OnOk result (CutsIn left.old left.new right.old right.new cut.now.key.tuple) }
+    ensures hash { KeepsHashing left.old left.new × KeepsHashing right.old right.new }
     ensures err { OnErr result (left.new ≡ left.old) }
     ensures right_err { OnErr result (right.new ≡ right.old) }
 {

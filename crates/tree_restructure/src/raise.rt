@@ -4,6 +4,7 @@ ghost use Rattle.key_tuple.specs.declared.TheConstants.{MAX_FIELDS};
 ghost use Rattle.index_page.specs.declared.head.PageHead.{PageHead};
 ghost use Rattle.index_page.specs.Rows.{SameRows};
 ghost use Rattle.index_page.specs.Page.{IsPageInOrder};
+ghost use Rattle.forest_law.specs.HashSteps.{KeepsHashing};
 ghost use Rattle.tree_restructure.specs.Cuts.{IsBlankBeside};
 ghost use Rattle.tree_restructure.specs.Raises.{HasOnePointer, SuitsRaise, SuitsRaiseFrames};
 ghost use Rattle.tree_restructure.specs.Raises.{RaisesPage, RaisesIn, RaisesFrame};
@@ -20,6 +21,7 @@ use std::alloc::Global;
 pub fn raise_frames(alloc: Global, root: &mut Frame, below: &mut Frame) -> Result<(), NoMemory>
     requires { SuitsRaiseFrames root.old below.old }
     ensures ok { OnOk result (RaisesFrame root.old root.new below.old below.new) }
+    ensures hash { KeepsHashing root.old root.new × KeepsHashing below.old below.new }
     ensures err { OnErr result (root.new ≡ root.old) }
     ensures below_err { OnErr result (below.new ≡ below.old) }
 {
@@ -35,6 +37,7 @@ pub fn raise_frames(alloc: Global, root: &mut Frame, below: &mut Frame) -> Resul
 fn raise_in(alloc: Global, root: &mut Frame, below: &mut Frame) -> Result<(), NoMemory>
     requires { SuitsRaiseFrames root.old below.old }
     ensures ok { OnOk result (RaisesIn root.old root.new below.old below.new) }
+    ensures hash { KeepsHashing root.old root.new × KeepsHashing below.old below.new }
     ensures err { OnErr result (root.new ≡ root.old) }
     ensures below_err { OnErr result (below.new ≡ below.old) }
 {

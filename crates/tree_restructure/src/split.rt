@@ -2,6 +2,7 @@
 ghost use Rattle.std.specs.Prelude.{◌≡◌, ◌⊎◌, ℕ, Some, Err, IfErr, OnOk, OnErr, IfSome, IsSome};
 ghost use Rattle.index_page.specs.Rows.{find_row};
 ghost use Rattle.index_page.specs.Page.{PageRows};
+ghost use Rattle.forest_law.specs.HashSteps.{KeepsHashing};
 ghost use Rattle.tree_restructure.specs.Links.{HasAPage};
 ghost use Rattle.tree_restructure.specs.SplitCalls.{SuitsSplit, SplitsUnder, TakesRow, HasRowAt};
 ghost use Rattle.tree_restructure.specs.SplitCalls.{split_refusal};
@@ -23,6 +24,7 @@ pub fn split_frames(
     requires { SuitsSplit left.old right.old parent.old cut.place cut.key.tuple }
     ensures ok { OnOk result (SplitsUnder left.old left.new right.old right.new parent.old
         parent.new cut.key.tuple) }
+    ensures hash { KeepsHashing left.old left.new × KeepsHashing right.old right.new }
     ensures refused { IfSome (split_refusal parent.old right.old cut.key.tuple)
         (λ e. result ≡ Err e) }
     ensures cause { IfErr result (λ e. (e ≡ PageError.NoMemory)
