@@ -11,11 +11,12 @@ use Rattle.index_page.specs.declared.spot.Spot.{Spot}
 use Rattle.index_page.specs.Search.{Finds}
 use Rattle.tree_law.specs.Pages.{IsOrderly}
 use Rattle.index_law.specs.Shape.{Shape}
-use Rattle.forest_law.specs.Numbers.{pool_id, frame_id, frames_of}
+use Rattle.forest_law.specs.Numbers.{frame_id, frames_of}
 use Rattle.forest_law.specs.State.{page_within, fields_for}
 use Rattle.forest_world.specs.Held.{TreePass, shape_of_pass}
-use Rattle.call_law.specs.Hands.{HoldsNoFrameBut, HoldsNoPool}
+use Rattle.call_law.specs.Hands.{HoldsNoFrameBut, HoldsNoTable}
 use Rattle.call_law.specs.Trace.{frame_references}
+use Rattle.call_law.proofs.TableLemmas.{tables_lacked}
 use Rattle.call_law.proofs.TraceLemmas.{both_added}
 use Rattle.buffer_pool.specs.Calls.{Does, GetsNothing}
 use Rattle.buffer_pool.proofs.CallLemmas.{does_both, does_none, does_nothing, silently_both}
@@ -51,8 +52,8 @@ module _ (p q : TreePass) (vain : GetsNothing p q) where
       (vain_lacks (frame_id (shape_of_pass p) c)
       (frames c (subst (λ (s : Shape). c < frames_of s) vain_shape below) tt))
 
-  pub vain_pool : HoldsNoPool (view p) → HoldsNoPool (view q)
-  vain_pool pool = vain_lacks pool_id pool
+  pub vain_tables : HoldsNoTable (view p) → HoldsNoTable (view q)
+  vain_tables = tables_lacked (view p) (view q) vain_shape (λ k table. vain_lacks k)
 
   module _ (r : TreePass) (i : ℕ) (mode : Mode) (tuple : FieldList) (b : ℕ)
       (down : ComesDown q (cut_in (shape_of_pass q) i mode tuple) i b r) where

@@ -23,14 +23,15 @@ use Rattle.forest_law.specs.declared.objects.Object.{Object}
 use Rattle.forest_law.specs.declared.objects.Object.TheVariants as object
 use Rattle.forest_law.specs.FramePages.{HasCutPage}
 use Rattle.forest_law.specs.Law.{IsLawful}
-use Rattle.forest_law.specs.Numbers.{pool_id, frame_id, frames_of}
+use Rattle.forest_law.specs.Numbers.{frame_id, frames_of}
 use Rattle.forest_law.specs.State.{ForestState, page_within, fields_for, heights_of}
 use Rattle.forest_law.proofs.FramePageLemmas.{frames_tell_pages, number_below, roots_have_cuts}
 use Rattle.tree_facts.proofs.ChildLemmas.{pointers_bound_children}
 use Rattle.forest_world.specs.Held.{TreePass, shape_of_pass}
-use Rattle.call_law.specs.Hands.{KnowsFrame, HoldsNoFrameBut, HoldsNoPool}
+use Rattle.call_law.specs.Hands.{KnowsFrame, HoldsNoFrameBut, HoldsNoTable}
 use Rattle.call_law.specs.Spoken.{View}
 use Rattle.call_law.specs.Trace.{Added, is_frame, frame_references}
+use Rattle.call_law.proofs.TableLemmas.{tables_lacked}
 use Rattle.call_law.proofs.TraceLemmas.{both_added}
 use Rattle.buffer_pool.specs.Calls.{Does, DoesSilently, GetsNothing}
 use Rattle.buffer_pool.specs.Forests.{IsFittedTree}
@@ -143,15 +144,16 @@ module _ (p : TreePass) (cut : KeyPlace → Bool) (i : ℕ) where
     pub looks_shape : shape_of_pass q ≡ shape_of_pass p
     looks_shape = ap (λ (t : Terms Shape). t.shape) looks.silently.does.adds.numbers.terms
 
-    -- so no frame is held, nor the pool
+    -- so no frame is held
     pub looks_frames : HoldsNoFrameBut (view p) [] → HoldsNoFrameBut (view q) []
     looks_frames frames b below apart =
         subst (λ (s : Shape). get_elem? (view q).held (frame_id s b) ≡ some None) (sym looks_shape)
         (looks_lacks (frame_id (shape_of_pass p) b)
         (frames b (subst (λ (s : Shape). b < frames_of s) looks_shape below) tt))
 
-    pub looks_pool : HoldsNoPool (view p) → HoldsNoPool (view q)
-    looks_pool pool = looks_lacks pool_id pool
+    -- nor the pool, nor a partition
+    pub looks_tables : HoldsNoTable (view p) → HoldsNoTable (view q)
+    looks_tables = tables_lacked (view p) (view q) looks_shape (λ k table. looks_lacks k)
 
     -- the page was no page of its level: the way was in vain
     pub ends_in_vain : (r : TreePass) → FindsNoPage q n i level r → GetsNothing p r

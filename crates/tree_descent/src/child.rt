@@ -6,7 +6,7 @@ ghost use Rattle.latch_space.specs.Passes.{view, count, IsSamePass};
 ghost use Rattle.latch_space.specs.Spaces.{IsPassOf};
 ghost use Rattle.forest_law.specs.State.{fields_for};
 ghost use Rattle.forest_world.specs.Held.{shape_of_pass};
-ghost use Rattle.call_law.specs.Hands.{HoldsNoFrameBut, HoldsNoPool};
+ghost use Rattle.call_law.specs.Hands.{HoldsNoFrameBut, HoldsNoTable};
 ghost use Rattle.buffer_pool.specs.Forests.{IsForest, IsFittedTree};
 ghost use Rattle.tree_descent.specs.Descents.{HoldsInner, TakesChild};
 
@@ -32,8 +32,8 @@ pub fn child_for<T: Fields, R: Wait>(
     requires held { HoldsInner (view pass.old) block index mode (T.fields_of tuple.now) }
     requires known { IsKnown pass.old }
     requires frames { HoldsNoFrameBut (view pass.old) (block ∷ []) }
-    requires pool { HoldsNoPool (view pass.old) }
-    requires room { count pass.old + 2 ≤ MAX_HELD }
+    requires tables { HoldsNoTable (view pass.old) }
+    requires room { count pass.old + 3 ≤ MAX_HELD }
     ensures own { IsSamePass pass.old pass.new × IsPassOf space.now pass.new }
     ensures took { TakesChild pass.old block index mode (T.fields_of tuple.now) result pass.new }
     ensures fits { IsFittedTree (view pass.new) }

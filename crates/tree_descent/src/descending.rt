@@ -6,7 +6,7 @@ ghost use Rattle.latch_space.specs.Passes.{view, count, IsSamePass};
 ghost use Rattle.latch_space.specs.Spaces.{IsPassOf};
 ghost use Rattle.forest_law.specs.State.{fields_for};
 ghost use Rattle.forest_world.specs.Held.{shape_of_pass};
-ghost use Rattle.call_law.specs.Hands.{HoldsNoFrameBut, HoldsNoPool};
+ghost use Rattle.call_law.specs.Hands.{HoldsNoFrameBut, HoldsNoTable};
 ghost use Rattle.buffer_pool.specs.Forests.{IsForest, IsFittedTree};
 ghost use Rattle.tree_descent.specs.Descents.{Descends};
 
@@ -43,8 +43,8 @@ pub fn descend<T: Fields, R: Wait>(
     requires fields { length (T.fields_of tuple.now) ≤ fields_for (shape_of_pass pass.old) index }
     requires known { IsKnown pass.old }
     requires frames { HoldsNoFrameBut (view pass.old) [] }
-    requires pool { HoldsNoPool (view pass.old) }
-    requires room { count pass.old + 2 ≤ MAX_HELD }
+    requires tables { HoldsNoTable (view pass.old) }
+    requires room { count pass.old + 3 ≤ MAX_HELD }
     ensures own { IsSamePass pass.old pass.new × IsPassOf space.now pass.new }
     ensures went { Descends pass.old index mode (T.fields_of tuple.now) result pass.new }
     ensures fits { IsFittedTree (view pass.new) }

@@ -7,7 +7,7 @@ ghost use Rattle.latch_space.specs.Passes.{view, count, IsSamePass};
 ghost use Rattle.latch_space.specs.Spaces.{IsPassOf};
 ghost use Rattle.forest_law.specs.State.{fields_for};
 ghost use Rattle.forest_world.specs.Held.{TreePass, shape_of_pass};
-ghost use Rattle.call_law.specs.Hands.{HoldsNoFrameBut, HoldsNoPool};
+ghost use Rattle.call_law.specs.Hands.{HoldsNoFrameBut, HoldsNoTable};
 ghost use Rattle.buffer_pool.specs.Forests.{IsForest, IsFittedTree};
 ghost use Rattle.tree_descent.specs.Leaves.{cut_in};
 ghost use Rattle.tree_descent.specs.Ways.{HoldsAbove, GoesDown, LooksFor, TriesDown};
@@ -35,8 +35,8 @@ pub(crate) fn try_down<T: Fields, R: Wait>(
     requires fields { length (T.fields_of tuple.now) ≤ fields_for (shape_of_pass pass.old) index }
     requires known { IsKnown pass.old }
     requires frames { HoldsNoFrameBut (view pass.old) [] }
-    requires pool { HoldsNoPool (view pass.old) }
-    requires room { count pass.old + 2 ≤ MAX_HELD }
+    requires tables { HoldsNoTable (view pass.old) }
+    requires room { count pass.old + 3 ≤ MAX_HELD }
     ensures own { IsSamePass pass.old pass.new × IsPassOf space.now pass.new }
     ensures tried { TriesDown pass.old
         (cut_in (shape_of_pass pass.old) index mode (T.fields_of tuple.now)) index result pass.new }
@@ -67,8 +67,8 @@ fn take_root<R: Wait>(
     requires index { index < (shape_of_pass pass.old).indexes }
     requires known { IsKnown pass.old }
     requires frames { HoldsNoFrameBut (view pass.old) [] }
-    requires pool { HoldsNoPool (view pass.old) }
-    requires room { count pass.old + 2 ≤ MAX_HELD }
+    requires tables { HoldsNoTable (view pass.old) }
+    requires room { count pass.old + 3 ≤ MAX_HELD }
     ensures own { IsSamePass pass.old pass.new × IsPassOf space.now pass.new }
     ensures took { (cut : KeyPlace → Bool)
         → GoesDown pass.old cut index result.1 result.0 pass.new }

@@ -4,7 +4,7 @@ ghost use Rattle.latch_space.specs.declared.TheConstants.{MAX_HELD};
 ghost use Rattle.latch_space.specs.Has.{IsKnown};
 ghost use Rattle.latch_space.specs.Passes.{view, count, IsSamePass};
 ghost use Rattle.latch_space.specs.Spaces.{IsPassOf};
-ghost use Rattle.call_law.specs.Hands.{HoldsNoFrameBut, HoldsNoPool};
+ghost use Rattle.call_law.specs.Hands.{HoldsNoFrameBut, HoldsNoTable};
 ghost use Rattle.buffer_pool.specs.Forests.{IsForest, IsFittedTree};
 ghost use Rattle.tree_descent.specs.Ways.{HoldsPage};
 ghost use Rattle.tree_neighbours.specs.Neighbours.{TellsBeside};
@@ -40,8 +40,8 @@ pub fn take_beside<R: Wait>(
     requires held { HoldsPage (view pass.old) block index 0 }
     requires known { IsKnown pass.old }
     requires frames { HoldsNoFrameBut (view pass.old) (block ∷ []) }
-    requires pool { HoldsNoPool (view pass.old) }
-    requires room { count pass.old + 2 ≤ MAX_HELD }
+    requires tables { HoldsNoTable (view pass.old) }
+    requires room { count pass.old + 3 ≤ MAX_HELD }
     ensures own { IsSamePass pass.old pass.new × IsPassOf space.now pass.new }
     ensures tells { TellsBeside pass.old block index side result pass.new }
     ensures fits { IsFittedTree (view pass.new) }

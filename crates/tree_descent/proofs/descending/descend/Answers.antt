@@ -3,7 +3,7 @@ use Rattle.index_law.specs.Shape.{Shape}
 use Rattle.forest_law.specs.State.{fields_for}
 use Rattle.forest_world.specs.Held.{shape_of_pass}
 use Rattle.tree_descent.specs.Leaves.{cut_in}
-use Rattle.tree_descent.proofs.DescentLemmas.{vain_none, vain_more, vain_shape, vain_frames, vain_pool, descends}
+use Rattle.tree_descent.proofs.DescentLemmas.{vain_none, vain_more, vain_shape, vain_frames, vain_tables, descends}
 use Rattle.tree_descent.proofs.WayLemmas.{way_page}
 use Rattle.tree_descent.proofs.descending.descend.Goals as goal
 
@@ -24,9 +24,9 @@ pub try_down-requires-clause-frames : goal.try_down-requires-clause-frames
 try_down-requires-clause-frames g c =
     vain_frames c.args.pass.now c.loop.pass c.loop.invariant.vain c.requires.frames
 
-pub try_down-requires-clause-pool : goal.try_down-requires-clause-pool
-try_down-requires-clause-pool g c =
-    vain_pool c.args.pass.now c.loop.pass c.loop.invariant.vain c.requires.pool
+pub try_down-requires-clause-tables : goal.try_down-requires-clause-tables
+try_down-requires-clause-tables g c =
+    vain_tables c.args.pass.now c.loop.pass c.loop.invariant.vain c.requires.tables
 
 pub try_down-requires-clause-room : goal.try_down-requires-clause-room
 try_down-requires-clause-room g c = let same = c.loop.invariant.vain.count in

@@ -6,7 +6,7 @@ use Rattle.buffer_pool.specs.Pages.{PagesInIf}
 use Rattle.tree_descent.specs.Leaves.{HasCutWithin, cut_in}
 use Rattle.tree_descent.specs.Ways.{GoesDown, TriesDown}
 use Rattle.tree_descent.proofs.PageLemmas.{none_others, may_give_back}
-use Rattle.tree_descent.proofs.WayLemmas.{looks_shape, looks_frames, looks_pool, ends_in_vain, way_shape, way_page, way_above, turns_back, finds_way}
+use Rattle.tree_descent.proofs.WayLemmas.{looks_shape, looks_frames, looks_tables, ends_in_vain, way_shape, way_page, way_above, turns_back, finds_way}
 use Rattle.tree_descent.proofs.ways.try_down.Goals as goal
 
 pub leave-child-requires-clause-held : goal.leave-child-requires-clause-held
@@ -64,8 +64,8 @@ page_if-requires-clause-known g c =
     let looks = c.leave-child.ensures.left p level way in
     looks.silently.does.known
 
-pub page_if-requires-clause-pool : goal.page_if-requires-clause-pool
-page_if-requires-clause-pool g c =
+pub page_if-requires-clause-tables : goal.page_if-requires-clause-tables
+page_if-requires-clause-tables g c =
     let p = c.args.pass.now in
     let i = c.args.index in
     let cut =
@@ -75,7 +75,7 @@ page_if-requires-clause-pool g c =
     way_above p cut i c.loop-level.level c.loop-level.block c.loop-level.pass
     c.loop-level.invariant.way c.loop-level-test.true in
     let looks = c.leave-child.ensures.left p level way in
-    looks_pool p cut i level c.leave-child.result c.leave-child.new.pass looks c.requires.pool
+    looks_tables p cut i level c.leave-child.result c.leave-child.new.pass looks c.requires.tables
 
 pub page_if-requires-clause-room : goal.page_if-requires-clause-room
 page_if-requires-clause-room g c =

@@ -1,7 +1,7 @@
 use Rattle.std.proofs.Common.{◌<◌, ◌≤◌, sym, subst, arith, rules, length}
 use Rattle.index_law.specs.Shape.{Shape}
 use Rattle.forest_law.specs.State.{fields_for}
-use Rattle.tree_descent.proofs.DescentLemmas.{vain_none, vain_more, vain_shape, vain_frames, vain_pool}
+use Rattle.tree_descent.proofs.DescentLemmas.{vain_none, vain_more, vain_shape, vain_frames, vain_tables}
 use Rattle.tree_neighbours.proofs.PairLemmas.{pair_after}
 use Rattle.tree_neighbours.proofs.pairs.descend_pair.Goals as goal
 
@@ -22,9 +22,9 @@ pub try_pair-requires-clause-frames : goal.try_pair-requires-clause-frames
 try_pair-requires-clause-frames g c =
     vain_frames c.args.pass.now c.loop.pass c.loop.invariant.vain c.requires.frames
 
-pub try_pair-requires-clause-pool : goal.try_pair-requires-clause-pool
-try_pair-requires-clause-pool g c =
-    vain_pool c.args.pass.now c.loop.pass c.loop.invariant.vain c.requires.pool
+pub try_pair-requires-clause-tables : goal.try_pair-requires-clause-tables
+try_pair-requires-clause-tables g c =
+    vain_tables c.args.pass.now c.loop.pass c.loop.invariant.vain c.requires.tables
 
 pub try_pair-requires-clause-room : goal.try_pair-requires-clause-room
 try_pair-requires-clause-room g c = let same = c.loop.invariant.vain.count in
