@@ -3,6 +3,7 @@ use Rattle.std.proofs.Common.{◌≡◌, ◌≢◌, ℕ, ◌<◌, [], ◌∷◌,
 use mathlib.Core.Option.{some}
 use lib.ListN.{get_elem?}
 use Rattle.list_facts.proofs.Places.{none_is_not, same_some}
+use Rattle.latch_law.specs.declared.knows.Terms.{Terms}
 use Rattle.latch_law.specs.Views.{holding}
 use Rattle.latch_space.specs.Passes.{view}
 use Rattle.index_page.specs.declared.head.PageHead.{PageHead}
@@ -11,11 +12,12 @@ use Rattle.forest_law.specs.declared.objects.Frame.{Frame}
 use Rattle.forest_law.specs.declared.objects.Object.TheVariants as object
 use Rattle.forest_law.specs.FramePages.{TellsPage}
 use Rattle.forest_law.specs.Law.{IsLawful}
-use Rattle.forest_law.specs.Numbers.{pool_id, frame_id}
+use Rattle.forest_law.specs.Numbers.{frame_id}
 use Rattle.forest_law.specs.State.{ForestState, fields_for}
 use Rattle.forest_world.specs.Held.{TreePass, shape_of_pass}
-use Rattle.call_law.specs.Hands.{KnowsFrame, HoldsNoPool}
+use Rattle.call_law.specs.Hands.{KnowsFrame, HoldsNoTable}
 use Rattle.call_law.specs.Spoken.{View}
+use Rattle.call_law.proofs.TableLemmas.{table_no_frame, tables_lacked}
 use Rattle.buffer_pool.specs.Calls.{DoesSilently, GetsNothing}
 use Rattle.buffer_pool.specs.Forests.{FitsTrees}
 use Rattle.buffer_pool.specs.NewPages.{outside_page, GetsPage, HoldsOutsidePage, FreesPage}
@@ -23,9 +25,8 @@ use Rattle.buffer_pool.proofs.AddedLemmas.{frame_still, frame_before}
 use Rattle.buffer_pool.proofs.CallLemmas.{silently_both, does_again}
 use Rattle.tree_smo.specs.declared.plans.SplitPlan.{SplitPlan}
 use Rattle.tree_smo.specs.Plans.{HoldsNext, HoldsPlan, plan_ids, MakesSplit, SplitsBeside}
-use Rattle.tree_smo.specs.Remakes.{IsAsBefore}
 use Rattle.tree_smo.proofs.LawfulLemmas.{known_tells}
-use Rattle.tree_smo.proofs.SilentLemmas.{silently_weaker, silently_same, does_shape}
+use Rattle.tree_smo.proofs.SilentLemmas.{silently_weaker, does_shape}
 
 -- a frame that is known is held
 pub known_held : (v : View) (b : ℕ) (f : Frame) → KnowsFrame v b f
@@ -106,21 +107,30 @@ module _ (p q : TreePass) (head : PageHead) (b : ℕ) (got : GetsPage p head b q
   here : shape_of_pass q ≡ shape_of_pass p
   here = does_shape p q (frame_id (shape_of_pass p) b ∷ []) got.silently.added got.silently.does
 
-  -- the new page's frame is held, where all is as before since
-  pub holds_outside : (r : TreePass) → IsAsBefore q r → HoldsOutsidePage (view r) b
+  -- the new page's frame is held, where nothing was got since
+  pub holds_outside : (r : TreePass) → GetsNothing q r → HoldsOutsidePage (view r) b
   holds_outside r same = record {
     frame = got.frame;
-    knows = subst (λ v. KnowsFrame v b got.frame) (sym same.same_view) got.knows;
+    knows = frame_still (view q) (view r) [] same.silently.does.adds.numbers same.silently.does.rest b
+        tt got.frame got.knows;
     page = outside_page head got.number;
     paged = got.has.page;
     own = refl;
     empty = refl;
   }
 
-  -- and the pool isn't
-  pub no_pool : (r : TreePass) → view r ≡ view q → HoldsNoPool (view p) → HoldsNoPool (view r)
-  no_pool r same lacks = ap (λ (v : View). get_elem? v.held pool_id) same
-      ∙ (got.silently.does.rest pool_id (λ e. omega (arith, e), tt) ∙ lacks)
+  -- and neither the pool nor a partition is
+  pub no_table : HoldsNoTable (view p) → HoldsNoTable (view q)
+  no_table = tables_lacked (view p) (view q)
+      (ap (λ (t : Terms Shape). t.shape) got.silently.does.adds.numbers.terms)
+      (λ k table lacks. got.silently.does.rest k (table_no_frame (shape_of_pass p) k b table, tt)
+      ∙ lacks)
+
+  pub still_no_table : (r : TreePass) → GetsNothing q r → HoldsNoTable (view p)
+      → HoldsNoTable (view r)
+  still_no_table r same lacks = tables_lacked (view q) (view r)
+      (ap (λ (t : Terms Shape). t.shape) same.silently.does.adds.numbers.terms)
+      (λ k table lacks. same.silently.does.rest k tt ∙ lacks) (no_table lacks)
 
   -- the split was made
   module _ (r : TreePass) (plan : SplitPlan) (is : plan.head ≡ head) (h : HoldsPlan (view p) plan)
@@ -160,14 +170,14 @@ module _ (p q : TreePass) (head : PageHead) (b : ℕ) (got : GetsPage p head b q
             (lacked_apart (view p) k b held.0 held.1 got.lacked)
 
   -- the page was given back
-  pub gets_nothing : (r s : TreePass) → IsAsBefore q r → FreesPage r b s → GetsNothing p s
+  pub gets_nothing : (r s : TreePass) → GetsNothing q r → FreesPage r b s → GetsNothing p s
   gets_nothing r s same frees =
       let k = frame_id (shape_of_pass p) b in
       let shape : shape_of_pass r ≡ shape_of_pass p =
-      ap (λ (v : View). v.terms.shape) same.same_view ∙ here in
+      does_shape q r [] same.silently.added same.silently.does ∙ here in
       let all = silently_both p q s (k ∷ []) got.silently
       (silently_both q r s (k ∷ [])
-      (silently_weaker q r [] (k ∷ []) (λ j apart. tt) (silently_same q r same))
+      (silently_weaker q r [] (k ∷ []) (λ j apart. tt) same.silently)
       (subst (λ (z : Shape). DoesSilently r s (frame_id z b ∷ [])) shape frees.silently)) in
       record {
         silently = record {
@@ -177,6 +187,6 @@ module _ (p q : TreePass) (head : PageHead) (b : ℕ) (got : GetsPage p head b q
               (sym (does_shape p s (k ∷ []) all.added all.does)) ∙ (frees.lacks ∙ sym got.lacked));
           silent = all.silent;
         };
-        count = (let a = got.count in let b = same.same_count in let c = frees.count in
+        count = (let a = got.count in let b = same.count in let c = frees.count in
             omega (arith, a, b, c));
       }

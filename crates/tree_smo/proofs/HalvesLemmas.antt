@@ -9,6 +9,7 @@ use Rattle.index_law.specs.Shape.{Shape}
 use Rattle.forest_law.specs.declared.objects.Frame.{Frame}
 use Rattle.forest_law.specs.declared.objects.Object.TheVariants as object
 use Rattle.forest_law.specs.Numbers.{frame_id}
+use Rattle.forest_law.specs.HashSteps.{KeepsHashing}
 use Rattle.forest_world.specs.Held.{TreePass, shape_of_pass}
 use Rattle.buffer_pool.specs.Frames.{TakesOut, PutsBack}
 use Rattle.buffer_pool.specs.Hands.{HoldsFrame, IsAmong}
@@ -141,13 +142,16 @@ module _ (at : SplitBlocks) (p q r : TreePass) (hands new : SplitHands)
 
   pub halves_split : (key : FieldList)
       → SplitsUnder hands.left new.left hands.right new.right hands.up new.up key
+      → KeepsHashing hands.left new.left × KeepsHashing hands.right new.right
       → ChangesHalves p at key r
-  halves_split key splits was has = let o = out.out was has in record {
+  halves_split key splits hash was has = let o = out.out was has in record {
     now = new;
     has = back.has was o.0;
     splits = subst
         (λ (h : SplitHands). SplitsUnder h.left new.left h.right new.right h.up new.up key)
         o.1 splits;
+    hash = subst
+        (λ (h : SplitHands). KeepsHashing h.left new.left × KeepsHashing h.right new.right) o.1 hash;
     remakes = both_ways;
   }
 

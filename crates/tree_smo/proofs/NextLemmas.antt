@@ -13,13 +13,14 @@ use Rattle.index_law.specs.Shape.{Shape}
 use Rattle.forest_law.specs.declared.objects.Frame.{Frame}
 use Rattle.forest_law.specs.declared.objects.Object.TheVariants as object
 use Rattle.forest_law.specs.Law.{IsLawful}
-use Rattle.forest_law.specs.Numbers.{pool_id, frame_id, frames_of}
+use Rattle.forest_law.specs.Numbers.{frame_id, frames_of}
 use Rattle.forest_law.specs.State.{ForestState}
 use Rattle.forest_world.specs.Held.{TreePass, shape_of_pass}
 use Rattle.tree_facts.specs.Neighbours.{HasNextPage}
 use Rattle.tree_facts.proofs.NeighbourLemmas.{next_pages_fit}
-use Rattle.call_law.specs.Hands.{KnowsFrame, HoldsNoFrameBut, HoldsNoPool}
+use Rattle.call_law.specs.Hands.{KnowsFrame, HoldsNoFrameBut, HoldsNoTable}
 use Rattle.call_law.specs.Spoken.{View}
+use Rattle.call_law.proofs.TableLemmas.{table_no_frame, tables_lacked}
 use Rattle.buffer_pool.specs.declared.error.PoolError.{PoolError}
 use Rattle.buffer_pool.specs.declared.error.PoolError.TheVariants as refused
 use Rattle.buffer_pool.specs.Calls.{Does, GetsNothing}
@@ -194,8 +195,9 @@ module _ (p : TreePass) (plan : SplitPlan) (n b : ℕ) (q : TreePass)
       ∙ only a (subst (λ (t : Terms Shape). a < frames_of t.shape) does.adds.numbers.terms below)
       (apart.0, (apart.1.0, tt)))
 
-  pub pool_lacked : HoldsNoPool (view p) → HoldsNoPool (view q)
-  pool_lacked lacks = does.rest pool_id (λ z. omega (arith, z), tt) ∙ lacks
+  pub tables_still : HoldsNoTable (view p) → HoldsNoTable (view q)
+  tables_still = tables_lacked (view p) (view q) (ap (λ (t : Terms Shape). t.shape) does.adds.numbers.terms)
+      (λ k table lacks. does.rest k (table_no_frame (shape_of_pass p) k b table, tt) ∙ lacks)
 
   module _ (r : TreePass) where
     -- the page behind is still held after the split, however that ended

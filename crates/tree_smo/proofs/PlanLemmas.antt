@@ -34,6 +34,7 @@ use Rattle.buffer_pool.specs.NewPages.{outside_page, HasOutsidePage}
 use Rattle.tree_smo.specs.declared.halves.SplitHands.{SplitHands}
 use Rattle.tree_smo.specs.declared.plans.SplitPlan.{SplitPlan}
 use Rattle.tree_smo.specs.Halves.{AreThree}
+use Rattle.tree_smo.specs.PartHeld.{HoldsPartFor}
 use Rattle.tree_smo.specs.Plans.{HoldsNext, HoldsPlan, blocks_of}
 use Rattle.tree_smo.proofs.LawfulLemmas.{one_page, outside_apart, levels_apart, tree_frame, page_number}
 
@@ -74,12 +75,14 @@ pub record SplitCall (p : TreePass) (plan : SplitPlan) (right : ℕ) : Type 0 wh
   pub knows : KnowsFrame (view p) right fresh
   pub number : ℕ
   pub blank : HasOutsidePage fresh plan.head number
+  pub part : Option ℕ
+  pub holds : HoldsPartFor (view p) plan.child part
 
 abbrev pub split_call : (p : TreePass) (plan : SplitPlan) (right : ℕ) → IsKnown p
     → IsFittedTree (view p) → HoldsPlan (view p) plan
     → (f : Frame) × KnowsFrame (view p) right f × (n : ℕ) × HasOutsidePage f plan.head n
-    → SplitCall p plan right
-split_call p plan right known fitted held blank = record {
+    → (part : Option ℕ) × HoldsPartFor (view p) plan.child part → SplitCall p plan right
+split_call p plan right known fitted held blank part = record {
   known = known;
   fitted = fitted;
   held = held;
@@ -87,6 +90,8 @@ split_call p plan right known fitted held blank = record {
   knows = blank.1;
   number = blank.2;
   blank = blank.3;
+  part = part.0;
+  holds = part.1;
 }
 
 module _ (p : TreePass) (plan : SplitPlan) (right : ℕ) (c : SplitCall p plan right) where

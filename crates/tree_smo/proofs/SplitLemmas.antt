@@ -25,22 +25,24 @@ use Rattle.tree_restructure.proofs.SplitLemmas.{split_in_hand}
 use Rattle.call_law.specs.Spoken.{View}
 use Rattle.buffer_pool.specs.Forests.{FitsTrees}
 use Rattle.buffer_pool.specs.NewPages.{outside_page}
+use Rattle.buffer_pool.specs.Parts.{part_ids}
 use Rattle.tree_smo.specs.declared.halves.SplitHands.{SplitHands}
 use Rattle.tree_smo.specs.declared.plans.SplitPlan.{SplitPlan}
-use Rattle.tree_smo.specs.Halves.{SplitsHalves, ChangesHalves}
-use Rattle.tree_smo.specs.Plans.{HoldsNext, HoldsPlan, blocks_of, plan_ids, RelinksBehind, MakesSplit}
+use Rattle.tree_smo.specs.PartHeld.{LawsOfMoves}
+use Rattle.tree_smo.specs.Plans.{HoldsNext, HoldsPlan, split_ids, RelinksBehind, MakesSplitBy}
 use Rattle.tree_smo.specs.Remakes.{Remakes}
 use Rattle.tree_smo.proofs.LawfulLemmas.{that_page, outside_own, one_block}
 use Rattle.tree_smo.proofs.PartLemmas.{part_of}
 use Rattle.tree_smo.proofs.PlanLemmas.{frames_of_plan}
 use Rattle.tree_smo.proofs.SettledLemmas.{whole_but, known_beyond, rests_beyond, settled_does, settled_count, settled_frame}
-use Rattle.tree_smo.proofs.BehindLemmas.{Behind, behind, shows_next, knows_next}
-use Rattle.tree_smo.proofs.ChangedLemmas.{halves, next_right, IsRemade, remade}
+use Rattle.tree_smo.proofs.BehindLemmas.{Behind, behind, knows_next}
+use Rattle.tree_smo.proofs.ChangedLemmas.{SplitsKept, next_right, IsRemade, remade}
+use Rattle.tree_smo.proofs.SplitHashLemmas.{SplitHash, more_apart, more_shows, part_or_rests, part_still, split_hash}
 use Rattle.tree_smo.proofs.PlanLemmas.{SplitCall}
 
-module _ (p : TreePass) (plan : SplitPlan) (right : ℕ) (c : SplitCall p plan right) (m0 : TreePass)
-    (changes : ChangesHalves p (blocks_of plan right) plan.cut.key.tuple m0) (m : TreePass)
-    (relinks : RelinksBehind m0 plan.next c.number m) where
+module _ (laws : LawsOfMoves) (p : TreePass) (plan : SplitPlan) (right : ℕ)
+    (c : SplitCall p plan right) (m0 : TreePass) (changed : SplitsKept p plan right c m0)
+    (m : TreePass) (relinks : RelinksBehind m0 plan.next c.number m) where
   abbrev h : HoldsPlan (view p) plan
   h = c.held
 
@@ -53,11 +55,8 @@ module _ (p : TreePass) (plan : SplitPlan) (right : ℕ) (c : SplitCall p plan r
   abbrev was : SplitHands
   was = frames_of_plan p plan right c
 
-  abbrev changed : SplitsHalves p (blocks_of plan right) plan.cut.key.tuple was m0
-  changed = halves p plan right c m0 changes
-
-  all : IsRemade p plan right c m0 changes m plan.next
-  all = remade p plan right c m0 changes m plan.next h.next relinks
+  all : IsRemade p plan right c m0 changed m plan.next
+  all = remade p plan right c m0 changed m plan.next h.next relinks
 
   fits_now : FitsTrees w (view m)
   fits_now = subst (FitsTrees w) (sym all.remakes.same_view) c.fitted.fits
@@ -65,19 +64,22 @@ module _ (p : TreePass) (plan : SplitPlan) (right : ℕ) (c : SplitCall p plan r
   shapes : shape_of_pass p ≡ shape_of_pass m
   shapes = ap (λ (v : View). v.terms.shape) (sym all.remakes.same_view)
 
-  now_ids : Remakes p m (plan_ids (shape_of_pass m) plan right)
-  now_ids = subst (λ (s : Shape). Remakes p m (plan_ids s plan right)) shapes all.remakes
+  now_ids : Remakes p m (split_ids (shape_of_pass m) plan right c.part)
+  now_ids = subst (λ (s : Shape). Remakes p m (split_ids s plan right c.part)) shapes all.remakes
+
+  abbrev hashed : SplitHash p plan right c m0 changed m
+  hashed = record { laws = laws; all = all }
 
   -- nothing is taken out
   pub whole : IsWhole m
-  whole = whole_but m (plan_ids (shape_of_pass m) plan right)
-      (known_beyond p m (plan_ids (shape_of_pass m) plan right) c.known now_ids) (
+  whole = whole_but m (split_ids (shape_of_pass m) plan right c.part)
+      (known_beyond p m (split_ids (shape_of_pass m) plan right c.part) c.known now_ids) (
         (object.Frame changed.now.up, all.has.up.value),
         (
           (object.Frame changed.now.left, all.has.left.value),
           (
             (object.Frame changed.now.right, all.has.right.value),
-            shows_next m plan.head.index h.can.level plan.next plan.head.next c.number all.next,
+            more_shows p plan right c m0 changed m hashed,
           ),
         ),
       )
@@ -123,25 +125,26 @@ module _ (p : TreePass) (plan : SplitPlan) (right : ℕ) (c : SplitCall p plan r
   no_loop : (o : Option ℕ) → HoldsNext (view p) plan.head.index h.can.level o plan.head.next
       → plan.head.next ≢ Some c.number
   no_loop None none z = absurd (cc (none, z))
-  no_loop (Some b) held z = next_right p plan right c m0 changes b held.0 held.1 held.2
+  no_loop (Some b) held z = next_right p plan right c m0 changed b held.0 held.1 held.2
       (one_block w law (view p) c.fitted.fits right b c.fresh held.0
       (outside_page plan.head c.number) held.2.page c.knows held.1 c.blank.page held.2.paged
       (same_some c.number held.2.page.head.number (sym z ∙ held.3)))
 
-  left_ids : (k : ℕ) → AllByRecursion (λ (j : ℕ). k ≢ j)
+  left_ids : (k : ℕ) → AllByRecursion (λ (j : ℕ). k ≢ j) (part_ids (shape_of_pass m) c.part)
+      → AllByRecursion (λ (j : ℕ). k ≢ j)
       (frame_ids (shape_of_pass m)
       (record { block = plan.child; old = was.left; new = changed.now.left }
       ∷ record { block = right; old = was.right; new = changed.now.right }
       ∷ record { block = plan.parent; old = was.up; new = changed.now.up }
       ∷ next_hands cut_page.head.next after.hand))
-      → AllByRecursion (λ (j : ℕ). k ≢ j) (plan_ids (shape_of_pass m) plan right)
-  left_ids k a = (
+      → AllByRecursion (λ (j : ℕ). k ≢ j) (split_ids (shape_of_pass m) plan right c.part)
+  left_ids k none a = (
     a.1.1.0,
     (
       a.0,
       (
         a.1.0,
-        after.ids k a.1.1.1,
+        more_apart (shape_of_pass m) plan.next c.part k (after.ids k a.1.1.1) none,
       ),
     ),
   )
@@ -175,20 +178,23 @@ module _ (p : TreePass) (plan : SplitPlan) (right : ℕ) (c : SplitCall p plan r
         ∙ h.can.above.tree);
     beyond = after.part;
     apart = λ e. no_loop plan.next h.next (next_is ∙ (e ∙ ap Some (sym right_is)));
-    others = λ k x y becomes a. rests_of m (plan_ids (shape_of_pass m) plan right)
-        (rests_beyond p m (plan_ids (shape_of_pass m) plan right) c.known now_ids) k x y becomes
-        (left_ids k a);
+    others = λ k x y becomes a. part_or_rests p plan right c m0 changed m hashed k x y becomes
+        (λ none. rests_of m (split_ids (shape_of_pass m) plan right c.part)
+        (rests_beyond p m (split_ids (shape_of_pass m) plan right c.part) c.known now_ids) k x y
+        becomes (left_ids k none a));
   }
 
   -- so it may be settled
   pub follows : MayFollow (without_seen (view m)) (values m) None
   follows = restructures_follow.split (shape_of_pass m) (known_values m) (values m)
       (split_in_hand (shape_of_pass m) (known_values m) (values m) splits_frames)
+      (split_hash p plan right c m0 changed m hashed)
 
-  pub makes_split : (q : TreePass) → DidSettle m q → MakesSplit p plan right q
+  pub makes_split : (q : TreePass) → DidSettle m q → MakesSplitBy p plan right c.part q
   makes_split q did = record {
-    silently = settled_does p m (plan_ids (shape_of_pass p) plan right) c.known all.remakes whole
-        q did;
+    silently = settled_does p m (split_ids (shape_of_pass p) plan right c.part) c.known all.remakes
+        whole q did;
+    still = part_still p plan right c m0 changed m hashed q did;
     splits = record {
       was = h;
       fresh = c.fresh;
@@ -209,6 +215,6 @@ module _ (p : TreePass) (plan : SplitPlan) (right : ℕ) (c : SplitCall p plan r
       next = knows_next m q did plan.head.index h.can.level plan.next plan.head.next c.number
           (no_loop plan.next h.next) all.next;
     };
-    count = settled_count p m (plan_ids (shape_of_pass p) plan right) c.known all.remakes whole q
-        did;
+    count = settled_count p m (split_ids (shape_of_pass p) plan right c.part) c.known all.remakes
+        whole q did;
   }

@@ -5,6 +5,7 @@ use Rattle.latch_space.specs.Has.{IsKnown}
 use Rattle.index_law.specs.Shape.{Shape}
 use Rattle.forest_law.specs.declared.objects.Frame.{Frame}
 use Rattle.forest_law.specs.declared.objects.Object.TheVariants as object
+use Rattle.forest_law.specs.HashSteps.{KeepsHashing}
 use Rattle.forest_law.specs.Numbers.{frame_id}
 use Rattle.forest_world.specs.Held.{TreePass, shape_of_pass, HasFrame}
 use Rattle.tree_restructure.specs.Raises.{SuitsRaiseFrames, RaisesFrame}
@@ -65,14 +66,19 @@ module _ (root under : ℕ) (apart : under ≢ root) where
         low_in f has = fourth.has f (low_back u new third f has)
 
         -- what came back after a raise
-        pub storeys_raised : RaisesFrame top new low newer → ChangesStoreys p root under v
-        storeys_raised raises t b has_top has_low = record {
+        pub storeys_raised : RaisesFrame top new low newer
+            → KeepsHashing top new × KeepsHashing low newer → ChangesStoreys p root under v
+        storeys_raised raises hash t b has_top has_low = record {
           top = new;
           low = newer;
           has_top = top_in t has_top;
           has_low = low_in b has_low;
           raises = subst (λ x. RaisesFrame x new b newer) (top_out t has_top).1
               (subst (λ x. RaisesFrame top new x newer) (low_out b has_low).1 raises);
+          hash = (
+            subst (λ x. KeepsHashing x new) (top_out t has_top).1 hash.0,
+            subst (λ x. KeepsHashing x newer) (low_out b has_low).1 hash.1,
+          );
           remakes = came_back;
         }
 

@@ -3,6 +3,7 @@ use Rattle.std.specs.Prelude.{ℕ, ◌≡◌, ◌≢◌, None, List, [], ◌∷�
 use Rattle.key_tuple.specs.Order.{FieldList}
 use Rattle.index_law.specs.Shape.{Shape}
 use Rattle.forest_law.specs.Numbers.{frame_id}
+use Rattle.forest_law.specs.HashSteps.{KeepsHashing}
 use Rattle.forest_world.specs.Held.{TreePass, shape_of_pass, HasFrame}
 use Rattle.tree_restructure.specs.declared.cut.Cut.{Cut}
 use Rattle.tree_restructure.specs.SplitCalls.{SuitsSplit, SplitsUnder, split_refusal}
@@ -72,12 +73,13 @@ pub record SuitsHalves (p : TreePass) (at : SplitBlocks) (cut : Cut) : Type 0 wh
   pub suits : SuitsSplit held.was.left held.was.right held.was.up cut.place cut.key.tuple
   pub taken : split_refusal held.was.up held.was.right cut.key.tuple ≡ None
 
--- the three frames in hand were split at this key
+-- the three frames in hand were split at this key, and both halves are hashed as they were
 pub record SplitsHalves (p : TreePass) (at : SplitBlocks) (key : FieldList) (was : SplitHands)
     (q : TreePass) : Type 0 where
   pub now : SplitHands
   pub has : HasHalves q at was now
   pub splits : SplitsUnder was.left now.left was.right now.right was.up now.up key
+  pub hash : KeepsHashing was.left now.left × KeepsHashing was.right now.right
   pub remakes : Remakes p q (halves_ids (shape_of_pass p) at)
 
 -- so it is, whatever they were known to be

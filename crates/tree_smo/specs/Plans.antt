@@ -18,10 +18,12 @@ use Rattle.buffer_pool.specs.Calls.{DoesSilently}
 use Rattle.buffer_pool.specs.Hands.{LacksFrame}
 use Rattle.buffer_pool.specs.NewPages.{HasOutsidePage}
 use Rattle.buffer_pool.specs.Pages.{HasTreePage}
+use Rattle.buffer_pool.specs.Parts.{part_ids, KnowsPartIf}
 use Rattle.tree_smo.specs.declared.halves.SplitBlocks.{SplitBlocks}
 use Rattle.tree_smo.specs.declared.halves.SplitHands.{SplitHands}
 use Rattle.tree_smo.specs.declared.plans.SplitPlan.{SplitPlan}
 use Rattle.tree_smo.specs.Halves.{KnowsHalves}
+use Rattle.tree_smo.specs.PartHeld.{HoldsPartFor}
 use Rattle.tree_smo.specs.Remakes.{Remakes}
 use Rattle.tree_smo.specs.Splitting.{CanSplit}
 
@@ -66,6 +68,17 @@ plan_ids shape plan right =
     frame_id shape plan.parent ∷ frame_id shape plan.child ∷ frame_id shape right
     ∷ next_ids shape plan.next
 
+-- the numbers of the frame of the page behind and of the partition, where there are these
+abbrev pub more_ids : Shape → (next part : Option ℕ) → List ℕ
+more_ids shape None part = part_ids shape part
+more_ids shape (Some b) part = frame_id shape b ∷ part_ids shape part
+
+-- the numbers of all that a planned split changes while this partition is held
+abbrev pub split_ids : Shape → SplitPlan → ℕ → Option ℕ → List ℕ
+split_ids shape plan right part =
+    frame_id shape plan.parent ∷ frame_id shape plan.child ∷ frame_id shape right
+    ∷ more_ids shape plan.next part
+
 -- the pass knows the frame of the page behind, where there is one, which is none outside the trees
 abbrev pub KnowsNext : View → Option ℕ → Type 0
 KnowsNext v None = Unit {0}
@@ -107,6 +120,20 @@ pub record MakesSplit (p : TreePass) (plan : SplitPlan) (right : ℕ) (q : TreeP
   pub silently : DoesSilently p q (plan_ids (shape_of_pass p) plan right)
   pub splits : SplitsSo (view p) (view q) plan right
   pub count : count q ≡ count p
+
+-- the pass held the partition of the child's index too, where the child is hashed, has made the split,
+-- and still holds it
+pub record MakesSplitBy (p : TreePass) (plan : SplitPlan) (right : ℕ) (part : Option ℕ)
+    (q : TreePass) : Type 0 where
+  pub silently : DoesSilently p q (split_ids (shape_of_pass p) plan right part)
+  pub splits : SplitsSo (view p) (view q) plan right
+  pub still : KnowsPartIf (view q) part
+  pub count : count q ≡ count p
+
+-- so it is, whichever that partition is
+abbrev pub MakesSplitHeld : TreePass → SplitPlan → ℕ → TreePass → Type 0
+MakesSplitHeld p plan right q = (part : Option ℕ) → HoldsPartFor (view p) plan.child part
+    → MakesSplitBy p plan right part q
 
 -- the right frame is held besides, and the split is made
 pub record SplitsBeside (p : TreePass) (plan : SplitPlan) (right : ℕ) (q : TreePass) : Type 0 where

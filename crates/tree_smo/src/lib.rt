@@ -2,6 +2,7 @@
 #![tactic(auto)]
 
 mod halves;
+mod keeping;
 mod numbers;
 mod plans;
 mod raising;
@@ -11,6 +12,7 @@ mod splitting;
 mod storeys;
 
 pub use halves::{SplitBlocks, SplitHands, halves_back, halves_out};
+pub use keeping::{keep_up_between, laws_of_moves};
 pub use numbers::pages_are_numbered;
 pub use plans::head_of;
 pub use raising::raise_root;

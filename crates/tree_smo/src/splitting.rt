@@ -1,24 +1,28 @@
 //! A page is split under its parent.
-ghost use Rattle.std.specs.Prelude.{◌≡◌, ◌+◌, ◌<◌, ◌≤◌, ◌^◌, [], ◌∷◌, None, Err, IfOk};
+ghost use Rattle.std.specs.Prelude.{◌≡◌, ◌+◌, ◌<◌, ◌≤◌, ◌^◌, ℕ, [], ◌∷◌, None, Err, IfOk};
+ghost use Rattle.std.specs.Prelude.{OnOk, OnErr};
 ghost use Rattle.latch_space.specs.declared.TheConstants.{MAX_HELD};
 ghost use Rattle.latch_space.specs.Has.{IsKnown};
 ghost use Rattle.latch_space.specs.Passes.{view, count, IsSamePass};
 ghost use Rattle.latch_space.specs.Spaces.{IsPassOf};
 ghost use Rattle.forest_law.specs.declared.objects.Frame.{Frame};
 ghost use Rattle.forest_world.specs.Held.{shape_of_pass};
-ghost use Rattle.call_law.specs.Hands.{KnowsFrame, HoldsNoFrameBut, HoldsNoPool};
+ghost use Rattle.call_law.specs.Hands.{KnowsFrame, HoldsNoFrameBut, HoldsNoPart, HoldsNoTable};
 ghost use Rattle.buffer_pool.specs.declared.error.PoolError.TheVariants as refused;
 ghost use Rattle.buffer_pool.specs.Calls.{GetsNothing};
 ghost use Rattle.buffer_pool.specs.Forests.{IsForest, IsFittedTree};
-ghost use Rattle.buffer_pool.specs.NewPages.{FindsNoneFree};
-ghost use Rattle.tree_smo.specs.Plans.{IsPlanOf, HoldsPlan, next_blocks, SplitsBeside};
+ghost use Rattle.buffer_pool.specs.NewPages.{FindsNoneFree, HasOutsidePage};
+ghost use Rattle.tree_smo.specs.Plans.{IsPlanOf, HoldsPlan, next_blocks, MakesSplit, SplitsBeside};
 ghost use Rattle.tree_smo.specs.Splitting.{CanSplit, SplitsChild};
 
 use crate::numbers::pages_are_numbered;
 use crate::plans::{SplitPlan, head_of};
 use crate::settling::make_split;
-use buffer_pool::{PoolError, frame, free_page, give_back, new_page, page_in};
+use buffer_pool::{
+    PoolError, frame, free_page, give_back, give_part_if, hold_part_for, new_page, page_in,
+};
 use forest_world::{ForestPass, ForestSpace};
+use key_tuple::NoMemory;
 use std::alloc::Global;
 use std::sync::Wait;
 use tree_restructure::find_cut;
@@ -39,8 +43,8 @@ pub fn split_child<R: Wait>(
     requires held { CanSplit (view pass.old) parent child index }
     requires known { IsKnown pass.old }
     requires frames { HoldsNoFrameBut (view pass.old) (parent ∷ child ∷ []) }
-    requires pool { HoldsNoPool (view pass.old) }
-    requires room { count pass.old + 3 ≤ MAX_HELD }
+    requires tables { HoldsNoTable (view pass.old) }
+    requires room { count pass.old + 4 ≤ MAX_HELD }
     ensures own { IsSamePass pass.old pass.new × IsPassOf space.now pass.new }
     ensures ok { IfOk result (λ right. SplitsChild pass.old parent child index right pass.new) }
     ensures full { result ≡ Err refused.SpaceFull → FindsNoneFree pass.old index pass.new }
@@ -85,9 +89,9 @@ fn split_planned<R: Wait>(
     requires next { plan.next ≡ None }
     requires known { IsKnown pass.old }
     requires frames { HoldsNoFrameBut (view pass.old) (plan.parent ∷ plan.child ∷ []) }
-    requires pool { HoldsNoPool (view pass.old) }
+    requires tables { HoldsNoTable (view pass.old) }
     requires few { (shape_of_pass pass.old).pages < 2 ^ 32 }
-    requires room { count pass.old + 3 ≤ MAX_HELD }
+    requires room { count pass.old + 4 ≤ MAX_HELD }
     ensures own { IsSamePass pass.old pass.new × IsPassOf space.now pass.new }
     ensures ok { IfOk result
         (λ right. SplitsChild pass.old plan.parent plan.child plan.head.index right pass.new) }
@@ -125,9 +129,9 @@ fn split_beside<R: Wait>(
     requires known { IsKnown pass.old }
     requires frames { HoldsNoFrameBut (view pass.old)
         (plan.parent ∷ plan.child ∷ next_blocks plan.next) }
-    requires pool { HoldsNoPool (view pass.old) }
+    requires tables { HoldsNoTable (view pass.old) }
     requires few { (shape_of_pass pass.old).pages < 2 ^ 32 }
-    requires room { count pass.old + 2 ≤ MAX_HELD }
+    requires room { count pass.old + 3 ≤ MAX_HELD }
     ensures own { IsSamePass pass.old pass.new × IsPassOf space.now pass.new }
     ensures ok { IfOk result (λ right. SplitsBeside pass.old plan right pass.new) }
     ensures full { result ≡ Err refused.SpaceFull
@@ -137,11 +141,41 @@ fn split_beside<R: Wait>(
 {
     pass.fits();
     let right = new_page(alloc, space, pass, plan.head, wait)?;
-    match make_split(space, pass, plan, right) {
+    match split_hashed(space, pass, plan, right, wait) {
         Ok(()) => Ok(right),
         Err(_) => {
             free_page(space, pass, right, wait);
             Err(PoolError::NoMemory)
         }
     }
+}
+
+/// Makes a planned split while the partition of the child's index is held, where the child is hashed.
+/// After `NoMemory` what is held is as before.
+fn split_hashed<R: Wait>(
+    space: &ForestSpace,
+    pass: &mut ForestPass,
+    plan: SplitPlan,
+    right: u32,
+    wait: &R,
+) -> Result<(), NoMemory>
+    requires own { IsForest space.now × IsPassOf space.now pass.old }
+    requires held { HoldsPlan (view pass.old) plan }
+    requires blank { (f : Frame) × KnowsFrame (view pass.old) right f
+        × (n : ℕ) × HasOutsidePage f plan.head n }
+    requires known { IsKnown pass.old }
+    requires parts { HoldsNoPart (view pass.old) }
+    requires few { (shape_of_pass pass.old).pages < 2 ^ 32 }
+    requires room { count pass.old + 2 ≤ MAX_HELD }
+    ensures own { IsSamePass pass.old pass.new × IsPassOf space.now pass.new }
+    ensures ok { OnOk result (MakesSplit pass.old plan right pass.new) }
+    ensures err { OnErr result (GetsNothing pass.old pass.new) }
+    ensures fits { IsFittedTree (view pass.new) }
+{
+    pass.fits();
+    let hashed = frame(space, pass, plan.child).hashed;
+    let part = hold_part_for(space, pass, hashed, wait);
+    let made = make_split(space, pass, plan, right, wait);
+    give_part_if(space, pass, part);
+    made
 }

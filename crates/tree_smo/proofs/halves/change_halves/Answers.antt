@@ -42,7 +42,7 @@ returns-in-Ok-clause-ok c =
     } in
     halves_split c.args.at c.args.pass.now c.halves_out-hands.new.pass c.halves_back.new.pass
     c.halves_out-hands.result new c.halves_out-hands.ensures.out c.halves_back.ensures.back
-    c.args.cut.key.tuple c.in-Ok.ensures.ok
+    c.args.cut.key.tuple c.in-Ok.ensures.ok c.split_frames-outcome.ensures.hash
 
 pub returns-in-Err-clause-err : goal.returns-in-Err-clause-err
 returns-in-Err-clause-err c =

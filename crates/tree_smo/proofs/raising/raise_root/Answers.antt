@@ -3,7 +3,7 @@ use Rattle.latch_space.specs.Passes.{view}
 use Rattle.buffer_pool.proofs.SpaceLemmas.{objects_of}
 use Rattle.tree_smo.proofs.InsideLemmas.{none_outside_but, knows_inside}
 use Rattle.buffer_pool.specs.NewPages.{FindsNoneFree}
-use Rattle.tree_smo.proofs.BesideLemmas.{holds_outside, no_pool, gets_nothing}
+use Rattle.tree_smo.proofs.BesideLemmas.{holds_outside, no_table, still_no_table, gets_nothing}
 use Rattle.tree_smo.proofs.RootLemmas.{root_page, index_is, index_there, root_fields, root_got, storeys_held, raises_root}
 use Rattle.tree_smo.proofs.raising.raise_root.Goals as goal
 
@@ -41,8 +41,13 @@ returns-in_err-under-clause-full g c = λ e. let r = rw e at c.from_residual.ens
     c.frame.result.now c.frame.ensures c.head_of-head.result c.head_of-head.ensures.head)
     (c.in_err-under.ensures.full (ap Err (sym r.1)))
 
-pub make_raise-requires-clause-held : goal.make_raise-requires-clause-held
-make_raise-requires-clause-held g c = let p = c.args.pass.now in
+pub raise_hashed-requires-clause-parts : goal.raise_hashed-requires-clause-parts
+raise_hashed-requires-clause-parts g c =
+    (no_table c.args.pass.now c.new_page.new.pass c.head_of-head.result c.in_ok-under.under
+    c.in_ok-under.ensures.ok c.requires.tables).parts
+
+pub raise_hashed-requires-clause-held : goal.raise_hashed-requires-clause-held
+raise_hashed-requires-clause-held g c = let p = c.args.pass.now in
     storeys_held p c.new_page.new.pass c.args.index c.args.root c.in_ok-under.under c.requires.held
     (root_got p c.requires.known c.args.index c.args.root c.requires.held
     c.frame.result.now c.frame.ensures c.head_of-head.result c.head_of-head.ensures.head
@@ -52,12 +57,12 @@ make_raise-requires-clause-held g c = let p = c.args.pass.now in
 pub free_page-requires-clause-held : goal.free_page-requires-clause-held
 free_page-requires-clause-held g c =
     holds_outside c.args.pass.now c.new_page.new.pass c.head_of-head.result c.in_ok-under.under
-    c.in_ok-under.ensures.ok c.make_raise.new.pass c.in-Err.ensures.err
+    c.in_ok-under.ensures.ok c.raise_hashed.new.pass c.in-Err.ensures.err
 
-pub free_page-requires-clause-pool : goal.free_page-requires-clause-pool
-free_page-requires-clause-pool g c =
-    no_pool c.args.pass.now c.new_page.new.pass c.head_of-head.result c.in_ok-under.under
-    c.in_ok-under.ensures.ok c.make_raise.new.pass c.in-Err.ensures.err.same_view c.requires.pool
+pub free_page-requires-clause-tables : goal.free_page-requires-clause-tables
+free_page-requires-clause-tables g c =
+    still_no_table c.args.pass.now c.new_page.new.pass c.head_of-head.result c.in_ok-under.under
+    c.in_ok-under.ensures.ok c.raise_hashed.new.pass c.in-Err.ensures.err c.requires.tables
 
 pub returns-in-Ok-clause-ok : goal.returns-in-Ok-clause-ok
 returns-in-Ok-clause-ok g c = let p = c.args.pass.now in
@@ -65,10 +70,10 @@ returns-in-Ok-clause-ok g c = let p = c.args.pass.now in
     (root_got p c.requires.known c.args.index c.args.root c.requires.held
     c.frame.result.now c.frame.ensures c.head_of-head.result c.head_of-head.ensures.head
     c.in_ok-under.under c.new_page.new.pass
-    c.in_ok-under.ensures.ok) c.requires.index c.make_raise.new.pass c.in-Ok.ensures.ok
+    c.in_ok-under.ensures.ok) c.requires.index c.raise_hashed.new.pass c.in-Ok.ensures.ok
 
 pub returns-in-Err-clause-memory : goal.returns-in-Err-clause-memory
 returns-in-Err-clause-memory g c = λ e.
     gets_nothing c.args.pass.now c.new_page.new.pass c.head_of-head.result c.in_ok-under.under
-    c.in_ok-under.ensures.ok c.make_raise.new.pass c.free_page.new.pass c.in-Err.ensures.err
+    c.in_ok-under.ensures.ok c.raise_hashed.new.pass c.free_page.new.pass c.in-Err.ensures.err
     c.free_page.ensures.freed

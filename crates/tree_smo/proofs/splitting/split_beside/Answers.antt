@@ -3,7 +3,7 @@ use Rattle.latch_space.specs.Passes.{view}
 use Rattle.buffer_pool.proofs.SpaceLemmas.{objects_of}
 use Rattle.tree_smo.specs.Plans.{next_blocks}
 use Rattle.tree_smo.proofs.InsideLemmas.{none_outside_but, plan_inside}
-use Rattle.tree_smo.proofs.BesideLemmas.{index_below, fields_are, plan_still, holds_outside, no_pool, splits_beside, gets_nothing}
+use Rattle.tree_smo.proofs.BesideLemmas.{index_below, fields_are, plan_still, holds_outside, no_table, still_no_table, splits_beside, gets_nothing}
 use Rattle.tree_smo.proofs.splitting.split_beside.Goals as goal
 
 pub new_page-requires-clause-index : goal.new_page-requires-clause-index
@@ -25,33 +25,38 @@ pub returns-in_err-right-clause-full : goal.returns-in_err-right-clause-full
 returns-in_err-right-clause-full g c = λ e. let r = rw e at c.from_residual.ensures in
     c.in_err-right.ensures.full (ap Err (sym r.1))
 
-pub make_split-requires-clause-held : goal.make_split-requires-clause-held
-make_split-requires-clause-held g c =
+pub split_hashed-requires-clause-parts : goal.split_hashed-requires-clause-parts
+split_hashed-requires-clause-parts g c =
+    (no_table c.args.pass.now c.new_page.new.pass c.args.plan.head c.in_ok-right.right
+    c.in_ok-right.ensures.ok c.requires.tables).parts
+
+pub split_hashed-requires-clause-held : goal.split_hashed-requires-clause-held
+split_hashed-requires-clause-held g c =
     plan_still c.args.pass.now c.new_page.new.pass c.args.plan.head c.in_ok-right.right
     c.in_ok-right.ensures.ok c.args.plan c.requires.held
 
-pub make_split-requires-clause-blank : goal.make_split-requires-clause-blank
-make_split-requires-clause-blank g c = let got = c.in_ok-right.ensures.ok in
+pub split_hashed-requires-clause-blank : goal.split_hashed-requires-clause-blank
+split_hashed-requires-clause-blank g c = let got = c.in_ok-right.ensures.ok in
     (got.frame, got.knows, got.number, got.has)
 
 pub free_page-requires-clause-held : goal.free_page-requires-clause-held
 free_page-requires-clause-held g c =
     holds_outside c.args.pass.now c.new_page.new.pass c.args.plan.head c.in_ok-right.right
-    c.in_ok-right.ensures.ok c.make_split.new.pass c.in-Err.ensures.err
+    c.in_ok-right.ensures.ok c.split_hashed.new.pass c.in-Err.ensures.err
 
-pub free_page-requires-clause-pool : goal.free_page-requires-clause-pool
-free_page-requires-clause-pool g c =
-    no_pool c.args.pass.now c.new_page.new.pass c.args.plan.head c.in_ok-right.right
-    c.in_ok-right.ensures.ok c.make_split.new.pass c.in-Err.ensures.err.same_view c.requires.pool
+pub free_page-requires-clause-tables : goal.free_page-requires-clause-tables
+free_page-requires-clause-tables g c =
+    still_no_table c.args.pass.now c.new_page.new.pass c.args.plan.head c.in_ok-right.right
+    c.in_ok-right.ensures.ok c.split_hashed.new.pass c.in-Err.ensures.err c.requires.tables
 
 pub returns-in-Ok-clause-ok : goal.returns-in-Ok-clause-ok
 returns-in-Ok-clause-ok g c =
     splits_beside c.args.pass.now c.new_page.new.pass c.args.plan.head c.in_ok-right.right
-    c.in_ok-right.ensures.ok c.make_split.new.pass c.args.plan refl c.requires.held
+    c.in_ok-right.ensures.ok c.split_hashed.new.pass c.args.plan refl c.requires.held
     c.in-Ok.ensures.ok
 
 pub returns-in-Err-clause-memory : goal.returns-in-Err-clause-memory
 returns-in-Err-clause-memory g c = λ e.
     gets_nothing c.args.pass.now c.new_page.new.pass c.args.plan.head c.in_ok-right.right
-    c.in_ok-right.ensures.ok c.make_split.new.pass c.free_page.new.pass c.in-Err.ensures.err
+    c.in_ok-right.ensures.ok c.split_hashed.new.pass c.free_page.new.pass c.in-Err.ensures.err
     c.free_page.ensures.freed

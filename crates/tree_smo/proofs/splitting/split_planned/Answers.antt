@@ -4,7 +4,7 @@ use Rattle.buffer_pool.proofs.SpaceLemmas.{objects_of}
 use Rattle.tree_smo.specs.Plans.{SplitsBeside}
 use Rattle.tree_smo.specs.Splitting.{SplitsChild}
 use Rattle.tree_smo.proofs.AroundLemmas.{none_free, nothing, splits_child, splits_last, frames_last}
-use Rattle.tree_smo.proofs.NextLemmas.{plan_last, next_live, next_other, next_taken, plan_with, plan_held, frames_held, pool_lacked, next_held}
+use Rattle.tree_smo.proofs.NextLemmas.{plan_last, next_live, next_other, next_taken, plan_with, plan_held, frames_held, tables_still, next_held}
 use Rattle.tree_smo.proofs.splitting.split_planned.Goals as goal
 
 pub split_beside-requires-clause-held : goal.split_beside-requires-clause-held
@@ -41,12 +41,12 @@ split_beside-made-requires-clause-frames g c = let p = c.args.pass.now in let pl
     frames_held p plan n b q (next_taken p plan n b q c.requires.held c.in-Some.is
     c.page_in-behind.ensures.took c.page_in-behind.ensures.fits) c.requires.frames
 
-pub split_beside-made-requires-clause-pool : goal.split_beside-made-requires-clause-pool
-split_beside-made-requires-clause-pool g c = let p = c.args.pass.now in let plan = c.args.plan in
+pub split_beside-made-requires-clause-tables : goal.split_beside-made-requires-clause-tables
+split_beside-made-requires-clause-tables g c = let p = c.args.pass.now in let plan = c.args.plan in
     let n = c.in-Some.next in let b = c.page_in-behind.result in
     let q = c.page_in-behind.new.pass in
-    pool_lacked p plan n b q (next_taken p plan n b q c.requires.held c.in-Some.is
-    c.page_in-behind.ensures.took c.page_in-behind.ensures.fits) c.requires.pool
+    tables_still p plan n b q (next_taken p plan n b q c.requires.held c.in-Some.is
+    c.page_in-behind.ensures.took c.page_in-behind.ensures.fits) c.requires.tables
 
 pub give_back-requires-clause-held : goal.give_back-requires-clause-held
 give_back-requires-clause-held g c = let p = c.args.pass.now in let plan = c.args.plan in

@@ -36,11 +36,12 @@ frame_back-requires-2-clause-out c = let s = c.requires.suits in (
 pub returns-clause-ok : goal.returns-clause-ok
 returns-clause-ok c = let s = c.requires.suits in
     on_ok_weaker c.raise_frames-outcome.result
-    (storeys_raised c.args.root c.args.under s.apart c.args.pass.now c.frame_out-top.new.pass
+    (λ raises. storeys_raised c.args.root c.args.under s.apart c.args.pass.now c.frame_out-top.new.pass
     c.frame_out-low.new.pass c.frame_out-top.result c.frame_out-low.result
     c.frame_out-top.ensures.out c.frame_out-low.ensures.out c.frame_back.new.pass
     c.frame_back-2.new.pass c.raise_frames-outcome.new.root c.raise_frames-outcome.new.below
-    c.frame_back.ensures.back c.frame_back-2.ensures.back) c.raise_frames-outcome.ensures.ok
+    c.frame_back.ensures.back c.frame_back-2.ensures.back raises
+    c.raise_frames-outcome.ensures.hash) c.raise_frames-outcome.ensures.ok
 
 -- two facts of an error give a third
 both_errors : {A E X Y Z : Type 0} (r : Result A E) → (X → Y → Z) → OnErr r X → OnErr r Y
