@@ -18,15 +18,16 @@ use Rattle.forest_law.specs.declared.objects.Frame.{Frame}
 use Rattle.forest_law.specs.declared.objects.Tree.{Tree}
 use Rattle.forest_law.specs.declared.objects.Object.{Object}
 use Rattle.forest_law.specs.declared.objects.Object.TheVariants as object
-use Rattle.forest_law.specs.Numbers.{pool_id, tree_id, frame_id}
+use Rattle.forest_law.specs.Numbers.{pool_id, tree_id, part_id, frame_id}
 use Rattle.forest_law.specs.State.{fields_for}
 use Rattle.forest_world.specs.Held.{TreePass, shape_of_pass}
-use Rattle.call_law.specs.Hands.{KnowsFrame, KnowsTree, HoldsNoFrameBut, HoldsNoPool, HoldsTheRest}
+use Rattle.call_law.specs.Hands.{KnowsFrame, KnowsTree, LacksObject, HoldsNoFrameBut, HoldsNoTable, HoldsTheRest}
 use Rattle.call_law.specs.Spoken.{View}
 use Rattle.call_law.specs.Trace.{Added, Adds, SameNumbers}
+use Rattle.call_law.proofs.TableLemmas.{IsTableNumber, table_no_frame, table_no_tree}
 use Rattle.buffer_pool.specs.Forests.{IsForest}
 use Rattle.buffer_pool.specs.Frames.{GivesFrame}
-use Rattle.buffer_pool.proofs.AddedLemmas.{only_given, frame_no_tree, pool_no_tree, frame_still, tree_still}
+use Rattle.buffer_pool.proofs.AddedLemmas.{only_given, frame_no_tree, frame_still, tree_still}
 use Rattle.buffer_pool.proofs.CallLemmas.{gave_frame}
 use Rattle.buffer_pool.proofs.PageLemmas.{lacks_if}
 use Rattle.buffer_pool.proofs.SpaceLemmas.{objects_of}
@@ -142,12 +143,22 @@ module _ {Q : Type 0} (s : SpaceOf Shape Object MadeChange Saying Q) (p : TreePa
       (λ (b : ℕ). frame_id (shape_of_pass p) c ≢ frame_id (shape_of_pass p) b)
       (λ b ne. frames_apart (shape_of_pass p) c b ne) bs apart))
 
-  pub no_pool : HoldsNoPool (view p)
-  no_pool = let objects = objects_of s p forest own in
-      lacks_if p pool_id (omega (arith, objects))
-      (λ h held. way.only pool_id h held (pool_no_tree (shape_of_pass p) i way.index)
-      (each_any bs))
+  pub no_table : HoldsNoTable (view p)
+  no_table = record {
+    pool = lacked pool_id (inl refl);
+    parts = λ k below. lacked (part_id (shape_of_pass p) k) (inr (k, below, refl));
+  }
     where
-      each_any : (bs : List ℕ) → AllByRecursion (λ (b : ℕ). pool_id ≢ frame_id (shape_of_pass p) b) bs
-      each_any [] = tt
-      each_any (b ∷ bs) = ((λ e. absurd (omega (arith, e))), each_any bs)
+      below : (k : ℕ) → IsTableNumber (shape_of_pass p) k → k < (view p).terms.objects
+      below k (inl pool) = let objects = objects_of s p forest own in omega (arith, pool, objects)
+      below k (inr part) = let objects = objects_of s p forest own in
+          let there = part.1 in let number = part.2 in omega (arith, there, number, objects)
+
+      apart : (k : ℕ) → IsTableNumber (shape_of_pass p) k → (bs : List ℕ)
+          → AllByRecursion (λ (b : ℕ). k ≢ frame_id (shape_of_pass p) b) bs
+      apart k table [] = tt
+      apart k table (b ∷ bs) = (table_no_frame (shape_of_pass p) k b table, apart k table bs)
+
+      lacked : (k : ℕ) → IsTableNumber (shape_of_pass p) k → LacksObject (view p) k
+      lacked k table = lacks_if p k (below k table) (λ h held. way.only k h held
+          (table_no_tree (shape_of_pass p) k i way.index table) (apart k table bs))

@@ -26,6 +26,7 @@ use Rattle.buffer_pool.specs.Pages.{HasTreePage}
 -- the frame that an object is, if it is one
 abbrev frame_of : Frame → Object → Frame
 frame_of d (object.Frame f) = f
+frame_of d (object.Part p) = d
 frame_of d (object.Pool p) = d
 frame_of d (object.Tree t) = d
 

@@ -3,7 +3,7 @@ use Rattle.latch_space.specs.Passes.{view}
 use Rattle.tree_descent.proofs.PageLemmas.{may_give_back}
 use Rattle.tree_growth.specs.Ways.{ArrivesWithRoom, StopsOnWay, GrowsChild}
 use Rattle.tree_growth.proofs.AddLemmas.{goes_nowhere, stops_after}
-use Rattle.tree_growth.proofs.HandLemmas.{no_frame_but, no_pool}
+use Rattle.tree_growth.proofs.HandLemmas.{no_frame_but, no_table}
 use Rattle.tree_growth.proofs.RefusalLemmas.{is_refused, stops_one}
 use Rattle.tree_growth.proofs.RootLemmas.{can_raise}
 use Rattle.tree_growth.proofs.AnswerLemmas.{ok_more, err_more}
@@ -33,9 +33,9 @@ raise_root-requires-clause-frames g c =
     no_frame_but c.args.space.now c.args.pass.now c.requires.own.0 c.requires.own.1 c.args.index
     c.args.key.now.tuple (c.args.root.block ∷ []) c.requires.way
 
-pub raise_root-requires-clause-pool : goal.raise_root-requires-clause-pool
-raise_root-requires-clause-pool g c =
-    no_pool c.args.space.now c.args.pass.now c.requires.own.0 c.requires.own.1 c.args.index
+pub raise_root-requires-clause-tables : goal.raise_root-requires-clause-tables
+raise_root-requires-clause-tables g c =
+    no_table c.args.space.now c.args.pass.now c.requires.own.0 c.requires.own.1 c.args.index
     c.args.key.now.tuple (c.args.root.block ∷ []) c.requires.way
 
 pub grow_child-requires-clause-way : goal.grow_child-requires-clause-way

@@ -1,7 +1,7 @@
 use Rattle.std.proofs.Common.{[], ◌∷◌, ap, suc, sym, Err}
 use Rattle.latch_space.specs.Passes.{view}
 use Rattle.tree_descent.proofs.PageLemmas.{may_give_back, tree_page_inside}
-use Rattle.tree_growth.proofs.HandLemmas.{no_frame_but, no_pool}
+use Rattle.tree_growth.proofs.HandLemmas.{no_frame_but, no_table}
 use Rattle.tree_growth.proofs.RefusalLemmas.{is_refused, holds_second, stops_two}
 use Rattle.tree_growth.proofs.SplitLemmas.{may_give_up, way_halves, halves_held, grows_halved}
 use Rattle.tree_growth.proofs.growing.halve_child.Goals as goal
@@ -12,9 +12,9 @@ split_child-requires-clause-frames g c =
     no_frame_but c.args.space.now c.args.pass.now c.requires.own.0 c.requires.own.1 c.args.index
     c.args.key.now.tuple (c.args.parent ∷ c.args.child ∷ []) c.requires.way
 
-pub split_child-requires-clause-pool : goal.split_child-requires-clause-pool
-split_child-requires-clause-pool g c =
-    no_pool c.args.space.now c.args.pass.now c.requires.own.0 c.requires.own.1 c.args.index
+pub split_child-requires-clause-tables : goal.split_child-requires-clause-tables
+split_child-requires-clause-tables g c =
+    no_table c.args.space.now c.args.pass.now c.requires.own.0 c.requires.own.1 c.args.index
     c.args.key.now.tuple (c.args.parent ∷ c.args.child ∷ []) c.requires.way
 
 pub give_back-requires-clause-held : goal.give_back-requires-clause-held

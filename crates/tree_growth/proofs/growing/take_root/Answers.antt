@@ -1,6 +1,6 @@
 use Rattle.std.proofs.Common.{[]}
 use Rattle.latch_space.specs.Passes.{view}
-use Rattle.tree_growth.proofs.HandLemmas.{no_pool}
+use Rattle.tree_growth.proofs.HandLemmas.{no_table}
 use Rattle.tree_growth.proofs.RootLemmas.{root_live, no_page, holds_paged, reaches_root, holds_root}
 use Rattle.tree_growth.proofs.growing.take_root.Goals as goal
 
@@ -12,9 +12,9 @@ pub page_in-block-requires-clause-others : goal.page_in-block-requires-clause-ot
 page_in-block-requires-clause-others g c =
     no_page c.args.pass.now c.args.index c.args.key.now.tuple c.requires.way c.args.index
 
-pub page_in-block-requires-clause-pool : goal.page_in-block-requires-clause-pool
-page_in-block-requires-clause-pool g c =
-    no_pool c.args.space.now c.args.pass.now c.requires.own.0 c.requires.own.1 c.args.index
+pub page_in-block-requires-clause-tables : goal.page_in-block-requires-clause-tables
+page_in-block-requires-clause-tables g c =
+    no_table c.args.space.now c.args.pass.now c.requires.own.0 c.requires.own.1 c.args.index
     c.args.key.now.tuple [] c.requires.way
 
 pub page_in_hand-requires-clause-held : goal.page_in_hand-requires-clause-held

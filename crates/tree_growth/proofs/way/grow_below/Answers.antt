@@ -4,7 +4,7 @@ use Rattle.tree_growth.specs.declared.looking.PageInHand.{PageInHand}
 use Rattle.tree_growth.specs.Ways.{ArrivesWithRoom, StopsOnWay, GrowsChild}
 use Rattle.tree_growth.proofs.AddLemmas.{reaches_after, stops_after}
 use Rattle.tree_growth.proofs.ChildLemmas.{holds_inner, goes_child, way_child, holds_child, its_child_level}
-use Rattle.tree_growth.proofs.HandLemmas.{no_frame_but, no_pool}
+use Rattle.tree_growth.proofs.HandLemmas.{no_frame_but, no_table}
 use Rattle.tree_growth.proofs.AnswerLemmas.{ok_more, err_more}
 use Rattle.tree_growth.proofs.way.grow_below.Goals as goal
 
@@ -18,9 +18,9 @@ child_for-child-requires-clause-frames g c =
     no_frame_but c.args.space.now c.args.pass.now c.requires.own.0 c.requires.own.1 c.args.index
     c.args.key.now.tuple (c.args.at.block ∷ []) c.requires.way
 
-pub child_for-child-requires-clause-pool : goal.child_for-child-requires-clause-pool
-child_for-child-requires-clause-pool g c =
-    no_pool c.args.space.now c.args.pass.now c.requires.own.0 c.requires.own.1 c.args.index
+pub child_for-child-requires-clause-tables : goal.child_for-child-requires-clause-tables
+child_for-child-requires-clause-tables g c =
+    no_table c.args.space.now c.args.pass.now c.requires.own.0 c.requires.own.1 c.args.index
     c.args.key.now.tuple (c.args.at.block ∷ []) c.requires.way
 
 pub grow_child-requires-clause-way : goal.grow_child-requires-clause-way
