@@ -1,5 +1,5 @@
 -- The page behind two children is held while they are merged.
-use Rattle.std.proofs.Common.{◌≡◌, ◌≢◌, ℕ, [], ◌∷◌, sym, ap, subst, ◌∙◌, arith, Option, Some, None, Result, Ok, Err, OnOk, OnErr}
+use Rattle.std.proofs.Common.{◌≡◌, ◌≢◌, ℕ, [], ◌∷◌, sym, ap, ◌∙◌, arith, Option, Some, None, Result, Ok, Err, OnOk, OnErr}
 use Rattle.latch_space.specs.Has.{IsKnown}
 use Rattle.latch_space.specs.Passes.{view}
 use Rattle.index_page.specs.declared.head.PageHead.{PageHead}
@@ -9,7 +9,8 @@ use Rattle.forest_law.specs.declared.objects.Frame.{Frame}
 use Rattle.forest_law.specs.Numbers.{frame_id, frames_of}
 use Rattle.forest_world.specs.Held.{TreePass, shape_of_pass, HasFrame}
 use Rattle.tree_restructure.specs.Links.{HasAPage}
-use Rattle.call_law.specs.Hands.{KnowsFrame, HoldsNoFrameBut}
+use Rattle.call_law.specs.Hands.{KnowsFrame, HoldsNoFrameBut, HoldsNoPart, HoldsNoTable}
+use Rattle.call_law.proofs.TableLemmas.{part_no_frame, parts_lacked}
 use Rattle.buffer_pool.specs.Calls.{DoesSilently, GetsNothing}
 use Rattle.buffer_pool.specs.Forests.{IsFittedTree}
 use Rattle.buffer_pool.specs.Frames.{GivesFrame}
@@ -22,7 +23,7 @@ use Rattle.tree_growth.proofs.KnownLemmas.{lacked_apart}
 use Rattle.tree_smo.specs.declared.halves.SplitBlocks.{SplitBlocks}
 use Rattle.tree_smo.specs.Remakes.{IsAsBefore}
 use Rattle.tree_smo.proofs.LawfulLemmas.{known_page}
-use Rattle.tree_smo.proofs.SilentLemmas.{does_weaker, silently_same, around_added, does_around, said_around}
+use Rattle.tree_smo.proofs.SilentLemmas.{does_shape, does_weaker, silently_same, around_added, does_around, said_around}
 use Rattle.tree_shrinking.specs.Merging.{CanMerge, MergesPair}
 use Rattle.tree_shrinking.specs.MergePlans.{HoldsMerge, merge_ids, MakesMerge}
 use Rattle.tree_shrinking.proofs.MergePlanLemmas.{behind, not_right, not_left, not_parent}
@@ -114,6 +115,14 @@ module _ (p : TreePass) (at : SplitBlocks) (i : ℕ)
         ),
       )
 
+-- no partition is held where a page was taken, as none was
+pub parts_took : (p : TreePass) (n b : ℕ) (q : TreePass) → PagesIn p n b q → HoldsNoTable (view p)
+    → HoldsNoPart (view q)
+parts_took p n b q took none = let does = took.silently.does in
+    parts_lacked (view p) (view q)
+    (does_shape p q (frame_id (shape_of_pass p) b ∷ []) took.silently.added does)
+    (λ k part lacks. does.rest k (part_no_frame (shape_of_pass p) k b part, tt) ∙ lacks) none.parts
+
 -- what is known once the page behind was taken, in the frame of the block b
 pub record NextTaken (p : TreePass) (at : SplitBlocks) (i n b : ℕ) (q : TreePass) : Type 0 where
   pub can : CanMerge (view p) at.parent at.child at.right i
@@ -199,28 +208,29 @@ module _ (p : TreePass) (at : SplitBlocks) (i n b : ℕ) (q : TreePass)
   module _ (r : TreePass) where
     -- the page behind is still held after the merge, however that ended
     pub next_held : {A E : Type 0} (made : Result A E)
-        → OnOk made (MakesMerge q at i (Some b) r) → OnErr made (IsAsBefore q r)
+        → OnOk made (MakesMerge q at i (Some b) r) → OnErr made (GetsNothing q r)
         → MayGiveBack r b
     next_held (Ok x) ok err = let has = ok.merges.behind in
         (has.0, frame_has r ok.silently.does.known b has.0 has.1, has.2)
     next_held (Err e) ok err = (
       took.frame,
-      frame_has r err.known b took.frame
-          (subst (λ v. KnowsFrame v b took.frame) (sym err.same_view) took.knows),
+      frame_has r err.silently.does.known b took.frame
+          (frame_still (view q) (view r) [] err.silently.does.adds.numbers err.silently.does.rest b tt
+          took.frame took.knows),
       took.inside,
     )
 
     module _ (s : TreePass) (gave : GivesFrame r b s) where
       -- nothing was done, and the page behind was given back
-      pub nothing_around : IsAsBefore q r → GetsNothing p s
-      nothing_around same = let f = silently_same q r same in record {
+      pub nothing_around : GetsNothing q r → GetsNothing p s
+      nothing_around same = let f = same.silently in record {
         silently = record {
           added = around_added p q r s b silent gave f.added;
           does = does_around p q r s b silent gave took.lacked (λ z. []) f.added
               (does_weaker q r [] (frame_id (shape_of_pass q) b ∷ []) (λ k a. tt) f.added f.does);
           silent = said_around p q r s b silent gave f.added ∙ f.silent;
         };
-        count = (let a = took.count in let b = same.same_count in let d = gave.count in
+        count = (let a = took.count in let b = same.count in let d = gave.count in
             omega (arith, a, b, d));
       }
 

@@ -5,6 +5,7 @@ use Rattle.latch_space.specs.Has.{IsKnown}
 use Rattle.index_law.specs.Shape.{Shape}
 use Rattle.forest_law.specs.declared.objects.Frame.{Frame}
 use Rattle.forest_law.specs.declared.objects.Object.TheVariants as object
+use Rattle.forest_law.specs.HashSteps.{KeepsHashing}
 use Rattle.forest_law.specs.Numbers.{frame_id}
 use Rattle.forest_world.specs.Held.{TreePass, shape_of_pass, HasFrame}
 use Rattle.tree_merging.specs.Lifts.{SuitsLiftFrames, LiftsFrame}
@@ -31,8 +32,9 @@ module _ (root child : ℕ) (apart : child ≢ root) (p q r : TreePass) (top low
     back = came_back root child apart p q r top low first second u v new newer third fourth
 
     -- what came back after a lift
-    pub storeys_sunk : LiftsFrame top new low newer → SinksStoreys p root child v
-    storeys_sunk lifts t b has_top has_low = record {
+    pub storeys_sunk : KeepsHashing top new × KeepsHashing low newer
+        → LiftsFrame top new low newer → SinksStoreys p root child v
+    storeys_sunk hash lifts t b has_top has_low = record {
       top = new;
       low = newer;
       has_top = top_in root child apart p q r top low first second u v new newer third fourth t
@@ -43,6 +45,10 @@ module _ (root child : ℕ) (apart : child ≢ root) (p q r : TreePass) (top low
           (top_out root child apart p q r top low first second t has_top).1
           (subst (λ x. LiftsFrame top new x newer)
           (low_out root child apart p q r top low first second b has_low).1 lifts);
+      top_hash = subst (λ x. KeepsHashing x new)
+          (top_out root child apart p q r top low first second t has_top).1 hash.0;
+      low_hash = subst (λ x. KeepsHashing x newer)
+          (low_out root child apart p q r top low first second b has_low).1 hash.1;
       remakes = back;
     }
 

@@ -1,3 +1,4 @@
+pub mod Hashing
 pub mod Merging
 pub mod MergeHands
 pub mod MergePlans

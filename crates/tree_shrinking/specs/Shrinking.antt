@@ -78,6 +78,7 @@ RestsAt shape i level key rs = RestsUnder shape i level key rs ⊎ EndsBelow sha
 -- one for a frame without a page, none for any other object
 abbrev pub empty_frames : Object → ℕ
 empty_frames (object.Frame f) = if is_none f.page then 1 else 0
+empty_frames (object.Part p) = 0
 empty_frames (object.Pool p) = 0
 empty_frames (object.Tree t) = 0
 

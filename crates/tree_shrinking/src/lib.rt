@@ -5,6 +5,7 @@
 
 mod families;
 mod hands;
+mod hashing;
 mod joining;
 mod levels;
 mod lifting;

@@ -1,16 +1,16 @@
 //! A root sinks to its only child.
-ghost use Rattle.std.specs.Prelude.{◌<◌, [], ◌∷◌, OnOk, OnErr};
+ghost use Rattle.std.specs.Prelude.{◌<◌, ◌≤◌, ◌+◌, [], ◌∷◌, OnOk, OnErr};
 ghost use Rattle.latch_space.specs.declared.TheConstants.{MAX_HELD};
 ghost use Rattle.latch_space.specs.Has.{IsKnown};
 ghost use Rattle.latch_space.specs.Passes.{view, count, IsSamePass};
 ghost use Rattle.latch_space.specs.Spaces.{IsPassOf};
 ghost use Rattle.forest_world.specs.Held.{shape_of_pass};
-ghost use Rattle.call_law.specs.Hands.{HoldsNoFrameBut, HoldsNoPool};
+ghost use Rattle.call_law.specs.Hands.{HoldsNoFrameBut, HoldsNoTable};
 ghost use Rattle.buffer_pool.specs.Calls.{GetsNothing};
 ghost use Rattle.buffer_pool.specs.Forests.{IsForest, IsFittedTree};
 ghost use Rattle.tree_shrinking.specs.Lifting.{CanLift, LiftsRoot};
 
-use crate::sinking::sink_root;
+use crate::sinking::sink_hashed;
 use buffer_pool::free_page;
 use forest_world::{ForestPass, ForestSpace};
 use key_tuple::NoMemory;
@@ -35,15 +35,15 @@ pub fn lift<R: Wait>(
     requires held { CanLift (view pass.old) index root child }
     requires known { IsKnown pass.old }
     requires frames { HoldsNoFrameBut (view pass.old) (root ∷ child ∷ []) }
-    requires pool { HoldsNoPool (view pass.old) }
-    requires room { count pass.old < MAX_HELD }
+    requires tables { HoldsNoTable (view pass.old) }
+    requires room { count pass.old + 2 ≤ MAX_HELD }
     ensures own { IsSamePass pass.old pass.new × IsPassOf space.now pass.new }
     ensures ok { OnOk result (LiftsRoot pass.old index root child pass.new) }
     ensures memory { OnErr result (GetsNothing pass.old pass.new) }
     ensures fits { IsFittedTree (view pass.new) }
 {
     pages_are_numbered(space, pass);
-    sink_root(alloc, space, pass, index, root, child)?;
+    sink_hashed(alloc, space, pass, index, root, child, wait)?;
     free_page(space, pass, child, wait);
     Ok(())
 }

@@ -6,12 +6,12 @@ ghost use Rattle.latch_space.specs.Passes.{view, count, IsSamePass};
 ghost use Rattle.latch_space.specs.Spaces.{IsPassOf};
 ghost use Rattle.index_page.specs.Page.{PageRows};
 ghost use Rattle.forest_world.specs.Held.{shape_of_pass};
-ghost use Rattle.call_law.specs.Hands.{HoldsNoFrameBut, HoldsNoPool};
+ghost use Rattle.call_law.specs.Hands.{HoldsNoFrameBut, HoldsNoTable};
 ghost use Rattle.buffer_pool.specs.Calls.{GetsNothing};
 ghost use Rattle.buffer_pool.specs.Forests.{IsForest, IsFittedTree};
 ghost use Rattle.tree_shrinking.specs.Merging.{CanMerge, MergesPair, MergesChildren};
 
-use crate::settling::make_merge;
+use crate::settling::merge_hashed;
 use buffer_pool::{frame, free_page, give_back, page_in};
 use forest_world::{ForestPass, ForestSpace};
 use key_tuple::NoMemory;
@@ -35,8 +35,8 @@ pub fn merge_children<R: Wait>(
     requires held { CanMerge (view pass.old) parent left right index }
     requires known { IsKnown pass.old }
     requires frames { HoldsNoFrameBut (view pass.old) (parent ∷ left ∷ right ∷ []) }
-    requires pool { HoldsNoPool (view pass.old) }
-    requires room { count pass.old + 2 ≤ MAX_HELD }
+    requires tables { HoldsNoTable (view pass.old) }
+    requires room { count pass.old + 3 ≤ MAX_HELD }
     ensures own { IsSamePass pass.old pass.new × IsPassOf space.now pass.new }
     ensures ok { OnOk result (MergesChildren pass.old parent left right index pass.new) }
     ensures memory { OnErr result (GetsNothing pass.old pass.new) }
@@ -65,9 +65,9 @@ fn merge_pair<R: Wait>(
     requires held { CanMerge (view pass.old) at.parent at.child at.right index }
     requires known { IsKnown pass.old }
     requires frames { HoldsNoFrameBut (view pass.old) (at.parent ∷ at.child ∷ at.right ∷ []) }
-    requires pool { HoldsNoPool (view pass.old) }
+    requires tables { HoldsNoTable (view pass.old) }
     requires few { (shape_of_pass pass.old).pages < 2 ^ 32 }
-    requires room { count pass.old + 2 ≤ MAX_HELD }
+    requires room { count pass.old + 3 ≤ MAX_HELD }
     ensures own { IsSamePass pass.old pass.new × IsPassOf space.now pass.new }
     ensures ok { OnOk result (MergesPair pass.old at.parent at.child at.right index pass.new) }
     ensures memory { OnErr result (GetsNothing pass.old pass.new) }
@@ -75,10 +75,10 @@ fn merge_pair<R: Wait>(
 {
     pass.fits();
     match head_of(frame(space, pass, at.right)).next {
-        None => make_merge(space, pass, at, index, None),
+        None => merge_hashed(space, pass, at, index, None, wait),
         Some(next) => {
             let behind = page_in(space, pass, next, wait);
-            let made = make_merge(space, pass, at, index, Some(behind));
+            let made = merge_hashed(space, pass, at, index, Some(behind), wait);
             give_back(space, pass, behind);
             made
         }

@@ -27,8 +27,8 @@ returns-clause-ok c =
     } in
     on_ok_weaker c.merge_frames-outcome.result
     (halves_joined c.args.at c.args.pass.now c.halves_out-hands.new.pass c.halves_back.new.pass
-    c.halves_out-hands.result new c.halves_out-hands.ensures.out c.halves_back.ensures.back)
-    c.merge_frames-outcome.ensures.ok
+    c.halves_out-hands.result new c.halves_out-hands.ensures.out c.halves_back.ensures.back
+    c.merge_frames-outcome.ensures.hash) c.merge_frames-outcome.ensures.ok
 
 pub returns-clause-err : goal.returns-clause-err
 returns-clause-err c =

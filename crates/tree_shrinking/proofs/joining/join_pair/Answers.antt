@@ -1,7 +1,7 @@
 use Rattle.std.proofs.Common.{[], ◌∷◌}
 use Rattle.buffer_pool.proofs.CallLemmas.{frame_has}
 use Rattle.tree_shrinking.specs.Pairs.{pair_in}
-use Rattle.tree_growth.proofs.HandLemmas.{no_frame_but, no_pool}
+use Rattle.tree_growth.proofs.HandLemmas.{no_frame_but, no_table}
 use Rattle.tree_shrinking.proofs.JoinedLemmas.{way_joined, holds_joined}
 use Rattle.tree_shrinking.proofs.JoinLemmas.{back_after, pair_still, taken_back, failed_back}
 use Rattle.tree_shrinking.proofs.LeaveLemmas.{leaves_pair, frees_pair}
@@ -56,9 +56,9 @@ merge_children-requires-clause-frames g c =
     (c.args.parent ∷ c.take_pair-left.result.0 ∷ c.take_pair-left.result.1 ∷ [])
     c.take_pair-left.ensures.took.to.way
 
-pub merge_children-requires-clause-pool : goal.merge_children-requires-clause-pool
-merge_children-requires-clause-pool g c =
-    no_pool c.args.space.now c.take_pair-left.new.pass c.requires.own.0
+pub merge_children-requires-clause-tables : goal.merge_children-requires-clause-tables
+merge_children-requires-clause-tables g c =
+    no_table c.args.space.now c.take_pair-left.new.pass c.requires.own.0
     c.take_pair-left.ensures.own.1 c.args.index c.args.key.now.tuple
     (c.args.parent ∷ c.take_pair-left.result.0 ∷ c.take_pair-left.result.1 ∷ [])
     c.take_pair-left.ensures.took.to.way

@@ -1,6 +1,6 @@
 use Rattle.std.proofs.Common.{[], ◌∷◌, arith}
 use Rattle.buffer_pool.proofs.CallLemmas.{frame_has}
-use Rattle.tree_growth.proofs.HandLemmas.{no_frame_but, no_pool}
+use Rattle.tree_growth.proofs.HandLemmas.{no_frame_but, no_table}
 use Rattle.tree_shrinking.proofs.OnlyLemmas.{back_given, back_failed, can_lift, back_lifted}
 use Rattle.tree_shrinking.proofs.joining.lift_only.Goals as goal
 
@@ -25,9 +25,9 @@ lift-requires-clause-frames g c =
     no_frame_but c.args.space.now c.args.pass.now c.requires.own.0 c.requires.own.1 c.args.index
     c.args.key.now.tuple (c.args.parent ∷ c.args.child ∷ []) c.requires.way
 
-pub lift-requires-clause-pool : goal.lift-requires-clause-pool
-lift-requires-clause-pool g c =
-    no_pool c.args.space.now c.args.pass.now c.requires.own.0 c.requires.own.1 c.args.index
+pub lift-requires-clause-tables : goal.lift-requires-clause-tables
+lift-requires-clause-tables g c =
+    no_table c.args.space.now c.args.pass.now c.requires.own.0 c.requires.own.1 c.args.index
     c.args.key.now.tuple (c.args.parent ∷ c.args.child ∷ []) c.requires.way
 
 pub returns-in-Ok-clause-back : goal.returns-in-Ok-clause-back

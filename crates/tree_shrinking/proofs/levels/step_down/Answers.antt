@@ -1,7 +1,7 @@
 use Rattle.std.proofs.Common.{[], ◌∷◌}
 use Rattle.latch_space.specs.Passes.{view}
 use Rattle.tree_growth.proofs.ChildLemmas.{holds_inner}
-use Rattle.tree_growth.proofs.HandLemmas.{no_frame_but, no_pool}
+use Rattle.tree_growth.proofs.HandLemmas.{no_frame_but, no_table}
 use Rattle.tree_shrinking.proofs.StepLemmas.{steps_down, step_lower}
 use Rattle.tree_shrinking.proofs.levels.step_down.Goals as goal
 
@@ -15,9 +15,9 @@ child_for-child-requires-clause-frames g c =
     no_frame_but c.args.space.now c.args.pass.now c.requires.own.0 c.requires.own.1 c.args.index
     c.args.key.now.tuple (c.args.at.block ∷ []) c.requires.way
 
-pub child_for-child-requires-clause-pool : goal.child_for-child-requires-clause-pool
-child_for-child-requires-clause-pool g c =
-    no_pool c.args.space.now c.args.pass.now c.requires.own.0 c.requires.own.1 c.args.index
+pub child_for-child-requires-clause-tables : goal.child_for-child-requires-clause-tables
+child_for-child-requires-clause-tables g c =
+    no_table c.args.space.now c.args.pass.now c.requires.own.0 c.requires.own.1 c.args.index
     c.args.key.now.tuple (c.args.at.block ∷ []) c.requires.way
 
 pub returns-clause-reaches : goal.returns-clause-reaches

@@ -1,5 +1,5 @@
 use Rattle.std.proofs.Common.{[], ◌∷◌}
-use Rattle.tree_growth.proofs.HandLemmas.{no_pool}
+use Rattle.tree_growth.proofs.HandLemmas.{no_table}
 use Rattle.tree_shrinking.proofs.TakenLemmas.{first_live, first_others, one, second_live, second_others, takes_pair}
 use Rattle.tree_shrinking.proofs.pairs.take_pair.Goals as goal
 
@@ -13,9 +13,9 @@ page_in-left-requires-clause-others g c =
     first_others c.args.pass.now c.args.parent c.args.asked c.args.index c.args.key.now.tuple
     c.requires.way c.requires.held c.fits.ensures
 
-pub page_in-left-requires-clause-pool : goal.page_in-left-requires-clause-pool
-page_in-left-requires-clause-pool g c =
-    no_pool c.args.space.now c.args.pass.now c.requires.own.0 c.requires.own.1 c.args.index
+pub page_in-left-requires-clause-tables : goal.page_in-left-requires-clause-tables
+page_in-left-requires-clause-tables g c =
+    no_table c.args.space.now c.args.pass.now c.requires.own.0 c.requires.own.1 c.args.index
     c.args.key.now.tuple (c.args.parent ∷ []) c.requires.way
 
 pub page_in-right-requires-clause-live : goal.page_in-right-requires-clause-live
@@ -30,9 +30,9 @@ page_in-right-requires-clause-others g c =
     c.requires.way c.requires.held c.page_in-left.result c.page_in-left.new.pass
     c.page_in-left.ensures.took c.page_in-left.ensures.fits
 
-pub page_in-right-requires-clause-pool : goal.page_in-right-requires-clause-pool
-page_in-right-requires-clause-pool g c =
-    no_pool c.args.space.now c.page_in-left.new.pass c.requires.own.0 c.page_in-left.ensures.own.1
+pub page_in-right-requires-clause-tables : goal.page_in-right-requires-clause-tables
+page_in-right-requires-clause-tables g c =
+    no_table c.args.space.now c.page_in-left.new.pass c.requires.own.0 c.page_in-left.ensures.own.1
     c.args.index c.args.key.now.tuple (c.args.parent ∷ c.page_in-left.result ∷ [])
     (one c.args.pass.now c.args.parent c.args.asked c.args.index c.args.key.now.tuple
     c.requires.way c.requires.held c.page_in-left.result c.page_in-left.new.pass

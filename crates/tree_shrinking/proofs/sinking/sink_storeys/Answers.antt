@@ -40,7 +40,8 @@ returns-clause-ok c = let s = c.requires.suits in
     c.frame_out-low.new.pass c.frame_out-top.result c.frame_out-low.result
     c.frame_out-top.ensures.out c.frame_out-low.ensures.out c.frame_back.new.pass
     c.frame_back-2.new.pass c.lift_frames-outcome.new.root c.lift_frames-outcome.new.child
-    c.frame_back.ensures.back c.frame_back-2.ensures.back) c.lift_frames-outcome.ensures.ok
+    c.frame_back.ensures.back c.frame_back-2.ensures.back c.lift_frames-outcome.ensures.hash)
+    c.lift_frames-outcome.ensures.ok
 
 -- two facts of an error give a third
 both_errors : {A E X Y Z : Type 0} (r : Result A E) → (X → Y → Z) → OnErr r X → OnErr r Y
