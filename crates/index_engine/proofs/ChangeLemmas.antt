@@ -1,5 +1,5 @@
 -- A leaf that is taken out of the hand, changed and put back is held still, and is what it became.
-use Rattle.std.proofs.Common.{◌≡◌, ◌≢◌, ◌⊎◌, inl, inr, ℕ, ◌+◌, ◌<◌, List, sym, ap, subst, ◌∙◌, arith, Option, Some, None, Result, Ok, Err, IfOk, IfErr, OnErr}
+use Rattle.std.proofs.Common.{◌≡◌, ◌⊎◌, inl, inr, ℕ, ◌+◌, ◌<◌, List, sym, ap, subst, ◌∙◌, arith, Option, Some, None, Result, Ok, Err, IfOk, IfErr, OnErr}
 use mathlib.Core.Option.{some, none}
 use mathlib.Core.Option as maybe
 use lib.ListN.{get_elem?}
@@ -17,18 +17,20 @@ use Rattle.index_page.specs.Rows.{Bytes}
 use Rattle.forest_law.specs.declared.objects.Frame.{Frame}
 use Rattle.forest_law.specs.declared.objects.Object.{Object}
 use Rattle.forest_law.specs.declared.objects.Object.TheVariants as object
+use Rattle.forest_law.specs.HashSteps.{KeepsHashing}
 use Rattle.forest_law.specs.Numbers.{frame_id}
 use Rattle.forest_law.specs.Opening.{new_frame}
 use Rattle.forest_world.specs.Held.{TreePass, shape_of_pass, HasFrame}
 use Rattle.call_law.specs.Spoken.{View}
 use Rattle.buffer_pool.specs.Frames.{TakesOut, PutsBack}
-use Rattle.leaf_rows.specs.Changing.{PutsRow, WasPut, HasSomeRow, IsFullFor, LacksRow, frame_without}
-use Rattle.index_engine.specs.Changes.{HoldsNewRow, HoldsRefusing, KnowsSame, HoldsPutRow, TookBack, HoldsRowAt, TookOut}
+use Rattle.leaf_rows.specs.Changing.{PutsRow, WasPut, HasSomeRow, IsFullFor, LacksRow, frame_without, hashed_as}
+use Rattle.index_engine.specs.Changes.{HoldsInserted, HoldsRefusing, KnowsSame, HoldsPutRow, TookBack, HoldsRowAt, TookOut}
 use Rattle.index_engine.specs.Holds.{IsLeafOf, HoldsLeaf}
 
 -- the frame that stands in a hand, if one does
 abbrev frame_at : maybe.Option (Option Object) → Frame
 frame_at (some (Some (object.Frame f))) = f
+frame_at (some (Some (object.Part x))) = new_frame None
 frame_at (some (Some (object.Pool x))) = new_frame None
 frame_at (some (Some (object.Tree t))) = new_frame None
 frame_at (some None) = new_frame None
@@ -69,9 +71,6 @@ module _ (p p1 p2 : TreePass) (b : ℕ) (frame now : Frame) (out : TakesOut p b 
   same_view : view p2 ≡ view p
   same_view = back.view ∙ out.view
 
-  pub knows_same : KnowsSame p p2
-  knows_same = record { view = same_view; count = back.count ∙ out.count }
-
   -- and all else is as before
   swapped_others : SameBut p p2 (frame_id (shape_of_pass p) b)
   swapped_others j differs = let first = out.hand.others j differs in
@@ -79,30 +78,34 @@ module _ (p p1 p2 : TreePass) (b : ℕ) (frame now : Frame) (out : TakesOut p b 
       (λ e. differs (e ∙ ap (λ (v : View). frame_id v.terms.shape b) out.view)) in
       (second.0 ∙ first.0, second.1 ∙ first.1)
 
+  pub knows_same : KnowsSame p p2 b
+  knows_same = record {
+    view = same_view;
+    count = back.count ∙ out.count;
+    others = swapped_others;
+  }
+
   pub swapped_leaf : (i : ℕ) (key : FieldList) (f g h : Frame) → now ≡ h
       → HoldsLeaf p b i key f g → HoldsLeaf p2 b i key f h
   swapped_leaf i key f g h is holds = record {
     has = subst (HasFrame p2 b f) is (swapped_has f g holds.has);
-    rest = λ j x differs held. (let ne : j ≢ frame_id (shape_of_pass p) b =
-        λ e. differs (e ∙ ap (λ (v : View). frame_id v.terms.shape b) (sym same_view)) in
-        let same = swapped_others j ne in same.1 ∙ holds.rest j x ne (sym same.0 ∙ held));
-    one = back.count ∙ (out.count ∙ holds.one);
     leaf = subst (λ (v : View). IsLeafOf v.terms.shape i key f) (sym same_view) holds.leaf;
   }
 
   module _ (i : ℕ) (key : FieldList) (value : List ℕ) where
     -- a row was put in
     pub inserted_ok : (held : Frame) → HoldsLeaf p b i key held held → (result : Result ℕ PageError)
-        → IfOk result (λ place. PutsRow frame now place key value)
-        → IfOk result (λ place. HoldsNewRow p2 b i place key value)
-    inserted_ok held holds (Ok place) puts = record {
+        → IfOk result (λ place. PutsRow frame now place key value) → KeepsHashing frame now
+        → IfOk result (λ place. HoldsInserted p2 b i place key value)
+    inserted_ok held holds (Ok place) puts hash = record {
       known = held;
       made = now;
       holds = swapped_leaf i key held held now (λ _. now) holds;
       puts = subst (λ z. PutsRow z now place key value)
           (taken_is p p1 b frame out held held holds.has) puts;
+      hash = subst (λ z. KeepsHashing z now) (taken_is p p1 b frame out held held holds.has) hash;
     }
-    inserted_ok held holds (Err e) puts = tt
+    inserted_ok held holds (Err e) puts hash = tt
 
     -- where there is too little free, the load and the charge are more than the room
     too_full : (held : Frame) (page : PageRows) (e : PageError) → held.page ≡ Some page
@@ -132,12 +135,13 @@ module _ (p p1 p2 : TreePass) (b : ℕ) (frame now : Frame) (out : TakesOut p b 
 
   -- a row that was put in was taken back
   pub took_back : (place : ℕ)
-      → ((f : Frame) (k : FieldList) (v : List ℕ) → PutsRow f frame place k v → now ≡ f)
-      → TookBack p p2 b place
-  took_back place back_is i key value f g holds puts =
-      swapped_leaf i key f g f
-      (back_is f key value (subst (λ z. PutsRow f z place key value)
-      (sym (taken_is p p1 b frame out f g holds.has)) puts)) holds
+      → ((f : Frame) (k : FieldList) (v : List ℕ) → PutsRow f frame place k v
+      → now ≡ hashed_as frame f) → TookBack p p2 b place
+  took_back place back_is key value f g has puts =
+      let taken = taken_is p p1 b frame out f g has in
+      subst (HasFrame p2 b f)
+      (back_is f key value (subst (λ z. PutsRow f z place key value) (sym taken) puts)
+      ∙ ap (λ z. hashed_as z f) taken) (swapped_has f g has)
 
   -- a row was deleted
   pub took_out : (place : ℕ) → now ≡ frame_without place frame → TookOut p p2 b place

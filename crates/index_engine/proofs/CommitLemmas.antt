@@ -1,18 +1,21 @@
 -- A change that is committed while the leaf is held is right, and is the one that is told.
-use Rattle.std.proofs.Common.{◌≡◌, ℕ, ◌+◌, ◌-◌, ◌<◌, true, [], ◌∷◌, ◌++◌, append-nil, append_assoc, length, length-append, take, set, sym, ap, subst, ◌∙◌, arith, refl, List, Option, Some, Result, Ok, Err, Contains, cond}
+use Rattle.std.proofs.Common.{◌≡◌, ◌≢◌, ℕ, ◌+◌, ◌-◌, ◌<◌, true, [], ◌∷◌, ◌++◌, append-nil, append_assoc, length, length-append, take, set, sym, ap, subst, ◌∙◌, arith, refl, List, Option, Some, Result, Ok, Err, Contains, cond}
 use Rattle.std.proofs.lemmas.List.{length-map, take_all, take-append-le}
 use mathlib.Core.List.{map-append}
 use mathlib.Core.Option.{some}
 use lib.ListN.{get_elem?}
 use Rattle.atomic_table.proofs.Lists.{set_here}
 use Rattle.latch_law.specs.declared.knows.Entry.{Entry}
+use Rattle.latch_law.specs.declared.knows.Holding.{Holding}
 use Rattle.latch_law.specs.declared.knows.Statement.TheVariants as what
 use Rattle.latch_law.specs.Fitting.{Extends, DidCommit, WasFull}
 use Rattle.latch_law.specs.Views.{entry_of}
+use Rattle.latch_law.proofs.Lists.{learnt_at}
 use Rattle.latch_space.specs.declared.committing.LogFull.{LogFull}
-use Rattle.latch_space.specs.Has.{Has, Learnt, Foreknows, SameHands}
+use Rattle.latch_space.specs.Has.{Has, Learnt, Foreknows, SameHands, IsKnown}
 use Rattle.latch_space.specs.Commits.{EndsCommit, Changes, Foretells}
-use Rattle.latch_space.specs.Passes.{view, values}
+use Rattle.latch_space.specs.Passes.{view, values, IsWhole}
+use Rattle.latch_space.proofs.Pointwise.{learnt_known}
 use Rattle.map_history.specs.Map.{MapChange, map_after, is_allowed, AreLawful}
 use Rattle.map_history.specs.Operation.{Make}
 use Rattle.map_history.specs.Reply.{Done, reply_of, refusal}
@@ -27,12 +30,13 @@ use Rattle.forest_law.specs.declared.objects.Frame.{Frame}
 use Rattle.forest_law.specs.declared.objects.Object.{Object}
 use Rattle.forest_law.specs.declared.objects.Object.TheVariants as object
 use Rattle.forest_law.specs.Law.{IsLawful}
-use Rattle.forest_law.specs.Numbers.{frame_id}
+use Rattle.forest_law.specs.Numbers.{frame_id, part_id}
 use Rattle.forest_law.specs.References.{IsReference}
 use Rattle.forest_world.specs.Held.{TreePass, shape_of_pass}
 use Rattle.call_law.specs.Once.{IsRightBy, AnswersOnce}
 use Rattle.call_law.specs.Spoken.{View, OwnAnswer}
 use Rattle.index_engine.specs.Commits.{IsCommitted, DidWrite, DidWriteAhead, IsFullThen, Commits, WritesAhead}
+use Rattle.index_engine.proofs.HashedLemmas.{part_no_frame}
 use Rattle.index_engine.proofs.SeenLemmas.{said_alone, said_alone_only, adds_said, one_mark, more_seen, extends_length, now_seen}
 
 module _ (p q : TreePass) (i : ℕ) (change : MapChange) where
@@ -137,9 +141,13 @@ module _ (p q : TreePass) (i : ℕ) (change : MapChange) where
     shape_is = ap (λ (z : View). z.terms.shape) did.view
 
     -- the change is written once it was made
-    pub did_write : Learnt p q → DidWrite p q i change point
-    did_write learns = record {
+    pub did_write : IsKnown q → Learnt p q → DidWrite p q i change point
+    did_write known learns = record {
       written = written;
+      parts = λ k x y has. subst
+          (λ (s : Shape). Has q (part_id s k) (object.Part y) (object.Part y)) (sym shape_is)
+          (learns.has (part_id (shape_of_pass p) k) (object.Part x) (object.Part y) has);
+      known = known;
       frames = λ b f g has. subst
           (λ (s : Shape). Has q (frame_id s b) (object.Frame g) (object.Frame g)) (sym shape_is)
           (learns.has (frame_id (shape_of_pass p) b) (object.Frame f) (object.Frame g) has);
@@ -149,9 +157,24 @@ module _ (p q : TreePass) (i : ℕ) (change : MapChange) where
     -- or before
     pub did_write_ahead : (b : ℕ) (next : Frame)
         → get_elem? vs (frame_id (shape_of_pass p) b) ≡ some (Some (object.Frame next))
-        → Foreknows vs p q → DidWriteAhead p q b i change next point
-    did_write_ahead b next at knows = record {
+        → ((j : ℕ) → j ≢ frame_id (shape_of_pass p) b → get_elem? vs j ≡ get_elem? (values p) j)
+        → IsWhole p → Foreknows vs p q → DidWriteAhead p q b i change next point
+    did_write_ahead b next at same whole knows = record {
       written = written;
+      parts = λ k x y below has. subst
+          (λ (s : Shape). Has q (part_id s k) (object.Part y) (object.Part y)) (sym shape_is)
+          (knows.has (part_id (shape_of_pass p) k) (object.Part x) (object.Part y)
+          (object.Part y) has
+          (same (part_id (shape_of_pass p) k) (part_no_frame (shape_of_pass p) k b below)
+          ∙ has.value));
+      rest = λ j h ne held. (let apart : j ≢ frame_id (shape_of_pass p) b =
+          λ e. ne (e ∙ ap (λ s. frame_id s b) (sym shape_is)) in
+          let was = learnt_at vs (view p).held j h
+          (ap (λ (z : View). get_elem? z.held j) (sym did.view) ∙ held) in
+          let x = whole j was.0 was.1 in
+          ap (λ zs. get_elem? zs j) knows.values
+          ∙ (x.1 ∙ ap (λ (z : Holding Object). some (Some z.known))
+          (sym (was.2 x.0 (same j apart ∙ x.1)))));
       frame = λ f g has. subst
           (λ (s : Shape). Has q (frame_id s b) (object.Frame next) (object.Frame g)) (sym shape_is)
           (knows.has (frame_id (shape_of_pass p) b) (object.Frame f) (object.Frame g)
@@ -195,22 +218,25 @@ module _ (p q : TreePass) (i : ℕ) (change : MapChange) where
   }
 
   -- how the commit ended
-  pub commit_ends : (deed : MadeChange) → i < length (view p).seen
+  pub commit_ends : IsWhole p → (deed : MadeChange) → i < length (view p).seen
       → deed ≡ record { change = change; columns = dashes } → (result : Result ℕ LogFull)
       → EndsCommit IsLawful IsRight IsReference (view p) i (values p) deed result (view q)
       → Changes p result q → Commits p i change result q
-  commit_ends deed room deed_is (Ok point) did learns =
-      did_write deed deed_is (values p) point did learns
-  commit_ends deed room deed_is (Err full) was same = full_then full.0 room was same
+  commit_ends whole deed room deed_is (Ok point) did learns =
+      did_write deed deed_is (values p) point did
+      (learnt_known p q whole (ap (λ (z : View). z.held) did.view) learns.values) learns
+  commit_ends whole deed room deed_is (Err full) was same = full_then full.0 room was same
 
   -- and one ahead of its change
   pub ahead_ends : (deed : MadeChange) → i < length (view p).seen
       → deed ≡ record { change = change; columns = dashes } → (b : ℕ) (next : Frame)
       (vs : List (Option Object))
       → get_elem? vs (frame_id (shape_of_pass p) b) ≡ some (Some (object.Frame next))
-      → (result : Result ℕ LogFull)
+      → ((j : ℕ) → j ≢ frame_id (shape_of_pass p) b → get_elem? vs j ≡ get_elem? (values p) j)
+      → IsWhole p → (result : Result ℕ LogFull)
       → EndsCommit IsLawful IsRight IsReference (view p) i vs deed result (view q)
       → Foretells vs p result q → WritesAhead p b i change next result q
-  ahead_ends deed room deed_is b next vs at (Ok point) did knows =
-      did_write_ahead deed deed_is vs point did b next at knows
-  ahead_ends deed room deed_is b next vs at (Err full) was same = full_then full.0 room was same
+  ahead_ends deed room deed_is b next vs at same whole (Ok point) did knows =
+      did_write_ahead deed deed_is vs point did b next at same whole knows
+  ahead_ends deed room deed_is b next vs at same whole (Err full) was hands =
+      full_then full.0 room was hands

@@ -32,7 +32,7 @@ use Rattle.forest_world.specs.Held.{TreePass}
 use Rattle.tree_descent.specs.declared.descending.Leaf.{Leaf}
 use Rattle.tree_descent.specs.Descents.{Descends}
 use Rattle.tree_growth.specs.Growing.{GrowsSilently}
-use Rattle.index_engine.specs.Says.{SaysOnce}
+use Rattle.index_engine.specs.Says.{SaysBeside}
 use Rattle.index_engine.specs.Traces.{TellsByLeaf, TellsOfDel, HasLightPage, SeesEach}
 use Rattle.index_engine.proofs.TellLemmas.{leaf_number, ends_all, tells_by_leaf}
 
@@ -125,7 +125,7 @@ del_ends v v' i key told tells = record {
 pub del_merges : (p p0 p1 p2 p3 : TreePass) (i : ℕ) (key : FieldList) (leaf : Leaf)
     (went : Descends p i mode.Ge key leaf p0) (gave : GivesFrame p1 leaf.block p2) (told : Told)
     → HasNumber gave.frame (leaf_number p p0 p1 p2 i key leaf went gave)
-    → SaysOnce (view p0) (view p1) i (Make (Del key)) told (lent_row None)
+    → SaysBeside (view p0) (view p1) i (Make (Del key)) told (lent_row None)
     → told.reply ≡ words.Ok → HasLightPage gave.frame → SeesEach (view p2) i
     → GrowsSilently p2 p3 → TellsOfDel (view p) (view p3) i key told
 unfolding once_then_more tells_by_leaf ends_all

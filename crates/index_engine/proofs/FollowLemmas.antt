@@ -1,16 +1,16 @@
 -- A change of the held leaf follows, whether it was made or is to be made.
-use Rattle.std.proofs.Common.{◌≡◌, ◌≢◌, ℕ, List, set, sym, ap, subst, ◌∙◌, Option, Some}
-use mathlib.Core.Option.{some, some-injective}
+use Rattle.std.proofs.Common.{◌≡◌, ◌≢◌, ◌<◌, ℕ, List, set, sym, ap, subst, ◌∙◌, Option, Some}
+use mathlib.Core.Option.{some}
 use lib.ListN.{get_elem?}
 use Rattle.key_tuple.specs.Order.{FieldList}
 use Rattle.key_tuple.specs.KeyPlace.{At, within}
 use Rattle.atomic_table.proofs.Lists.{set_here, set_else}
 use Rattle.latch_law.specs.Fitting.{AreValuesOf}
 use Rattle.latch_law.specs.Views.{holding, knowns}
-use Rattle.latch_law.proofs.Lists.{known_at, known_back}
+use Rattle.latch_law.proofs.Lists.{known_at}
 use Rattle.list_facts.proofs.Places.{inside, same_some}
-use Rattle.latch_space.specs.Passes.{view, values, IsWhole}
-use Rattle.latch_space.proofs.Pointwise.{whole_but, whole_values, values_set}
+use Rattle.latch_space.specs.Passes.{view, values}
+use Rattle.latch_space.proofs.Pointwise.{whole_values, values_set}
 use Rattle.map_history.specs.Map.{MapChange, key_of}
 use Rattle.index_page.specs.declared.head.PageHead.{PageHead}
 use Rattle.index_page.specs.Page.{PageRows}
@@ -21,17 +21,18 @@ use Rattle.forest_law.specs.declared.objects.Object.{Object}
 use Rattle.forest_law.specs.declared.objects.Object.TheVariants as object
 use Rattle.forest_law.specs.Law.{Follows}
 use Rattle.forest_law.specs.Lists.{AllowsChange}
-use Rattle.forest_law.specs.Numbers.{frame_id}
-use Rattle.forest_law.specs.Objects.{Becomes}
+use Rattle.forest_law.specs.HashLaws.{BlocksAskTheSame}
+use Rattle.forest_law.specs.Numbers.{frame_id, frames_of}
 use Rattle.forest_law.specs.RowSteps.{ChangesRow}
 use Rattle.forest_law.specs.State.{page_if, page_within, fields_for}
-use Rattle.forest_law.specs.Steps.{Rests, InHand, frame_step, MakesFrameStep}
+use Rattle.forest_law.specs.Steps.{InHand, frame_step, MakesFrameStep}
 use Rattle.forest_law.proofs.RowStepLemmas.{row_follows}
 use Rattle.forest_world.specs.Held.{TreePass, shape_of_pass, HasFrame}
-use Rattle.forest_world.proofs.HandLemmas.{rests_itself}
 use Rattle.tree_facts.specs.TreeFrames.{low_of, high_of}
 use Rattle.index_engine.specs.Commits.{MakesChange}
+use Rattle.index_engine.specs.Hashed.{KeepsHashed}
 use Rattle.index_engine.specs.Holds.{HoldsLeaf}
+use Rattle.index_engine.proofs.KeptLemmas.{hash_kept, others_rest, whole_kept}
 
 module _ (p : TreePass) (b : ℕ) where
   -- the number of the frame's object
@@ -51,18 +52,14 @@ module _ (p : TreePass) (b : ℕ) where
       → get_elem? (next_values next) j ≡ get_elem? (values p) j
   next_else next j differs = set_else (values p) leaf_id j (Some (object.Frame next)) differs
 
+  pub next_suits : (o : Option ℕ) (f x next h : Frame) → HasFrame p b f x
+      → KeepsHashed p o b f next h → AreValuesOf (view p) (next_values next)
+  next_suits o f x next h has hash =
+      values_set (view p) (values p) leaf_id (holding has.held.0 (object.Frame f))
+      (object.Frame next)
+      (whole_values p (whole_kept p o b f next x h has hash)) has.held.1
+
   module _ (i : ℕ) (key : FieldList) where
-    -- nothing that it holds is taken out
-    pub leaf_whole : (f g : Frame) → HoldsLeaf p b i key f g → IsWhole p
-    leaf_whole f g holds =
-        whole_but p leaf_id (object.Frame f) (object.Frame g) holds.has holds.rest
-
-    pub next_suits : (f g next : Frame) → HoldsLeaf p b i key f g
-        → AreValuesOf (view p) (next_values next)
-    next_suits f g next holds = let held = holds.has.held in
-        values_set (view p) (values p) leaf_id (holding held.0 (object.Frame f)) (object.Frame next)
-        (whole_values p (leaf_whole f g holds)) held.1
-
     module _ (f g x : Frame) (change : MapChange) (holds : HoldsLeaf p b i key f x)
         (about : key_of change ≡ key) (makes : MakesChange (shape_of_pass p) change f g) where
       abbrev before : Page
@@ -123,21 +120,12 @@ module _ (p : TreePass) (b : ℕ) where
           order = subst (IsOrderly (fields_for (shape_of_pass p))) after_is makes.order;
         }
 
-        -- all else that is held is as it was known
-        others_rest : (k : ℕ) (y z : Object) → Becomes (knowns (view p).held) vs k y z
-            → k ≢ leaf_id → Rests y z
-        others_rest k y z becomes apart = let held = known_back (view p).held k y becomes.0 in
-            let shows = holds.rest k held.0 apart held.1 in
-            subst (λ u. Rests u z) held.2
-            (subst (Rests held.0.known)
-            (same_some held.0.known z (some-injective (Some held.0.known) (Some z)
-            (sym shows ∙ (sym (same k apart) ∙ becomes.1))))
-            (rests_itself held.0.known))
-
         -- the change may be made of what is held
-        pub leaf_follows : (deed : MadeChange) → deed.change ≡ change
+        pub leaf_follows : BlocksAskTheSame → (o : Option ℕ) → KeepsHashed p o b f g g
+            → b < frames_of (shape_of_pass p) → (deed : MadeChange) → deed.change ≡ change
             → Follows (shape_of_pass p) (knowns (view p).held) vs (Some (i, deed))
-        leaf_follows deed is = row_follows (shape_of_pass p) (knowns (view p).held) vs (i, deed)
+        leaf_follows ask o hash below deed is =
+            row_follows (shape_of_pass p) (knowns (view p).held) vs (i, deed)
             (record {
               number = number;
               hand = hand;
@@ -150,6 +138,8 @@ module _ (p : TreePass) (b : ℕ) where
               make = record {
                 each = (step_is, tt);
                 tops = tt;
-                others = λ k y z becomes apart aside. others_rest k y z becomes apart.0;
+                others = λ k y z becomes apart aside.
+                    others_rest p o b f g x g holds.has hash vs at same k y z becomes apart.0;
               };
             })
+            (hash_kept ask p o b f g x holds.has hash below vs at same)

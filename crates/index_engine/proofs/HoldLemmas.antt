@@ -1,5 +1,5 @@
 -- What is known of a leaf that is held.
-use Rattle.std.proofs.Common.{◌≡◌, ℕ, ◌+◌, true, length, sym, ap, subst, ◌∙◌, Option, Some, None}
+use Rattle.std.proofs.Common.{◌≡◌, ℕ, ◌+◌, ◌<◌, true, length, sym, ap, subst, ◌∙◌, arith, Option, Some, None}
 use lib.ListN.{get_elem?}
 use Rattle.key_tuple.specs.Order.{FieldList}
 use Rattle.key_tuple.specs.KeyPlace.{At, within}
@@ -9,7 +9,7 @@ use Rattle.key_tuple.proofs.PositionLemmas.{has_key}
 use Rattle.latch_law.specs.declared.knows.Holding.{Holding}
 use Rattle.latch_law.specs.declared.knows.Terms.{Terms}
 use Rattle.latch_law.specs.Views.{holding}
-use Rattle.latch_space.specs.Has.{Has, SameHands, IsKnownBut}
+use Rattle.latch_space.specs.Has.{Has, SameHands}
 use Rattle.latch_space.specs.Passes.{view, count}
 use Rattle.latch_space.proofs.Pointwise.{has_again}
 use Rattle.tree_law.specs.Pages.{low_place, high_place, HasFields}
@@ -17,12 +17,12 @@ use Rattle.index_law.specs.Shape.{Shape}
 use Rattle.forest_law.specs.declared.objects.Frame.{Frame}
 use Rattle.forest_law.specs.declared.objects.Object.{Object}
 use Rattle.forest_law.specs.declared.objects.Object.TheVariants as object
-use Rattle.forest_law.specs.Numbers.{frame_id}
+use Rattle.forest_law.specs.Numbers.{frame_id, part_id}
 use Rattle.forest_law.specs.Objects.{IsFrameOf}
 use Rattle.forest_law.specs.State.{ForestState, fields_for}
 use Rattle.forest_law.proofs.ObjectLemmas.{same_frame}
 use Rattle.forest_world.specs.Held.{TreePass, shape_of_pass, HasFrame}
-use Rattle.call_law.specs.Hands.{KnowsFrame}
+use Rattle.call_law.specs.Hands.{KnowsFrame, LacksObject}
 use Rattle.call_law.specs.Spoken.{View}
 use Rattle.buffer_pool.specs.Forests.{FitsTrees}
 use Rattle.buffer_pool.specs.Frames.{GivesFrame}
@@ -32,7 +32,7 @@ use Rattle.tree_facts.specs.TreeFrames.{low_of, high_of}
 use Rattle.tree_descent.specs.declared.descending.Leaf.{Leaf}
 use Rattle.tree_descent.specs.Descents.{Descends}
 use Rattle.tree_descent.specs.Leaves.{cut_in, IsPageFor, IsLeafFor}
-use Rattle.index_engine.specs.Holds.{IsLeafOf, HoldsLeaf, HoldsFresh}
+use Rattle.index_engine.specs.Holds.{IsLeafOf, HoldsLeaf, HoldsFreshAlone}
 
 -- in each state that fits, a frame that is held is the block's
 pub frame_there : (v : View) (b : ℕ) (f : Frame) → KnowsFrame v b f → (w : ForestState)
@@ -76,8 +76,10 @@ module _ (shape : Shape) (i : ℕ) (key : FieldList) (f : Frame)
 -- a leaf to which a way led is held alone
 pub fresh_leaf : (p q : TreePass) (i : ℕ) (key : FieldList) (leaf : Leaf)
     → Descends p i mode.Ge key leaf q → count p ≡ 0
-    → length key ≡ fields_for (shape_of_pass p) i → HoldsFresh q leaf.block i key leaf.spot
-fresh_leaf p q i key leaf went none fits =
+    → length key ≡ fields_for (shape_of_pass p) i
+    → ((k : ℕ) → k < (shape_of_pass p).parts → LacksObject (view p) (part_id (shape_of_pass p) k))
+    → HoldsFreshAlone q leaf.block i key leaf.spot
+fresh_leaf p q i key leaf went none fits free =
     let same = went.silently.does.adds.numbers.terms in
     let known = went.silently.does.known in
     let is = subst
@@ -85,22 +87,28 @@ fresh_leaf p q i key leaf went none fits =
     (sym same) went.is in
     let as_many = fits ∙ ap (λ (t : Terms Shape). fields_for t.shape i) (sym same) in
     record {
-      frame = went.frame;
-      holds = record {
-        has = frame_has q known leaf.block went.frame went.knows;
-        rest = λ j h differs held. known j h held;
-        one = went.count ∙ ap (λ n. n + 1) none;
-        leaf = record {
-          page = is.page;
-          inside = key_inside (shape_of_pass q) i key went.frame is.page as_many;
+      fresh = record {
+        frame = went.frame;
+        holds = record {
+          has = frame_has q known leaf.block went.frame went.knows;
+          leaf = record {
+            page = is.page;
+            inside = key_inside (shape_of_pass q) i key went.frame is.page as_many;
+          };
         };
+        finds = record {
+          level = is.page.is.at_level;
+          fields = as_many
+              ∙ sym (page_fields (shape_of_pass q) i key went.frame is.page as_many);
+          finds = is.finds;
+        };
+        known = known;
       };
-      finds = record {
-        level = is.page.is.at_level;
-        fields = as_many
-            ∙ sym (page_fields (shape_of_pass q) i key went.frame is.page as_many);
-        finds = is.finds;
-      };
+      one = went.count ∙ ap (λ n. n + 1) none;
+      parts = λ k below. (let few = subst (λ (t : Terms Shape). k < t.shape.parts) same below in
+          ap (λ (t : Terms Shape). get_elem? (view q).held (part_id t.shape k)) same
+          ∙ (went.silently.does.rest (part_id (shape_of_pass p) k)
+          ((λ e. omega (arith, few, e)), tt) ∙ free k few));
     }
 
 -- a frame is held still where what is in hand stays
@@ -116,9 +124,5 @@ pub leaf_again : (p q : TreePass) (b i : ℕ) (key : FieldList) (f g : Frame) �
     → (view q).terms ≡ (view p).terms → HoldsLeaf p b i key f g → HoldsLeaf q b i key f g
 leaf_again p q b i key f g same terms holds = record {
   has = frame_again p q b f g same terms holds.has;
-  rest = subst (λ (t : Terms Shape). IsKnownBut q (frame_id t.shape b)) (sym terms)
-      (λ j h differs held. ap (λ vs. get_elem? vs j) same.values
-      ∙ holds.rest j h differs (ap (λ hs. get_elem? hs j) (sym same.held) ∙ held));
-  one = same.count ∙ holds.one;
   leaf = subst (λ (t : Terms Shape). IsLeafOf t.shape i key f) (sym terms) holds.leaf;
 }

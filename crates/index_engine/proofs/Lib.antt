@@ -1,5 +1,15 @@
 pub mod KnownLemmas
 pub mod HoldLemmas
+pub mod HashedLemmas
+pub mod UpkeepLemmas
+pub mod KeptLemmas
+pub mod SettleLemmas
+pub mod RehashLemmas
+pub mod PutLemmas
+pub mod BothLemmas
+pub mod HeldLemmas
+pub mod GoneLemmas
+pub mod SetRowLemmas
 pub mod SeenLemmas
 pub mod RightLemmas
 pub mod SayLemmas

@@ -9,7 +9,7 @@ use Rattle.latch_space.specs.Has.{SameHands}
 use Rattle.latch_space.specs.Passes.{view, count}
 use Rattle.index_law.specs.Shape.{Shape}
 use Rattle.forest_law.specs.declared.objects.Frame.{Frame}
-use Rattle.forest_law.specs.Numbers.{pool_id, frame_id, frames_of}
+use Rattle.forest_law.specs.Numbers.{pool_id, part_id, frame_id, frames_of}
 use Rattle.forest_world.specs.Held.{TreePass, shape_of_pass}
 use Rattle.call_law.specs.Hands.{KnowsFrame}
 use Rattle.buffer_pool.specs.Calls.{DoesSilently}
@@ -22,6 +22,7 @@ use Rattle.tree_descent.specs.Ways.{HoldsPage}
 use Rattle.buffer_pool.proofs.CallLemmas.{gave_frame}
 use Rattle.tree_descent.proofs.PageLemmas.{may_give_back}
 use Rattle.index_engine.specs.SeekHands.{HoldsLeavesAlone}
+use Rattle.index_engine.proofs.HashedLemmas.{part_no_frame}
 use Rattle.index_engine.proofs.KnownLemmas.{gave_known, knows_same}
 
 -- what is given back of a block has the page that it was known to have
@@ -36,8 +37,11 @@ module _ (p q : TreePass) where
       → ((c : ℕ) → AllByRecursion (λ (b : ℕ). c ≢ b) cs
       → AllByRecursion (λ (b : ℕ). c ≢ b) bs
       × AllByRecursion (λ (k : ℕ). frame_id (shape_of_pass p) c ≢ k) ks)
-      → AllByRecursion (λ (k : ℕ). pool_id ≢ k) ks → count q ≡ length cs → HoldsLeavesAlone q cs
-  only_then bs cs ks only silently apart pool counted =
+      → AllByRecursion (λ (k : ℕ). pool_id ≢ k) ks
+      → ((k : ℕ) → k < (shape_of_pass p).parts
+      → AllByRecursion (λ (j : ℕ). part_id (shape_of_pass p) k ≢ j) ks)
+      → count q ≡ length cs → HoldsLeavesAlone q cs
+  only_then bs cs ks only silently apart pool parts counted =
       let same = silently.does.adds.numbers.terms in record {
         known = silently.does.known;
         frames = subst
@@ -46,7 +50,14 @@ module _ (p q : TreePass) where
             → get_elem? (view q).held (frame_id t.shape c) ≡ some None) (sym same)
             (λ c below other. silently.does.rest (frame_id (shape_of_pass p) c)
             (apart c other).1 ∙ only.frames c below (apart c other).0);
-        pool = silently.does.rest pool_id pool ∙ only.pool;
+        tables = record {
+          pool = silently.does.rest pool_id pool ∙ only.tables.pool;
+          parts = subst
+              (λ (t : Terms Shape). (k : ℕ) → k < t.shape.parts
+              → get_elem? (view q).held (part_id t.shape k) ≡ some None) (sym same)
+              (λ k below. silently.does.rest (part_id (shape_of_pass p) k) (parts k below)
+              ∙ only.tables.parts k below);
+        };
         count = counted;
       }
 
@@ -61,7 +72,14 @@ module _ (p q : TreePass) where
       | inr ne ↦ gave.hand.lacks c ne (only.frames c
           (subst (λ (t : Terms Shape). c < frames_of t.shape) gave.hand.terms below) (ne, other))
     ];
-    pool = (gave.hand.others pool_id (λ e. omega (arith, e))).0 ∙ only.pool;
+    tables = record {
+      pool = (gave.hand.others pool_id (λ e. omega (arith, e))).0 ∙ only.tables.pool;
+      parts = subst
+          (λ (t : Terms Shape). (k : ℕ) → k < t.shape.parts
+          → get_elem? (view q).held (part_id t.shape k) ≡ some None) (sym gave.hand.terms)
+          (λ k below. (gave.hand.others (part_id (shape_of_pass p) k)
+          (part_no_frame (shape_of_pass p) k b below)).0 ∙ only.tables.parts k below);
+    };
     count = (let was = only.count in let now = gave.count in omega (arith, was, now));
   }
 
@@ -77,7 +95,14 @@ module _ (p q : TreePass) where
         → get_elem? (view q).held (frame_id t.shape c) ≡ some None) (sym terms)
         (λ c below other. ap (λ hs. get_elem? hs (frame_id (shape_of_pass p) c)) same.held
         ∙ only.frames c below other);
-    pool = ap (λ hs. get_elem? hs pool_id) same.held ∙ only.pool;
+    tables = record {
+      pool = ap (λ hs. get_elem? hs pool_id) same.held ∙ only.tables.pool;
+      parts = subst
+          (λ (t : Terms Shape). (k : ℕ) → k < t.shape.parts
+          → get_elem? (view q).held (part_id t.shape k) ≡ some None) (sym terms)
+          (λ k below. ap (λ hs. get_elem? hs (part_id (shape_of_pass p) k)) same.held
+          ∙ only.tables.parts k below);
+    };
     count = same.count ∙ only.count;
   }
 

@@ -1,11 +1,10 @@
 -- What the parts of a seek add, one behind the other.
-use Rattle.std.proofs.Common.{◌≡◌, ℕ, List, [], ◌∷◌, ◌++◌, append_assoc, sym, ap, subst, ◌∙◌, refl, Option, Some, None}
+use Rattle.std.proofs.Common.{◌≡◌, ℕ, List, [], ◌∷◌, ◌++◌, sym, ap, subst, ◌∙◌, refl, Option, Some, None}
 use Rattle.std.specs.List.{AllByRecursion}
 use Rattle.list_facts.proofs.Each.{each_append}
 use Rattle.key_tuple.specs.Order.{FieldList}
 use Rattle.key_tuple.specs.declared.mode.Mode.{Mode}
 use Rattle.latch_law.specs.declared.knows.Reference.{Reference}
-use Rattle.latch_law.specs.declared.knows.Terms.{Terms}
 use Rattle.latch_law.specs.Views.{holding}
 use Rattle.latch_law.specs.Whole.{reference}
 use Rattle.latch_space.specs.Passes.{view}
@@ -27,13 +26,11 @@ use Rattle.buffer_pool.specs.Calls.{DoesSilently}
 use Rattle.buffer_pool.specs.Frames.{GivesFrame}
 use Rattle.buffer_pool.specs.Pages.{HasNumber, HasTreePage}
 use Rattle.buffer_pool.proofs.AddedLemmas.{none_added, only_given, held_adds, gave_adds, frame_no_tree, given_spares, none_spares, spares_both}
-use Rattle.tree_neighbours.specs.declared.pairs.LeafPair.{LeafPair}
-use Rattle.tree_neighbours.specs.Pairs.{DescendsPair}
 use Rattle.index_engine.specs.Says.{OnlyLooks}
-use Rattle.index_engine.specs.SeekSteps.{SaysIf, Answered, PassesLeaves, EndsSeek, EndsFromLeaf, TriesSeek, TriesInVain}
-use Rattle.index_engine.specs.SeekTraces.{IsLeafReference, BeginOnLeaf, EndsOnLeaves, TellsOfSeek}
+use Rattle.index_engine.specs.SeekSteps.{SaysIf, Answered, PassesLeaves, EndsSeek, EndsFromLeaf}
+use Rattle.index_engine.specs.SeekTraces.{IsLeafReference}
 use Rattle.index_engine.proofs.FrameTraceLemmas.{frames_both, said_frames}
-use Rattle.index_engine.proofs.KnownLemmas.{one_frame, gave_known, page_number, one_number}
+use Rattle.index_engine.proofs.KnownLemmas.{gave_known}
 use Rattle.index_engine.proofs.TellLemmas.{said_spares}
 
 module _ (i : ℕ) (ask : Ask) (row : Pair) where

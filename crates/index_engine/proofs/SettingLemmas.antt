@@ -9,6 +9,7 @@ use Rattle.index_page.specs.Loads.{charge_of, load_of}
 use Rattle.index_page.specs.Page.{PageRows}
 use Rattle.index_page.specs.Rows.{Bytes, Child, Row, RowBody, find_row}
 use Rattle.forest_law.specs.declared.objects.Frame.{Frame}
+use Rattle.forest_law.specs.HashSteps.{KeepsHashing}
 use Rattle.forest_world.specs.Held.{TreePass, HasFrame}
 use Rattle.buffer_pool.specs.Frames.{TakesOut, PutsBack}
 use Rattle.leaf_rows.specs.Changing.{HasRowOf, HasSomeRow}
@@ -90,9 +91,9 @@ module _ (p p1 p2 : TreePass) (b : ℕ) (frame now : Frame) (out : TakesOut p b 
         → IfOk result (λ before. (k : FieldList) → HasRowOf frame place k
         → SetsValue frame now k value)
         → IfOk result (λ before. frame_before before now ≡ frame)
-        → IfOk result (λ before. IsSome before.page)
+        → IfOk result (λ before. IsSome before.page) → KeepsHashing frame now
         → IfOk result (λ before. HoldsGrownRow p2 b i key value before)
-    lengthened_ok (Ok before) sets was paged = record {
+    lengthened_ok (Ok before) sets was paged hash = record {
       known = held.known;
       made = now;
       holds = swapped_leaf p p1 p2 b frame now out back i key held.known held.known now refl
@@ -100,8 +101,9 @@ module _ (p p1 p2 : TreePass) (b : ℕ) (frame now : Frame) (out : TakesOut p b 
       sets = subst (λ (z : Frame). SetsValue z now key value) taken (sets key row_then);
       paged = paged;
       was = was ∙ taken;
+      hash = subst (λ (z : Frame). KeepsHashing z now) taken hash;
     }
-    lengthened_ok (Err e) sets was paged = tt
+    lengthened_ok (Err e) sets was paged hash = tt
 
     -- where there is no room for that, the load and the charge are more than the room
     too_long : (page : PageRows) (e : PageError) → held.known.page ≡ Some page

@@ -21,6 +21,7 @@ use Rattle.tree_neighbours.specs.Pairs.{HoldsOther, frames_at, DescendsPair}
 use Rattle.tree_neighbours.specs.Sides.{side_of, row_on, page_on}
 use Rattle.index_engine.specs.Seeks.{TellsRow, CanTell, PassesNothing, SawNothing, far_of}
 use Rattle.index_engine.specs.SeekHands.{HoldsLeavesAlone, blocks_at, blocks_of_pair, HoldsLast, HoldsBothLeaves, StandsOn, SawPast}
+use Rattle.index_engine.proofs.HashedLemmas.{part_no_frame}
 use Rattle.index_engine.proofs.PassingLemmas.{begins, goes_on, finds, ends, passes_over}
 use Rattle.index_engine.proofs.SawLemmas.{saw_passes}
 use Rattle.index_engine.proofs.KnownLemmas.{one_frame}
@@ -120,6 +121,7 @@ module _ (p q : TreePass) (i : ℕ) (mode : Mode) (tuple : FieldList) (pair : Le
           (frame_id (shape_of_pass p) pair.leaf.block ∷ []) only silently
           (λ c apart. (tt, (frames_apart (shape_of_pass p) pair.leaf.block c apart.0, tt)))
           ((λ e. omega (arith, e)), tt)
+          (λ k below. (part_no_frame (shape_of_pass p) k pair.leaf.block below, tt))
           (let none = only.count in omega (arith, counted, none))
       by_other (Some m) silently counted =
           only_then p q [] (pair.leaf.block ∷ m ∷ [])
@@ -133,6 +135,10 @@ module _ (p q : TreePass) (i : ℕ) (mode : Mode) (tuple : FieldList) (pair : Le
             ),
           ))
           ((λ e. omega (arith, e)), ((λ e. omega (arith, e)), tt))
+          (λ k below. (
+            part_no_frame (shape_of_pass p) k pair.leaf.block below,
+            (part_no_frame (shape_of_pass p) k m below, tt),
+          ))
           (let none = only.count in omega (arith, counted, none))
 
   -- where it holds no other, the leaf has the row or is the last

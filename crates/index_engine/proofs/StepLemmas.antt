@@ -32,6 +32,7 @@ use Rattle.index_engine.specs.SeekHands.{HoldsLeavesAlone, StandsOn, SawPast, Wa
 use Rattle.index_engine.specs.SeekSteps.{SaysIf, PassesLeaves, EndsSeek, WalksThen}
 use Rattle.index_engine.proofs.PassingLemmas.{ends, passes_over}
 use Rattle.index_engine.proofs.SawLemmas.{saw_more, saw_passes}
+use Rattle.index_engine.proofs.HashedLemmas.{part_no_frame}
 use Rattle.index_engine.proofs.KnownLemmas.{one_frame}
 use Rattle.index_engine.proofs.SeekHandLemmas.{gave_page, only_then, only_gave, only_same, knows_gave, page_same, page_gave, frames_apart}
 use Rattle.index_engine.proofs.SeekTraceLemmas.{looks_pass, takes_pass, passes_both, passes_then, passes_end, gave_passes, said_then_gave}
@@ -130,7 +131,7 @@ module _ (p : TreePass) (i : ℕ) (mode : Mode) (tuple : FieldList) (walk : Walk
   module _ (q : TreePass) (busy : IsBusyOn p b i (side_of mode) q) where
     pub busy_only : HoldsLeavesAlone q (b ∷ [])
     busy_only = only_then p q (b ∷ []) (b ∷ []) [] walks.only busy.refused.got.silently
-        (λ c apart. (apart, tt)) tt (busy.refused.got.count ∙ walks.only.count)
+        (λ c apart. (apart, tt)) tt (λ k below. tt) (busy.refused.got.count ∙ walks.only.count)
 
     pub busy_knows : KnowsFrame (view q) b walks.holds.frame
     busy_knows = let same = busy.refused.got.silently.does.adds.numbers.terms in (
@@ -160,6 +161,7 @@ module _ (p : TreePass) (i : ℕ) (mode : Mode) (tuple : FieldList) (walk : Walk
         (λ c apart.
         ((apart.0, tt), (frames_apart (shape_of_pass p) m c apart.1.0, tt)))
         ((λ e. omega (arith, e)), tt)
+        (λ k below. (part_no_frame (shape_of_pass p) k m below, tt))
         (let was = walks.only.count in let now = took.count in omega (arith, was, now))
 
     pub took_knows : KnowsFrame (view q) b took.holds.frame

@@ -1,5 +1,5 @@
 -- What a whole call leaves behind: a leaf was held, something was said, and it was given back.
-use Rattle.std.proofs.Common.{◌≡◌, ℕ, List, [], ◌∷◌, ◌++◌, append-nil, sym, ap, subst, ◌∙◌, refl}
+use Rattle.std.proofs.Common.{◌≡◌, ℕ, List, [], ◌∷◌, ◌++◌, append-nil, Option, Some, None, sym, ap, subst, ◌∙◌, refl}
 use Rattle.std.specs.List.{AllByRecursion}
 use Rattle.key_tuple.specs.Order.{FieldList}
 use Rattle.key_tuple.specs.declared.mode.Mode.TheVariants as mode
@@ -8,7 +8,7 @@ use Rattle.latch_law.specs.declared.knows.Refusal.{Refusal}
 use Rattle.latch_law.specs.declared.knows.Terms.{Terms}
 use Rattle.latch_law.specs.Views.{holding}
 use Rattle.latch_law.specs.Whole.{reference}
-use Rattle.latch_space.specs.Has.{SameHands}
+use Rattle.latch_space.specs.Has.{SameHands, IsKnown}
 use Rattle.latch_space.specs.Passes.{view}
 use Rattle.map_history.specs.declared.reply.Told.{Told}
 use Rattle.map_history.specs.Map.{Pair, MapChange}
@@ -19,22 +19,30 @@ use Rattle.index_law.specs.Shape.{Shape}
 use Rattle.forest_law.specs.declared.objects.Frame.{Frame}
 use Rattle.forest_law.specs.declared.objects.Object.{Object}
 use Rattle.forest_law.specs.declared.objects.Object.TheVariants as object
-use Rattle.forest_law.specs.Numbers.{frame_id}
+use Rattle.forest_law.specs.Numbers.{frame_id, part_id}
 use Rattle.forest_world.specs.Held.{TreePass, shape_of_pass}
+use Rattle.hash_maintain.specs.Parting.{GivesPart}
+use Rattle.call_law.specs.Hands.{KnowsFrame}
+use Rattle.call_law.specs.Once.{IsQuiet}
 use Rattle.call_law.specs.Spoken.{View}
 use Rattle.call_law.specs.Trace.{Added, Adds, IsOnlySaid, IsNoTree, SparesTrees, frame_references}
 use Rattle.call_law.proofs.TraceLemmas.{both_added, quiet_of, quiet_both, quiet_then_once, once_then_silent, only_both}
 use Rattle.buffer_pool.specs.Frames.{GivesFrame}
 use Rattle.buffer_pool.specs.Pages.{HasNumber}
+use Rattle.buffer_pool.specs.Parts.{HoldsPartIf, HoldsPartToo}
+use Rattle.buffer_pool.specs.Tries.{tries_alone}
+use Rattle.buffer_pool.proofs.PartLemmas.{part_no_tree}
 use Rattle.buffer_pool.proofs.AddedLemmas.{only_given, gave_adds, frame_no_tree, given_spares, spares_both}
 use Rattle.tree_descent.specs.declared.descending.Leaf.{Leaf}
 use Rattle.tree_descent.specs.Descents.{Descends}
 use Rattle.index_engine.specs.Commits.{IsCommitted}
-use Rattle.index_engine.specs.Holds.{HoldsLeaf}
-use Rattle.index_engine.specs.Says.{SaysOnce, OnlyLooks, AnswersHolding, told_made}
+use Rattle.index_engine.specs.Holds.{HoldsLeaf, KeepsNumber}
+use Rattle.index_engine.specs.Hashed.{GivesPartOf}
+use Rattle.index_engine.specs.Says.{SaysOnce, SaysBeside, OnlyLooks, LooksBeside, SparesPages, AnswersHolding, told_made}
 use Rattle.index_engine.specs.Traces.{EndsOnLeaf, TellsByLeaf}
-use Rattle.index_engine.proofs.FrameTraceLemmas.{frames_both}
+use Rattle.index_engine.proofs.FrameTraceLemmas.{frames_both, said_frames}
 use Rattle.index_engine.proofs.HoldLemmas.{frame_again}
+use Rattle.index_engine.proofs.SettleLemmas.{stays_same}
 use Rattle.index_engine.proofs.KnownLemmas.{gave_known, knows_same, page_number, number_stays, leaf_inside}
 
 -- nothing was answered, and then nothing
@@ -82,17 +90,17 @@ says_made p q i change row told point is written =
 
 -- where a leaf is held and something is said of it, it is held still
 pub said_holding : (p q : TreePass) (b i : ℕ) (key : FieldList) (f : Frame) (ask : Ask)
-    (told : Told) (row : Pair) → HoldsLeaf p b i key f f → SameHands p q
+    (told : Told) (row : Pair) → HoldsLeaf p b i key f f → IsKnown p → SameHands p q
     → SaysOnce (view p) (view q) i ask told row → AnswersHolding p q b i ask told row
-said_holding p q b i key f ask told row holds same says = record {
+said_holding p q b i key f ask told row holds known same says = record {
   says = says;
   holds = record {
     frame = f;
     has = frame_again p q b f f same says.once.adds.numbers.terms holds.has;
     inside = leaf_inside p b i key f f holds;
-    one = same.count ∙ holds.one;
   };
   number = number_stays (view p) b f holds.has.held;
+  stays = stays_same p q same says.once.adds.numbers.terms known;
 }
 
 -- what was only said spares the trees
@@ -103,6 +111,98 @@ said_spares shape s only = record {
   references = subst (AllByRecursion (λ (q : Reference Object). IsNoTree shape q.object))
       (sym only.references) tt;
 }
+
+-- so what was only said is told beside nothing
+pub beside_of : (v v' : View) (i : ℕ) (ask : Ask) (told : Told) (row : Pair)
+    → SaysOnce v v' i ask told row → SaysBeside v v' i ask told row
+beside_of v v' i ask told row says = record {
+  answer = says.answer;
+  is_told = says.is_told;
+  once = says.once;
+  beside = record {
+    trees = said_spares v.terms.shape says.once.added says.only;
+    frames = said_frames says.once.added says.only;
+  };
+  placed = says.placed;
+}
+
+-- a partition was held before something was said, and given back behind it
+module _ (p0 q0 q1 p1 : TreePass) (i : ℕ) where
+  module _ (k : ℕ) (took : HoldsPartToo p0 k q0) (gave : GivesPart q1 k p1)
+      (terms : (view q1).terms ≡ (view q0).terms) where
+    abbrev tried : Added
+    tried = tries_alone took.tries.refused
+
+    abbrev given : Added
+    given = only_given (part_id (shape_of_pass q1) k) gave.taken (object.Part gave.part)
+
+    given_adds : Adds (view q1) (view p1) given
+    given_adds = gave_adds (view q1) (view p1) (part_id (shape_of_pass q1) k)
+        (holding gave.taken (object.Part gave.part)) gave.view
+
+    all_spare : (s : Added) → IsOnlySaid s
+        → SparesPages (shape_of_pass p0) (both_added (both_added tried s) given)
+    all_spare s only = record {
+      trees = spares_both (shape_of_pass p0) (both_added tried s) given
+          (spares_both (shape_of_pass p0) tried s took.tries.does.spares
+          (said_spares (shape_of_pass p0) s only))
+          (subst (λ (t : Terms Shape). SparesTrees t.shape given)
+          (terms ∙ took.tries.does.adds.numbers.terms)
+          (given_spares (shape_of_pass q1) (part_id (shape_of_pass q1) k) gave.taken
+          (object.Part gave.part) (part_no_tree (shape_of_pass q1) k)));
+      frames = ap (λ z. frame_references (z ++ given.references)) only.references;
+    }
+
+    part_quiet : IsQuiet (view p0) (view q0) i
+    part_quiet = quiet_of (view p0) (view q0) i tried took.tries.does.adds refl
+
+    part_says : (ask : Ask) (told : Told) (row : Pair)
+        → SaysOnce (view q0) (view q1) i ask told row
+        → SaysBeside (view p0) (view p1) i ask told row
+    unfolding quiet_of quiet_then_once once_then_silent part_quiet
+    part_says ask told row says = record {
+      answer = says.answer;
+      is_told = says.is_told;
+      once = once_then_silent i ask says.answer (view p0) (view q1) (view p1) given
+          (quiet_then_once i ask says.answer (view p0) (view q0) (view q1) part_quiet says.once)
+          given_adds refl (ap (λ (z : View). z.seen) gave.view);
+      beside = all_spare says.once.added says.only;
+      placed = says.placed;
+    }
+
+    part_looks : OnlyLooks (view q0) (view q1) i → LooksBeside (view p0) (view p1) i
+    unfolding quiet_of quiet_both part_quiet
+    part_looks looks = record {
+      quiet = quiet_both (view p0) (view q1) (view p1) i
+          (quiet_both (view p0) (view q0) (view q1) i part_quiet looks.quiet)
+          (quiet_of (view q1) (view p1) i given given_adds refl);
+      beside = all_spare looks.quiet.added looks.only;
+    }
+
+  -- or none was, where the leaf isn't hashed
+  pub beside_says : (part : Option ℕ) → HoldsPartIf p0 part q0 → GivesPartOf q1 part p1
+      → (ask : Ask) (told : Told) (row : Pair) → SaysOnce (view q0) (view q1) i ask told row
+      → SaysBeside (view p0) (view p1) i ask told row
+  beside_says None took gave ask told row says =
+      subst (λ (z : TreePass). SaysBeside (view z) (view p1) i ask told row) took
+      (subst (λ (z : TreePass). SaysBeside (view q0) (view z) i ask told row) (sym gave)
+      (beside_of (view q0) (view q1) i ask told row says))
+  beside_says (Some k) took gave ask told row says =
+      part_says k took gave says.once.adds.numbers.terms ask told row says
+
+  pub beside_looks : (part : Option ℕ) → HoldsPartIf p0 part q0 → GivesPartOf q1 part p1
+      → OnlyLooks (view q0) (view q1) i → LooksBeside (view p0) (view p1) i
+  beside_looks None took gave looks =
+      subst (λ (z : TreePass). LooksBeside (view z) (view p1) i) took
+      (subst (λ (z : TreePass). LooksBeside (view q0) (view z) i) (sym gave) (record {
+        quiet = looks.quiet;
+        beside = record {
+          trees = said_spares (shape_of_pass q0) looks.quiet.added looks.only;
+          frames = said_frames looks.quiet.added looks.only;
+        };
+      }))
+  beside_looks (Some k) took gave looks =
+      part_looks k took gave looks.quiet.adds.numbers.terms looks
 
 module _ (p p0 p1 p2 : TreePass) (i : ℕ) (key : FieldList) (leaf : Leaf)
     (went : Descends p i mode.Ge key leaf p0) (gave : GivesFrame p1 leaf.block p2) where
@@ -121,14 +221,12 @@ module _ (p p0 p1 p2 : TreePass) (i : ℕ) (key : FieldList) (leaf : Leaf)
       (knows_same p0 p1 leaf.block went.frame same.held terms went.knows) gave)
       (page_number went.frame i 0 went.is.page.is)
 
-  -- and where an answer was given
-  pub number_answered : (ask : Ask) (told : Told) (row : Pair)
-      → AnswersHolding p0 p1 leaf.block i ask told row → HasNumber gave.frame leaf_number
-  number_answered ask told row answers = let held = answers.holds in
-      subst (λ f. HasNumber f leaf_number)
-      (gave_known p1 p2 leaf.block held.frame held.has.held gave)
-      (answers.number went.frame leaf_number went.knows
-      (page_number went.frame i 0 went.is.page.is))
+  -- and where the leaf was answered of, beside its partition
+  pub number_between : (f : Frame) → KnowsFrame (view p1) leaf.block f
+      → KeepsNumber (view p0) leaf.block f → HasNumber gave.frame leaf_number
+  number_between f knows keeps = subst (λ g. HasNumber g leaf_number)
+      (gave_known p1 p2 leaf.block f knows gave)
+      (keeps went.frame leaf_number went.knows (page_number went.frame i 0 went.is.page.is))
 
   -- what the descent added, and the reference to the leaf
   abbrev pub way : Added
@@ -141,25 +239,24 @@ module _ (p p0 p1 p2 : TreePass) (i : ℕ) (key : FieldList) (leaf : Leaf)
   back_adds = gave_adds (view p1) (view p2) (frame_id (shape_of_pass p1) leaf.block)
       (holding gave.taken (object.Frame gave.frame)) gave.view
 
-  module _ (s : Added) (only : IsOnlySaid s) (terms : (view p1).terms ≡ (view p).terms) where
+  module _ (s : Added) (beside : SparesPages (shape_of_pass p) s)
+      (terms : (view p1).terms ≡ (view p).terms) where
     -- with what was said while the leaf was held
     abbrev pub all_added : Added
     all_added = both_added (both_added way s) back
 
     pub spares_all : SparesTrees shape all_added
     spares_all = spares_both shape (both_added way s) back
-        (spares_both shape way s went.silently.does.spares (said_spares shape s only))
+        (spares_both shape way s went.silently.does.spares beside.trees)
         (subst (λ (t : Terms Shape). SparesTrees t.shape back) terms
         (given_spares (shape_of_pass p1) (frame_id (shape_of_pass p1) leaf.block) gave.taken
         (object.Frame gave.frame) (frame_no_tree (shape_of_pass p1) leaf.block)))
 
-    -- the references are those of the descent, and the leaf's
+    -- the references are those of the descent, those beside, and the leaf's
     pub references_are : all_added.references
-        ≡ way.references
+        ≡ (way.references ++ s.references)
         ++ reference (frame_id shape leaf.block) gave.taken (object.Frame gave.frame) ∷ []
-    references_are = ap (λ z. z ++ back.references)
-        (ap (λ z. way.references ++ z) only.references ∙ append-nil way.references)
-        ∙ ap (λ (t : Terms Shape). way.references
+    references_are = ap (λ (t : Terms Shape). (way.references ++ s.references)
         ++ reference (frame_id t.shape leaf.block) gave.taken (object.Frame gave.frame) ∷ []) terms
 
     -- and so are those of frames, by the descent's path
@@ -170,7 +267,10 @@ module _ (p p0 p1 p2 : TreePass) (i : ℕ) (key : FieldList) (leaf : Leaf)
         let last = reference (frame_id shape leaf.block) gave.taken (object.Frame gave.frame)
         ∷ [] in
         ap (λ (z : List (Reference Object)). frame_references z) references_are
-        ∙ (frames_both way.references last ∙ ap (λ z. z ++ last) went.path.references)
+        ∙ (frames_both (way.references ++ s.references) last
+        ∙ ap (λ z. z ++ last) (frames_both way.references s.references
+        ∙ ((λ k. went.path.references k ++ beside.frames k)
+        ∙ append-nil (went.path.vain ++ went.path.path))))
 
     unfoldable pub ends_all : HasNumber gave.frame leaf_number
         → EndsOnLeaf shape i key all_added.references
@@ -188,13 +288,15 @@ module _ (p p0 p1 p2 : TreePass) (i : ℕ) (key : FieldList) (leaf : Leaf)
 
   -- the answer was told by that leaf
   unfoldable pub tells_by_leaf : (ask : Ask) (told : Told) (row : Pair)
-      → HasNumber gave.frame leaf_number → SaysOnce (view p0) (view p1) i ask told row
+      → HasNumber gave.frame leaf_number → SaysBeside (view p0) (view p1) i ask told row
       → TellsByLeaf (view p) (view p2) i key ask told row
   unfolding quiet_of quiet_then_once once_then_silent
   tells_by_leaf ask told row has says =
       let terms = says.once.adds.numbers.terms ∙ went.silently.does.adds.numbers.terms in
       let quiet = quiet_of (view p) (view p0) i way went.silently.does.adds went.silently.silent in
       let once = quiet_then_once i ask says.answer (view p) (view p0) (view p1) quiet says.once in
+      let beside = subst (λ (t : Terms Shape). SparesPages t.shape says.once.added)
+      went.silently.does.adds.numbers.terms says.beside in
       record {
         tells = record {
           answer = says.answer;
@@ -202,6 +304,6 @@ module _ (p p0 p1 p2 : TreePass) (i : ℕ) (key : FieldList) (leaf : Leaf)
           once = once_then_silent i ask says.answer (view p) (view p1) (view p2) back once
               back_adds refl (ap (λ (z : View). z.seen) gave.view);
         };
-        ends = ends_all says.once.added says.only terms has;
-        spares = spares_all says.once.added says.only terms;
+        ends = ends_all says.once.added beside terms has;
+        spares = spares_all says.once.added beside terms;
       }

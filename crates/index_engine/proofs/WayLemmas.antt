@@ -1,5 +1,5 @@
 -- What a try of a put leaves behind that went down to a leaf and wasn't answered there.
-use Rattle.std.proofs.Common.{◌≡◌, ◌≢◌, inl, inr, ℕ, ◌+◌, ◌<◌, List, sym, subst, ◌∙◌, refl, Result, Ok, Err, IfOk, IfErr}
+use Rattle.std.proofs.Common.{◌≡◌, ◌≢◌, inl, inr, ℕ, ◌+◌, ◌<◌, ◌++◌, List, sym, subst, ◌∙◌, refl}
 use Rattle.key_tuple.specs.Order.{FieldList}
 use Rattle.key_tuple.specs.declared.mode.Mode.TheVariants as mode
 use Rattle.latch_law.specs.declared.knows.Terms.{Terms}
@@ -27,12 +27,11 @@ use Rattle.buffer_pool.specs.Frames.{GivesFrame}
 use Rattle.tree_descent.specs.declared.descending.Leaf.{Leaf}
 use Rattle.tree_descent.specs.Descents.{Descends}
 use Rattle.tree_descent.specs.Leaves.{cut_in, IsPageFor}
-use Rattle.index_engine.specs.Changes.{RefusesHolding}
-use Rattle.index_engine.specs.Holds.{HoldsLeaf, HoldsKnown}
-use Rattle.index_engine.specs.Says.{OnlyLooks, AnswersHolding}
+use Rattle.index_engine.specs.Changes.{HoldsRefusing}
+use Rattle.index_engine.specs.Holds.{HoldsLeaf}
+use Rattle.index_engine.specs.Says.{LooksBeside, SparesPages}
 use Rattle.index_engine.specs.Traces.{LackedRoom, TellsByLeaf, TellsOfWrite, GivesUp}
 use Rattle.index_engine.proofs.HoldLemmas.{gave_is}
-use Rattle.index_engine.proofs.KnownLemmas.{leaf_inside}
 use Rattle.index_engine.proofs.TellLemmas.{way, back, back_adds, spares_all, references_are}
 
 -- an answer by a leaf is one of a put
@@ -47,19 +46,6 @@ by_leaf_of_write p q i key value ask told row placed tells = record {
   trees = inl tells.spares;
 }
 
--- however a put ends on the leaf, it is held as it is known to be
-pub known_then : (p q : TreePass) (b i : ℕ) (key : FieldList) (value : List ℕ) (ask : Ask)
-    (row : Pair) (result : Result Told PageError)
-    → IfOk result (λ told. AnswersHolding p q b i ask told row)
-    → IfErr result (λ e. RefusesHolding p q b i key value e) → HoldsKnown q b
-known_then p q b i key value ask row (Ok told) answers refuses = answers.holds
-known_then p q b i key value ask row (Err e) answers refuses = record {
-  frame = refuses.holds.frame;
-  has = refuses.holds.holds.has;
-  inside = leaf_inside q b i key refuses.holds.frame refuses.holds.frame refuses.holds.holds;
-  one = refuses.holds.holds.one;
-}
-
 -- the page of a frame with the key's position, on which the row has too little room
 abbrev IsFullLeaf : Shape → ℕ → FieldList → List ℕ → Frame → Type 0
 IsFullLeaf shape i key value f =
@@ -68,7 +54,11 @@ IsFullLeaf shape i key value f =
 
 module _ (p p0 p1 p2 : TreePass) (i : ℕ) (key : FieldList) (value : List ℕ) (leaf : Leaf)
     (went : Descends p i mode.Ge key leaf p0) (gave : GivesFrame p1 leaf.block p2)
-    (looks : OnlyLooks (view p0) (view p1) i) where
+    (looks : LooksBeside (view p0) (view p1) i) where
+  pub beside : SparesPages (shape_of_pass p) looks.quiet.added
+  beside = subst (λ (t : Terms Shape). SparesPages t.shape looks.quiet.added)
+      went.silently.does.adds.numbers.terms looks.beside
+
   pub terms_are : (view p1).terms ≡ (view p).terms
   terms_are = looks.quiet.adds.numbers.terms ∙ went.silently.does.adds.numbers.terms
 
@@ -87,7 +77,7 @@ module _ (p p0 p1 p2 : TreePass) (i : ℕ) (key : FieldList) (value : List ℕ) 
   unfolding quiet_of quiet_both went_quiet
   went_up = record {
     quiet = went_quiet;
-    trees = inl (spares_all p p0 p1 p2 i key leaf went gave looks.quiet.added looks.only terms_are);
+    trees = inl (spares_all p p0 p1 p2 i key leaf went gave looks.quiet.added beside terms_are);
   }
 
   module _ (f : Frame) (holds : HoldsLeaf p1 leaf.block i key f f)
@@ -110,9 +100,9 @@ module _ (p p0 p1 p2 : TreePass) (i : ℕ) (key : FieldList) (value : List ℕ) 
           among = subst
               (In (reference (frame_id (shape_of_pass p) leaf.block) gave.taken
               (object.Frame gave.frame)))
-              (sym (references_are p p0 p1 p2 i key leaf went gave looks.quiet.added looks.only
-              terms_are))
-              (In-append_right _ went.silently.added.references _ (inl refl));
+              (sym (references_are p p0 p1 p2 i key leaf went gave looks.quiet.added beside terms_are))
+              (In-append_right _ (went.silently.added.references ++ looks.quiet.added.references) _
+              (inl refl));
           page = full_leaf.0;
           full = full_leaf.1;
         }
@@ -120,13 +110,13 @@ module _ (p p0 p1 p2 : TreePass) (i : ℕ) (key : FieldList) (value : List ℕ) 
 -- and so it did where no memory lacked
 pub refused_lacks : (p p0 p1 p2 : TreePass) (i : ℕ) (key : FieldList) (value : List ℕ) (leaf : Leaf)
     (went : Descends p i mode.Ge key leaf p0) (gave : GivesFrame p1 leaf.block p2) (e : PageError)
-    (refuses : RefusesHolding p0 p1 leaf.block i key value e)
+    (looks : LooksBeside (view p0) (view p1) i)
+    (held : HoldsRefusing p1 leaf.block i key value e)
     → (e ≡ refused.NoMemory → ⊥)
     → LackedRoom (shape_of_pass p) i key value
-    (went_up p p0 p1 p2 i key value leaf went gave refuses.looks).quiet.added.references
-refused_lacks p p0 p1 p2 i key value leaf went gave e refuses other =
-    elim refuses.holds.why [
+    (went_up p p0 p1 p2 i key value leaf went gave looks).quiet.added.references
+refused_lacks p p0 p1 p2 i key value leaf went gave e looks held other =
+    elim held.why [
       | inl memory ↦ absurd (other memory)
-      | inr full ↦ went_lacked p p0 p1 p2 i key value leaf went gave refuses.looks
-          refuses.holds.frame refuses.holds.holds full
+      | inr full ↦ went_lacked p p0 p1 p2 i key value leaf went gave looks held.frame held.holds full
     ]

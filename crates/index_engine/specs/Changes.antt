@@ -1,6 +1,7 @@
 -- Changes of the leaf that a pass holds.
 use Rattle.std.specs.Prelude.{ℕ, ◌≡◌, ◌⊎◌, ◌+◌, ◌<◌, ◌≤◌, ◌==◌, Option, Some, None, IsSome, List, length}
 use Rattle.key_tuple.specs.Order.{FieldList}
+use Rattle.latch_space.specs.Has.{SameBut, IsKnown, IsKnownBut}
 use Rattle.latch_space.specs.Passes.{view, count}
 use Rattle.index_page.specs.declared.error.PageError.{PageError}
 use Rattle.index_page.specs.declared.error.PageError.TheVariants as refused
@@ -9,12 +10,17 @@ use Rattle.index_page.specs.declared.TheConstants.{PAGE_ROOM}
 use Rattle.index_page.specs.Loads.{charge_of, load_of}
 use Rattle.index_page.specs.Page.{PageRows}
 use Rattle.index_page.specs.Rows.{Bytes}
+use Rattle.hash_upkeep.specs.declared.upkeep.Upkeep.{Upkeep}
 use Rattle.forest_law.specs.declared.objects.Frame.{Frame}
-use Rattle.forest_world.specs.Held.{TreePass, HasFrame}
-use Rattle.leaf_rows.specs.Changing.{LacksRow, PutsRow, WasPut, HasRowOf, HasSomeRow, TakesRowOut, frame_without}
+use Rattle.forest_law.specs.HashSteps.{KeepsHashing}
+use Rattle.forest_law.specs.Numbers.{frame_id}
+use Rattle.forest_world.specs.Held.{TreePass, shape_of_pass, HasFrame}
+use Rattle.hash_maintain.specs.Leaves.{kept_frame, without_row}
+use Rattle.leaf_rows.specs.Changing.{LacksRow, PutsRow, WasPut, HasRowOf, HasSomeRow, TakesRowOut, frame_without, hashed_as}
 use Rattle.leaf_rows.specs.Finding.{HasSpot}
 use Rattle.leaf_rows.specs.Setting.{frame_with, IsNoLonger, IsLongerValue, SetsValue, PageBefore, frame_before, value_refusal, LacksRoomFor}
-use Rattle.index_engine.specs.Holds.{HoldsLeaf}
+use Rattle.index_engine.specs.Hashed.{KeepsHashed}
+use Rattle.index_engine.specs.Holds.{HoldsLeaf, StaysKnown}
 use Rattle.index_engine.specs.Says.{OnlyLooks}
 
 -- the frame has a leaf, on which the key belongs at the spot
@@ -45,12 +51,23 @@ pub record HoldsLacking (p : TreePass) (b i : ℕ) (key : FieldList) (spot : Spo
   pub lacks : LacksRow frame key spot
 
 -- the pass holds the leaf, which lacked the key, and into which its row was put at the place
-pub record HoldsNewRow (p : TreePass) (b i place : ℕ) (key : FieldList)
+pub record HoldsInserted (p : TreePass) (b i place : ℕ) (key : FieldList)
     (value : List ℕ) : Type 0 where
   pub known : Frame
   pub made : Frame
   pub holds : HoldsLeaf p b i key known made
   pub puts : PutsRow known made place key value
+  pub hash : KeepsHashing known made
+
+-- the same, and the hash is kept
+pub record HoldsNewRow (p : TreePass) (b i place : ℕ) (key : FieldList)
+    (value : List ℕ) : Type 0 where
+  pub index : Option ℕ
+  pub known : Frame
+  pub made : Frame
+  pub holds : HoldsLeaf p b i key known made
+  pub puts : PutsRow known made place key value
+  pub hash : KeepsHashed p index b known made made
 
 -- the pass holds the leaf as it is known to be; where it wasn't memory that lacked, the leaf has
 -- too little room for the key's row
@@ -61,10 +78,11 @@ pub record HoldsRefusing (p : TreePass) (b i : ℕ) (key : FieldList) (value : L
   pub why : (e ≡ refused.NoMemory)
       ⊎ (PAGE_ROOM < load_of holds.leaf.page.is.page.rows + charge_of key (Bytes value))
 
--- the pass knows and holds as much as before
-pub record KnowsSame (p q : TreePass) : Type 0 where
+-- the pass knows and holds as much as before, and has in hand what it had beside the block's frame
+pub record KnowsSame (p q : TreePass) (b : ℕ) : Type 0 where
   pub view : view q ≡ view p
   pub count : count q ≡ count p
+  pub others : SameBut p q (frame_id (shape_of_pass p) b)
 
 -- the pass holds the block's frame, into which some row was put at the place
 pub record HoldsPutRow (p : TreePass) (b place : ℕ) : Type 0 where
@@ -73,10 +91,11 @@ pub record HoldsPutRow (p : TreePass) (b place : ℕ) : Type 0 where
   pub has : HasFrame p b known now
   pub put : WasPut now place
 
--- the row that was put into a leaf is out again, and the leaf is what it is known to be
+-- the row that was put into a leaf is out again, and the leaf is what it is known to be, but for
+-- how it is hashed
 abbrev pub TookBack : TreePass → TreePass → (b place : ℕ) → Type 0
-TookBack p q b place = (i : ℕ) (key : FieldList) (value : List ℕ) (f g : Frame)
-    → HoldsLeaf p b i key f g → PutsRow f g place key value → HoldsLeaf q b i key f f
+TookBack p q b place = (key : FieldList) (value : List ℕ) (f g : Frame) → HasFrame p b f g
+    → PutsRow f g place key value → HasFrame q b f (hashed_as g f)
 
 -- the pass holds the block's frame, on which some row stands at the place
 pub record HoldsRowAt (p : TreePass) (b place : ℕ) : Type 0 where
@@ -90,27 +109,37 @@ abbrev pub TookOut : TreePass → TreePass → (b place : ℕ) → Type 0
 TookOut p q b place = (f g : Frame) → HasFrame p b f g → HasFrame q b f (frame_without place g)
 
 -- the pass holds the leaf, on which the key's row stands at the place, and which is to become this
--- one, without it
+-- one, without it; the partition is exact of that already
 pub record HoldsOldRow (p : TreePass) (b i place : ℕ) (key : FieldList)
     (next : Frame) : Type 0 where
+  pub index : Option ℕ
   pub known : Frame
-  pub holds : HoldsLeaf p b i key known known
+  pub answer : Upkeep
+  pub holds : HoldsLeaf p b i key known (kept_frame answer known)
   pub row : HasOldRow known key place
-  pub next_is : next ≡ frame_without place known
+  pub next_is : next ≡ frame_without place (kept_frame answer known)
+  pub hash : KeepsHashed p index b known (kept_frame answer known)
+      (without_row place (kept_frame answer known))
 
--- the pass holds the leaf, on which the key's row stands at the place
+-- the pass holds the leaf, on which the key's row stands at the place, as it is known to be
 pub record HoldsRowOf (p : TreePass) (b i place : ℕ) (key : FieldList) : Type 0 where
+  pub index : Option ℕ
   pub known : Frame
   pub holds : HoldsLeaf p b i key known known
   pub row : HasOldRow known key place
+  pub hash : KeepsHashed p index b known known known
+  pub all : IsKnown p
 
 -- the pass holds the leaf, on which the key's row stands at the place, and which is to become this
 -- one, where the row has this value, which is no longer
 pub record HoldsRowToSet (p : TreePass) (b i place : ℕ) (key : FieldList) (value : List ℕ)
     (next : Frame) : Type 0 where
+  pub index : Option ℕ
   pub known : Frame
   pub holds : HoldsLeaf p b i key known known
   pub row : HasOldRow known key place
+  pub hash : KeepsHashed p index b known known known
+  pub all : IsKnown p
   pub no_longer : IsNoLonger known place value
   pub next_is : next ≡ frame_with place value (length value == length row.has.has.value) known
 
@@ -146,6 +175,7 @@ pub record HoldsGrownRow (p : TreePass) (b i : ℕ) (key : FieldList) (value : L
   pub sets : SetsValue known made key value
   pub paged : IsSome before.page
   pub was : frame_before before made ≡ known
+  pub hash : KeepsHashing known made
 
 -- the pass holds the block's frame, which has a page
 pub record HoldsSomePage (p : TreePass) (b : ℕ) : Type 0 where
@@ -159,8 +189,57 @@ abbrev pub LeafIsBack : TreePass → TreePass → ℕ → PageBefore → Type 0
 LeafIsBack p q b before = (i : ℕ) (key : FieldList) (f g : Frame) → HoldsLeaf p b i key f g
     → frame_before before g ≡ f → HoldsLeaf q b i key f f
 
--- nothing was answered, since the row wasn't taken, and the leaf is held as it is known to be
+-- nothing was answered, since the row wasn't taken, and what was held is held as it is known to be
 pub record RefusesHolding (p q : TreePass) (b i : ℕ) (key : FieldList) (value : List ℕ)
     (e : PageError) : Type 0 where
   pub looks : OnlyLooks (view p) (view q) i
   pub holds : HoldsRefusing q b i key value e
+  pub stays : StaysKnown p q
+
+-- the pass knows and holds as much as before
+pub record KnowsAsMuch (p q : TreePass) : Type 0 where
+  pub view : view q ≡ view p
+  pub count : count q ≡ count p
+
+-- the pass holds the leaf, and all else, as it is known to be, the partition besides, and the leaf
+-- lacks the key, which belongs at the spot
+pub record HoldsToPut (p : TreePass) (b i : ℕ) (key : FieldList) (spot : Spot) : Type 0 where
+  pub index : Option ℕ
+  pub lacking : HoldsLacking p b i key spot
+  pub hash : KeepsHashed p index b lacking.frame lacking.frame lacking.frame
+  pub known : IsKnown p
+
+-- the pass holds the block's frame, into which some row was put at the place, and the hash is kept
+pub record HoldsNewRowAt (p : TreePass) (b place : ℕ) : Type 0 where
+  pub index : Option ℕ
+  pub known : Frame
+  pub now : Frame
+  pub key : FieldList
+  pub value : List ℕ
+  pub has : HasFrame p b known now
+  pub puts : PutsRow known now place key value
+  pub hash : KeepsHashed p index b known now now
+
+-- the row is out again, and what was known of the leaf is so again, but for how it is hashed;
+-- nothing was said
+pub record IsTakenOut (p : TreePass) (i b place : ℕ) (q : TreePass) : Type 0 where
+  pub leaf : Frame
+  pub looks : OnlyLooks (view p) (view q) i
+  pub seen : (view q).seen ≡ (view p).seen
+  pub holds : (j : ℕ) (key : FieldList) (value : List ℕ) (f g : Frame) → HoldsLeaf p b j key f g
+      → PutsRow f g place key value
+      → HoldsLeaf q b j key leaf leaf × (hashed_as leaf f ≡ leaf)
+  pub stays : StaysKnown p q
+
+-- the value is longer than that of the row at the place of the block's frame
+abbrev pub IsLongerIn : TreePass → (b place : ℕ) → List ℕ → Type 0
+IsLongerIn p b place value = (f g : Frame) → HasFrame p b f g → IsLongerValue f place value
+
+-- the block's frame is in hand, the hash is kept, and all else in hand is what it is known to be
+pub record HoldsKeptAlone (p : TreePass) (b : ℕ) : Type 0 where
+  pub index : Option ℕ
+  pub known : Frame
+  pub made : Frame
+  pub has : HasFrame p b known made
+  pub hash : KeepsHashed p index b known made made
+  pub rest : IsKnownBut p (frame_id (shape_of_pass p) b)

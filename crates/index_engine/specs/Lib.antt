@@ -2,6 +2,7 @@ pub mod Tells
 pub mod Traces
 pub mod Engines
 pub mod Holds
+pub mod Hashed
 pub mod Says
 pub mod Commits
 pub mod Changes

@@ -1,5 +1,5 @@
 -- What may be said of a leaf that is held, and what was said then.
-use Rattle.std.specs.Prelude.{ℕ, ◌≡◌, ◌≢◌, Some, None, length}
+use Rattle.std.specs.Prelude.{ℕ, ◌≡◌, ◌≢◌, Some, None, [], length}
 use mathlib.Core.Option.{some}
 use lib.ListN.{get_elem?}
 use Rattle.key_tuple.specs.Order.{FieldList}
@@ -17,13 +17,14 @@ use Rattle.index_law.specs.Answers.{Word, Gives, SpaceFull}
 use Rattle.index_law.specs.Answers as answers
 use Rattle.index_law.specs.Meanings.{reply_word}
 use Rattle.index_law.specs.Rightness.{IsReply, IsAllowed}
+use Rattle.index_law.specs.Shape.{Shape}
 use Rattle.index_law.specs.State.{Entries}
 use Rattle.forest_law.specs.declared.objects.Frame.{Frame}
 use Rattle.forest_world.specs.Held.{TreePass}
 use Rattle.call_law.specs.Once.{IsQuiet, AnswersOnce}
 use Rattle.call_law.specs.Spoken.{View}
-use Rattle.call_law.specs.Trace.{IsOnlySaid}
-use Rattle.index_engine.specs.Holds.{HoldsLeaf, HoldsKnown, KeepsNumber}
+use Rattle.call_law.specs.Trace.{Added, IsOnlySaid, SparesTrees, frame_references}
+use Rattle.index_engine.specs.Holds.{HoldsLeaf, HoldsStill, KeepsNumber, StaysKnown}
 use Rattle.index_engine.specs.Tells.{HasKeyOf, IsTold}
 
 -- the list of the index was seen with as many changes as it may have
@@ -77,12 +78,32 @@ pub record OnlyLooks (v v' : View) (i : ℕ) : Type 0 where
   pub quiet : IsQuiet v v' i
   pub only : IsOnlySaid quiet.added
 
--- the pass has answered once, and holds the leaf as it is known to be, of the same number
+-- the pass has answered once, holds what it held, as it is known to be, and with it the leaf, of
+-- the same number
 pub record AnswersHolding (p q : TreePass) (b i : ℕ) (ask : Ask) (told : Told)
     (row : Pair) : Type 0 where
   pub says : SaysOnce (view p) (view q) i ask told row
-  pub holds : HoldsKnown q b
+  pub holds : HoldsStill q b
   pub number : KeepsNumber (view p) b holds.frame
+  pub stays : StaysKnown p q
+
+-- no tree and no frame was given back, and no tree was tried in vain
+pub record SparesPages (shape : Shape) (added : Added) : Type 0 where
+  pub trees : SparesTrees shape added
+  pub frames : frame_references added.references ≡ []
+
+-- the one answer was told, not for want of a page, and of pages nothing else was done
+pub record SaysBeside (v v' : View) (i : ℕ) (ask : Ask) (told : Told) (row : Pair) : Type 0 where
+  pub answer : Answer
+  pub is_told : IsTold ask told row answer
+  pub once : AnswersOnce v v' i ask answer
+  pub beside : SparesPages v.terms.shape once.added
+  pub placed : told.reply ≢ words.SpaceFull
+
+-- nothing was answered, and of pages nothing was done
+pub record LooksBeside (v v' : View) (i : ℕ) : Type 0 where
+  pub quiet : IsQuiet v v' i
+  pub beside : SparesPages v.terms.shape quiet.added
 
 -- what is told of a change that was made at the point
 abbrev pub told_made : ℕ → Told

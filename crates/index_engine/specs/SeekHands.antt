@@ -6,7 +6,7 @@ use Rattle.latch_space.specs.Has.{IsKnown}
 use Rattle.latch_space.specs.Passes.{view, count}
 use Rattle.forest_law.specs.declared.objects.Frame.{Frame}
 use Rattle.forest_world.specs.Held.{TreePass, shape_of_pass}
-use Rattle.call_law.specs.Hands.{KnowsFrame, HoldsNoFrameBut, HoldsNoPool}
+use Rattle.call_law.specs.Hands.{KnowsFrame, HoldsNoFrameBut, HoldsNoTable}
 use Rattle.call_law.specs.Spoken.{View}
 use Rattle.tree_descent.specs.declared.descending.Leaf.{Leaf}
 use Rattle.tree_descent.specs.Leaves.{IsLeafFor}
@@ -21,7 +21,7 @@ use Rattle.index_engine.specs.Seeks.{near_of, far_of, PassesNothing, SawNothing}
 pub record HoldsLeavesAlone (p : TreePass) (bs : List ℕ) : Type 0 where
   pub known : IsKnown p
   pub frames : HoldsNoFrameBut (view p) bs
-  pub pool : HoldsNoPool (view p)
+  pub tables : HoldsNoTable (view p)
   pub count : count p ≡ length bs
 
 -- the block, if one is given

@@ -3,7 +3,7 @@ ghost use Rattle.std.specs.Prelude.{◌≤◌, IfOk, IfErr, IsSome};
 ghost use Rattle.clock_law.specs.ModifyClock.{last_clock};
 ghost use Rattle.latch_space.specs.Passes.{IsSamePass};
 ghost use Rattle.latch_space.specs.Spaces.{IsPassOf};
-ghost use Rattle.index_engine.specs.Changes.{HasSpotIn, FindsRow, HoldsLacking, HoldsNewRow};
+ghost use Rattle.index_engine.specs.Changes.{HasSpotIn, FindsRow, HoldsLacking, HoldsInserted};
 ghost use Rattle.index_engine.specs.Changes.{HoldsRefusing, KnowsSame, HoldsPutRow, TookBack};
 ghost use Rattle.index_engine.specs.Changes.{HoldsRowAt, TookOut, HoldsRowAsLong, RowIsSet};
 ghost use Rattle.index_engine.specs.Changes.{HoldsRowToGrow, HoldsGrownRow, HoldsSomePage};
@@ -32,9 +32,9 @@ impl<R> TreeCall<'_, R> {
         requires held { HoldsLacking pass.old leaf.now.block self.now.index self.now.key.now.tuple
             leaf.now.spot }
         ensures own { IsSamePass pass.old pass.new × IsPassOf self.now.space.now pass.new }
-        ensures same { KnowsSame pass.old pass.new }
-        ensures ok { IfOk result (λ place. HoldsNewRow pass.new leaf.now.block self.now.index place
-            self.now.key.now.tuple value.now) }
+        ensures same { KnowsSame pass.old pass.new leaf.now.block }
+        ensures ok { IfOk result (λ place. HoldsInserted pass.new leaf.now.block self.now.index
+            place self.now.key.now.tuple value.now) }
         ensures err { IfErr result (λ e. HoldsRefusing pass.new leaf.now.block self.now.index
             self.now.key.now.tuple value.now e) }
     {
@@ -44,12 +44,12 @@ impl<R> TreeCall<'_, R> {
         result
     }
 
-    /// Takes a row out again that `insert` put in at the place.
+    /// Takes a row out again that `insert` put in at the place. How the leaf is hashed stays.
     pub(crate) fn take_back(&self, pass: &mut ForestPass, block: u32, place: Place)
         requires own { IsPassOf self.now.space.now pass.old }
         requires held { HoldsPutRow pass.old block place }
         ensures own { IsSamePass pass.old pass.new × IsPassOf self.now.space.now pass.new }
-        ensures same { KnowsSame pass.old pass.new }
+        ensures same { KnowsSame pass.old pass.new block }
         ensures back { TookBack pass.old pass.new block place }
     {
         let mut frame = frame_out(self.space, pass, block);
@@ -62,7 +62,7 @@ impl<R> TreeCall<'_, R> {
         requires own { IsPassOf self.now.space.now pass.old }
         requires held { HoldsRowAt pass.old block place }
         ensures own { IsSamePass pass.old pass.new × IsPassOf self.now.space.now pass.new }
-        ensures same { KnowsSame pass.old pass.new }
+        ensures same { KnowsSame pass.old pass.new block }
         ensures out { TookOut pass.old pass.new block place }
     {
         let mut frame = frame_out(self.space, pass, block);
@@ -75,7 +75,7 @@ impl<R> TreeCall<'_, R> {
         requires own { IsPassOf self.now.space.now pass.old }
         requires held { HoldsRowAsLong pass.old block place value.now }
         ensures own { IsSamePass pass.old pass.new × IsPassOf self.now.space.now pass.new }
-        ensures same { KnowsSame pass.old pass.new }
+        ensures same { KnowsSame pass.old pass.new block }
         ensures set { RowIsSet pass.old pass.new block place value.now }
     {
         let mut frame = frame_out(self.space, pass, block);
@@ -96,7 +96,7 @@ impl<R> TreeCall<'_, R> {
         requires held { HoldsRowToGrow pass.old block self.now.index place self.now.key.now.tuple
             value.now }
         ensures own { IsSamePass pass.old pass.new × IsPassOf self.now.space.now pass.new }
-        ensures same { KnowsSame pass.old pass.new }
+        ensures same { KnowsSame pass.old pass.new block }
         ensures ok { IfOk result (λ before. HoldsGrownRow pass.new block self.now.index
             self.now.key.now.tuple value.now before) }
         ensures err { IfErr result (λ e. HoldsRefusing pass.new block self.now.index
@@ -114,7 +114,7 @@ impl<R> TreeCall<'_, R> {
         requires held { HoldsSomePage pass.old block }
         requires before { IsSome before.page }
         ensures own { IsSamePass pass.old pass.new × IsPassOf self.now.space.now pass.new }
-        ensures same { KnowsSame pass.old pass.new }
+        ensures same { KnowsSame pass.old pass.new block }
         ensures back { LeafIsBack pass.old pass.new block before }
     {
         let mut frame = frame_out(self.space, pass, block);

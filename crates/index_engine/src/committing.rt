@@ -9,6 +9,7 @@ ghost use Rattle.forest_law.specs.Opening.{new_frame};
 ghost use Rattle.index_engine.specs.Commits.{CanCommit, Commits, CanWriteAhead, WritesAhead};
 
 use crate::tree_call::TreeCall;
+use forest_law::blocks_ask_the_same;
 use forest_world::ForestPass;
 use index_law::{ChangeRef, Deed};
 use latch_space::LogFull;
@@ -43,6 +44,7 @@ impl<R: Wait> TreeCall<'_, R> {
         ensures did { Commits pass.old self.now.index (change_lent change.entry)
             result pass.new }
     {
+        blocks_ask_the_same();
         self.space
             .commit(pass, self.index, &deed(change), self.wait)
     }
@@ -61,6 +63,7 @@ impl<R: Wait> TreeCall<'_, R> {
         ensures did { WritesAhead pass.old X.block self.now.index (change_lent change.entry)
             X.leaf result pass.new }
     {
+        blocks_ask_the_same();
         self.space
             .commit_ahead::<Brand, Deed<'_>, R>(pass, self.index, &deed(change), self.wait)
     }

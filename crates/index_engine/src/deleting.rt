@@ -6,7 +6,7 @@ ghost use Rattle.map_history.specs.Map as map;
 ghost use Rattle.map_history.specs.Operation.{Make};
 ghost use Rattle.index_law.specs.Meanings.{lent_row};
 ghost use Rattle.index_engine.specs.Changes.{HoldsOldRow};
-ghost use Rattle.index_engine.specs.Holds.{HoldsFresh};
+ghost use Rattle.index_engine.specs.Hashed.{HoldsHashed};
 ghost use Rattle.index_engine.specs.Says.{CanSay, SaysOnce, AnswersHolding};
 ghost use Rattle.index_engine.specs.Traces.{SeesEach, HasLightPage, TellsOfDel};
 ghost use Rattle.latch_space.specs.Has.{SameHands};
@@ -37,10 +37,10 @@ impl<R: Wait> TreeCall<'_, R> {
         ensures told { TellsOfDel (view pass.old) (view pass.new) self.now.index
             self.now.key.now.tuple result }
     {
-        let leaf = self.hold(pass);
-        let told = self.del_held(pass, &leaf);
-        let is_light = is_light(self.frame(pass, leaf.block));
-        self.let_go(pass, leaf.block);
+        let held = self.hold_to_change(pass);
+        let told = self.del_held(pass, &held.leaf);
+        let is_light = is_light(self.frame(pass, held.leaf.block));
+        self.let_both_go(pass, held.leaf.block, held.part);
         if is_light && took_out(&told) {
             self.merge(pass);
         }
@@ -66,20 +66,23 @@ impl<R: Wait> TreeCall<'_, R> {
     /// The same while the leaf is held.
     fn del_held(&self, pass: &mut ForestPass, leaf: &Leaf) -> Told
         requires own { IsPassOf self.now.space.now pass.old }
-        requires held { HoldsFresh pass.old leaf.now.block self.now.index self.now.key.now.tuple
+        requires held { HoldsHashed pass.old leaf.now.block self.now.index self.now.key.now.tuple
             leaf.now.spot }
         ensures own { IsSamePass pass.old pass.new × IsPassOf self.now.space.now pass.new }
         ensures did { AnswersHolding pass.old pass.new leaf.now.block self.now.index
             (Make (map.Del self.now.key.now.tuple)) result (lent_row None) }
     {
         match find_row(self.frame(pass, leaf.block), &leaf.spot, self.key) {
-            Some(place) => self.del_row::<Brand>(pass, leaf.block, place),
+            Some(place) => {
+                self.row_goes(pass, leaf.block, place);
+                self.del_row::<Brand>(pass, leaf.block, place)
+            }
             None => self.say_of_del(pass, Reply::Absent),
         }
     }
 
-    /// Commits that the row at the place goes, and takes it out then. Nobody else can look at the
-    /// leaf in between. At a full list the row stays.
+    /// Commits that the row at the place goes, with which the partition has kept up, and takes it
+    /// out then. Nobody else can look at the leaf in between. At a full list the row stays.
     fn del_row<X: Becomes>(&self, pass: &mut ForestPass, block: u32, place: Place) -> Told
         requires own { IsPassOf self.now.space.now pass.old }
         requires block { X.block ≡ block }
@@ -94,7 +97,11 @@ impl<R: Wait> TreeCall<'_, R> {
                 self.delete(pass, block, place);
                 made(point)
             }
-            Err(LogFull(count)) => self.say_of_del(pass, Reply::LogFull(count)),
+            Err(LogFull(count)) => {
+                self.row_came(pass, block, place);
+                self.settle(pass, block);
+                self.say_of_del(pass, Reply::LogFull(count))
+            }
         }
     }
 }

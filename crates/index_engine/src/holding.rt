@@ -8,7 +8,7 @@ ghost use Rattle.forest_world.specs.Held.{HasFrame};
 ghost use Rattle.buffer_pool.specs.Frames.{GivesFrame};
 ghost use Rattle.buffer_pool.specs.Hands.{HoldsFrame};
 ghost use Rattle.tree_descent.specs.Descents.{Descends};
-ghost use Rattle.index_engine.specs.Holds.{HoldsFresh, HoldsKnown};
+ghost use Rattle.index_engine.specs.Holds.{HoldsFreshAlone, HoldsKnown};
 
 use crate::tree_call::TreeCall;
 use buffer_pool::{frame, give_back};
@@ -16,6 +16,13 @@ use forest_world::{ForestPass, Frame};
 use key_tuple::Mode;
 use std::sync::Wait;
 use tree_descent::{Leaf, descend};
+
+/// A leaf in hand, and the partition that is held besides, if there is one.
+#[derive(Clone, Copy)]
+pub(crate) struct Held {
+    pub(crate) leaf: Leaf,
+    pub(crate) part: Option<u32>,
+}
 
 impl<R: Wait> TreeCall<'_, R> {
     /// Goes down from the root, and holds the leaf.
@@ -25,7 +32,7 @@ impl<R: Wait> TreeCall<'_, R> {
         ensures own { IsSamePass pass.old pass.new × IsPassOf self.now.space.now pass.new }
         ensures went { Descends pass.old self.now.index mode.Ge self.now.key.now.tuple
             result pass.new }
-        ensures held { HoldsFresh pass.new result.block self.now.index self.now.key.now.tuple
+        ensures held { HoldsFreshAlone pass.new result.block self.now.index self.now.key.now.tuple
             result.spot }
     {
         descend(self.space, pass, self.index, self.key, Mode::Ge, self.wait)

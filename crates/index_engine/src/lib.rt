@@ -20,6 +20,7 @@ mod seek_call;
 mod seeking;
 mod setting;
 mod tree_call;
+mod upkeep;
 mod walking;
 mod write;
 mod writing;

@@ -1,5 +1,6 @@
 //! How an engine begins.
 ghost use Rattle.std.specs.Prelude.{◌≡◌, ◌⊎◌, ◌<◌, ◌≤◌, length, Some, Err, IfOk, IfErr, IfSome};
+ghost use Rattle.std.specs.List.{All};
 ghost use Rattle.std.specs.Option.{IsSomeAnd};
 ghost use Rattle.latch_law.specs.Rule.{first_view};
 ghost use Rattle.forest_world.specs.Opening.{forest_terms};
@@ -24,6 +25,7 @@ impl Engine {
         lanes: u32,
     ) -> Result<(Engine, EnginePass), EngineError>
         requires indexes { (0 < length fields.now) × (length fields.now ≤ MAX_INDEXES) }
+        requires keyed { All (λ n. 1 ≤ n) fields.now }
         requires lanes { (0 < lanes) × (lanes ≤ MAX_LANES) }
         ensures ok { IfOk result (λ r. IsOf r.0 r.1 × (r.1.sizes ≡ sizes.now)
             × (known r.1 ≡ first_view (forest_terms sizes.now fields.now lanes))) }

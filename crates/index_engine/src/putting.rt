@@ -1,12 +1,14 @@
 //! A new row.
-ghost use Rattle.std.specs.Prelude.{◌≡◌, IfOk, IfErr, None};
+ghost use Rattle.std.specs.Prelude.{◌≡◌, IfOk, IfErr, OnErr, None};
 ghost use Rattle.latch_space.specs.Passes.{IsSamePass};
 ghost use Rattle.latch_space.specs.Spaces.{IsPassOf};
 ghost use Rattle.map_history.specs.Map as map;
 ghost use Rattle.map_history.specs.Operation.{Make};
 ghost use Rattle.index_law.specs.Meanings.{lent_row};
-ghost use Rattle.index_engine.specs.Changes.{HoldsNewRow, RefusesHolding};
-ghost use Rattle.index_engine.specs.Holds.{HoldsFresh};
+ghost use Rattle.latch_space.specs.Has.{IsKnown};
+ghost use Rattle.index_engine.specs.Changes.{HoldsNewRow, HoldsNewRowAt, HoldsRefusing, HoldsToPut};
+ghost use Rattle.index_engine.specs.Changes.{IsTakenOut, KnowsAsMuch, RefusesHolding};
+ghost use Rattle.index_engine.specs.Hashed.{HoldsHashed};
 ghost use Rattle.index_engine.specs.Says.{AnswersHolding};
 
 use crate::changing::find_row;
@@ -32,7 +34,7 @@ impl<R: Wait> TreeCall<'_, R> {
     ) -> Result<Told, PageError>
         requires own { IsPassOf self.now.space.now pass.old }
         requires most { most ≡ self.now.space.now.terms.max_changes }
-        requires held { HoldsFresh pass.old leaf.now.block self.now.index self.now.key.now.tuple
+        requires held { HoldsHashed pass.old leaf.now.block self.now.index self.now.key.now.tuple
             leaf.now.spot }
         ensures own { IsSamePass pass.old pass.new × IsPassOf self.now.space.now pass.new }
         ensures ok { IfOk result (λ told. AnswersHolding pass.old pass.new leaf.now.block
@@ -52,8 +54,32 @@ impl<R: Wait> TreeCall<'_, R> {
         if self.is_full(pass, most) {
             return Ok(self.say(pass, op, Reply::LogFull(most), None));
         }
-        let place = self.insert(pass, leaf, value)?;
-        Ok(self.commit_put(pass, leaf.block, place, value))
+        match self.put_in(pass, leaf, value) {
+            Ok(place) => Ok(self.commit_put(pass, leaf.block, place, value)),
+            Err(refusal) => Err(refusal),
+        }
+    }
+
+    /// Puts the row in, and keeps up with it.
+    fn put_in(&self, pass: &mut ForestPass, leaf: &Leaf, value: &Value) -> Result<Place, PageError>
+        requires own { IsPassOf self.now.space.now pass.old }
+        requires held { HoldsToPut pass.old leaf.now.block self.now.index self.now.key.now.tuple
+            leaf.now.spot }
+        ensures own { IsSamePass pass.old pass.new × IsPassOf self.now.space.now pass.new }
+        ensures same { KnowsAsMuch pass.old pass.new }
+        ensures ok { IfOk result (λ place. HoldsNewRow pass.new leaf.now.block self.now.index place
+            self.now.key.now.tuple value.now) }
+        ensures err { IfErr result (λ e. HoldsRefusing pass.new leaf.now.block self.now.index
+            self.now.key.now.tuple value.now e) }
+        ensures known { OnErr result (IsKnown pass.new) }
+    {
+        match self.insert(pass, leaf, value) {
+            Ok(place) => {
+                self.row_came(pass, leaf.block, place);
+                Ok(place)
+            }
+            Err(refusal) => Err(refusal),
+        }
     }
 
     /// Commits the row that was put in at the place, or takes it back where the list is full.
@@ -69,11 +95,23 @@ impl<R: Wait> TreeCall<'_, R> {
         match self.commit(pass, ChangeRef::Put { key, value }) {
             Ok(point) => made(point),
             Err(LogFull(count)) => {
-                self.take_back(pass, block, place);
+                self.take_out(pass, block, place);
                 let index = self.index;
                 let op = OpRef::Put { index, key, value };
                 self.say(pass, op, Reply::LogFull(count), None)
             }
         }
+    }
+
+    /// Takes the row out again that was put in at the place, and keeps up with that.
+    fn take_out(&self, pass: &mut ForestPass, block: u32, place: Place)
+        requires own { IsPassOf self.now.space.now pass.old }
+        requires held { HoldsNewRowAt pass.old block place }
+        ensures own { IsSamePass pass.old pass.new × IsPassOf self.now.space.now pass.new }
+        ensures back { IsTakenOut pass.old self.now.index block place pass.new }
+    {
+        self.row_goes(pass, block, place);
+        self.take_back(pass, block, place);
+        self.settle(pass, block);
     }
 }

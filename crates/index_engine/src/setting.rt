@@ -7,14 +7,15 @@ ghost use Rattle.map_history.specs.Map as map;
 ghost use Rattle.map_history.specs.Operation.{Make};
 ghost use Rattle.index_law.specs.Meanings.{lent_row};
 ghost use Rattle.index_engine.specs.Changes.{HoldsRowOf, HoldsRowToSet, HoldsGrownRow};
-ghost use Rattle.index_engine.specs.Changes.{RefusesHolding};
-ghost use Rattle.index_engine.specs.Holds.{HoldsFresh};
+ghost use Rattle.index_engine.specs.Changes.{HoldsKeptAlone, IsLongerIn, RefusesHolding};
+ghost use Rattle.index_engine.specs.Hashed.{HoldsHashed};
 ghost use Rattle.index_engine.specs.Says.{CanSay, SaysOnce, AnswersHolding};
 
 use crate::changing::find_row;
 use crate::committing::Becomes;
 use crate::saying::made;
 use crate::tree_call::TreeCall;
+use forest_law::blocks_ask_the_same;
 use forest_world::ForestPass;
 use index_law::ChangeRef;
 use index_page::{PageError, Place};
@@ -38,7 +39,7 @@ impl<R: Wait> TreeCall<'_, R> {
     ) -> Result<Told, PageError>
         requires own { IsPassOf self.now.space.now pass.old }
         requires most { most ≡ self.now.space.now.terms.max_changes }
-        requires held { HoldsFresh pass.old leaf.now.block self.now.index self.now.key.now.tuple
+        requires held { HoldsHashed pass.old leaf.now.block self.now.index self.now.key.now.tuple
             leaf.now.spot }
         ensures own { IsSamePass pass.old pass.new × IsPassOf self.now.space.now pass.new }
         ensures ok { IfOk result (λ told. AnswersHolding pass.old pass.new leaf.now.block
@@ -78,8 +79,34 @@ impl<R: Wait> TreeCall<'_, R> {
         if self.is_full(pass, most) {
             return Ok(self.say_of_set(pass, value, Reply::LogFull(most)));
         }
-        let leaf = self.lengthen(pass, block, place, value)?;
-        Ok(self.commit_set(pass, block, leaf, value))
+        self.grow_row(pass, block, place, value)
+    }
+
+    /// Drops the block, since its rows may come to other places, and gives the row at the place the
+    /// longer value.
+    fn grow_row(
+        &self,
+        pass: &mut ForestPass,
+        block: u32,
+        place: Place,
+        value: &Value,
+    ) -> Result<Told, PageError>
+        requires own { IsPassOf self.now.space.now pass.old }
+        requires held { HoldsRowOf pass.old block self.now.index place self.now.key.now.tuple }
+        requires longer { IsLongerIn pass.old block place value.now }
+        ensures own { IsSamePass pass.old pass.new × IsPassOf self.now.space.now pass.new }
+        ensures ok { IfOk result (λ told. AnswersHolding pass.old pass.new block self.now.index
+            (Make (map.Set self.now.key.now.tuple value.now)) told (lent_row None)) }
+        ensures err { IfErr result (λ e. RefusesHolding pass.old pass.new block self.now.index
+            self.now.key.now.tuple value.now e) }
+    {
+        blocks_ask_the_same();
+        self.drop_block(pass, block);
+        self.settle(pass, block);
+        match self.lengthen(pass, block, place, value) {
+            Ok(before) => Ok(self.commit_set(pass, block, before, value)),
+            Err(refusal) => Err(refusal),
+        }
     }
 
     /// Commits that the row at the place gets a value that is no longer, and writes it then. Nobody
@@ -121,6 +148,7 @@ impl<R: Wait> TreeCall<'_, R> {
         requires own { IsPassOf self.now.space.now pass.old }
         requires held { HoldsGrownRow pass.old block self.now.index self.now.key.now.tuple
             value.now before }
+        requires hash { HoldsKeptAlone pass.old block }
         ensures own { IsSamePass pass.old pass.new × IsPassOf self.now.space.now pass.new }
         ensures did { AnswersHolding pass.old pass.new block self.now.index
             (Make (map.Set self.now.key.now.tuple value.now)) result (lent_row None) }

@@ -4,7 +4,7 @@ ghost use Rattle.latch_space.specs.Passes.{view, count, IsSamePass};
 ghost use Rattle.latch_space.specs.Spaces.{IsPassOf};
 ghost use Rattle.index_law.specs.Meanings.{lent_row};
 ghost use Rattle.index_engine.specs.Changes.{RefusesHolding};
-ghost use Rattle.index_engine.specs.Holds.{HoldsFresh};
+ghost use Rattle.index_engine.specs.Hashed.{HoldsHashed};
 ghost use Rattle.index_engine.specs.Says.{AnswersHolding};
 ghost use Rattle.index_engine.specs.Traces.{TellsOfWrite, GivesUp};
 ghost use Rattle.index_engine.specs.Writes.{write_asked, TriesWrite};
@@ -67,10 +67,10 @@ impl<R: Wait> TreeCall<'_, R> {
         ensures err { OnErr result (GivesUp (view pass.old) (view pass.new) self.now.index
             self.now.key.now.tuple value.now) }
     {
-        let leaf = self.hold(pass);
-        let held = self.write_held(pass, &leaf, most, write, value);
-        self.let_go(pass, leaf.block);
-        match held {
+        let held = self.hold_to_change(pass);
+        let written = self.write_held(pass, &held.leaf, most, write, value);
+        self.let_both_go(pass, held.leaf.block, held.part);
+        match written {
             Ok(told) => Ok(Some(told)),
             Err(refusal) => match refusal {
                 PageError::NoMemory => Err(NoMemory),
@@ -90,7 +90,7 @@ impl<R: Wait> TreeCall<'_, R> {
     ) -> Result<Told, PageError>
         requires own { IsPassOf self.now.space.now pass.old }
         requires most { most ≡ self.now.space.now.terms.max_changes }
-        requires held { HoldsFresh pass.old leaf.now.block self.now.index self.now.key.now.tuple
+        requires held { HoldsHashed pass.old leaf.now.block self.now.index self.now.key.now.tuple
             leaf.now.spot }
         ensures own { IsSamePass pass.old pass.new × IsPassOf self.now.space.now pass.new }
         ensures ok { IfOk result (λ told. AnswersHolding pass.old pass.new leaf.now.block

@@ -7,6 +7,8 @@ use Rattle.forest_law.specs.declared.objects.Frame.{Frame}
 use Rattle.forest_world.specs.Held.{shape_of_pass}
 use Rattle.index_engine.specs.Says.{SeesFull}
 use Rattle.index_engine.proofs.CallLemmas.{can_refuse}
+use Rattle.index_engine.proofs.SetRowLemmas.{alone_hash}
+use Rattle.index_engine.proofs.SettleLemmas.{keeps_parts, known_after, parts_same, rest_again, stays_both, stays_same}
 use Rattle.index_engine.proofs.HoldLemmas.{frame_again, leaf_again}
 use Rattle.index_engine.proofs.KnownLemmas.{number_stays, number_made, leaf_inside, made_inside}
 use Rattle.index_engine.proofs.RowLemmas.{set_key, set_makes}
@@ -17,9 +19,12 @@ pub commit-requires-clause-held : goal.commit-requires-clause-held
 commit-requires-clause-held g c = let held = c.requires.held in let call = c.args.self.now in
     let key = call.key.now.tuple in record {
       block = c.args.block;
+      index = c.requires.hash.index;
       known = held.known;
       made = held.made;
       holds = held.holds;
+      hash = alone_hash c.args.pass.now c.args.block held.known held.made held.holds.has
+          c.requires.hash;
       about = refl;
       makes = set_makes (shape_of_pass c.args.pass.now) call.index key held.known
           held.holds.leaf held.made c.args.value.now held.sets;
@@ -64,10 +69,16 @@ returns-in-Ok-clause-did g c = let held = c.requires.held in let call = c.args.s
         has = did.frames b held.known held.made held.holds.has;
         inside = made_inside p b call.index key held.known held.made held.holds (shape_of_pass p)
             change held.made makes;
-        one = did.count ∙ held.holds.one;
       };
       number = number_made (view p) b held.known held.holds.has.held (shape_of_pass p) change
           held.made makes;
+      stays = record {
+        known = did.known;
+        parts = keeps_parts p c.commit.new.pass c.requires.hash.index b held.made
+            (alone_hash p b held.known held.made held.holds.has c.requires.hash).part
+            (λ k x y below has. did.parts k x y has);
+        count = did.count;
+      };
     }
 
 pub returns-in-Err-clause-did : goal.returns-in-Err-clause-did
@@ -87,7 +98,16 @@ returns-in-Err-clause-did g c = let held = c.requires.held in let call = c.args.
         has = frame_again r s b held.known held.known c.say_of_set.ensures.kept
             c.say_of_set.ensures.did.once.adds.numbers.terms holds.has;
         inside = leaf_inside r b i key held.known held.known holds;
-        one = c.say_of_set.ensures.kept.count ∙ holds.one;
       };
       number = number_stays (view p) b held.known held.holds.has.held;
+      stays = (let terms = full.looks.quiet.adds.numbers.terms in
+          let later = ap (λ v. v.terms) c.restore.ensures.same.view ∙ terms in
+          stays_both p r s later
+          (parts_same (view p) (view r)
+          (ap (λ v. v.held) c.restore.ensures.same.view ∙ full.same.held) later)
+          (c.restore.ensures.same.count ∙ full.same.count)
+          (stays_same r s c.say_of_set.ensures.kept
+          c.say_of_set.ensures.did.once.adds.numbers.terms
+          (known_after q r b held.known c.restore.ensures.same
+          (rest_again p q b full.same terms c.requires.hash.rest) holds.has)));
     }

@@ -4,92 +4,140 @@ use Rattle.map_history.specs.Map as map
 use Rattle.map_history.specs.Operation.{Make}
 use Rattle.index_law.specs.Meanings.{lent_row}
 use Rattle.forest_world.specs.Held.{shape_of_pass, HasFrame}
-use Rattle.index_engine.specs.Commits.{MakesChange, CanWriteAhead}
+use Rattle.hash_maintain.specs.Leaves.{kept_frame}
+use Rattle.latch_space.specs.Has.{IsKnownBut}
+use Rattle.forest_law.specs.Numbers.{frame_id}
+use Rattle.index_engine.specs.Commits.{CanWriteAhead}
+use Rattle.index_engine.specs.Holds.{KeepsParts}
 use Rattle.index_engine.proofs.CallLemmas.{can_refuse}
-use Rattle.index_engine.proofs.HoldLemmas.{frame_again, leaf_again}
-use Rattle.index_engine.proofs.KnownLemmas.{number_stays, number_made, leaf_inside, made_inside}
-use Rattle.index_engine.proofs.RowLemmas.{has_key, del_makes}
+use Rattle.index_engine.proofs.GoneLemmas.{hash_next, makes_next, came_again, again_at_rest, last, last_terms, last_leaf, last_row, last_looks, last_seen, last_parts, last_count, last_number}
+use Rattle.index_engine.proofs.HoldLemmas.{frame_again}
+use Rattle.index_engine.proofs.KnownLemmas.{number_made, leaf_inside, made_inside}
+use Rattle.index_engine.proofs.RehashLemmas.{stands_kept}
+use Rattle.index_engine.proofs.RowLemmas.{has_key}
+use Rattle.index_engine.proofs.SettleLemmas.{full_still, keeps_parts, known_after, stays_both, stays_same}
 use Rattle.index_engine.proofs.TellLemmas.{says_made, says_same, looks_then_says}
 use Rattle.index_engine.proofs.tree_call.TreeCall.del_row.Goals as goal
 
 pub write_ahead-requires-clause-held : goal.write_ahead-requires-clause-held
 write_ahead-requires-clause-held g c = let held = c.requires.held in let call = c.args.self.now in
-    let p = c.args.pass.now in let key = call.key.now.tuple in
-    subst (λ b. CanWriteAhead p b call.index key (map.Del key) g.X.Becomes.leaf)
-    (sym c.requires.block)
+    let p = c.args.pass.now in let key = call.key.now.tuple in let next = g.X.Becomes.leaf in
+    let b = c.args.block in
+    subst (λ k. CanWriteAhead p k call.index key (map.Del key) next) (sym c.requires.block)
     (record {
+      index = held.index;
       known = held.known;
+      now = kept_frame held.answer held.known;
       holds = held.holds;
+      hash = hash_next p b call.index c.args.place key next held;
       about = refl;
-      makes = subst (MakesChange (shape_of_pass p) (map.Del key) held.known) (sym held.next_is)
-          (del_makes (shape_of_pass p) call.index key held.known held.holds.leaf
-          c.args.place held.row);
+      makes = makes_next p b call.index c.args.place key next held;
     })
 
 pub delete-requires-clause-held : goal.delete-requires-clause-held
 delete-requires-clause-held g c = let held = c.requires.held in let p = c.args.pass.now in
-    let q = c.write_ahead.new.pass in let next = g.X.Becomes.leaf in record {
+    let q = c.write_ahead.new.pass in let next = g.X.Becomes.leaf in
+    let now = kept_frame held.answer held.known in
+    let key = c.args.self.now.key.now.tuple in record {
       known = next;
-      now = held.known;
-      has = subst (λ b. HasFrame q b next held.known) c.requires.block
-          (c.in-Ok.ensures.did.frame held.known held.known
-          (subst (λ b. HasFrame p b held.known held.known) (sym c.requires.block)
-          held.holds.has));
-      stands = (c.args.self.now.key.now.tuple, held.row.has);
+      now = now;
+      has = subst (λ b. HasFrame q b next now) c.requires.block
+          (c.in-Ok.ensures.did.frame held.known now
+          (subst (λ b. HasFrame p b held.known now) (sym c.requires.block) held.holds.has));
+      stands = (key, stands_kept held.answer held.known c.args.place key held.row.has);
     }
+
+pub row_came-requires-clause-held : goal.row_came-requires-clause-held
+row_came-requires-clause-held g c = let held = c.requires.held in let call = c.args.self.now in
+    let full = c.in-Err.ensures.did in
+    came_again c.args.pass.now c.args.block call.index c.args.place call.key.now.tuple
+    g.X.Becomes.leaf held c.write_ahead.new.pass full.same full.looks.quiet.adds.numbers.terms
+
+pub settle-requires-clause-held : goal.settle-requires-clause-held
+settle-requires-clause-held g c = let held = c.requires.held in let call = c.args.self.now in
+    let full = c.in-Err.ensures.did in
+    again_at_rest c.args.pass.now c.args.block call.index c.args.place call.key.now.tuple
+    g.X.Becomes.leaf held c.write_ahead.new.pass full.same full.looks.quiet.adds.numbers.terms
+    c.row_came.new.pass c.row_came.ensures.kept
 
 pub say_of_del-requires-clause-held : goal.say_of_del-requires-clause-held
 say_of_del-requires-clause-held g c = let held = c.requires.held in let call = c.args.self.now in
     let full = c.in-Err.ensures.did in let p = c.args.pass.now in let q = c.write_ahead.new.pass in
-    let key = call.key.now.tuple in let b = c.args.block in
+    let r = c.row_came.new.pass in let s = c.settle.new.pass in
+    let i = call.index in let key = call.key.now.tuple in let b = c.args.block in
+    let place = c.args.place in let next = g.X.Becomes.leaf in
     let terms = full.looks.quiet.adds.numbers.terms in
-    let holds = leaf_again p q b call.index key held.known held.known full.same terms held.holds in
-    let has = has_key (shape_of_pass q) call.index key held.known holds.leaf c.args.place
-    held.row in
-    can_refuse q b call.index key held.known holds (map.Del key) c.in-Err.field-0.0 (lent_row None)
-    refl (ap is_some has.1) full.full (full.number ∙ ap (λ t. t.max_changes) (sym terms))
+    let keeps = c.row_came.ensures.kept in let settled = c.settle.ensures.did in
+    let leaf = last p b i place key next held q full.same terms r keeps in
+    let holds = last_leaf p b i place key next held q full.same terms r keeps s settled in
+    let then = last_terms p b i place key next held q full.same terms r keeps s settled in
+    let has = has_key (shape_of_pass s) i key leaf holds.leaf place
+    (last_row p b i place key next held q full.same terms r keeps s settled) in
+    can_refuse s b i key leaf holds (map.Del key) c.in-Err.field-0.0 (lent_row None)
+    refl (ap is_some has.1)
+    (full_still (view q) (view s) i
+    (last_seen p b i place key next held q full.same terms r keeps s settled)
+    (then ∙ sym terms) full.full)
+    (full.number ∙ ap (λ t. t.max_changes) (sym then))
 
 pub returns-in-Ok-clause-did : goal.returns-in-Ok-clause-did
 returns-in-Ok-clause-did g c = let held = c.requires.held in let call = c.args.self.now in
     let did = c.in-Ok.ensures.did in let next = g.X.Becomes.leaf in let p = c.args.pass.now in
     let q = c.write_ahead.new.pass in let r = c.delete.new.pass in let b = c.args.block in
     let key = call.key.now.tuple in let change = map.Del key in let ask = Make change in
-    let makes = subst (MakesChange (shape_of_pass p) change held.known) (sym held.next_is)
-    (del_makes (shape_of_pass p) call.index key held.known held.holds.leaf c.args.place held.row) in
-    let has = subst (λ k. HasFrame q k next held.known) c.requires.block
-    (did.frame held.known held.known
-    (subst (λ k. HasFrame p k held.known held.known) (sym c.requires.block) held.holds.has)) in
+    let now = kept_frame held.answer held.known in
+    let makes = makes_next p b call.index c.args.place key next held in
+    let has = subst (λ k. HasFrame q k next now) c.requires.block
+    (did.frame held.known now
+    (subst (λ k. HasFrame p k held.known now) (sym c.requires.block) held.holds.has)) in
+    let there = subst (HasFrame r b next) (sym held.next_is) (c.delete.ensures.out next now has) in
+    let rest = subst (λ k. IsKnownBut q (frame_id (shape_of_pass q) k)) c.requires.block did.rest in
+    let hash = hash_next p b call.index c.args.place key next held in
     record {
       says = says_same (view p) (view q) (view r) call.index ask c.made.result (lent_row None)
           (says_made p q call.index change (lent_row None) c.made.result c.in-Ok.point
           c.made.ensures did.written) c.delete.ensures.same.view;
       holds = record {
         frame = next;
-        has = subst (HasFrame r b next) (sym held.next_is)
-            (c.delete.ensures.out next held.known has);
-        inside = made_inside p b call.index key held.known held.known held.holds (shape_of_pass p)
+        has = there;
+        inside = made_inside p b call.index key held.known now held.holds (shape_of_pass p)
             change next makes;
-        one = c.delete.ensures.same.count ∙ (did.count ∙ held.holds.one);
       };
       number = number_made (view p) b held.known held.holds.has.held (shape_of_pass p) change next
           makes;
+      stays = record {
+        known = known_after q r b next c.delete.ensures.same rest there;
+        parts = subst (λ v. KeepsParts (view p) v) (sym c.delete.ensures.same.view)
+            (keeps_parts p q held.index b next hash.part did.parts);
+        count = c.delete.ensures.same.count ∙ did.count;
+      };
     }
 
 pub returns-in-Err-clause-did : goal.returns-in-Err-clause-did
 returns-in-Err-clause-did g c = let held = c.requires.held in let call = c.args.self.now in
     let full = c.in-Err.ensures.did in let p = c.args.pass.now in let q = c.write_ahead.new.pass in
-    let r = c.say_of_del.new.pass in let b = c.args.block in let key = call.key.now.tuple in
-    let holds = leaf_again p q b call.index key held.known held.known full.same
-    full.looks.quiet.adds.numbers.terms held.holds in
+    let r = c.row_came.new.pass in let s = c.settle.new.pass in let t = c.say_of_del.new.pass in
+    let i = call.index in let key = call.key.now.tuple in let b = c.args.block in
+    let place = c.args.place in let next = g.X.Becomes.leaf in
+    let terms = full.looks.quiet.adds.numbers.terms in
+    let keeps = c.row_came.ensures.kept in let settled = c.settle.ensures.did in
+    let leaf = last p b i place key next held q full.same terms r keeps in
+    let holds = last_leaf p b i place key next held q full.same terms r keeps s settled in
+    let said = c.say_of_del.ensures.did.once.adds.numbers.terms in
     record {
-      says = looks_then_says (view p) (view q) (view r) call.index (Make (map.Del key))
-          c.say_of_del.result (lent_row None) full.looks c.say_of_del.ensures.did;
+      says = looks_then_says (view p) (view s) (view t) i (Make (map.Del key))
+          c.say_of_del.result (lent_row None)
+          (last_looks p b i place key next held q full.same terms r keeps s settled full.looks)
+          c.say_of_del.ensures.did;
       holds = record {
-        frame = held.known;
-        has = frame_again q r b held.known held.known c.say_of_del.ensures.kept
-            c.say_of_del.ensures.did.once.adds.numbers.terms holds.has;
-        inside = leaf_inside q b call.index key held.known held.known holds;
-        one = c.say_of_del.ensures.kept.count ∙ holds.one;
+        frame = leaf;
+        has = frame_again s t b leaf leaf c.say_of_del.ensures.kept said holds.has;
+        inside = leaf_inside s b i key leaf leaf holds;
       };
-      number = number_stays (view p) b held.known held.holds.has.held;
+      number = last_number p b i place key next held q full.same terms r keeps s settled;
+      stays = stays_both p s t
+          (last_terms p b i place key next held q full.same terms r keeps s settled)
+          (last_parts p b i place key next held q full.same terms r keeps s settled)
+          (last_count p b i place key next held q full.same terms r keeps s settled)
+          (stays_same s t c.say_of_del.ensures.kept said settled.stays.known);
     }

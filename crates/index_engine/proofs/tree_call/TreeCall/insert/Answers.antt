@@ -17,6 +17,7 @@ returns-clause-ok g c = let held = c.requires.held in let call = c.args.self.now
     c.args.leaf.now.block c.frame_out-frame.result c.put_row-result.new.frame
     c.frame_out-frame.ensures.out c.frame_back.ensures.back call.index call.key.now.tuple
     c.args.value.now held.frame held.holds c.put_row-result.result c.put_row-result.ensures.ok
+    c.put_row-result.ensures.hash
 
 pub returns-clause-err : goal.returns-clause-err
 returns-clause-err g c = let held = c.requires.held in let call = c.args.self.now in

@@ -22,7 +22,7 @@ returns-clause-ok g c = let call = c.args.self.now in let did = c.grow_value-res
     lengthened_ok c.args.pass.now c.frame_out-frame.new.pass c.frame_back.new.pass c.args.block
     c.frame_out-frame.result c.grow_value-result.new.frame c.frame_out-frame.ensures.out
     c.frame_back.ensures.back call.index c.args.place call.key.now.tuple c.args.value.now
-    c.requires.held c.grow_value-result.result did.ok did.before did.some
+    c.requires.held c.grow_value-result.result did.ok did.before did.some did.hash
 
 pub returns-clause-err : goal.returns-clause-err
 returns-clause-err g c = let call = c.args.self.now in let did = c.grow_value-result.ensures in

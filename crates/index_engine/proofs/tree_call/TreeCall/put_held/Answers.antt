@@ -6,14 +6,16 @@ use Rattle.index_law.specs.Meanings.{lent_row}
 use Rattle.forest_world.specs.Held.{shape_of_pass}
 use Rattle.index_engine.specs.Changes.{FindsRow}
 use Rattle.index_engine.proofs.CallLemmas.{can_duplicate, can_refuse}
+use Rattle.index_engine.proofs.HashedLemmas.{hash_again}
 use Rattle.index_engine.proofs.HoldLemmas.{frame_again, leaf_again}
+use Rattle.index_engine.proofs.SettleLemmas.{known_again, parts_same, stays_both, stays_same}
 use Rattle.index_engine.proofs.KnownLemmas.{number_stays, number_later, leaf_inside}
 use Rattle.index_engine.proofs.RowLemmas.{found_old, found_new, has_key, lacks_key}
 use Rattle.index_engine.proofs.TellLemmas.{looks_same, looks_then_says, said_holding}
 use Rattle.index_engine.proofs.tree_call.TreeCall.put_held.Goals as goal
 
 pub find_row-found-requires : goal.find_row-found-requires
-find_row-found-requires g c = let held = c.requires.held in
+find_row-found-requires g c = let hashed = c.requires.held in let held = hashed.fresh in
     let is = held.holds.leaf.page.is in record {
       page = is.page;
       paged = ap (λ f. f.page) (c.frame.ensures held.frame held.frame held.holds.has) ∙ is.paged;
@@ -21,7 +23,7 @@ find_row-found-requires g c = let held = c.requires.held in
     }
 
 pub say-requires-clause-held : goal.say-requires-clause-held
-say-requires-clause-held g c = let held = c.requires.held in let call = c.args.self.now in
+say-requires-clause-held g c = let hashed = c.requires.held in let held = hashed.fresh in let call = c.args.self.now in
     let key = call.key.now.tuple in let leaf = c.args.leaf.now in let p = c.args.pass.now in
     let found = subst (λ f. FindsRow f key leaf.spot c.find_row-found.result)
     (c.frame.ensures held.frame held.frame held.holds.has) c.find_row-found.ensures in
@@ -33,14 +35,14 @@ say-requires-clause-held g c = let held = c.requires.held in let call = c.args.s
     (lent_row None) has.1
 
 pub returns-then-is_some-clause-ok : goal.returns-then-is_some-clause-ok
-returns-then-is_some-clause-ok g c = let held = c.requires.held in let call = c.args.self.now in
+returns-then-is_some-clause-ok g c = let hashed = c.requires.held in let held = hashed.fresh in let call = c.args.self.now in
     let key = call.key.now.tuple in
     said_holding c.args.pass.now c.say.new.pass c.args.leaf.now.block call.index key held.frame
-    (Make (map.Put key c.args.value.now)) c.say.result (lent_row None) held.holds
+    (Make (map.Put key c.args.value.now)) c.say.result (lent_row None) held.holds held.known
     c.say.ensures.kept c.say.ensures.did
 
 pub say-requires-then-is_full-clause-held : goal.say-requires-then-is_full-clause-held
-say-requires-then-is_full-clause-held g c = let held = c.requires.held in
+say-requires-then-is_full-clause-held g c = let hashed = c.requires.held in let held = hashed.fresh in
     let call = c.args.self.now in let key = call.key.now.tuple in let leaf = c.args.leaf.now in
     let p = c.args.pass.now in let q = c.is_full.new.pass in
     let terms = c.is_full.ensures.looked.quiet.adds.numbers.terms in
@@ -59,9 +61,10 @@ say-requires-then-is_full-clause-held g c = let held = c.requires.held in
     ∙ ap (λ t. t.max_changes) (sym terms)))
 
 pub returns-then-is_full-clause-ok : goal.returns-then-is_full-clause-ok
-returns-then-is_full-clause-ok g c = let held = c.requires.held in let call = c.args.self.now in
+returns-then-is_full-clause-ok g c = let hashed = c.requires.held in let held = hashed.fresh in let call = c.args.self.now in
     let key = call.key.now.tuple in let leaf = c.args.leaf.now in let p = c.args.pass.now in
     let q = c.is_full.new.pass in let r = c.say-then-is_full.new.pass in
+    let terms = c.is_full.ensures.looked.quiet.adds.numbers.terms in
     let holds = leaf_again p q leaf.block call.index key held.frame held.frame
     c.is_full.ensures.kept c.is_full.ensures.looked.quiet.adds.numbers.terms held.holds in record {
       says = looks_then_says (view p) (view q) (view r) call.index
@@ -72,37 +75,66 @@ returns-then-is_full-clause-ok g c = let held = c.requires.held in let call = c.
         has = frame_again q r leaf.block held.frame held.frame c.say-then-is_full.ensures.kept
             c.say-then-is_full.ensures.did.once.adds.numbers.terms holds.has;
         inside = leaf_inside q leaf.block call.index key held.frame held.frame holds;
-        one = c.say-then-is_full.ensures.kept.count ∙ holds.one;
       };
       number = number_stays (view p) leaf.block held.frame held.holds.has.held;
+      stays = stays_both p q r terms (parts_same (view p) (view q) c.is_full.ensures.kept.held terms)
+          c.is_full.ensures.kept.count
+          (stays_same q r c.say-then-is_full.ensures.kept
+          c.say-then-is_full.ensures.did.once.adds.numbers.terms
+          (known_again p q c.is_full.ensures.kept held.known));
     }
 
-pub insert-requires-clause-held : goal.insert-requires-clause-held
-insert-requires-clause-held g c = let held = c.requires.held in let call = c.args.self.now in
-    let key = call.key.now.tuple in let leaf = c.args.leaf.now in let p = c.args.pass.now in
-    let q = c.is_full.new.pass in
+pub put_in-requires-clause-held : goal.put_in-requires-clause-held
+put_in-requires-clause-held g c = let hashed = c.requires.held in let held = hashed.fresh in
+    let call = c.args.self.now in let key = call.key.now.tuple in let leaf = c.args.leaf.now in
+    let p = c.args.pass.now in let q = c.is_full.new.pass in
+    let terms = c.is_full.ensures.looked.quiet.adds.numbers.terms in
     let found = subst (λ f. FindsRow f key leaf.spot c.find_row-found.result)
     (c.frame.ensures held.frame held.frame held.holds.has) c.find_row-found.ensures in record {
-      frame = held.frame;
-      holds = leaf_again p q leaf.block call.index key held.frame held.frame
-          c.is_full.ensures.kept c.is_full.ensures.looked.quiet.adds.numbers.terms held.holds;
-      lacks = found_new held.frame key leaf.spot c.find_row-found.result found
-          (sym c.is_some.ensures ∙ c.if-is_some.false);
+      index = held.frame.hashed;
+      lacking = record {
+        frame = held.frame;
+        holds = leaf_again p q leaf.block call.index key held.frame held.frame
+            c.is_full.ensures.kept terms held.holds;
+        lacks = found_new held.frame key leaf.spot c.find_row-found.result found
+            (sym c.is_some.ensures ∙ c.if-is_some.false);
+      };
+      hash = hash_again p q c.is_full.ensures.kept terms held.frame.hashed leaf.block held.frame
+          held.frame held.frame hashed.hash;
+      known = known_again p q c.is_full.ensures.kept held.known;
     }
 
-pub returns-clause-ok : goal.returns-clause-ok
-returns-clause-ok g c = let call = c.args.self.now in let key = call.key.now.tuple in record {
-  says = looks_then_says (view c.args.pass.now) (view c.insert.new.pass)
-      (view c.commit_put.new.pass) call.index (Make (map.Put key c.args.value.now))
-      c.commit_put.result (lent_row None)
-      (looks_same (view c.args.pass.now) (view c.is_full.new.pass) (view c.insert.new.pass)
-      call.index c.is_full.ensures.looked c.in_ok-place.ensures.same.view)
-      c.commit_put.ensures.did.says;
-  holds = c.commit_put.ensures.did.holds;
-  number = number_later c.args.pass.now c.insert.new.pass c.args.leaf.now.block
-      c.commit_put.ensures.did.holds.frame
-      (ap (λ v. v.held) c.in_ok-place.ensures.same.view ∙ c.is_full.ensures.kept.held)
-      (ap (λ v. v.terms) c.in_ok-place.ensures.same.view
-      ∙ c.is_full.ensures.looked.quiet.adds.numbers.terms)
-      c.commit_put.ensures.did.number;
-}
+pub returns-in-Ok-clause-ok : goal.returns-in-Ok-clause-ok
+returns-in-Ok-clause-ok g c = let call = c.args.self.now in let key = call.key.now.tuple in
+    let p = c.args.pass.now in let q = c.is_full.new.pass in let r = c.put_in.new.pass in
+    let terms = c.is_full.ensures.looked.quiet.adds.numbers.terms in
+    let same = c.put_in.ensures.same.view in
+    let later = ap (λ v. v.terms) same ∙ terms in
+    let held = ap (λ v. v.held) same ∙ c.is_full.ensures.kept.held in record {
+      says = looks_then_says (view p) (view r) (view c.commit_put.new.pass) call.index
+          (Make (map.Put key c.args.value.now)) c.commit_put.result (lent_row None)
+          (looks_same (view p) (view q) (view r) call.index c.is_full.ensures.looked same)
+          c.commit_put.ensures.did.says;
+      holds = c.commit_put.ensures.did.holds;
+      number = number_later p r c.args.leaf.now.block c.commit_put.ensures.did.holds.frame held later
+          c.commit_put.ensures.did.number;
+      stays = stays_both p r c.commit_put.new.pass later (parts_same (view p) (view r) held later)
+          (c.put_in.ensures.same.count ∙ c.is_full.ensures.kept.count)
+          c.commit_put.ensures.did.stays;
+    }
+
+pub returns-in-Err-clause-err : goal.returns-in-Err-clause-err
+returns-in-Err-clause-err g c = let call = c.args.self.now in
+    let p = c.args.pass.now in let q = c.is_full.new.pass in let r = c.put_in.new.pass in
+    let terms = c.is_full.ensures.looked.quiet.adds.numbers.terms in
+    let same = c.put_in.ensures.same.view in
+    let later = ap (λ v. v.terms) same ∙ terms in record {
+      looks = looks_same (view p) (view q) (view r) call.index c.is_full.ensures.looked same;
+      holds = c.in-Err.ensures.err;
+      stays = record {
+        known = c.in-Err.ensures.known;
+        parts = parts_same (view p) (view r)
+            (ap (λ v. v.held) same ∙ c.is_full.ensures.kept.held) later;
+        count = c.put_in.ensures.same.count ∙ c.is_full.ensures.kept.count;
+      };
+    }

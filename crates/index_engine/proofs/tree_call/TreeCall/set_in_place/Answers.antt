@@ -1,11 +1,17 @@
-use Rattle.std.proofs.Common.{None, ap, subst, ◌∙◌, sym, refl, is_some}
+use Rattle.std.proofs.Common.{◌==◌, length, None, ap, subst, ◌∙◌, sym, refl, is_some}
 use Rattle.latch_space.specs.Passes.{view}
 use Rattle.map_history.specs.Map as map
 use Rattle.map_history.specs.Operation.{Make}
 use Rattle.index_law.specs.Meanings.{lent_row}
 use Rattle.forest_world.specs.Held.{shape_of_pass, HasFrame}
 use Rattle.index_engine.specs.Commits.{MakesChange, CanWriteAhead}
+use Rattle.latch_space.specs.Has.{IsKnownBut}
+use Rattle.forest_law.specs.Numbers.{frame_id}
+use Rattle.index_engine.specs.Hashed.{KeepsHashed}
+use Rattle.index_engine.specs.Holds.{KeepsParts}
 use Rattle.index_engine.proofs.CallLemmas.{can_refuse}
+use Rattle.index_engine.proofs.SetRowLemmas.{hash_with}
+use Rattle.index_engine.proofs.SettleLemmas.{keeps_parts, known_after, known_again, parts_same, stays_both, stays_same}
 use Rattle.index_engine.proofs.HoldLemmas.{frame_again, leaf_again}
 use Rattle.index_engine.proofs.KnownLemmas.{number_stays, number_made, leaf_inside, made_inside}
 use Rattle.index_engine.proofs.RowLemmas.{has_key, set_makes}
@@ -18,8 +24,13 @@ write_ahead-requires-clause-held g c = let held = c.requires.held in let call = 
     subst (λ b. CanWriteAhead p b call.index key (map.Set key value) g.X.Becomes.leaf)
     (sym c.requires.block)
     (record {
+      index = held.index;
       known = held.known;
+      now = held.known;
       holds = held.holds;
+      hash = subst (λ z. KeepsHashed p held.index c.args.block held.known z z) (sym held.next_is)
+          (hash_with c.args.place value p held.index c.args.block held.known key
+          (length value == length held.row.has.has.value) held.row.has held.hash);
       about = refl;
       makes = subst (MakesChange (shape_of_pass p) (map.Set key value) held.known)
           (sym held.next_is)
@@ -74,16 +85,25 @@ returns-in-Ok-clause-did g c = let held = c.requires.held in let call = c.args.s
             (c.rewrite.ensures.set next held.known key held.row.has has);
         inside = made_inside p b call.index key held.known held.known held.holds (shape_of_pass p)
             change next makes;
-        one = c.rewrite.ensures.same.count ∙ (did.count ∙ held.holds.one);
       };
       number = number_made (view p) b held.known held.holds.has.held (shape_of_pass p) change next
           makes;
+      stays = record {
+        known = known_after q r b next c.rewrite.ensures.same
+            (subst (λ k. IsKnownBut q (frame_id (shape_of_pass q) k)) c.requires.block did.rest)
+            (subst (HasFrame r b next) (sym held.next_is)
+            (c.rewrite.ensures.set next held.known key held.row.has has));
+        parts = subst (λ v. KeepsParts (view p) v) (sym c.rewrite.ensures.same.view)
+            (keeps_parts p q held.index b held.known held.hash.part did.parts);
+        count = c.rewrite.ensures.same.count ∙ did.count;
+      };
     }
 
 pub returns-in-Err-clause-did : goal.returns-in-Err-clause-did
 returns-in-Err-clause-did g c = let held = c.requires.held in let call = c.args.self.now in
     let full = c.in-Err.ensures.did in let p = c.args.pass.now in let q = c.write_ahead.new.pass in
     let r = c.say_of_set.new.pass in let b = c.args.block in let key = call.key.now.tuple in
+    let terms = full.looks.quiet.adds.numbers.terms in
     let holds = leaf_again p q b call.index key held.known held.known full.same
     full.looks.quiet.adds.numbers.terms held.holds in
     record {
@@ -95,7 +115,10 @@ returns-in-Err-clause-did g c = let held = c.requires.held in let call = c.args.
         has = frame_again q r b held.known held.known c.say_of_set.ensures.kept
             c.say_of_set.ensures.did.once.adds.numbers.terms holds.has;
         inside = leaf_inside q b call.index key held.known held.known holds;
-        one = c.say_of_set.ensures.kept.count ∙ holds.one;
       };
       number = number_stays (view p) b held.known held.holds.has.held;
+      stays = stays_both p q r terms (parts_same (view p) (view q) full.same.held terms)
+          full.same.count
+          (stays_same q r c.say_of_set.ensures.kept
+          c.say_of_set.ensures.did.once.adds.numbers.terms (known_again p q full.same held.all));
     }

@@ -6,13 +6,18 @@ use Rattle.index_law.specs.Meanings.{lent_row}
 use Rattle.forest_world.specs.Held.{shape_of_pass}
 use Rattle.leaf_rows.specs.Changing.{HasSomeRow, HasRowOf}
 use Rattle.leaf_rows.specs.Setting.{frame_with}
+use Rattle.forest_world.proofs.HashHandLemmas.{one_frame}
+use Rattle.leaf_rows.specs.Setting.{IsLongerValue}
+use Rattle.index_engine.proofs.HashedLemmas.{hash_again}
+use Rattle.index_engine.proofs.SetRowLemmas.{ok_later, err_later}
+use Rattle.index_engine.proofs.SettleLemmas.{known_again, parts_same, stays_both, stays_same}
 use Rattle.index_engine.proofs.CallLemmas.{can_refuse}
 use Rattle.index_engine.proofs.ChangeLemmas.{frame_in_is}
 use Rattle.index_engine.proofs.HoldLemmas.{frame_again, leaf_again}
-use Rattle.index_engine.proofs.KnownLemmas.{number_stays, number_later, leaf_inside}
+use Rattle.index_engine.proofs.KnownLemmas.{number_stays, leaf_inside}
 use Rattle.index_engine.proofs.RowLemmas.{has_key}
 use Rattle.index_engine.proofs.SettingLemmas.{value_there, value_is}
-use Rattle.index_engine.proofs.TellLemmas.{looks_same, looks_then_says}
+use Rattle.index_engine.proofs.TellLemmas.{looks_then_says}
 use Rattle.index_engine.proofs.tree_call.TreeCall.set_row.Goals as goal
 
 pub value_len-before-requires : goal.value_len-before-requires
@@ -29,9 +34,12 @@ set_in_place-requires-clause-held g c = let held = c.requires.held in
     → c.value_len-before.result ≡ length has.has.value)
     (c.frame.ensures held.known held.known held.holds.has) c.value_len-before.ensures in
     let bytes = ap length c.as_bytes.ensures.bytes in record {
+      index = held.index;
       known = held.known;
       holds = held.holds;
       row = held.row;
+      hash = held.hash;
+      all = held.all;
       no_longer = λ k has. (let is = long k has in omega (arith, bytes));
       next_is = ap (λ f. frame_with place value (length value == length (value_there place f)) f)
           (frame_in_is c.args.pass.now c.args.block held.known held.known held.holds.has)
@@ -68,39 +76,53 @@ returns-then-is_full-clause-ok g c = let held = c.requires.held in let call = c.
         has = frame_again q r b held.known held.known c.say_of_set.ensures.kept
             c.say_of_set.ensures.did.once.adds.numbers.terms holds.has;
         inside = leaf_inside q b call.index key held.known held.known holds;
-        one = c.say_of_set.ensures.kept.count ∙ holds.one;
       };
       number = number_stays (view p) b held.known held.holds.has.held;
+      stays = (let terms = c.is_full.ensures.looked.quiet.adds.numbers.terms in
+          stays_both p q r terms
+          (parts_same (view p) (view q) c.is_full.ensures.kept.held terms)
+          c.is_full.ensures.kept.count
+          (stays_same q r c.say_of_set.ensures.kept
+          c.say_of_set.ensures.did.once.adds.numbers.terms
+          (known_again p q c.is_full.ensures.kept held.all)));
     }
 
-pub lengthen-requires-clause-held : goal.lengthen-requires-clause-held
-lengthen-requires-clause-held g c = let held = c.requires.held in
-    let call = c.args.self.now in let key = call.key.now.tuple in
+pub grow_row-requires-clause-held : goal.grow_row-requires-clause-held
+grow_row-requires-clause-held g c = let held = c.requires.held in
+    let call = c.args.self.now in let key = call.key.now.tuple in let p = c.args.pass.now in
+    let q = c.is_full.new.pass in let kept = c.is_full.ensures.kept in
+    let terms = c.is_full.ensures.looked.quiet.adds.numbers.terms in record {
+      index = held.index;
+      known = held.known;
+      holds = leaf_again p q c.args.block call.index key held.known held.known kept terms held.holds;
+      row = held.row;
+      hash = hash_again p q kept terms held.index c.args.block held.known held.known held.known
+          held.hash;
+      all = known_again p q kept held.all;
+    }
+
+pub grow_row-requires-clause-longer : goal.grow_row-requires-clause-longer
+grow_row-requires-clause-longer g c = λ f h there.
+    (let held = c.requires.held in let p = c.args.pass.now in let q = c.is_full.new.pass in
     let long = subst (λ f. (k : _) (has : HasRowOf f c.args.place k)
     → c.value_len-before.result ≡ length has.has.value)
     (c.frame.ensures held.known held.known held.holds.has) c.value_len-before.ensures in
-    let bytes = ap length c.as_bytes.ensures.bytes in record {
-      known = held.known;
-      holds = leaf_again c.args.pass.now c.is_full.new.pass c.args.block call.index key held.known
-          held.known c.is_full.ensures.kept c.is_full.ensures.looked.quiet.adds.numbers.terms
-          held.holds;
-      row = held.row;
-      longer = λ k has. (let is = long k has in omega (arith, bytes));
-    }
+    let bytes = ap length c.as_bytes.ensures.bytes in
+    let same = one_frame q c.args.block held.known held.known f h
+    (frame_again p q c.args.block held.known held.known c.is_full.ensures.kept
+    c.is_full.ensures.looked.quiet.adds.numbers.terms held.holds.has) there in
+    subst (λ z. IsLongerValue z c.args.place c.args.value.now) same.0
+    (λ k has. (let is = long k has in omega (arith, bytes))))
 
 pub returns-clause-ok : goal.returns-clause-ok
-returns-clause-ok g c = let call = c.args.self.now in let key = call.key.now.tuple in record {
-  says = looks_then_says (view c.args.pass.now) (view c.lengthen.new.pass)
-      (view c.commit_set.new.pass) call.index (Make (map.Set key c.args.value.now))
-      c.commit_set.result (lent_row None)
-      (looks_same (view c.args.pass.now) (view c.is_full.new.pass) (view c.lengthen.new.pass)
-      call.index c.is_full.ensures.looked c.in_ok-leaf.ensures.same.view)
-      c.commit_set.ensures.did.says;
-  holds = c.commit_set.ensures.did.holds;
-  number = number_later c.args.pass.now c.lengthen.new.pass c.args.block
-      c.commit_set.ensures.did.holds.frame
-      (ap (λ v. v.held) c.in_ok-leaf.ensures.same.view ∙ c.is_full.ensures.kept.held)
-      (ap (λ v. v.terms) c.in_ok-leaf.ensures.same.view
-      ∙ c.is_full.ensures.looked.quiet.adds.numbers.terms)
-      c.commit_set.ensures.did.number;
-}
+returns-clause-ok g c = let call = c.args.self.now in
+    ok_later c.args.pass.now c.is_full.new.pass c.grow_row.new.pass c.args.block call.index
+    c.is_full.ensures.looked c.is_full.ensures.kept
+    (Make (map.Set call.key.now.tuple c.args.value.now)) (lent_row None) c.grow_row.result
+    c.grow_row.ensures.ok
+
+pub returns-clause-err : goal.returns-clause-err
+returns-clause-err g c = let call = c.args.self.now in
+    err_later c.args.pass.now c.is_full.new.pass c.grow_row.new.pass c.args.block call.index
+    c.is_full.ensures.looked c.is_full.ensures.kept call.key.now.tuple c.args.value.now
+    c.grow_row.result c.grow_row.ensures.err

@@ -1,0 +1,20 @@
+use Rattle.std.proofs.Common.{◌≡◌, ◌<◌, ◌≤◌, ℕ, zero, suc, List, [], ◌∷◌, length, refl, arith, rules, subst}
+use Rattle.std.specs.Prelude.{slice_index_or}
+use lib.ListN.{get_elem?}
+use Rattle.forest_law.specs.State.{or_zero}
+use Rattle.index_engine.proofs.engine.Engine.open.Goals as goal
+
+-- a number of a list, by the one look-up and by the other
+number_at : (xs : List ℕ) (i : ℕ) → i < length xs → slice_index_or xs i 0 ≡ or_zero (get_elem? xs i)
+number_at [] i below = absurd (omega arith)
+number_at (x ∷ xs) zero below = refl
+number_at (x ∷ xs) (suc i) below = number_at xs i (omega arith)
+
+pub open_forest-requires-clause-hash : goal.open_forest-requires-clause-hash
+open_forest-requires-clause-hash c = record {
+  parts = search rules;
+  some = search rules;
+  fit = search rules;
+  keyed = λ i below. subst (λ n. 1 ≤ n) (number_at c.args.fields.now i below)
+      (c.requires.keyed i 0 below);
+}

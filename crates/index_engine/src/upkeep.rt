@@ -1,0 +1,121 @@
+//! The partition of the leaf in hand: held, kept up with, and given back.
+ghost use Rattle.std.specs.Prelude.{◌≡◌};
+ghost use Rattle.latch_space.specs.Passes.{view, count, IsSamePass};
+ghost use Rattle.latch_space.specs.Spaces.{IsPassOf};
+ghost use Rattle.index_engine.specs.Hashed.{DropsBlock, GivesBoth, GivesPartOf, HoldsAtRest, HoldsBoth};
+ghost use Rattle.index_engine.specs.Hashed.{HoldsHashed, HoldsKept, HoldsRowCame, HoldsRowToGo};
+ghost use Rattle.index_engine.specs.Hashed.{HoldsToChange};
+ghost use Rattle.index_engine.specs.Hashed.{KeepsRowThatCame, KeepsRowToGo, Settles};
+
+use crate::holding::Held;
+use crate::tree_call::TreeCall;
+use buffer_pool::{frame_back, frame_out, give_back, hold_part_for};
+use forest_law::blocks_ask_the_same;
+use forest_world::ForestPass;
+use hash_maintain::{
+    delete_in_frame, drop_frame, give_part_back, insert_in_frame, upkeep_keeps_the_hash,
+};
+use index_page::Place;
+use std::sync::Wait;
+
+impl<R: Wait> TreeCall<'_, R> {
+    /// Goes down from the root, and holds the leaf, and besides the partition of the index that it
+    /// is hashed for, if it is: rows of a hashed leaf change while that is held.
+    pub(crate) fn hold_to_change(&self, pass: &mut ForestPass) -> Held
+        requires own { IsPassOf self.now.space.now pass.old }
+        requires nothing { count pass.old ≡ 0 }
+        ensures own { IsSamePass pass.old pass.new × IsPassOf self.now.space.now pass.new }
+        ensures went { HoldsToChange pass.old self.now.index self.now.key.now.tuple result
+            pass.new }
+        ensures held { HoldsHashed pass.new result.leaf.block self.now.index
+            self.now.key.now.tuple result.leaf.spot }
+    {
+        let leaf = self.hold(pass);
+        let hashed = self.frame(pass, leaf.block).hashed;
+        let part = hold_part_for(self.space, pass, hashed, self.wait);
+        Held { leaf, part }
+    }
+
+    /// Keeps up with the row at the place, which came to the leaf.
+    pub(crate) fn row_came(&self, pass: &mut ForestPass, block: u32, place: Place)
+        requires own { IsPassOf self.now.space.now pass.old }
+        requires held { HoldsRowCame pass.old block place }
+        ensures own { IsSamePass pass.old pass.new × IsPassOf self.now.space.now pass.new }
+        ensures kept { KeepsRowThatCame pass.old block place pass.new }
+    {
+        pass.fits();
+        blocks_ask_the_same();
+        upkeep_keeps_the_hash();
+        let mut frame = frame_out(self.space, pass, block);
+        insert_in_frame(self.space, pass, &mut frame, block, place, self.wait);
+        frame_back(self.space, pass, block, frame);
+    }
+
+    /// Keeps up with the row at the place, which is about to go from the leaf.
+    pub(crate) fn row_goes(&self, pass: &mut ForestPass, block: u32, place: Place)
+        requires own { IsPassOf self.now.space.now pass.old }
+        requires held { HoldsRowToGo pass.old block place }
+        ensures own { IsSamePass pass.old pass.new × IsPassOf self.now.space.now pass.new }
+        ensures kept { KeepsRowToGo pass.old block place pass.new }
+    {
+        pass.fits();
+        blocks_ask_the_same();
+        upkeep_keeps_the_hash();
+        let mut frame = frame_out(self.space, pass, block);
+        delete_in_frame(self.space, pass, &mut frame, block, place, self.wait);
+        frame_back(self.space, pass, block, frame);
+    }
+
+    /// Takes the leaf's nodes out of the partition: it isn't hashed then.
+    pub(crate) fn drop_block(&self, pass: &mut ForestPass, block: u32)
+        requires own { IsPassOf self.now.space.now pass.old }
+        requires held { HoldsKept pass.old block }
+        ensures own { IsSamePass pass.old pass.new × IsPassOf self.now.space.now pass.new }
+        ensures dropped { DropsBlock pass.old block pass.new }
+    {
+        pass.fits();
+        blocks_ask_the_same();
+        upkeep_keeps_the_hash();
+        let mut frame = frame_out(self.space, pass, block);
+        drop_frame(self.space, pass, &mut frame, block, self.wait);
+        frame_back(self.space, pass, block, frame);
+    }
+}
+
+impl<R> TreeCall<'_, R> {
+    /// Makes known what is in hand, where the leaf is hashed otherwise and no row has changed.
+    pub(crate) fn settle(&self, pass: &mut ForestPass, block: u32)
+        requires own { IsPassOf self.now.space.now pass.old }
+        requires held { HoldsAtRest pass.old block }
+        ensures own { IsSamePass pass.old pass.new × IsPassOf self.now.space.now pass.new }
+        ensures did { Settles pass.old self.now.index block pass.new }
+    {
+        blocks_ask_the_same();
+        self.space.settle(pass);
+    }
+
+    /// Gives the partition back, if there is one, and then the leaf.
+    pub(crate) fn let_both_go(&self, pass: &mut ForestPass, block: u32, part: Option<u32>)
+        requires own { IsPassOf self.now.space.now pass.old }
+        requires held { HoldsBoth pass.old block part }
+        ensures own { IsSamePass pass.old pass.new × IsPassOf self.now.space.now pass.new }
+        ensures nothing { count pass.new ≡ 0 }
+        ensures gave { GivesBoth pass.old block part pass.new }
+    {
+        self.give_part(pass, block, part);
+        give_back(self.space, pass, block);
+    }
+
+    /// Gives the partition back, if there is one.
+    fn give_part(&self, pass: &mut ForestPass, block: u32, part: Option<u32>)
+        requires own { IsPassOf self.now.space.now pass.old }
+        requires held { HoldsBoth pass.old block part }
+        ensures own { IsSamePass pass.old pass.new × IsPassOf self.now.space.now pass.new }
+        ensures gave { GivesPartOf pass.old part pass.new }
+    {
+        let _ = block;
+        if let Some(part) = part {
+            give_part_back(self.space, pass, part);
+        }
+    }
+}
