@@ -1,6 +1,6 @@
 //! All lanes together.
 ghost use Rattle.std.specs.Prelude.{◌≡◌, ◌⊎◌, ◌<◌, ◌≤◌, length, Err, IfOk, IfErr, IfSome};
-ghost use Rattle.std.specs.List.{AllByRecursion};
+ghost use Rattle.std.specs.List.{All, AllByRecursion};
 ghost use Rattle.std.specs.Option.{IsSomeAnd};
 ghost use Rattle.map_history.specs.declared.TheConstants.{MAX_INDEXES, MAX_LANES};
 ghost use Rattle.settings.specs.Limits.{first_broken};
@@ -41,6 +41,7 @@ pub fn work_lanes<'a, R: Threads + Sync, W: Wait + Sync, G: Gate + Sync>(
     gate: &G,
 ) -> Result<LanesWork<'a>, EngineError>
     requires indexes { (0 < length fields.now) × (length fields.now ≤ MAX_INDEXES) }
+    requires keyed { All (λ n. 1 ≤ n) fields.now }
     requires lanes { (0 < length lanes.now) × (length lanes.now ≤ MAX_LANES) }
     requires lines { AllByRecursion (λ lines. AreLinesOf fields.now lines.items) lanes.now }
     ensures ok { IfOk result (λ work. RanTogether sizes.now fields.now (lane_texts lanes.now)
