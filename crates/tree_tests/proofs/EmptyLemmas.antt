@@ -3,13 +3,21 @@ use Rattle.std.proofs.Common.{◌≡◌, ℕ, suc, zero, Option, Some, None, Lis
 use mathlib.Core.Option.{some, some-ne-none}
 use lib.ListN.{get_elem?}
 use Rattle.list_facts.proofs.Places.{inside, not_both, none_is_not}
+use Rattle.latch_space.specs.declared.space.SpaceOf.{SpaceOf}
 use Rattle.latch_space.specs.Passes.{view, count, known_values}
+use Rattle.latch_space.specs.Spaces.{IsPassOf}
 use Rattle.latch_space.proofs.Pointwise.{lacks_each}
+use Rattle.index_law.specs.Answers.{MadeChange, Saying}
+use Rattle.index_law.specs.Shape.{Shape}
+use Rattle.forest_law.specs.declared.objects.Object.{Object}
 use Rattle.forest_law.specs.declared.objects.Object.TheVariants as object
-use Rattle.forest_law.specs.Numbers.{frame_id}
+use Rattle.forest_law.specs.Numbers.{pool_id, part_id, frame_id}
 use Rattle.forest_law.specs.Outside.{HasNoneOutside}
 use Rattle.forest_world.specs.Held.{TreePass, shape_of_pass}
+use Rattle.call_law.specs.Hands.{HoldsNoTable}
+use Rattle.buffer_pool.specs.Forests.{IsForest}
 use Rattle.buffer_pool.specs.Pages.{HoldsOtherPages}
+use Rattle.buffer_pool.proofs.SpaceLemmas.{objects_of}
 
 -- where there is something after a map there was something before
 mapped_back : {A B : Type 0} (f : Option A → Option B) → f None ≡ None → (xs : List (Option A))
@@ -37,3 +45,12 @@ none_has_outside p none n o =
     let room = inside (view p).held k _ h.1 in
     let all = p.all in
     not_both (view p).held k _ (lacks_each p k none (omega (arith, room, all.0))) h.1
+
+-- nor the pool, nor a partition
+pub none_has_table : {Q : Type 0} (s : SpaceOf Shape Object MadeChange Saying Q) (p : TreePass)
+    → IsForest s → IsPassOf s p → count p ≡ 0 → HoldsNoTable (view p)
+none_has_table s p forest own nothing = let objects = objects_of s p forest own in record {
+  pool = lacks_each p pool_id nothing (omega (arith, objects));
+  parts = λ k below.
+      lacks_each p (part_id (shape_of_pass p) k) nothing (omega (arith, objects, below));
+}

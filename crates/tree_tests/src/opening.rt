@@ -7,7 +7,8 @@ use std::alloc::Global;
 
 /// How many objects a space of two indexes with these sizes has from its opening to its close.
 fn object_count(alloc: Global, sizes: &Sizes) -> Option<usize>
-    requires bits { sizes.now.fold_bits < 256 }
+    requires bits { (1 ≤ sizes.now.fold_bits) × (sizes.now.fold_bits ≤ 64) }
+    requires parts { (0 < sizes.now.parts) × (1 ≤ sizes.now.cells) × (sizes.now.parts < 1000) }
     requires room { (2 ≤ sizes.now.pages) × (sizes.now.blocks < 1000) }
 {
     let (space, pass) = open_forest(alloc, sizes, [3u8, 1].as_slice(), 1).ok()?;
@@ -18,7 +19,7 @@ fn object_count(alloc: Global, sizes: &Sizes) -> Option<usize>
 }
 
 #[test]
-fn a_space_has_its_pool_its_trees_and_its_frames(rt: HostRuntime) {
+fn a_space_has_its_pool_its_trees_its_partitions_and_its_frames(rt: HostRuntime) {
     let sizes = Sizes {
         blocks: 8,
         pages: 70,
@@ -28,5 +29,5 @@ fn a_space_has_its_pool_its_trees_and_its_frames(rt: HostRuntime) {
         fold_bits: 64,
         max_changes: 9,
     };
-    assert_eq!(rt; object_count(rt.alloc(), &sizes), Some(11));
+    assert_eq!(rt; object_count(rt.alloc(), &sizes), Some(13));
 }

@@ -1,8 +1,9 @@
 use Rattle.std.proofs.Common.{ap, arith}
 use Rattle.latch_space.proofs.Pointwise.{lacks_each}
-use Rattle.forest_law.specs.Numbers.{pool_id, tree_id, frame_id}
+use Rattle.forest_law.specs.Numbers.{tree_id, frame_id}
 use Rattle.forest_world.specs.Held.{shape_of_pass}
 use Rattle.buffer_pool.proofs.SpaceLemmas.{objects_of}
+use Rattle.tree_tests.proofs.EmptyLemmas.{none_has_table}
 use Rattle.tree_tests.proofs.held_tree.found_meanwhile.Goals as goal
 
 pub take_tree-requires-clause-lacks : goal.take_tree-requires-clause-lacks
@@ -17,7 +18,6 @@ descend-leaf-requires-clause-frames g c = let p = c.args.pass.now in
     λ b below apart. lacks_each p (frame_id (shape_of_pass p) b) c.requires.nothing
     (omega (arith, objects, below))
 
-pub descend-leaf-requires-clause-pool : goal.descend-leaf-requires-clause-pool
-descend-leaf-requires-clause-pool g c = let p = c.args.pass.now in
-    let objects = objects_of c.args.space.now p c.requires.forest c.requires.own in
-    lacks_each p pool_id c.requires.nothing (omega (arith, objects))
+pub descend-leaf-requires-clause-tables : goal.descend-leaf-requires-clause-tables
+descend-leaf-requires-clause-tables g c = none_has_table c.args.space.now c.args.pass.now
+    c.requires.forest c.requires.own c.requires.nothing

@@ -1,10 +1,7 @@
 use Rattle.std.proofs.Common.{ap, ◌∙◌, arith}
 use Rattle.latch_space.specs.Passes.{view}
-use Rattle.latch_space.proofs.Pointwise.{lacks_each}
-use Rattle.forest_law.specs.Numbers.{pool_id}
-use Rattle.buffer_pool.proofs.SpaceLemmas.{objects_of}
 use Rattle.tree_descent.proofs.WayLemmas.{root_live}
-use Rattle.tree_tests.proofs.EmptyLemmas.{none_has_page}
+use Rattle.tree_tests.proofs.EmptyLemmas.{none_has_page, none_has_table}
 use Rattle.tree_tests.proofs.setup.Grove.root_block.Goals as goal
 
 pub page_in-block-requires-clause-live : goal.page_in-block-requires-clause-live
@@ -16,7 +13,6 @@ pub page_in-block-requires-clause-others : goal.page_in-block-requires-clause-ot
 page_in-block-requires-clause-others g c = let grove = c.args.self.now in
     none_has_page grove.pass grove.nothing 0
 
-pub page_in-block-requires-clause-pool : goal.page_in-block-requires-clause-pool
-page_in-block-requires-clause-pool g c = let grove = c.args.self.now in
-    let objects = objects_of grove.space grove.pass grove.forest grove.own in
-    lacks_each grove.pass pool_id grove.nothing (omega (arith, objects))
+pub page_in-block-requires-clause-tables : goal.page_in-block-requires-clause-tables
+page_in-block-requires-clause-tables g c = let grove = c.args.self.now in
+    none_has_table grove.space grove.pass grove.forest grove.own grove.nothing
