@@ -14,7 +14,7 @@ use Rattle.forest_law.specs.declared.objects.Object.{Object}
 use Rattle.forest_law.specs.Hashed.{IsExactFor}
 use Rattle.forest_law.specs.Numbers.{part_id}
 use Rattle.forest_world.specs.Held.{TreePass, shape_of_pass, HoldsPart}
-use Rattle.hash_maintain.specs.Parting.{LacksPart, TakesPart, IsFoundOrTaken, HoldsPartOut, TakesPartOut, PutsPartBack, IsInPlace}
+use Rattle.hash_maintain.specs.Parting.{LacksPart, TakesPartition, IsFoundOrTaken, HoldsPartOut, TakesPartOut, PutsPartBack, IsInPlace}
 use Rattle.hash_maintain.specs.Upkeep.{IsExactIn, KeepsUpInHand}
 
 -- one change of a pass behind another, beside one object
@@ -43,7 +43,7 @@ module _ (p : TreePass) (k : ℕ) where
   }
 
   -- and so is one that was taken
-  taken_out : (m q : TreePass) (was : Part) → TakesPart p k m → TakesPartOut m k was q
+  taken_out : (m q : TreePass) (was : Part) → TakesPartition p k m → TakesPartOut m k was q
       → HoldsPartOut p k was q
   taken_out m q was took out = let o = out.out took.part took.part took.has in
       let c = took.comes in
@@ -68,13 +68,13 @@ module _ (p : TreePass) (k : ℕ) where
       }
 
   -- after it was found or taken, it is held
-  pub holds_after : (m : TreePass) (r : Bool) → OnTrue r (TakesPart p k m)
+  pub holds_after : (m : TreePass) (r : Bool) → OnTrue r (TakesPartition p k m)
       → OnFalse r (LacksPart p k → ⊥) → OnFalse r (m ≡ p) → IsInPlace p k → HoldsPart m k
   holds_after m true took held found place = (took.part, took.part, took.has)
   holds_after m false took held found place =
       subst (λ (z : TreePass). HoldsPart z k) (sym found) (place held)
 
-  pub out_after : (m q : TreePass) (was : Part) (r : Bool) → OnTrue r (TakesPart p k m)
+  pub out_after : (m q : TreePass) (was : Part) (r : Bool) → OnTrue r (TakesPartition p k m)
       → OnFalse r (LacksPart p k → ⊥) → OnFalse r (m ≡ p) → IsInPlace p k
       → TakesPartOut m k was q → HoldsPartOut p k was q
   out_after m q was true took held found place out = taken_out m q was took out

@@ -22,7 +22,7 @@ use Rattle.hash_upkeep.specs.Cover.{Renews}
 use Rattle.hash_upkeep.specs.Laws.{EntriesAreOwed}
 use Rattle.forest_law.specs.declared.objects.Frame.{Frame}
 use Rattle.forest_law.specs.Hashed.{hash_block}
-use Rattle.hash_maintain.specs.Leaves.{IsHashedSo, CutsFolds, IsExactSo, KeepsUpSo, unhashed, frame_built, kept_frame, page_without, without_row, HasRowAt}
+use Rattle.hash_maintain.specs.Leaves.{IsHashedSo, CutsFolds, IsExactSo, KeepsUpSo, unhashed, frame_built, kept_frame, paged_without, without_row, HasRowInFrame}
 
 -- a page that can be hashed so, where the frame is tidy
 pub can_hash : (how : Hashing) (f : Frame) (page : PageRows) → f.page ≡ Some page
@@ -34,7 +34,7 @@ can_hash how f page paged few bits = record {
 }
 
 -- a frame that has a row at a place has it on the page that it has
-pub row_there : (f : Frame) (place : ℕ) (page : PageRows) → f.page ≡ Some page → HasRowAt f place
+pub row_there : (f : Frame) (place : ℕ) (page : PageRows) → f.page ≡ Some page → HasRowInFrame f place
     → IsSome (find_row place page.rows)
 row_there f place page paged has = subst (λ (p : PageRows). IsSome (find_row place p.rows))
     (same_some has.page page (sym has.page_is ∙ paged)) has.row
@@ -67,7 +67,7 @@ module _ (owed : EntriesAreOwed) (how : Hashing) (part : Part) where
 -- the page of a frame without a row
 pub page_without_is : (f : Frame) (place : ℕ) (page : PageRows) → f.page ≡ Some page
     → (without_row place f).page ≡ Some (record page { rows = rows_without place page.rows })
-page_without_is f place page paged = ap (page_without place) paged
+page_without_is f place page paged = ap (paged_without place) paged
 
 -- an unhashed block has no entries, so its partition is exact without its nodes
 pub unhashed_exact : (how : Hashing) (f : Frame) (old new : Part) → Renews how.block [] old new

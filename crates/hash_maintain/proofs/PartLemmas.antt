@@ -1,5 +1,5 @@
 -- What the calls on a partition in hand do.
-use Rattle.std.proofs.Common.{◌≡◌, ℕ, ◌<◌, set, sym, ap, subst, ◌∙◌, arith, Option, Some, None}
+use Rattle.std.proofs.Common.{◌≡◌, ℕ, ◌<◌, set, sym, ap, subst, ◌∙◌, refl, arith, Option, Some, None}
 use mathlib.Core.Option.{some, some-injective}
 use lib.ListN.{get_elem?}
 use Rattle.atomic_table.proofs.Lists.{set_here, set_else}
@@ -11,7 +11,9 @@ use Rattle.latch_law.specs.Rule.{Holds}
 use Rattle.latch_law.specs.Views.{holding, with_held, with_refused, releasing}
 use Rattle.latch_space.specs.Has.{Has, SameBut, DidRelease}
 use Rattle.latch_space.specs.Passes.{view, values, count, Shows}
-use Rattle.latch_space.specs.Takes.{DidTakeAfter}
+use Rattle.latch_space.specs.declared.taking.Take.{Take}
+use Rattle.latch_space.specs.declared.taking.Take.TheVariants.{Taken, Busy}
+use Rattle.latch_space.specs.Takes.{DidTakeAfter, TellsTake}
 use Rattle.latch_space.proofs.Pointwise.{length-values}
 use Rattle.hash_partition.specs.Part.{Part}
 use Rattle.index_law.specs.Answers.{MadeChange, Saying}
@@ -29,7 +31,8 @@ use Rattle.forest_law.proofs.HashLawLemmas.{hashes_are_exact}
 use Rattle.forest_law.proofs.ObjectLemmas.{same_part}
 use Rattle.forest_law.proofs.WorldLemmas.{releases_stay_lawful}
 use Rattle.forest_world.specs.Held.{TreePass, shape_of_pass, HasPart}
-use Rattle.hash_maintain.specs.Parting.{LacksPart, KnowsFrame, TakesPart, TakesPartOut, PutsPartBack, GivesPart}
+use Rattle.hash_maintain.specs.Parting.{LacksPart, KnowsFrameIn, TakesPartition, TellsPart, TakesPartOut, PutsPartBack, GivesPart}
+use Rattle.hash_maintain.proofs.PassLemmas.{after_none}
 
 -- one object stands at a number
 pub one_shown : (p : TreePass) (k : ℕ) (x y : Object) → Shows p k x → Shows p k y → x ≡ y
@@ -57,7 +60,7 @@ module _ (p q : TreePass) (k : ℕ)
 
   -- there it is exact of each block that is held
   exact_there : (part : Part) → told.value ≡ object.Part part → (b : ℕ) (f : Frame)
-      → KnowsFrame p b f → IsExactFor sh k b part f
+      → KnowsFrameIn p b f → IsExactFor sh k b part f
   exact_there part is b f knows =
       let w = told.was_free.whole in
       let shape : w.shape ≡ sh = told.was_free.fits.shape in
@@ -70,7 +73,7 @@ module _ (p q : TreePass) (k : ℕ)
       subst (λ s. IsExactFor s k b part f) shape
       (hashes_are_exact.exact w told.was_free.is_lawful k b part f at frame)
 
-  pub takes_part : TakesPart p k q
+  pub takes_part : TakesPartition p k q
   takes_part = let there = part_there in
       let terms : (view q).terms ≡ (view p).terms =
       ap (λ (v : Knows Shape Object MadeChange Saying). v.terms) told.view in
@@ -92,6 +95,16 @@ module _ (p q : TreePass) (k : ℕ)
             (ap (λ (t : Terms Shape). t.shape) (sym terms)) has;
         others = told.took.others;
       }
+
+-- what a try tells
+pub tells_part : (p q : TreePass) (k : ℕ) (r : Take) → k < (shape_of_pass p).parts → LacksPart p k
+    → TellsTake IsLawful IsRight IsReference p (part_id (shape_of_pass p) k) r q
+    → TellsPart p k r q
+unfolding takes_part after_none
+tells_part p q k Taken below lacked told =
+    (takes_part p q k (after_none p q (part_id (shape_of_pass p) k) told) below lacked, refl)
+tells_part p q k (Busy n) below lacked told =
+    record { was_held = told.was_held; view = told.view; same = told.same }
 
 -- an object in hand was taken out of its place, or put back there
 module _ (p q : TreePass) (k : ℕ) (seat : (q.seat ≡ p.seat) × (count q ≡ count p))

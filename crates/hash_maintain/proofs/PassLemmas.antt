@@ -1,14 +1,20 @@
 -- What a pass knows of its space, and of what it lacks.
-use Rattle.std.proofs.Common.{◌≡◌, ℕ, ◌<◌, ◌^◌, true, false, List, length, sym, ap, subst, ◌∙◌, arith, Option, Some, None}
-use mathlib.Core.Option.{some}
+use Rattle.std.proofs.Common.{◌≡◌, ℕ, ◌<◌, ◌^◌, true, false, List, [], length, sym, ap, subst, ◌∙◌, arith, append-nil, Option, Some, None}
+use mathlib.Core.Option.{some, some-ne-none}
 use lib.ListN.{get_elem?}
 use Rattle.list_facts.proofs.Places.{there}
-use Rattle.latch_law.specs.Fitting.{IsFitted}
+use Rattle.latch_law.specs.declared.knows.Knows.{Knows}
+use Rattle.latch_law.specs.declared.knows.Refusal.{Refusal}
+use Rattle.latch_law.specs.Fitting.{IsFitted, WasFree}
+use Rattle.latch_law.specs.Views.{holding, with_held, with_refused}
 use Rattle.latch_space.specs.Hands.{has_value, is_held}
 use Rattle.latch_space.specs.Passes.{view}
+use Rattle.latch_space.specs.Takes.{DidTake, DidTakeAfter}
+use Rattle.index_law.specs.Answers.{MadeChange, Saying}
 use Rattle.index_law.specs.Rightness.{IsRight}
 use Rattle.index_law.specs.Shape.{Shape}
 use Rattle.forest_law.specs.Counted.{SuitsHash}
+use Rattle.forest_law.specs.declared.objects.Object.{Object}
 use Rattle.forest_law.specs.Law.{IsLawful}
 use Rattle.forest_law.specs.Numbers.{part_id, frame_id, frames_of}
 use Rattle.forest_law.specs.References.{IsReference}
@@ -52,3 +58,22 @@ held_not_lacked hs k held lacks = no (sym (ap has_value lacks) ∙ held)
   where
     no : false ≡ true → ⊥
     no e = absurd cc
+
+-- no refused try more is nothing more
+pub no_more : (v : Knows Shape Object MadeChange Saying) → with_refused v [] ≡ v
+no_more v = ap (λ (fs : List (Refusal Object)). record v { refused = fs }) (append-nil v.refused)
+
+-- what was taken at once was taken after no refused try
+unfoldable pub after_none : (p q : TreePass) (k : ℕ) → DidTake IsLawful IsRight IsReference p k q
+    → DidTakeAfter IsLawful IsRight IsReference p k q
+after_none p q k told = record {
+  refused = [];
+  tries = λ j f at. absurd (some-ne-none f (sym at));
+  value = told.value;
+  was_free = subst (λ v. WasFree IsLawful IsRight IsReference v k told.value)
+      (sym (no_more (view p))) told.was_free;
+  view = told.view
+      ∙ ap (λ v. with_held v k (Some (holding told.value told.value))) (sym (no_more (view p)));
+  values = told.values;
+  took = told.took;
+}

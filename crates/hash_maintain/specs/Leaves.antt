@@ -73,16 +73,16 @@ kept_frame Kept f = f
 kept_frame (Dropped need spare) f = unhashed f
 
 -- a page without the row at a place
-abbrev pub page_without : ℕ → Option PageRows → Option PageRows
-page_without place None = None
-page_without place (Some page) = Some (record page { rows = rows_without place page.rows })
+abbrev pub paged_without : ℕ → Option PageRows → Option PageRows
+paged_without place None = None
+paged_without place (Some page) = Some (record page { rows = rows_without place page.rows })
 
 -- the frame without that row
 abbrev pub without_row : ℕ → Frame → Frame
-without_row place f = record f { page = page_without place f.page }
+without_row place f = record f { page = paged_without place f.page }
 
 -- the frame has a page with a row at this place
-pub record HasRowAt (f : Frame) (place : ℕ) : Type 0 where
+pub record HasRowInFrame (f : Frame) (place : ℕ) : Type 0 where
   pub page : PageRows
   pub page_is : f.page ≡ Some page
   pub row : IsSome (find_row place page.rows)

@@ -1,19 +1,24 @@
 -- A partition in hand: found there or taken, taken out of its place, and put back.
-use Rattle.std.specs.Prelude.{ℕ, ◌≡◌, ◌+◌, ◌<◌, ◌⊎◌, Some, None, List}
+use Rattle.std.specs.Prelude.{ℕ, ◌≡◌, ◌+◌, ◌<◌, ◌⊎◌, Some, None, List, []}
 use mathlib.Core.Option.{some}
 use lib.ListN.{get_elem?}
 use Rattle.latch_law.specs.declared.knows.Refusal.{Refusal}
-use Rattle.latch_law.specs.Fitting.{AreTriesOf}
+use Rattle.latch_law.specs.Fitting.{AreTriesOf, WasHeld}
 use Rattle.latch_law.specs.Rule.{Holds}
-use Rattle.latch_law.specs.Views.{holding, with_held, with_refused, releasing}
-use Rattle.latch_space.specs.Has.{SameBut}
+use Rattle.latch_law.specs.Views.{holding, with_held, with_refused, refusing, releasing}
+use Rattle.latch_space.specs.declared.taking.Take.{Take}
+use Rattle.latch_space.specs.declared.taking.Take.TheVariants.{Taken, Busy}
+use Rattle.latch_space.specs.Has.{SameBut, SameHands}
 use Rattle.latch_space.specs.Passes.{view, values, count, Lacks}
 use Rattle.hash_partition.specs.Part.{Part}
 use Rattle.forest_law.specs.declared.objects.Frame.{Frame}
 use Rattle.forest_law.specs.declared.objects.Object.{Object}
 use Rattle.forest_law.specs.declared.objects.Object.TheVariants as object
+use Rattle.forest_law.specs.Law.{IsLawful}
 use Rattle.forest_law.specs.Numbers.{part_id, frame_id}
 use Rattle.forest_law.specs.Hashed.{IsExactFor}
+use Rattle.forest_law.specs.References.{IsReference}
+use Rattle.index_law.specs.Rightness.{IsRight}
 use Rattle.forest_world.specs.Held.{TreePass, shape_of_pass, HasPart, HoldsPart}
 
 -- the pass lacks partition k
@@ -25,8 +30,8 @@ abbrev pub HasRoomFor : TreePass → ℕ → Type 0
 HasRoomFor p k = LacksPart p k → count p < 16
 
 -- it holds the block's frame, in hand or taken out, which is known to be f
-abbrev pub KnowsFrame : TreePass → ℕ → Frame → Type 0
-KnowsFrame p b f = (t : Object)
+abbrev pub KnowsFrameIn : TreePass → ℕ → Frame → Type 0
+KnowsFrameIn p b f = (t : Object)
     × Holds (view p) (frame_id (shape_of_pass p) b) (holding t (object.Frame f))
 
 -- partition k, which is this one, was taken after some refused tries; it is exact of each block that
@@ -38,16 +43,27 @@ pub record ComesToHand (p : TreePass) (k : ℕ) (part : Part) (q : TreePass) : T
   pub view : view q
       ≡ with_held (with_refused (view p) refused) (part_id (shape_of_pass p) k)
       (Some (holding (object.Part part) (object.Part part)))
-  pub exact : (b : ℕ) (f : Frame) → KnowsFrame p b f
+  pub exact : (b : ℕ) (f : Frame) → KnowsFrameIn p b f
       → IsExactFor (shape_of_pass p) k b part f
   pub count : count q ≡ count p + 1
 
 -- partition k was taken, and is held as it was then
-pub record TakesPart (p : TreePass) (k : ℕ) (q : TreePass) : Type 0 where
+pub record TakesPartition (p : TreePass) (k : ℕ) (q : TreePass) : Type 0 where
   pub part : Part
   pub comes : ComesToHand p k part q
   pub has : HasPart q k part part
   pub others : SameBut p q (part_id (shape_of_pass p) k)
+
+-- the pass n, another one, held partition k: one refused try more, and nothing else
+pub record RefusesPart (p : TreePass) (k n : ℕ) (q : TreePass) : Type 0 where
+  pub was_held : WasHeld IsLawful IsRight IsReference (view p) (part_id (shape_of_pass p) k) n
+  pub view : view q ≡ refusing (view p) (part_id (shape_of_pass p) k) n
+  pub same : SameHands p q
+
+-- what the answer of a try tells: the partition was taken with no refused try, or it is another's
+abbrev pub TellsPart : TreePass → ℕ → Take → TreePass → Type 0
+TellsPart p k Taken q = (took : TakesPartition p k q) × (took.comes.refused ≡ [])
+TellsPart p k (Busy n) q = RefusesPart p k n q
 
 -- partition k was in hand, and nothing was taken
 pub record StaysInHand (p : TreePass) (k : ℕ) (known was : Part) (q : TreePass) : Type 0 where

@@ -19,12 +19,12 @@ use Rattle.forest_law.specs.Numbers.{part_id}
 use Rattle.forest_law.specs.Hashed.{hash_block, IsExactFor}
 use Rattle.forest_law.specs.HashSteps.{AsksSame}
 use Rattle.forest_world.specs.Held.{TreePass, shape_of_pass, HasPart}
-use Rattle.hash_maintain.specs.Parting.{LacksPart, HasRoomFor, KnowsFrame, IsFoundOrTaken, IsInPlace}
+use Rattle.hash_maintain.specs.Parting.{LacksPart, HasRoomFor, KnowsFrameIn, IsFoundOrTaken, IsInPlace}
 
 -- the pass holds the block's frame, known as one that asks partition k for what f asks for
 pub record KnowsAlike (p : TreePass) (k b : ℕ) (f : Frame) : Type 0 where
   pub frame : Frame
-  pub known : KnowsFrame p b frame
+  pub known : KnowsFrameIn p b frame
   pub asks : AsksSame (shape_of_pass p) k b frame f
 
 -- where partition k is held, it is exact for the block with f; where it is free, f asks for what the

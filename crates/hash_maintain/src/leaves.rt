@@ -5,7 +5,7 @@ ghost use Rattle.hash_law.specs.Blocks.{AskFew, HasLeafOf, IsTidy};
 ghost use Rattle.hash_upkeep.specs.Build.{BuildsAnew};
 ghost use Rattle.hash_upkeep.specs.Upkeep.{IsRowAnswer, upkeep_of};
 ghost use Rattle.forest_law.specs.Hashed.{hash_block};
-ghost use Rattle.hash_maintain.specs.Leaves.{CutsFolds, HasRowAt, IsExactSo, IsHashedSo, KeepsUpSo};
+ghost use Rattle.hash_maintain.specs.Leaves.{CutsFolds, HasRowInFrame, IsExactSo, IsHashedSo, KeepsUpSo};
 ghost use Rattle.hash_maintain.specs.Leaves.{frame_built, hashing_of, kept_frame, unhashed, without_row};
 
 use forest_world::Frame;
@@ -76,7 +76,7 @@ pub fn row_came(part: &mut Partition, frame: &mut Frame, place: Place, how: &Has
     requires bits { CutsFolds how.now }
     requires hashed { IsHashedSo how.now frame.old }
     requires tidy { IsTidy (hash_block frame.old) }
-    requires row { HasRowAt frame.old place }
+    requires row { HasRowInFrame frame.old place }
     requires exact { IsExactSo how.now part.old (without_row place frame.old) }
     ensures answer { (page : PageRows) → frame.old.page ≡ Some page
         → IsRowAnswer how.now page.rows place
@@ -96,7 +96,7 @@ pub fn row_goes(part: &mut Partition, frame: &mut Frame, place: Place, how: &Has
     requires bits { CutsFolds how.now }
     requires hashed { IsHashedSo how.now frame.old }
     requires tidy { IsTidy (hash_block frame.old) }
-    requires row { HasRowAt frame.old place }
+    requires row { HasRowInFrame frame.old place }
     requires exact { IsExactSo how.now part.old frame.old }
     ensures answer { (page : PageRows) → frame.old.page ≡ Some page
         → IsRowAnswer how.now page.rows place

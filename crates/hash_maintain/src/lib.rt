@@ -14,5 +14,5 @@ pub use laws::{moves_keep_the_hash, upkeep_keeps_the_hash};
 pub use leaves::{hashing_of, rehash, row_came, row_goes, unhash};
 pub use moves::rows_moved;
 pub use moving::move_between;
-pub use parting::{give_part_back, hold_part, part_back, part_out};
+pub use parting::{give_part_back, hold_part, part_back, part_out, partition, try_part};
 pub use upkeep::{delete_in_frame, drop_frame, insert_in_frame};

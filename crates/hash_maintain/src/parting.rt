@@ -8,10 +8,11 @@ ghost use Rattle.forest_law.specs.declared.objects.Object.TheVariants as object;
 ghost use Rattle.forest_law.specs.Numbers.{part_id};
 ghost use Rattle.forest_world.specs.Held.{HasPart, HoldsPart, shape_of_pass};
 ghost use Rattle.hash_maintain.specs.Parting.{GivesPart, HasPartOut, HasRoomFor, HoldsPartOut, IsInPlace, LacksPart};
-ghost use Rattle.hash_maintain.specs.Parting.{PutsPartBack, TakesPart, TakesPartOut};
+ghost use Rattle.hash_maintain.specs.Parting.{PutsPartBack, TakesPartition, TakesPartOut, TellsPart};
 
 use forest_world::{ForestPass, ForestSpace, Object};
 use hash_partition::Partition;
+use latch_space::Take;
 use std::sync::Wait;
 
 /// Finds the partition in hand, or takes it. Answers whether it was taken.
@@ -20,7 +21,7 @@ pub fn hold_part<R: Wait>(space: &ForestSpace, pass: &mut ForestPass, part: u32,
     requires there { part < (shape_of_pass pass.old).parts }
     requires room { HasRoomFor pass.old part }
     ensures own { IsSamePass pass.old pass.new × IsPassOf space.now pass.new }
-    ensures took { OnTrue result (TakesPart pass.old part pass.new) }
+    ensures took { OnTrue result (TakesPartition pass.old part pass.new) }
     ensures held { OnFalse result (LacksPart pass.old part → ⊥) }
     ensures found { OnFalse result (pass.new ≡ pass.old) }
 {
@@ -31,6 +32,29 @@ pub fn hold_part<R: Wait>(space: &ForestSpace, pass: &mut ForestPass, part: u32,
     }
     space.take(pass, number, wait);
     true
+}
+
+/// Takes the partition if nobody holds it at this call's one step.
+pub fn try_part(space: &ForestSpace, pass: &mut ForestPass, part: u32) -> Take
+    requires own { IsPassOf space.now pass.old }
+    requires there { part < (shape_of_pass pass.old).parts }
+    requires lacks { LacksPart pass.old part }
+    requires room { count pass.old < 16 }
+    ensures own { IsSamePass pass.old pass.new × IsPassOf space.now pass.new }
+    ensures did { TellsPart pass.old part result pass.new }
+{
+    let number = part_number(space, pass, part);
+    space.try_take(pass, number)
+}
+
+/// The partition as it stands now.
+pub fn partition<'p>(space: &ForestSpace, pass: &'p ForestPass, part: u32) -> &'p Partition
+    requires own { IsPassOf space.now pass.now }
+    requires there { part < (shape_of_pass pass.now).parts }
+    requires held { HoldsPart pass.now part }
+    ensures { (x y : Part) → HasPart pass.now part x y → result.now ≡ y }
+{
+    as_part(pass.look(part_number(space, pass, part)))
 }
 
 /// The partition itself, which is found in hand or taken. Its place stays empty until `part_back`.
@@ -98,6 +122,17 @@ fn part_number(space: &ForestSpace, pass: &ForestPass, part: u32) -> u32
 }
 
 // The partition that an object is.
+fn as_part(found: &Object) -> &Partition
+    requires { (x : Part) × (found.now ≡ object.Part x) }
+    ensures { found.now ≡ object.Part result.now }
+{
+    match found {
+        Object::Part(partition) => partition,
+        _ => unreachable!(),
+    }
+}
+
+// The same, by value.
 fn into_part(found: Object) -> Partition
     requires { (x : Part) × (found ≡ object.Part x) }
     ensures { found ≡ object.Part result }

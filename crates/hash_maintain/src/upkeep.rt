@@ -7,7 +7,7 @@ ghost use Rattle.hash_upkeep.specs.declared.hashing.Hashing.{Hashing};
 ghost use Rattle.hash_upkeep.specs.Upkeep.{upkeep_of};
 ghost use Rattle.forest_law.specs.Hashed.{hash_block};
 ghost use Rattle.forest_world.specs.Held.{shape_of_pass};
-ghost use Rattle.hash_maintain.specs.Leaves.{HasRowAt, kept_frame, unhashed, without_row};
+ghost use Rattle.hash_maintain.specs.Leaves.{HasRowInFrame, kept_frame, unhashed, without_row};
 ghost use Rattle.hash_maintain.specs.Upkeep.{AreInPlace, HasRoomWhereHashed, IsExactWhereHashed};
 ghost use Rattle.hash_maintain.specs.Upkeep.{KeepsUpInHand};
 ghost use Rattle.hash_maintain.specs.Upkeep.{KeepsUpWithRow, hashing_in};
@@ -63,7 +63,7 @@ pub fn insert_in_frame<R: Wait>(
 ) -> Upkeep
     requires own { IsPassOf space.now pass.old }
     requires tidy { IsTidy (hash_block frame.old) }
-    requires row { HasRowAt frame.old place }
+    requires row { HasRowInFrame frame.old place }
     requires exact { IsExactWhereHashed pass.old block (without_row place frame.old) }
     requires place { AreInPlace pass.old }
     requires room { count pass.old < 16 }
@@ -100,7 +100,7 @@ pub fn delete_in_frame<R: Wait>(
 ) -> Upkeep
     requires own { IsPassOf space.now pass.old }
     requires tidy { IsTidy (hash_block frame.old) }
-    requires row { HasRowAt frame.old place }
+    requires row { HasRowInFrame frame.old place }
     requires exact { IsExactWhereHashed pass.old block frame.old }
     requires place { AreInPlace pass.old }
     requires room { count pass.old < 16 }
