@@ -1,13 +1,11 @@
 -- What the calls on a block's frame do.
-use Rattle.std.proofs.Common.{◌≡◌, ℕ, ◌<◌, List, [], set, sym, ap, subst, ◌∙◌, refl, arith, append-nil, Option, Some, None}
-use mathlib.Core.Option.{some, some-injective, some-ne-none}
+use Rattle.std.proofs.Common.{◌≡◌, ℕ, ◌<◌, set, sym, ap, subst, ◌∙◌, refl, arith, Option, Some, None}
+use mathlib.Core.Option.{some, some-injective}
 use lib.ListN.{get_elem?}
 use Rattle.atomic_table.proofs.Lists.{set_here, set_else}
 use Rattle.list_facts.proofs.Places.{inside, same_some, none_is_not}
 use Rattle.latch_law.specs.declared.knows.Holding.{Holding}
-use Rattle.latch_law.specs.declared.knows.Refusal.{Refusal}
 use Rattle.latch_law.specs.declared.knows.Terms.{Terms}
-use Rattle.latch_law.specs.Fitting.{WasFree}
 use Rattle.latch_law.specs.Rule.{Holds}
 use Rattle.latch_law.specs.Views.{holding, with_held, with_refused, releasing}
 use Rattle.latch_law.specs.Whole.{IsFree}
@@ -15,7 +13,7 @@ use Rattle.latch_space.specs.declared.taking.Take.{Take}
 use Rattle.latch_space.specs.declared.taking.Take.TheVariants.{Taken, Busy}
 use Rattle.latch_space.specs.Has.{Has, SameBut, DidRelease}
 use Rattle.latch_space.specs.Passes.{view, values, count, Shows}
-use Rattle.latch_space.specs.Takes.{DidTake, DidTakeAfter, TellsTake}
+use Rattle.latch_space.specs.Takes.{DidTakeAfter, TellsTake}
 use Rattle.latch_space.proofs.Pointwise.{length-values}
 use Rattle.index_law.specs.Shape.{Shape}
 use Rattle.forest_law.specs.declared.objects.Frame.{Frame}
@@ -29,6 +27,7 @@ use Rattle.forest_law.specs.Steps.{Rests}
 use Rattle.forest_law.proofs.ObjectLemmas.{same_frame}
 use Rattle.forest_world.specs.Held.{TreePass, shape_of_pass, HasFrame}
 use Rattle.forest_world.proofs.HandLemmas.{rests_itself}
+use Rattle.hash_maintain.proofs.PassLemmas.{after_none}
 use Rattle.buffer_pool.specs.Forests.{TreeView}
 use Rattle.buffer_pool.specs.Frames.{TakesFrame, TellsFrame, GivesFrame, TakesOut, PutsBack}
 use Rattle.buffer_pool.specs.Lending.{ChangesFrame}
@@ -42,25 +41,6 @@ one_shown p k x y a b = same_some x y (some-injective (Some x) (Some y) (sym a �
 pub one_held : (p : TreePass) (k : ℕ) (g h : Holding Object) → Holds (view p) k g
     → Holds (view p) k h → g ≡ h
 one_held p k g h a b = same_some g h (some-injective (Some g) (Some h) (sym a ∙ b))
-
--- no refused try more is nothing more
-no_more : (v : TreeView) → with_refused v [] ≡ v
-no_more v = ap (λ (fs : List (Refusal Object)). record v { refused = fs }) (append-nil v.refused)
-
--- what was taken at once was taken after no refused try
-pub after_none : (p q : TreePass) (k : ℕ) → DidTake IsLawful IsRight IsReference p k q
-    → DidTakeAfter IsLawful IsRight IsReference p k q
-after_none p q k told = record {
-  refused = [];
-  tries = λ j f at. absurd (some-ne-none f (sym at));
-  value = told.value;
-  was_free = subst (λ v. WasFree IsLawful IsRight IsReference v k told.value)
-      (sym (no_more (view p))) told.was_free;
-  view = told.view
-      ∙ ap (λ v. with_held v k (Some (holding told.value told.value))) (sym (no_more (view p)));
-  values = told.values;
-  took = told.took;
-}
 
 -- an object that was taken rests
 pub taken_rests : (q : TreePass) (k : ℕ) (x : Object) → Has q k x x → (h : Holding Object)

@@ -14,7 +14,7 @@ use Rattle.forest_law.specs.declared.objects.Object.TheVariants as object
 use Rattle.forest_law.specs.Hashed.{IsExactFor}
 use Rattle.forest_law.specs.Numbers.{part_id}
 use Rattle.forest_world.specs.Held.{TreePass, shape_of_pass, HasPart}
-use Rattle.hash_maintain.specs.Parting.{LacksPart, TakesPart, GivesPart}
+use Rattle.hash_maintain.specs.Parting.{LacksPart, TakesPartition, GivesPart}
 use Rattle.hash_maintain.proofs.PassLemmas.{knows_forest}
 use Rattle.call_law.specs.Hands.{KnowsPart}
 use Rattle.call_law.specs.Trace.{IsNoTree}
@@ -46,14 +46,14 @@ part_below p layout shape k index fitted one other is =
     (mod_below index (shape_of_pass p).parts (knows_forest p fitted).hash.parts)
 
 -- where a partition was free, it was taken
-pub took_free : (p q : TreePass) (k : ℕ) (r : Bool) → LacksPart p k → OnTrue r (TakesPart p k q)
-    → OnFalse r (LacksPart p k → ⊥) → TakesPart p k q
+pub took_free : (p q : TreePass) (k : ℕ) (r : Bool) → LacksPart p k → OnTrue r (TakesPartition p k q)
+    → OnFalse r (LacksPart p k → ⊥) → TakesPartition p k q
 took_free p q k true lacks took held = took
 took_free p q k false lacks took held = absurd (held lacks)
 
 -- a partition that was taken is held besides, exact of each block that is held
 pub took_part : (p q : TreePass) (k : ℕ) → k < (shape_of_pass p).parts → IsKnown p
-    → TakesPart p k q → HoldsPartToo p k q
+    → TakesPartition p k q → HoldsPartToo p k q
 took_part p q k below known took = let n = part_id (shape_of_pass p) k in
     let c = took.comes in let x = object.Part took.part in
     let terms : (view q).terms ≡ (view p).terms = ap (λ v. v.terms) c.view in

@@ -15,14 +15,11 @@ use Rattle.forest_law.specs.declared.objects.Object.TheVariants as object
 use Rattle.forest_law.specs.Numbers.{pool_id, tree_id, frame_id}
 use Rattle.forest_law.specs.Outside.{HasNoOutside}
 use Rattle.forest_world.specs.Held.{TreePass, shape_of_pass, HasFrame, HasTree, HasPool, RestsBeyond}
+pub use Rattle.forest_world.specs.Held.{HoldsFrame}
 
 -- the pass lacks the block's frame
 abbrev pub LacksFrame : TreePass → ℕ → Type 0
 LacksFrame p b = Lacks p (frame_id (shape_of_pass p) b)
-
--- it holds the block's frame
-abbrev pub HoldsFrame : TreePass → ℕ → Type 0
-HoldsFrame p b = (f : Frame) × (g : Frame) × HasFrame p b f g
 
 -- it holds the block's frame, which is what it is known to be and has no page outside the trees, so
 -- that it may be given back
