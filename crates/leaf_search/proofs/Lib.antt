@@ -1,0 +1,14 @@
+pub mod AdviceLemmas
+pub mod ChangedLemmas
+pub mod BuildLemmas
+pub mod KeepLemmas
+pub mod BuiltFrameLemmas
+pub mod BuiltLemmas
+pub mod HashLemmas
+pub mod LessonLemmas
+pub mod FigureLemmas
+pub mod DownLemmas
+pub mod KeyLemmas
+pub mod HitLemmas
+pub mod TryLemmas
+pub mod SearchLemmas

@@ -1,0 +1,7 @@
+pub mod Tries
+pub mod Lessons
+pub mod Builds
+pub mod Hows
+pub mod Downs
+pub mod Searches
+pub mod Traces
