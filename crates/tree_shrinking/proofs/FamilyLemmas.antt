@@ -1,5 +1,5 @@
 -- A child of a page, and those beside it.
-use Rattle.std.proofs.Common.{◌≡◌, ◌≢◌, ℕ, Option, Some, None, IsSome, is_some, Bool, if◌then◌else◌, inl, inr, List, [], ◌∷◌, ◌++◌, sym, ap, subst, ◌∙◌, refl, arith, append_assoc, length}
+use Rattle.std.proofs.Common.{◌≡◌, ◌≢◌, ℕ, Option, Some, None, IsSome, is_some, Bool, true, false, if◌then◌else◌, inl, inr, List, [], ◌∷◌, ◌++◌, sym, ap, subst, ◌∙◌, refl, arith, append_assoc, length}
 use Rattle.std.specs.Option.{option_or}
 use Rattle.list_facts.proofs.Places.{same_some}
 use Rattle.key_tuple.specs.KeyPlace.{KeyPlace}
@@ -23,7 +23,8 @@ use Rattle.tree_descent.specs.Descents.{HoldsInner}
 use Rattle.tree_descent.specs.Paths.{PicksChild}
 use Rattle.tree_descent.proofs.InnerLemmas.{above_has_rows, inner_page}
 use Rattle.tree_shrinking.specs.declared.families.Family.{Family}
-use Rattle.tree_shrinking.specs.Families.{PointsTo, IsChildAt, TellsFamily}
+use Rattle.tree_shrinking.specs.declared.pairs.Siblings.{Siblings}
+use Rattle.tree_shrinking.specs.Families.{PointsTo, IsChildAt, TellsFamily, siblings_before, siblings_after}
 use Rattle.tree_shrinking.specs.Merging.{PointsAtPair}
 
 -- a place that is that of a row has one
@@ -56,44 +57,54 @@ ends_with : (x : Row) (xs : List Row) → (fore : List Row)
 ends_with x [] = ([], refl)
 ends_with x (y ∷ xs) = let r = ends_with y xs in (x ∷ r.0, ap (λ z. x ∷ z) r.1)
 
--- the child and the page before it, and the child and the page after it
-pub left_pair : (rows : List Row) (family : Family) (n : ℕ) → TellsFamily rows family
-    → family.left ≡ Some n → PointsAtPair rows n family.child
-left_pair rows family n t e = go t.fore refl
+-- the page points to the child and to the one before it, or after it, if there is one
+pub points_before : (rows : List Row) (family : Family) → TellsFamily rows family → (s : Siblings)
+    → siblings_before family ≡ Some s → PointsAtPair rows s.left s.right
+points_before rows family t s is = go t.fore refl
   where
-    go : (fore : List Row) → t.fore ≡ fore → PointsAtPair rows n family.child
-    go [] f = absurd (cc (subst (λ (xs : List Row). PointsTo (last_of_rows xs) family.left) f t.left, e))
+    go : (fore : List Row) → t.fore ≡ fore → PointsAtPair rows s.left s.right
+    go [] f = let none = subst (λ (xs : List Row). PointsTo (last_of_rows xs) family.left) f t.left in
+        absurd (cc (ap (λ o. siblings_before (record family { left = o })) none, is))
     go (x ∷ xs) f =
         let last = subst (λ (ys : List Row). PointsTo (last_of_rows ys) family.left) f t.left in
         let end = ends_with x xs in
-        record {
+        let found : Siblings =
+        record { left = last.0; right = family.child; right_asks = true } in
+        subst (λ (z : Siblings). PointsAtPair rows z.left z.right)
+        (same_some found s
+        (sym (ap (λ o. siblings_before (record family { left = o })) last.1) ∙ is)) (record {
           fore = end.0;
           this = last_row_after x xs;
           pointer = t.this;
           aft = t.aft;
           was = t.was ∙ (ap (λ zs. zs ++ t.this ∷ t.aft) (f ∙ end.1)
               ∙ append_assoc end.0 (last_row_after x xs ∷ []) (t.this ∷ t.aft));
-          this_is = last.2 ∙ ap Child (same_some last.0 n (sym last.1 ∙ e));
+          this_is = last.2;
           pointer_is = t.child;
-        }
+        })
 
-pub right_pair : (rows : List Row) (family : Family) (n : ℕ) → TellsFamily rows family
-    → family.right ≡ Some n → PointsAtPair rows family.child n
-right_pair rows family n t e = go t.aft refl
+pub points_after : (rows : List Row) (family : Family) → TellsFamily rows family → (s : Siblings)
+    → siblings_after family ≡ Some s → PointsAtPair rows s.left s.right
+points_after rows family t s is = go t.aft refl
   where
-    go : (aft : List Row) → t.aft ≡ aft → PointsAtPair rows family.child n
-    go [] f = absurd (cc (subst (λ (xs : List Row). PointsTo (first_of_rows xs) family.right) f t.right, e))
+    go : (aft : List Row) → t.aft ≡ aft → PointsAtPair rows s.left s.right
+    go [] f = let none = subst (λ (xs : List Row). PointsTo (first_of_rows xs) family.right) f t.right
+        in absurd (cc (ap (λ o. siblings_after (record family { right = o })) none, is))
     go (x ∷ xs) f =
         let first = subst (λ (ys : List Row). PointsTo (first_of_rows ys) family.right) f t.right in
-        record {
+        let found : Siblings =
+        record { left = family.child; right = first.0; right_asks = false } in
+        subst (λ (z : Siblings). PointsAtPair rows z.left z.right)
+        (same_some found s
+        (sym (ap (λ o. siblings_after (record family { right = o })) first.1) ∙ is)) (record {
           fore = t.fore;
           this = t.this;
           pointer = x;
           aft = xs;
           was = t.was ∙ ap (λ zs. t.fore ++ t.this ∷ zs) f;
           this_is = t.child;
-          pointer_is = first.2 ∙ ap Child (same_some first.0 n (sym first.1 ∙ e));
-        }
+          pointer_is = first.2;
+        })
 
 -- a row that is picked points to the child where the row at its place does
 pub picks_at : (cut : KeyPlace → Bool) (rows : List Row) (place child : ℕ) → IsPicked cut rows place
@@ -130,7 +141,7 @@ read_page p known b f g knows read page is =
     ap (λ (h : Frame). h.page) (read f f (frame_has p known b f knows)) ∙ is
 
 -- what a page in hand above the leaves has
-module _ (v : View) (b i : ℕ) (key : FieldList) (held : HoldsInner v b i mode.Ge key) where
+module _ {v : View} {b i : ℕ} {key : FieldList} (held : HoldsInner v b i mode.Ge key) where
   pub held_inner : held.page.is.page.head.level ≢ 0
   held_inner e = let level = held.page.is.at_level in absurd (omega (arith, level, e))
 

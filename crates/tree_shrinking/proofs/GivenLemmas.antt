@@ -1,5 +1,5 @@
 -- References of pages that were given back, as more are added.
-use Rattle.std.proofs.Common.{◌≡◌, ◌≢◌, ℕ, ◌+◌, ◌<◌, Bool, true, false, length, None, is_none, cond, List, [], ◌∷◌, ◌++◌, inl, inr, sym, ap, subst, ◌∙◌, refl, arith}
+use Rattle.std.proofs.Common.{◌≡◌, ◌≢◌, ℕ, ◌+◌, ◌<◌, Bool, length, None, is_none, cond, List, [], ◌∷◌, ◌++◌, inl, inr, sym, ap, subst, ◌∙◌, refl, arith}
 use Rattle.std.specs.List.{AllByRecursion}
 use Rattle.std.proofs.lemmas.List.Sums.{sum_by-cons, sum_by-append}
 use Rattle.key_tuple.specs.Order.{FieldList}
@@ -25,22 +25,21 @@ use Rattle.tree_shrinking.proofs.WayLemmas.{to_both, way_gave}
 abbrev pub AreAmong : List (Reference Object) → List (Reference Object) → Type 0
 AreAmong rs rs' = (x : Reference Object) → In x rs → In x rs'
 
-module _ (rs rs' : List (Reference Object)) (more : AreAmong rs rs') (s t : Shape)
-    (same : s ≡ t) where
-  pub given_more : (b : ℕ) (f : Frame) → WasGiven s b f rs → WasGiven t b f rs'
-  given_more b f g = subst (λ z. WasGiven z b f rs') same
+module _ {rs rs' : List (Reference Object)} {s t : Shape} (more : AreAmong rs rs') (same : s ≡ t) where
+  pub given_more : {b : ℕ} {f : Frame} → WasGiven s b f rs → WasGiven t b f rs'
+  given_more {b} {f} g = subst (λ z. WasGiven z b f rs') same
       (record { taken = g.taken; among = more _ g.among })
 
-  pub apart_more : (i left right : ℕ) (asks : Bool) → StayApart s i left right asks rs
+  pub apart_more : {i left right : ℕ} {asks : Bool} → StayApart s i left right asks rs
       → StayApart t i left right asks rs'
-  apart_more i left right asks a = record {
+  apart_more a = record {
     level = a.level;
     lower_block = a.lower_block;
     upper_block = a.upper_block;
     lower = a.lower;
     upper = a.upper;
-    gave_left = given_more a.lower_block a.lower a.gave_left;
-    gave_right = given_more a.upper_block a.upper a.gave_right;
+    gave_left = given_more a.gave_left;
+    gave_right = given_more a.gave_right;
     is_left = a.is_left;
     is_right = a.is_right;
     left_number = a.left_number;
@@ -48,11 +47,10 @@ module _ (rs rs' : List (Reference Object)) (more : AreAmong rs rs') (s t : Shap
     apart = a.apart;
   }
 
-  pub alone_more : (i : ℕ) (family : Family) → StaysAlone s i family rs
-      → StaysAlone t i family rs'
-  alone_more i family a = record {
-    before = λ n e. apart_more i n family.child true (a.before n e);
-    after = λ n e. apart_more i family.child n false (a.after n e);
+  pub alone_more : {i : ℕ} {family : Family} → StaysAlone s i family rs → StaysAlone t i family rs'
+  alone_more a = record {
+    before = λ n e. apart_more (a.before n e);
+    after = λ n e. apart_more (a.after n e);
   }
 
 pub rests_more : (rs rs' : List (Reference Object)) → AreAmong rs rs' → (s t : Shape) → s ≡ t
@@ -62,18 +60,18 @@ rests_more rs rs' more s t same i level key r = subst (λ z. RestsAt z i level k
       | inl u ↦ inl (record {
         parent = u.parent;
         up = u.up;
-        gave = given_more rs rs' more s s refl u.parent u.up u.gave;
+        gave = given_more more refl u.gave;
         page = u.page;
         family = u.family;
         tells = u.tells;
         picks = u.picks;
-        alone = alone_more rs rs' more s s refl i u.family u.alone;
+        alone = alone_more more refl u.alone;
       })
       | inr e ↦ inr (record {
         top = e.top;
         block = e.block;
         root = e.root;
-        gave = given_more rs rs' more s s refl e.block e.root e.gave;
+        gave = given_more more refl e.gave;
         page = e.page;
         number = e.number;
         low = e.low;
@@ -100,33 +98,33 @@ one_freed (q ∷ rs) k taken f among none = elim among [
       omega (arith, rest, sum))
 ]
 
-module _ (p q r : TreePass) (i : ℕ) (key : FieldList) (bs cs : List ℕ) (first : GoesTo p i key bs q)
+module _ {p q r : TreePass} {i : ℕ} {key : FieldList} {bs cs : List ℕ} (first : GoesTo p i key bs q)
     (second : GoesTo q i key cs r) where
   -- what the first way added, and what the second one did, is among all
   pub among_first : AreAmong first.goes.added.references
-      (to_both p q r i key bs cs first second).goes.added.references
+      (to_both first second).goes.added.references
   unfolding to_both goes_both
   among_first x among = in_first x first.goes.added.references second.goes.added.references among
 
   pub among_second : AreAmong second.goes.added.references
-      (to_both p q r i key bs cs first second).goes.added.references
+      (to_both first second).goes.added.references
   unfolding to_both goes_both
   among_second x among =
       in_second x first.goes.added.references second.goes.added.references among
 
-  pub freed_both : pages_freed (to_both p q r i key bs cs first second).goes.added.references
+  pub freed_both : pages_freed (to_both first second).goes.added.references
       ≡ pages_freed first.goes.added.references + pages_freed second.goes.added.references
   unfolding to_both goes_both
   freed_both = freed_append first.goes.added.references second.goes.added.references
 
 -- the frame that was given back is among what was added
-pub gave_among : (p q : TreePass) (i : ℕ) (key : FieldList) (bs cs : List ℕ)
-    (way : IsGoingDown p i key bs) (b : ℕ) (gave : GivesFrame p b q)
+pub gave_among : {p q : TreePass} {i : ℕ} {key : FieldList} {bs : List ℕ} {b : ℕ} (cs : List ℕ)
+    (way : IsGoingDown p i key bs) (gave : GivesFrame p b q)
     (cover : (k : ℕ) → k ≢ frame_id (shape_of_pass p) b
     → AllByRecursion (λ (c : ℕ). k ≢ frame_id (shape_of_pass p) c) cs
     → AllByRecursion (λ (c : ℕ). k ≢ frame_id (shape_of_pass p) c) bs)
     (long : length bs ≡ length cs + 1)
     → WasGiven (shape_of_pass p) b gave.frame
-    (way_gave p q i key bs cs way b gave cover long).goes.added.references
+    (way_gave {cs = cs} way gave cover long).goes.added.references
 unfolding way_gave goes_gave
-gave_among p q i key bs cs way b gave cover long = record { taken = gave.taken; among = inl refl }
+gave_among cs way gave cover long = record { taken = gave.taken; among = inl refl }

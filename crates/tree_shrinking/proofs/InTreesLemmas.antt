@@ -20,11 +20,11 @@ abbrev HasAllFrames : TreePass → Type 0
 HasAllFrames p = (view p).terms.objects ≡ frame_id (shape_of_pass p) (frames_of (shape_of_pass p))
 
 -- two pages and the one above them alone are in hand
-pub pair_inside : (p : TreePass) (at : SplitBlocks) (i : ℕ)
+pub pair_inside : (p : TreePass) {at : SplitBlocks} {i : ℕ}
     → CanMerge (view p) at.parent at.child at.right i → HasAllFrames p
     → HoldsNoFrameBut (view p) (at.parent ∷ at.child ∷ at.right ∷ [])
     → HoldsNoOutside (view p)
-pair_inside p at i can objects only =
+pair_inside p {at} {i} can objects only =
     none_outside_but p (at.parent ∷ at.child ∷ at.right ∷ []) objects only (
       knows_inside (view p) at.parent i (suc can.level) can.up can.knows_up can.above,
       (
@@ -33,7 +33,7 @@ pair_inside p at i can objects only =
       ),
     )
 
-module _ (p q : TreePass) (n b : ℕ) (took : PagesIn p n b q) where
+module _ {p q : TreePass} {n b : ℕ} (took : PagesIn p n b q) where
   shape_took : shape_of_pass q ≡ shape_of_pass p
   shape_took = does_shape p q (frame_id (shape_of_pass p) b ∷ []) took.silently.added
       took.silently.does
@@ -47,11 +47,11 @@ module _ (p q : TreePass) (n b : ℕ) (took : PagesIn p n b q) where
       ∙ only c (subst (λ (s : Shape). c < frames_of s) shape_took below) apart.1)
 
   -- those pages and the one behind them alone are in hand
-  pub behind_inside : (at : SplitBlocks) (i : ℕ)
+  pub behind_inside : {at : SplitBlocks} {i : ℕ}
       → CanMerge (view q) at.parent at.child at.right i → HasAllFrames q
       → HoldsNoFrameBut (view p) (at.parent ∷ at.child ∷ at.right ∷ [])
       → HoldsNoOutside (view q)
-  behind_inside at i can objects only =
+  behind_inside {at} {i} can objects only =
       none_outside_but q (b ∷ at.parent ∷ at.child ∷ at.right ∷ []) objects
       (frames_took (at.parent ∷ at.child ∷ at.right ∷ []) only) (
         (took.frame, took.knows, took.inside),
@@ -65,9 +65,9 @@ module _ (p q : TreePass) (n b : ℕ) (took : PagesIn p n b q) where
       )
 
 -- a root and its only child alone are in hand
-pub lift_inside : (p : TreePass) (i b child : ℕ) → CanLift (view p) i b child → HasAllFrames p
+pub lift_inside : (p : TreePass) {i b child : ℕ} → CanLift (view p) i b child → HasAllFrames p
     → HoldsNoFrameBut (view p) (b ∷ child ∷ []) → HoldsNoOutside (view p)
-lift_inside p i b child can objects only =
+lift_inside p {i} {b} {child} can objects only =
     none_outside_but p (b ∷ child ∷ []) objects only (
       knows_inside (view p) b i (suc can.level) can.root can.knows_root can.above,
       (knows_inside (view p) child i can.level can.low can.knows_low can.below, tt),

@@ -1,5 +1,5 @@
 -- A page is merged with one beside it, or isn't, on the way up.
-use Rattle.std.proofs.Common.{ℕ, suc, List, [], ◌∷◌}
+use Rattle.std.proofs.Common.{◌≡◌, ℕ, suc, Option, Some, List, [], ◌∷◌}
 use Rattle.key_tuple.specs.Order.{FieldList}
 use Rattle.key_tuple.specs.declared.mode.Mode.TheVariants as mode
 use Rattle.latch_space.specs.Passes.{view}
@@ -9,28 +9,27 @@ use Rattle.tree_descent.specs.Descents.{HoldsInner}
 use Rattle.tree_descent.proofs.PageLemmas.{tree_page_inside}
 use Rattle.tree_growth.specs.Ways.{IsGoingDown}
 use Rattle.tree_growth.proofs.AddLemmas.{goes_nowhere}
-use Rattle.tree_shrinking.specs.declared.families.Family.{Family}
 use Rattle.tree_shrinking.specs.declared.pairs.Pair.{Pair}
 use Rattle.tree_shrinking.specs.declared.pairs.Siblings.{Siblings}
-use Rattle.tree_shrinking.specs.Families.{TellsFamily, HoldsFamily}
-use Rattle.tree_shrinking.specs.Pairs.{HoldsPair, GoesTo, StillKnows, ComesBack, TakesPair}
+use Rattle.tree_shrinking.specs.Merging.{PointsAtPair}
+use Rattle.tree_shrinking.specs.Pairs.{HoldsAboveIf, HoldsPair, GoesTo, StillKnows, ComesBack, TakesPair}
 use Rattle.tree_shrinking.proofs.WayLemmas.{to_both, still_nothing, way_nothing}
 
 -- one way behind another, back to the page above
-abbrev pub back_after : (p q r : TreePass) (parent i : ℕ) (key : FieldList) (bs : List ℕ)
+abbrev pub back_after : {p q r : TreePass} {parent i : ℕ} {key : FieldList} {bs : List ℕ}
     → GoesTo p i key bs q → ComesBack q parent i key r → ComesBack p parent i key r
-back_after p q r parent i key bs first back = record {
-  to = to_both p q r i key bs (parent ∷ []) first back.to;
+back_after first back = record {
+  to = to_both first back.to;
   up = back.up;
   knows = back.knows;
   inside = back.inside;
 }
 
 -- the page above was never left
-abbrev pub back_at_once : (p : TreePass) (parent i : ℕ) (key : FieldList) (family : Family)
-    → IsGoingDown p i key (parent ∷ []) → HoldsFamily (view p) parent i family
+abbrev pub back_at_once : {p : TreePass} {parent i : ℕ} {key : FieldList} {asked : Option Siblings}
+    → IsGoingDown p i key (parent ∷ []) → HoldsAboveIf (view p) parent asked i
     → ComesBack p parent i key p
-back_at_once p parent i key family way h = record {
+back_at_once {p} {parent} {i} way h = record {
   to = record { goes = goes_nowhere p; way = way };
   up = h.up;
   knows = h.knows;
@@ -38,54 +37,44 @@ back_at_once p parent i key family way h = record {
 }
 
 -- a pair is still in hand where nothing was done
-pub pair_still : (p q : TreePass) (pair : Pair) (i : ℕ) → GetsNothing p q
+pub pair_still : {p q : TreePass} {pair : Pair} {i : ℕ} → GetsNothing p q
     → HoldsPair (view p) pair i → HoldsPair (view q) pair i
-pair_still p q pair i got h = record {
+pair_still {pair = pair} got h = record {
   level = h.level;
   up = h.up;
   lower = h.lower;
   upper = h.upper;
-  knows_up = still_nothing p q got pair.parent h.up h.knows_up;
-  knows_left = still_nothing p q got pair.left h.lower h.knows_left;
-  knows_right = still_nothing p q got pair.right h.upper h.knows_right;
+  knows_up = still_nothing got pair.parent h.up h.knows_up;
+  knows_left = still_nothing got pair.left h.lower h.knows_left;
+  knows_right = still_nothing got pair.right h.upper h.knows_right;
   above = h.above;
   is_left = h.is_left;
   is_right = h.is_right;
   points = h.points;
 }
 
--- the children of a page above the leaves that has the key
-pub family_held : (p : TreePass) (parent i : ℕ) (key : FieldList) (family : Family)
-    (held : HoldsInner (view p) parent i mode.Ge key) → TellsFamily held.page.is.page.rows family
-    → HoldsFamily (view p) parent i family
-family_held p parent i key family held tells = record {
+-- a page above the leaves that has the key, as it is known now, points to the child and to these
+-- beside it
+pub above_family : {parent i : ℕ} {key : FieldList} (p q : TreePass)
+    (asked : Option Siblings) (held : HoldsInner (view p) parent i mode.Ge key)
+    → StillKnows p parent q
+    → ((s : Siblings) → asked ≡ Some s → PointsAtPair held.page.is.page.rows s.left s.right)
+    → HoldsAboveIf (view q) parent asked i
+above_family p q asked held still points = record {
   level = held.level;
   up = held.frame;
-  knows = held.knows;
+  knows = still held.frame held.knows;
   above = held.page.is;
-  tells = tells;
-}
-
--- the children of a page that stayed as it was
-pub family_still : (p q : TreePass) (parent i : ℕ) (family : Family)
-    → HoldsFamily (view p) parent i family → StillKnows p parent q
-    → HoldsFamily (view q) parent i family
-family_still p q parent i family h still = record {
-  level = h.level;
-  up = h.up;
-  knows = still h.up h.knows;
-  above = h.above;
-  tells = h.tells;
+  points = points;
 }
 
 -- both pages were taken and given back
-module _ (p q r : TreePass) (pair : Pair) (asked : Siblings) (i : ℕ) (key : FieldList)
+module _ {p q r : TreePass} {pair : Pair} {asked : Siblings} {i : ℕ} {key : FieldList}
     (took : TakesPair p pair asked i key q) (gave : GoesTo q i key (pair.parent ∷ []) r)
     (still : StillKnows q pair.parent r) where
   abbrev pub taken_back : ComesBack p pair.parent i key r
   taken_back = record {
-    to = to_both p q r i key (pair.parent ∷ pair.left ∷ pair.right ∷ []) (pair.parent ∷ []) took.to
-        gave;
+    to = to_both took.to gave;
     up = took.held.up;
     knows = still took.held.up took.held.knows_up;
     inside = tree_page_inside took.held.up i (suc took.held.level) took.held.above;
@@ -95,15 +84,9 @@ module _ (p q r : TreePass) (pair : Pair) (asked : Siblings) (i : ℕ) (key : Fi
   taken_still f knows = still f (took.still f knows)
 
 -- and so after nothing was done between
-pub failed_back : (p q r s : TreePass) (pair : Pair) (asked : Siblings) (i : ℕ) (key : FieldList)
+pub failed_back : {p q r s : TreePass} {pair : Pair} {asked : Siblings} {i : ℕ} {key : FieldList}
     → TakesPair p pair asked i key q → GetsNothing q r → GoesTo r i key (pair.parent ∷ []) s
     → StillKnows r pair.parent s → ComesBack p pair.parent i key s
-failed_back p q r s pair asked i key took got gave still = record {
-  to = to_both p q s i key (pair.parent ∷ pair.left ∷ pair.right ∷ []) (pair.parent ∷ []) took.to
-      (to_both q r s i key (pair.parent ∷ pair.left ∷ pair.right ∷ []) (pair.parent ∷ [])
-      (way_nothing q r got i key (pair.parent ∷ pair.left ∷ pair.right ∷ []) took.to.way) gave);
-  up = took.held.up;
-  knows = still took.held.up
-      (still_nothing q r got pair.parent took.held.up took.held.knows_up);
-  inside = tree_page_inside took.held.up i (suc took.held.level) took.held.above;
-}
+failed_back {pair = pair} took got gave still =
+    taken_back took (to_both (way_nothing got took.to.way) gave)
+    (λ f knows. still f (still_nothing got pair.parent f knows))

@@ -32,7 +32,7 @@ use Rattle.tree_shrinking.proofs.GivenLemmas.{freed_append, one_freed}
 use Rattle.tree_shrinking.proofs.MergePlanLemmas.{right_apart, pair_apart}
 use Rattle.tree_shrinking.proofs.WayLemmas.{way_without}
 
-module _ (p q : TreePass) (parent left right i : ℕ) (key : FieldList) (fitted : IsFittedTree (view p))
+module _ {p q : TreePass} {parent left right i : ℕ} {key : FieldList} (fitted : IsFittedTree (view p))
     (way : IsGoingDown p i key (parent ∷ left ∷ right ∷ []))
     (made : MergesChildren p parent left right i q) where
   abbrev m : TreePass
@@ -70,7 +70,7 @@ module _ (p q : TreePass) (parent left right i : ℕ) (key : FieldList) (fitted 
   unfoldable pub way_joined : GoesTo p i key (parent ∷ left ∷ []) q
   way_joined = let had = way.count in let same = made.merges.count in
       let less = made.frees.count in
-      way_without p q i key (parent ∷ left ∷ right ∷ []) (parent ∷ left ∷ []) way right ids all.added
+      way_without way right ids all.added
       all.does.adds all.silent all.does.rest all.does.known
       (ap (λ (s : Shape). get_elem? (view q).held (frame_id s right)) (sym shapes)
       ∙ made.frees.lacks)
@@ -99,11 +99,10 @@ module _ (p q : TreePass) (parent left right i : ℕ) (key : FieldList) (fitted 
       omega (arith, sum, one)
 
   apart_parent : right ≢ parent
-  apart_parent = right_apart (view p) fitted.whole fitted.is_lawful fitted.fits parent left right i
-      can
+  apart_parent = right_apart fitted can
 
   apart_left : right ≢ left
-  apart_left = pair_apart (view p) fitted.whole fitted.is_lawful fitted.fits parent left right i can
+  apart_left = pair_apart fitted can
 
   -- another frame is known as before the right one's number was freed
   still : (b : ℕ) (f : Frame) → right ≢ b → KnowsFrame (view m) b f → KnowsFrame (view q) b f

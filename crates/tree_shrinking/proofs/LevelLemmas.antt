@@ -8,19 +8,17 @@ use Rattle.tree_growth.specs.Ways.{ArrivesAt}
 use Rattle.tree_shrinking.specs.Pairs.{GoesTo, ComesBack}
 use Rattle.tree_shrinking.proofs.WayLemmas.{way_gave, to_both}
 
-module _ (p q : TreePass) (i : ℕ) (key : FieldList) (at : PageInHand)
+module _ {p q : TreePass} {i : ℕ} {key : FieldList} {at : PageInHand}
     (reaches : ArrivesAt p i key 0 at q) where
   abbrev pub arrived : GoesTo p i key (at.block ∷ []) q
   arrived = record { goes = reaches.goes; way = reaches.way }
 
   -- at once
-  abbrev pub given_at_once : (r : TreePass) → GivesFrame q at.block r → GoesTo p i key [] r
-  given_at_once r gave = to_both p q r i key (at.block ∷ []) [] arrived
-      (way_gave q r i key (at.block ∷ []) [] reaches.way at.block gave (λ k ne each. (ne, tt)) refl)
+  abbrev pub given_at_once : {r : TreePass} → GivesFrame q at.block r → GoesTo p i key [] r
+  given_at_once gave = to_both arrived (way_gave reaches.way gave (λ k ne each. (ne, tt)) refl)
 
   -- or after a page under it was merged, or wasn't
-  abbrev pub given_after : (r s : TreePass) → ComesBack q at.block i key r → GivesFrame r at.block s
+  abbrev pub given_after : {r s : TreePass} → ComesBack q at.block i key r → GivesFrame r at.block s
       → GoesTo p i key [] s
-  given_after r s back gave = to_both p r s i key (at.block ∷ []) []
-      (to_both p q r i key (at.block ∷ []) (at.block ∷ []) arrived back.to)
-      (way_gave r s i key (at.block ∷ []) [] back.to.way at.block gave (λ k ne each. (ne, tt)) refl)
+  given_after back gave = to_both (to_both arrived back.to)
+      (way_gave back.to.way gave (λ k ne each. (ne, tt)) refl)

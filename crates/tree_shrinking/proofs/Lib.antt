@@ -1,5 +1,7 @@
+pub mod NumberLemmas
 pub mod MovedPairLemmas
-pub mod MergeRowLemmas
+pub mod KeptPairLemmas
+pub mod MovedRowLemmas
 pub mod MergeHandLemmas
 pub mod MergePlanLemmas
 pub mod PartAroundLemmas
@@ -9,12 +11,11 @@ pub mod MergeStepLemmas
 pub mod MergeAroundLemmas
 pub mod MergeNextLemmas
 pub mod InTreesLemmas
-pub mod MergeCallLemmas
-pub mod SinkRowLemmas
+pub mod TableLemmas
 pub mod SinkHandLemmas
 pub mod SinkLemmas
+pub mod SinkStepLemmas
 pub mod SinkAroundLemmas
-pub mod LiftLemmas
 pub mod FamilyLemmas
 pub mod WayLemmas
 pub mod OtherLemmas

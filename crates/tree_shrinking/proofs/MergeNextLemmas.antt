@@ -21,21 +21,16 @@ use Rattle.buffer_pool.proofs.AddedLemmas.{frame_still, frame_before}
 use Rattle.buffer_pool.proofs.CallLemmas.{frame_has, gave_frame}
 use Rattle.tree_growth.proofs.KnownLemmas.{lacked_apart}
 use Rattle.tree_smo.specs.declared.halves.SplitBlocks.{SplitBlocks}
-use Rattle.tree_smo.specs.Remakes.{IsAsBefore}
 use Rattle.tree_smo.proofs.LawfulLemmas.{known_page}
-use Rattle.tree_smo.proofs.SilentLemmas.{does_shape, does_weaker, silently_same, around_added, does_around, said_around}
+use Rattle.tree_smo.proofs.SilentLemmas.{does_shape, does_weaker, around_added, does_around, said_around}
 use Rattle.tree_shrinking.specs.Merging.{CanMerge, MergesPair}
 use Rattle.tree_shrinking.specs.MergePlans.{HoldsMerge, merge_ids, MakesMerge}
-use Rattle.tree_shrinking.proofs.MergePlanLemmas.{behind, not_right, not_left, not_parent}
+use Rattle.tree_shrinking.proofs.MergePlanLemmas.{can_still, behind, not_right, not_left, not_parent}
 use Rattle.tree_shrinking.proofs.OtherLemmas.{held_knows, has_other, holds_others}
 use Rattle.tree_shrinking.proofs.WayLemmas.{still_took}
 
--- a pass that is as before got nothing
-pub nothing_made : (p q : TreePass) → IsAsBefore p q → GetsNothing p q
-nothing_made p q same = record { silently = silently_same p q same; count = same.same_count }
-
 -- the right page, as it is read in its frame
-module _ (p : TreePass) (known : IsKnown p) (at : SplitBlocks) (i : ℕ)
+module _ (p : TreePass) (known : IsKnown p) {at : SplitBlocks} {i : ℕ}
     (can : CanMerge (view p) at.parent at.child at.right i) (f : Frame)
     (read : (x y : Frame) → HasFrame p at.right x y → f ≡ y) where
   paged : f.page ≡ Some can.is_right.page
@@ -51,16 +46,10 @@ module _ (p : TreePass) (known : IsKnown p) (at : SplitBlocks) (i : ℕ)
       → can.is_right.page.head.next ≡ head.next
   next_read head is = ap (λ (z : PageHead). z.next) (sym (is can.is_right.page paged))
 
--- no page is behind
-pub holds_last : (p : TreePass) (at : SplitBlocks) (i : ℕ)
-    (can : CanMerge (view p) at.parent at.child at.right i)
-    → can.is_right.page.head.next ≡ None → HoldsMerge (view p) at i None
-holds_last p at i can e = record { can = can; behind = e }
-
 -- the page that was right is outside the trees and empty
-pub outside_now : (p q : TreePass) (at : SplitBlocks) (i : ℕ) (next : Option ℕ)
+outside_now : {p q : TreePass} {at : SplitBlocks} {i : ℕ} {next : Option ℕ}
     → MakesMerge p at i next q → HoldsOutsidePage (view q) at.right
-outside_now p q at i next made = let m = made.merges.merges.merge in record {
+outside_now made = let m = made.merges.merges.merge in record {
   frame = made.merges.now.right;
   knows = made.merges.knows.right;
   page = m.gone;
@@ -70,9 +59,9 @@ outside_now p q at i next made = let m = made.merges.merges.merge in record {
   empty = ap (λ (x : PageRows). x.rows) m.merges.is_gone;
 }
 
-pub pair_last : (p q : TreePass) (at : SplitBlocks) (i : ℕ) → MakesMerge p at i None q
+pub pair_last : {p q : TreePass} {at : SplitBlocks} {i : ℕ} → MakesMerge p at i None q
     → MergesPair p at.parent at.child at.right i q
-pair_last p q at i made = record {
+pair_last made = record {
   silently = made.silently;
   was = made.merges.was.can;
   up = made.merges.now.up;
@@ -82,43 +71,44 @@ pair_last p q at i made = record {
   knows_whole = made.merges.knows.left;
   knows_gone = made.merges.knows.right;
   merges = made.merges.merges;
-  outside = outside_now p q at i None made;
+  outside = outside_now made;
   count = made.count;
 }
 
-module _ (p : TreePass) (at : SplitBlocks) (i : ℕ)
-    (can : CanMerge (view p) at.parent at.child at.right i) (n : ℕ)
+module _ (p : TreePass) {at : SplitBlocks} {i n : ℕ}
+    (can : CanMerge (view p) at.parent at.child at.right i)
     (next : can.is_right.page.head.next ≡ Some n) where
   -- the page behind is there, and no such page is in hand
   pub next_live : IsLive (view p) n
   next_live w law fits =
-      let b = behind (view p) w law fits at.parent at.child at.right i can n next in (b.after, b.at)
+      let fitted : IsFittedTree (view p) =
+      record { whole = w; is_lawful = law; fits = fits } in
+      let b = behind fitted can n next in (b.after, b.at)
 
   pub next_other : IsFittedTree (view p)
       → (view p).terms.objects ≡ frame_id (shape_of_pass p) (frames_of (shape_of_pass p))
       → HoldsNoFrameBut (view p) (at.parent ∷ at.child ∷ at.right ∷ []) → HoldsOtherPages (view p) n
   next_other fitted objects only =
-      let v = view p in let w = fitted.whole in
-      let law = fitted.is_lawful in let fits = fitted.fits in
+      let v = view p in
       holds_others v n (at.parent ∷ at.child ∷ at.right ∷ [])
       (held_knows p (at.parent ∷ at.child ∷ at.right ∷ []) objects only) (
         has_other v n at.parent can.up can.above.page can.knows_up can.above.paged
-            (not_parent v w law fits at.parent at.child at.right i can n next),
+            (not_parent fitted can n next),
         (
           has_other v n at.child can.lower can.is_left.page can.knows_left can.is_left.paged
-              (not_left v w law fits at.parent at.child at.right i can n next),
+              (not_left fitted can n next),
           (
             has_other v n at.right can.upper can.is_right.page can.knows_right can.is_right.paged
-                (not_right v w law fits at.parent at.child at.right i can n next),
+                (not_right fitted can n next),
             tt,
           ),
         ),
       )
 
 -- no partition is held where a page was taken, as none was
-pub parts_took : (p : TreePass) (n b : ℕ) (q : TreePass) → PagesIn p n b q → HoldsNoTable (view p)
+pub parts_took : {p : TreePass} {n b : ℕ} {q : TreePass} → PagesIn p n b q → HoldsNoTable (view p)
     → HoldsNoPart (view q)
-parts_took p n b q took none = let does = took.silently.does in
+parts_took {p} {n} {b} {q} took none = let does = took.silently.does in
     parts_lacked (view p) (view q)
     (does_shape p q (frame_id (shape_of_pass p) b ∷ []) took.silently.added does)
     (λ k part lacks. does.rest k (part_no_frame (shape_of_pass p) k b part, tt) ∙ lacks) none.parts
@@ -130,14 +120,7 @@ pub record NextTaken (p : TreePass) (at : SplitBlocks) (i n b : ℕ) (q : TreePa
   pub took : PagesIn p n b q
   pub fitted : IsFittedTree (view q)
 
-abbrev pub next_taken : (p : TreePass) (at : SplitBlocks) (i n b : ℕ) (q : TreePass)
-    → (can : CanMerge (view p) at.parent at.child at.right i)
-    → can.is_right.page.head.next ≡ Some n → PagesIn p n b q → IsFittedTree (view q)
-    → NextTaken p at i n b q
-next_taken p at i n b q can next took fitted =
-    record { can = can; next = next; took = took; fitted = fitted }
-
-module _ (p : TreePass) (at : SplitBlocks) (i n b : ℕ) (q : TreePass)
+module _ {p : TreePass} {at : SplitBlocks} {i n b : ℕ} {q : TreePass}
     (c : NextTaken p at i n b q) where
   abbrev can : CanMerge (view p) at.parent at.child at.right i
   can = c.can
@@ -167,26 +150,15 @@ module _ (p : TreePass) (at : SplitBlocks) (i n b : ℕ) (q : TreePass)
 
   -- the three pages are still held
   abbrev still_can : CanMerge (view q) at.parent at.child at.right i
-  still_can = record {
-    level = can.level;
-    up = can.up;
-    lower = can.lower;
-    upper = can.upper;
-    knows_up = still_took p q n b took at.parent can.up can.knows_up;
-    knows_left = still_took p q n b took at.child can.lower can.knows_left;
-    knows_right = still_took p q n b took at.right can.upper can.knows_right;
-    above = can.above;
-    is_left = can.is_left;
-    is_right = can.is_right;
-    points = can.points;
-    fits = can.fits;
-  }
+  still_can = can_still can (still_took took at.parent can.up can.knows_up)
+      (still_took took at.child can.lower can.knows_left)
+      (still_took took at.right can.upper can.knows_right)
 
   -- the page behind is one of the trees, of the children's level
   abbrev tree_page : HasTreePage took.frame i can.level
   tree_page =
       let w = c.fitted.whole in let law = c.fitted.is_lawful in let fits = c.fitted.fits in
-      let a = behind (view q) w law fits at.parent at.child at.right i still_can n c.next in
+      let a = behind c.fitted still_can n c.next in
       let page = took.has.page in
       let same = known_page w law (view q) fits b took.frame page took.knows took.has.paged n
       a.after took.has.number a.at in record {
@@ -244,7 +216,7 @@ module _ (p : TreePass) (at : SplitBlocks) (i n b : ℕ) (q : TreePass)
           → KnowsFrame (view s) a f = λ a f differ knows. frame_still (view r) (view s)
           (frame_id (shape_of_pass r) b ∷ []) back.adds.numbers back.rest a
           (λ z. differ (omega (arith, z)), tt) f knows in
-          let outside = outside_now q r at i (Some b) made in
+          let outside = outside_now made in
           record {
             silently = record {
               added = around_added p q r s b silent gave made.silently.added;
@@ -260,20 +232,9 @@ module _ (p : TreePass) (at : SplitBlocks) (i n b : ℕ) (q : TreePass)
               silent = said_around p q r s b silent gave made.silently.added
                   ∙ made.silently.silent;
             };
-            was = record {
-              level = can'.level;
-              up = can'.up;
-              lower = can'.lower;
-              upper = can'.upper;
-              knows_up = before at.parent can'.up apart_parent can'.knows_up;
-              knows_left = before at.child can'.lower apart_left can'.knows_left;
-              knows_right = before at.right can'.upper apart_right can'.knows_right;
-              above = can'.above;
-              is_left = can'.is_left;
-              is_right = can'.is_right;
-              points = can'.points;
-              fits = can'.fits;
-            };
+            was = can_still can' (before at.parent can'.up apart_parent can'.knows_up)
+                (before at.child can'.lower apart_left can'.knows_left)
+                (before at.right can'.upper apart_right can'.knows_right);
             up = made.merges.now.up;
             whole = made.merges.now.left;
             gone = made.merges.now.right;

@@ -1,5 +1,5 @@
 -- A merge can be made with the frames that are known.
-use Rattle.std.proofs.Common.{◌≡◌, ◌≢◌, ℕ, false, sym, ap, refl, arith, Option, Some}
+use Rattle.std.proofs.Common.{◌≡◌, ◌≢◌, ◌<◌, ◌^◌, ℕ, false, sym, ap, refl, arith, Option, Some}
 use Rattle.latch_space.specs.Has.{IsKnown}
 use Rattle.latch_space.specs.Passes.{view}
 use Rattle.index_page.specs.declared.TheConstants.{NO_PAGE}
@@ -8,9 +8,8 @@ use Rattle.tree_law.specs.Pages.{Page}
 use Rattle.forest_law.specs.declared.objects.Frame.{Frame}
 use Rattle.forest_law.specs.Law.{IsLawful}
 use Rattle.forest_law.specs.State.{ForestState}
-use Rattle.forest_world.specs.Held.{TreePass}
+use Rattle.forest_world.specs.Held.{TreePass, shape_of_pass}
 use Rattle.tree_facts.specs.Neighbours.{HasNextPage}
-use Rattle.tree_facts.specs.TreeFrames.{IsTreeFrame}
 use Rattle.tree_facts.proofs.NeighbourLemmas.{next_pages_fit}
 use Rattle.tree_merging.specs.FrameMerges.{SuitsMerge}
 use Rattle.tree_merging.specs.Siblings.{AreSiblings}
@@ -20,8 +19,10 @@ use Rattle.buffer_pool.specs.Forests.{FitsTrees, IsFittedTree}
 use Rattle.buffer_pool.specs.Pages.{HasTreePage}
 use Rattle.tree_smo.specs.declared.halves.SplitBlocks.{SplitBlocks}
 use Rattle.tree_smo.specs.Halves.{AreThree}
+use Rattle.tree_smo.specs.PartHeld.{LawsOfMoves}
 use Rattle.tree_smo.proofs.LawfulLemmas.{one_page, known_page, tree_frame}
 use Rattle.tree_shrinking.specs.declared.pairs.Pair.{Pair}
+use Rattle.tree_shrinking.specs.Hashing.{HoldsTheirPart}
 use Rattle.tree_shrinking.specs.Merging.{CanMerge}
 use Rattle.tree_shrinking.specs.MergePlans.{HoldsMerge}
 use Rattle.tree_shrinking.specs.Pairs.{HoldsPair}
@@ -32,9 +33,9 @@ abbrev pair_of : (parent left right : ℕ) → Pair
 pair_of parent left right =
     record { parent = parent; left = left; right = right; right_asks = false }
 
-abbrev pair_held : (v : View) (parent left right i : ℕ) → CanMerge v parent left right i
+abbrev pair_held : {v : View} {parent left right i : ℕ} → CanMerge v parent left right i
     → HoldsPair v (pair_of parent left right) i
-pair_held v parent left right i can = record {
+pair_held can = record {
   level = can.level;
   up = can.up;
   lower = can.lower;
@@ -48,29 +49,50 @@ pair_held v parent left right i can = record {
   points = can.points;
 }
 
+-- they can be merged in any hand that knows all three frames so
+abbrev pub can_still : {v u : View} {parent left right i : ℕ}
+    → (can : CanMerge v parent left right i) → KnowsFrame u parent can.up
+    → KnowsFrame u left can.lower → KnowsFrame u right can.upper → CanMerge u parent left right i
+can_still can up lower upper = record {
+  level = can.level;
+  up = can.up;
+  lower = can.lower;
+  upper = can.upper;
+  knows_up = up;
+  knows_left = lower;
+  knows_right = upper;
+  above = can.above;
+  is_left = can.is_left;
+  is_right = can.is_right;
+  points = can.points;
+  fits = can.fits;
+}
+
 -- what a lawful state tells of them
-module _ (v : View) (w : ForestState) (law : IsLawful w) (fits : FitsTrees w v)
-    (parent left right i : ℕ) (can : CanMerge v parent left right i) where
-  pub right_frame : IsTreeFrame w right can.upper can.is_right.page
-  right_frame = tree_frame w law v fits right i can.level can.upper can.knows_right can.is_right
+module _ {v : View} (fitted : IsFittedTree v) {parent left right i : ℕ}
+    (can : CanMerge v parent left right i) where
+  abbrev w : ForestState
+  w = fitted.whole
+
+  abbrev law : IsLawful w
+  law = fitted.is_lawful
+
+  abbrev fits : FitsTrees w v
+  fits = fitted.fits
 
   pub siblings : AreSiblings can.lower can.upper can.above.page can.is_left.page can.is_right.page
       can.points.pointer.key
-  siblings = siblings_are v w law fits (pair_of parent left right) i
-      (pair_held v parent left right i can)
+  siblings = siblings_are fitted (pair_held can)
 
   -- the three blocks differ
   pub left_apart : left ≢ parent
-  left_apart = left_parent v w law fits (pair_of parent left right) i
-      (pair_held v parent left right i can)
+  left_apart = left_parent fitted (pair_held can)
 
   pub right_apart : right ≢ parent
-  right_apart = right_parent v w law fits (pair_of parent left right) i
-      (pair_held v parent left right i can)
+  right_apart = right_parent fitted (pair_held can)
 
   pub pair_apart : right ≢ left
-  pair_apart = both_apart v w law fits (pair_of parent left right) i
-      (pair_held v parent left right i can)
+  pair_apart = both_apart fitted (pair_held can)
 
   -- the frames can be merged
   pub suits_merge : can.is_right.page.head.number ≢ NO_PAGE
@@ -101,7 +123,8 @@ module _ (v : View) (w : ForestState) (law : IsLawful w) (fits : FitsTrees w v)
   -- the page behind is another one than the three
   module _ (n : ℕ) (next : can.is_right.page.head.next ≡ Some n) where
     pub behind : HasNextPage w can.upper can.is_right.page n
-    behind = next_pages_fit w law right can.upper can.is_right.page right_frame n next
+    behind = next_pages_fit w law right can.upper can.is_right.page
+        (tree_frame w law v fits right i can.level can.upper can.knows_right can.is_right) n next
 
     pub not_right : can.is_right.page.head.number ≢ n
     not_right z = behind.other (sym z)
@@ -144,19 +167,14 @@ pub record MergeCall (p : TreePass) (at : SplitBlocks) (i : ℕ) (next : Option 
   pub fitted : IsFittedTree (view p)
   pub held : HoldsMerge (view p) at i next
   pub inside : HoldsNoOutside (view p)
+  pub hash : HoldsTheirPart (view p) at.right at.child
+  pub few : (shape_of_pass p).pages < 2 ^ 32
+  pub laws : LawsOfMoves
 
-abbrev pub merge_call : (p : TreePass) (at : SplitBlocks) (i : ℕ) (next : Option ℕ) → IsKnown p
-    → IsFittedTree (view p) → HoldsMerge (view p) at i next → HoldsNoOutside (view p)
-    → MergeCall p at i next
-merge_call p at i next known fitted held inside =
-    record { known = known; fitted = fitted; held = held; inside = inside }
-
-pub three : (p : TreePass) (at : SplitBlocks) (i : ℕ) (next : Option ℕ) → MergeCall p at i next
+pub three : {p : TreePass} {at : SplitBlocks} {i : ℕ} {next : Option ℕ} → MergeCall p at i next
     → AreThree at
-three p at i next c =
-    let w = c.fitted.whole in let law = c.fitted.is_lawful in let fits = c.fitted.fits in
-    let can = c.held.can in record {
-      child = left_apart (view p) w law fits at.parent at.child at.right i can;
-      right = right_apart (view p) w law fits at.parent at.child at.right i can;
-      halves = pair_apart (view p) w law fits at.parent at.child at.right i can;
-    }
+three c = let can = c.held.can in record {
+  child = left_apart c.fitted can;
+  right = right_apart c.fitted can;
+  halves = pair_apart c.fitted can;
+}

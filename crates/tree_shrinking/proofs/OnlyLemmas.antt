@@ -37,7 +37,7 @@ points_only rows n p few = go p.fore p.aft p.was
     go (x ∷ []) aft was = absurd (let e = ap length was in omega (arith, e, few))
     go (x ∷ y ∷ fore) aft was = absurd (let e = ap length was in omega (arith, e, few))
 
-module _ (p : TreePass) (parent child i : ℕ) (key : FieldList)
+module _ {p : TreePass} {parent child i : ℕ} {key : FieldList}
     (way : IsGoingDown p i key (parent ∷ child ∷ [])) (h : HoldsJoined (view p) parent child i) where
   -- the page and its parent are two
   pub joined_apart : child ≢ parent
@@ -45,29 +45,24 @@ module _ (p : TreePass) (parent child i : ℕ) (key : FieldList)
       h.above h.below
 
   -- the child was given back
-  pub back_given : (q : TreePass) → GivesFrame p child q → ComesBack p parent i key q
-  back_given q gave = record {
-    to = way_gave p q i key (parent ∷ child ∷ []) (parent ∷ []) way child gave
-        (λ k ne each. (each.0, (ne, tt))) refl;
+  pub back_given : {q : TreePass} → GivesFrame p child q → ComesBack p parent i key q
+  back_given {q} gave = record {
+    to = way_gave way gave (λ k ne each. (each.0, (ne, tt))) refl;
     up = h.up;
     knows = still_gave p q child way.known gave parent h.up (λ e. joined_apart (sym e)) h.knows_up;
     inside = tree_page_inside h.up i (suc h.level) h.above;
   }
 
   -- so it was after nothing was done
-  pub back_failed : (q r : TreePass) → GetsNothing p q → GivesFrame q child r
+  pub back_failed : {q r : TreePass} → GetsNothing p q → GivesFrame q child r
       → ComesBack p parent i key r
-  back_failed q r got gave =
-      let none = way_nothing p q got i key (parent ∷ child ∷ []) way in
-      record {
-        to = to_both p q r i key (parent ∷ child ∷ []) (parent ∷ []) none
-            (way_gave q r i key (parent ∷ child ∷ []) (parent ∷ []) none.way child gave
-            (λ k ne each. (each.0, (ne, tt))) refl);
-        up = h.up;
-        knows = still_gave q r child none.way.known gave parent h.up (λ e. joined_apart (sym e))
-            (still_nothing p q got parent h.up h.knows_up);
-        inside = tree_page_inside h.up i (suc h.level) h.above;
-      }
+  back_failed {q} {r} got gave = let none = way_nothing got way in record {
+    to = to_both none (way_gave none.way gave (λ k ne each. (each.0, (ne, tt))) refl);
+    up = h.up;
+    knows = still_gave q r child none.way.known gave parent h.up (λ e. joined_apart (sym e))
+        (still_nothing got parent h.up h.knows_up);
+    inside = tree_page_inside h.up i (suc h.level) h.above;
+  }
 
   pub can_lift : h.above.page.head.number ≡ i → length h.above.page.rows ≤ 1
       → CanLift (view p) i parent child
@@ -86,7 +81,7 @@ module _ (p : TreePass) (parent child i : ℕ) (key : FieldList)
     fits = (let fits = h.fits in omega (arith, fits));
   }
 
-  module _ (q : TreePass) (made : LiftsRoot p i parent child q) where
+  module _ {q : TreePass} (made : LiftsRoot p i parent child q) where
     abbrev m : TreePass
     m = made.settled
 
@@ -129,7 +124,7 @@ module _ (p : TreePass) (parent child i : ℕ) (key : FieldList)
     back_lifted = let had = way.count in let same = made.sinks.count in
         let less = made.frees.count in
         record {
-          to = way_without p q i key (parent ∷ child ∷ []) (parent ∷ []) way child ids all.added
+          to = way_without way child ids all.added
               all.does.adds all.silent all.does.rest all.does.known
               (ap (λ (s : Shape). get_elem? (view q).held (frame_id s child)) (sym shapes)
               ∙ made.frees.lacks)

@@ -16,15 +16,24 @@ use Rattle.tree_merging.specs.Siblings.{AreSiblings}
 use Rattle.tree_merging.proofs.SiblingLemmas.{siblings_fit}
 use Rattle.call_law.specs.Hands.{KnowsFrame}
 use Rattle.call_law.specs.Spoken.{View}
-use Rattle.buffer_pool.specs.Forests.{FitsTrees}
+use Rattle.buffer_pool.specs.Forests.{FitsTrees, IsFittedTree}
 use Rattle.buffer_pool.specs.Pages.{HasNumber, HasTreePage}
 use Rattle.tree_smo.proofs.LawfulLemmas.{one_page, levels_apart, known_tells, known_page, tree_frame}
 use Rattle.tree_shrinking.specs.declared.pairs.Pair.{Pair}
 use Rattle.tree_shrinking.specs.declared.pairs.Siblings.{Siblings}
 use Rattle.tree_shrinking.specs.Pairs.{HoldsAbovePair, HoldsPair}
 
-module _ (v : View) (w : ForestState) (law : IsLawful w) (fits : FitsTrees w v) (parent : ℕ)
-    (asked : Siblings) (i : ℕ) (h : HoldsAbovePair v parent asked i) where
+module _ {v : View} (fitted : IsFittedTree v) {parent : ℕ} {asked : Siblings} {i : ℕ}
+    (h : HoldsAbovePair v parent asked i) where
+  abbrev w : ForestState
+  w = fitted.whole
+
+  abbrev law : IsLawful w
+  law = fitted.is_lawful
+
+  abbrev fits : FitsTrees w v
+  fits = fitted.fits
+
   -- a page that the page above points to
   module _ (n : ℕ) (fore : List Row) (row : Row) (aft : List Row)
       (was : h.above.page.rows ≡ fore ++ row ∷ aft) (body : row.body ≡ Child n) where
@@ -111,11 +120,12 @@ module _ (v : View) (w : ForestState) (law : IsLawful w) (fits : FitsTrees w v) 
       absurd (cc (r.tree, own_of asked.right r.page.prev (meet.1.prev ∙ ap Some e)))
 
 -- a pair in hand
-module _ (v : View) (w : ForestState) (law : IsLawful w) (fits : FitsTrees w v) (pair : Pair) (i : ℕ)
-    (h : HoldsPair v pair i) where
+module _ {v : View} (fitted : IsFittedTree v) {pair : Pair} {i : ℕ} (h : HoldsPair v pair i) where
   pub siblings_are : AreSiblings h.lower h.upper h.above.page h.is_left.page h.is_right.page
       h.points.pointer.key
-  siblings_are = siblings_fit w law pair.parent h.up h.above.page
+  siblings_are =
+      let w = fitted.whole in let law = fitted.is_lawful in let fits = fitted.fits in
+      siblings_fit w law pair.parent h.up h.above.page
       (tree_frame w law v fits pair.parent i (suc h.level) h.up h.knows_up h.above) h.points.fore
       h.points.this h.points.pointer h.points.aft h.points.was h.lower h.upper h.is_left.page
       h.is_right.page pair.left

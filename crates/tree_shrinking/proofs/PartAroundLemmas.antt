@@ -1,83 +1,97 @@
 -- A partition is held while rows move, and then given back.
-use Rattle.std.proofs.Common.{◌≡◌, ◌≢◌, ℕ, ◌<◌, ◌≤◌, ◌+◌, List, [], ◌∷◌, sym, ap, subst, ◌∙◌, refl, arith, Option, Some, None}
-use Rattle.std.specs.List.{AllByRecursion}
+use Rattle.std.proofs.Common.{◌≡◌, ◌≢◌, ℕ, ◌<◌, ◌≤◌, ◌+◌, List, ◌++◌, sym, ap, subst, ◌∙◌, arith, Option, Some, None}
 use mathlib.Core.Option.{some}
-use lib.ListN.{get_elem?}
+use Rattle.list_facts.proofs.Each.{each_left, each_right, each_append}
 use Rattle.latch_law.specs.Views.{holding}
 use Rattle.latch_law.proofs.Lists.{known_at, known_back}
 use Rattle.latch_space.specs.Has.{IsKnown}
 use Rattle.latch_space.specs.Passes.{view, count}
-use Rattle.hash_law.specs.Blocks.{part_for}
 use Rattle.hash_maintain.specs.Moves.{first_hashed}
 use Rattle.index_law.specs.Shape.{Shape}
 use Rattle.forest_law.specs.declared.objects.Frame.{Frame}
+use Rattle.forest_law.specs.declared.objects.Tree.{Tree}
 use Rattle.forest_law.specs.declared.objects.Object.{Object}
 use Rattle.forest_law.specs.declared.objects.Object.TheVariants as object
-use Rattle.forest_law.specs.Numbers.{part_id, frame_id}
+use Rattle.forest_law.specs.Numbers.{frame_id}
 use Rattle.forest_world.specs.Held.{TreePass, shape_of_pass}
-use Rattle.call_law.specs.Hands.{KnowsFrame, HoldsNoPart, HoldsNoOutside}
-use Rattle.buffer_pool.specs.Calls.{DoesSilently}
+use Rattle.call_law.specs.Hands.{KnowsFrame, KnowsTree, HoldsNoPart, HoldsNoOutside}
+use Rattle.buffer_pool.specs.Calls.{DoesSilently, GetsNothing}
+use Rattle.buffer_pool.specs.Forests.{IsFittedTree}
 use Rattle.buffer_pool.specs.Parts.{part_of_index, part_ids, HoldsPartIf, KnowsPartIf, GivesPartIf}
-use Rattle.buffer_pool.specs.Tries.{tries_alone}
-use Rattle.buffer_pool.proofs.AddedLemmas.{frame_still, frame_before}
-use Rattle.buffer_pool.proofs.CallLemmas.{does_again, does_nothing, silently_both}
 use Rattle.tree_smo.specs.PartHeld.{HoldsExactIf}
-use Rattle.tree_smo.proofs.KeepingLemmas.{frame_apart}
-use Rattle.tree_smo.proofs.SilentLemmas.{does_weaker, does_shape, silently_weaker}
+use Rattle.tree_smo.specs.Remakes.{IsAsBefore}
+use Rattle.tree_smo.proofs.HashedLemmas.{nothing_held, part_known}
+use Rattle.tree_smo.proofs.HeldLemmas.{IsThere, part_there, frame_to, frame_from, tree_to, tree_from, shape_to, held_silently, gave_silently, shape_n, around_silently, around_count}
+use Rattle.tree_smo.proofs.PartHeldLemmas.{suits}
+use Rattle.tree_smo.proofs.SilentLemmas.{silently_weaker}
 use Rattle.tree_shrinking.specs.Hashing.{HoldsTheirPart}
+use Rattle.tree_shrinking.proofs.NumberLemmas.{IsNoneOf}
 
--- holding a partition adds refused tries alone
-held_silently : (p q : TreePass) (part : Option ℕ) → IsKnown p → HoldsPartIf p part q
-    → DoesSilently p q (part_ids (shape_of_pass p) part)
-held_silently p q None known same =
-    subst (λ (z : TreePass). DoesSilently p z []) (sym same) (does_nothing p known)
-held_silently p q (Some k) known too = record {
-  added = tries_alone too.tries.refused;
-  does = too.tries.does;
-  silent = refl;
+-- beside what the pass held, the partition is held of the index that one of two blocks is hashed for,
+-- if one is
+pub record HoldsBeside (p : TreePass) (from to : ℕ) (part : Option ℕ) (q : TreePass) : Type 0 where
+  pub known : IsKnown p
+  pub lacks : HoldsNoPart (view p)
+  pub there : IsThere (shape_of_pass p) part
+  pub named : (f g : Frame) → KnowsFrame (view p) from f → KnowsFrame (view p) to g
+      → part ≡ part_of_index (shape_of_pass p) (first_hashed f g)
+  pub holds : HoldsPartIf p part q
+
+-- so it is once the partition of this index was asked for
+pub holds_beside : {p q : TreePass} {from to : ℕ} {part : Option ℕ} → (o : Option ℕ) → IsKnown p
+    → IsFittedTree (view p) → HoldsNoPart (view p)
+    → ((f g : Frame) → KnowsFrame (view p) from f → KnowsFrame (view p) to g
+    → o ≡ first_hashed f g) → part ≡ part_of_index (shape_of_pass p) o → HoldsPartIf p part q
+    → HoldsBeside p from to part q
+holds_beside {p} o known fitted lacks first named holds = record {
+  known = known;
+  lacks = lacks;
+  there = subst (IsThere (shape_of_pass p)) (sym named)
+      (part_there (shape_of_pass p) o (suits p fitted).parts);
+  named = λ f g one two. named ∙ ap (part_of_index (shape_of_pass p)) (first f g one two);
+  holds = holds;
 }
 
--- one object is held more at most
-pub count_held : (p q : TreePass) (part : Option ℕ) → HoldsPartIf p part q → count q ≤ count p + 1
-count_held p q None same = let e = ap count same in omega (arith, e)
-count_held p q (Some k) too = let e = too.count in omega (arith, e)
-
--- giving a partition back adds one reference
-given_silently : (r s : TreePass) (part : Option ℕ) → IsKnown r → GivesPartIf r part s
-    → DoesSilently r s (part_ids (shape_of_pass r) part)
-given_silently r s None known same =
-    subst (λ (z : TreePass). DoesSilently r z []) (sym same) (does_nothing r known)
-given_silently r s (Some k) known gives = gives.silently
-
-module _ (p q : TreePass) (o : Option ℕ) (known : IsKnown p) (some_parts : 0 < (shape_of_pass p).parts)
-    (holds : HoldsPartIf p (part_of_index (shape_of_pass p) o) q) where
-  abbrev ids : List ℕ
-  ids = part_ids (shape_of_pass p) (part_of_index (shape_of_pass p) o)
-
-  pub held_does : DoesSilently p q ids
-  held_does = held_silently p q (part_of_index (shape_of_pass p) o) known holds
+module _ {p : TreePass} {from to : ℕ} {part : Option ℕ} {q : TreePass}
+    (h : HoldsBeside p from to part q) where
+  pub held_does : DoesSilently p q (part_ids (shape_of_pass p) part)
+  held_does = held_silently p q h.known part h.holds
 
   pub held_shape : shape_of_pass q ≡ shape_of_pass p
-  held_shape = does_shape p q ids held_does.added held_does.does
+  held_shape = shape_to p q part held_does h.there
 
-  -- frames are known as before
+  -- one object is held more at most
+  pub count_held : count q ≤ count p + 1
+  count_held = go part h.holds
+    where
+      go : (o : Option ℕ) → HoldsPartIf p o q → count q ≤ count p + 1
+      go None same = let e = ap count same in omega (arith, e)
+      go (Some k) too = let e = too.count in omega (arith, e)
+
+  -- frames and trees are known as before
   pub frame_held : (b : ℕ) (f : Frame) → KnowsFrame (view p) b f → KnowsFrame (view q) b f
-  frame_held b f knows = frame_still (view p) (view q) ids held_does.does.adds.numbers
-      held_does.does.rest b (frame_apart (shape_of_pass p) b o some_parts) f knows
+  frame_held = frame_to p q part held_does h.there
 
   pub frame_was : (b : ℕ) (f : Frame) → KnowsFrame (view q) b f → KnowsFrame (view p) b f
-  frame_was b f knows = frame_before (view p) (view q) ids held_does.does.adds.numbers
-      held_does.does.rest b (frame_apart (shape_of_pass p) b o some_parts) f knows
+  frame_was = frame_from p q part held_does h.there
+
+  pub tree_held : (i : ℕ) (t : Tree) → i < (shape_of_pass p).indexes → KnowsTree (view p) i t
+      → KnowsTree (view q) i t
+  tree_held = tree_to p q part held_does h.there
+
+  pub tree_was : (i : ℕ) (t : Tree) → i < (shape_of_pass p).indexes → KnowsTree (view q) i t
+      → KnowsTree (view p) i t
+  tree_was = tree_from p q part held_does h.there
 
   -- so no page outside the trees is held
   pub inside_held : HoldsNoOutside (view p) → HoldsNoOutside (view q)
   inside_held inside n x =
       let f = x.hand.frame in
-      let h = known_back (view q).held (frame_id (shape_of_pass q) x.block) (object.Frame f)
+      let back = known_back (view q).held (frame_id (shape_of_pass q) x.block) (object.Frame f)
       x.hand.at in
       let knows = frame_was x.block f (
-        h.0.taken,
-        h.1 ∙ ap (λ (z : Object). some (Some (holding h.0.taken z))) h.2,
+        back.0.taken,
+        back.1 ∙ ap (λ (z : Object). some (Some (holding back.0.taken z))) back.2,
       ) in
       inside n (record {
         block = x.block;
@@ -91,96 +105,75 @@ module _ (p q : TreePass) (o : Option ℕ) (known : IsKnown p) (some_parts : 0 <
         own = x.own;
       })
 
-  exact_if : (z : Option ℕ) → HoldsPartIf p (part_of_index (shape_of_pass p) z) q
-      → HoldsExactIf (view q) (part_of_index (shape_of_pass p) z)
-  exact_if None held = tt
-  exact_if (Some i) held = (
-    subst (λ (s : Shape). part_for (shape_of_pass p).parts i < s.parts) (sym held_shape)
-        (omega (arith, some_parts)),
-    held.part,
-    held.knows,
-    held.exact,
-  )
+  -- the partition is still that of both blocks, and exact of them
+  pub named_held : (f g : Frame) → KnowsFrame (view q) from f → KnowsFrame (view q) to g
+      → part ≡ part_of_index (shape_of_pass q) (first_hashed f g)
+  named_held f g one two = h.named f g (frame_was from f one) (frame_was to g two)
+      ∙ ap (λ (s : Shape). part_of_index s (first_hashed f g)) (sym held_shape)
 
-  -- the partition is held that two blocks are hashed in
-  pub their_part : (from to : ℕ)
-      → ((f g : Frame) → KnowsFrame (view p) from f → KnowsFrame (view p) to g
-      → o ≡ first_hashed f g) → HoldsTheirPart (view q) from to
-  their_part from to named f g one two =
-      subst (λ (s : Shape). HoldsExactIf (view q) (part_of_index s (first_hashed f g)))
-      (sym held_shape)
-      (subst (λ z. HoldsExactIf (view q) (part_of_index (shape_of_pass p) z))
-      (named f g (frame_was from f one) (frame_was to g two)) (exact_if o holds))
+  exact : HoldsExactIf (view q) part
+  exact = go part h.holds (subst (λ (s : Shape). IsThere s part) (sym held_shape) h.there)
+    where
+      go : (o : Option ℕ) → HoldsPartIf p o q → IsThere (shape_of_pass q) o
+          → HoldsExactIf (view q) o
+      go None held below = tt
+      go (Some k) held below = (below, held.part, held.knows, held.exact)
 
-  knows_if : (z : Option ℕ) → HoldsPartIf p (part_of_index (shape_of_pass p) z) q
-      → KnowsPartIf (view q) (part_of_index (shape_of_pass p) z)
-  knows_if None held = tt
-  knows_if (Some i) held = (
-    subst (λ (s : Shape). part_for (shape_of_pass p).parts i < s.parts) (sym held_shape)
-        (omega (arith, some_parts)),
-    held.part,
-    held.knows,
-  )
+  pub their_part : HoldsTheirPart (view q) from to
+  their_part f g one two = subst (HoldsExactIf (view q)) (named_held f g one two) exact
 
-  pub knows_part : KnowsPartIf (view q) (part_of_index (shape_of_pass p) o)
-  knows_part = knows_if o holds
+  module _ (r : TreePass) where
+    -- where nothing was done meanwhile, it is still held
+    pub kept_part : IsAsBefore q r → KnowsPartIf (view r) part
+    kept_part same = part_known (view q) (view r) part same.same_view exact
 
-  module _ (lacks : HoldsNoPart (view p)) (r s : TreePass) (known_r : IsKnown r)
-      (same : shape_of_pass r ≡ shape_of_pass p)
-      (gives : GivesPartIf r (part_of_index (shape_of_pass p) o) s) where
-    pub given_does : DoesSilently r s ids
-    given_does = subst
-        (λ (z : Shape). DoesSilently r s (part_ids z (part_of_index (shape_of_pass p) o))) same
-        (given_silently r s (part_of_index (shape_of_pass p) o) known_r gives)
+    -- what was done was done to no more than the partition and these objects
+    pub made_beside : (ids : Shape → List ℕ) (all : List ℕ)
+        → ((k : ℕ) → IsNoneOf k (part_ids (shape_of_pass q) part)
+        → IsNoneOf k (ids (shape_of_pass q)) → IsNoneOf k all) → DoesSilently q r all
+        → DoesSilently q r (part_ids (shape_of_pass q) part ++ ids (shape_of_pass q))
+    made_beside ids all cover made =
+        let ks = part_ids (shape_of_pass q) part in let js = ids (shape_of_pass q) in
+        silently_weaker q r all (ks ++ js)
+        (λ k a. cover k (each_left (λ (j : ℕ). k ≢ j) ks js a)
+        (each_right (λ (j : ℕ). k ≢ j) ks js a)) made
 
-    pub frame_given : (b : ℕ) (f : Frame) → KnowsFrame (view r) b f → KnowsFrame (view s) b f
-    frame_given b f knows = frame_still (view r) (view s) ids given_does.does.adds.numbers
-        given_does.does.rest b
-        (subst (λ (z : Shape). AllByRecursion (λ (j : ℕ). frame_id z b ≢ j) ids) (sym same)
-        (frame_apart (shape_of_pass p) b o some_parts)) f knows
+    module _ (s : TreePass) (gives : GivesPartIf r part s) where
+      -- nothing was done until it was given back
+      pub none_around : IsAsBefore q r → GetsNothing p s
+      none_around = nothing_held p q part h.known h.holds h.there r s gives h.lacks
 
-    -- what was done while it was held was done beside the other objects
-    module _ (full base : Shape → List ℕ)
-        (parts : (z : Shape) (k : ℕ) → AllByRecursion (λ (j : ℕ). k ≢ j) (full z)
-        → AllByRecursion (λ (j : ℕ). k ≢ j) (part_ids z (part_of_index z o)))
-        (rest : (z : Shape) (k : ℕ)
-        → AllByRecursion (λ (j : ℕ). k ≢ j) (part_ids z (part_of_index z o))
-        → AllByRecursion (λ (j : ℕ). k ≢ j) (base z) → AllByRecursion (λ (j : ℕ). k ≢ j) (full z))
-        (made : DoesSilently q r (full (shape_of_pass q))) where
-      all : DoesSilently p s (full (shape_of_pass p))
-      all = silently_both p q s (full (shape_of_pass p))
-          (silently_weaker p q ids (full (shape_of_pass p)) (parts (shape_of_pass p)) held_does)
-          (silently_both q r s (full (shape_of_pass p))
-          (subst (λ (z : Shape). DoesSilently q r (full z)) held_shape made)
-          (silently_weaker r s ids (full (shape_of_pass p)) (parts (shape_of_pass p)) given_does))
+      -- or this was, beside the other objects
+      module _ (ids : Shape → List ℕ)
+          (made : DoesSilently q r (part_ids (shape_of_pass q) part ++ ids (shape_of_pass q))) where
+        abbrev all : Shape → List ℕ
+        all z = part_ids z part ++ ids z
 
-      shape_s : shape_of_pass s ≡ shape_of_pass p
-      shape_s = does_shape p s (full (shape_of_pass p)) all.added all.does
+        cover : (z : Shape) (k : ℕ) → IsNoneOf k (ids z) → IsNoneOf k (part_ids z part)
+            → IsNoneOf k (all z)
+        cover z k a none = each_append (λ (j : ℕ). k ≢ j) (part_ids z part) (ids z) none a
 
-      pub silently_around : DoesSilently p s (base (shape_of_pass p))
-      silently_around = go o gives (λ k none apart. rest (shape_of_pass p) k none apart)
-        where
-          go : (z : Option ℕ) → GivesPartIf r (part_of_index (shape_of_pass p) z) s
-              → ((k : ℕ) → AllByRecursion (λ (j : ℕ). k ≢ j)
-              (part_ids (shape_of_pass p) (part_of_index (shape_of_pass p) z))
-              → AllByRecursion (λ (j : ℕ). k ≢ j) (base (shape_of_pass p))
-              → AllByRecursion (λ (j : ℕ). k ≢ j) (full (shape_of_pass p)))
-              → DoesSilently p s (base (shape_of_pass p))
-          go None back cover = silently_weaker p s (full (shape_of_pass p))
-              (base (shape_of_pass p)) (λ k apart. cover k tt apart) all
-          go (Some i) back cover =
-              let n = part_for (shape_of_pass p).parts i in
-              let k = part_id (shape_of_pass p) n in record {
-                added = all.added;
-                does = does_again p s all.added k (base (shape_of_pass p))
-                    (does_weaker p s (full (shape_of_pass p)) (k ∷ base (shape_of_pass p))
-                    (λ j apart. cover j (apart.0, tt) apart.1) all.added all.does)
-                    (ap (λ (z : Shape). get_elem? (view s).held (part_id z n)) (sym same)
-                    ∙ (lacks_given i back ∙ sym (lacks n (omega (arith, some_parts)))));
-                silent = all.silent;
-              }
-            where
-              lacks_given : (i : ℕ) → GivesPartIf r (Some (part_for (shape_of_pass p).parts i)) s
-                  → get_elem? (view s).held
-                  (part_id (shape_of_pass r) (part_for (shape_of_pass p).parts i)) ≡ some None
-              lacks_given i back = back.lacks
+        pub silently_around : DoesSilently p s (ids (shape_of_pass p))
+        silently_around = around_silently p q r s part h.known h.holds gives h.there h.lacks ids all
+            cover made
+
+        pub count_around : count r ≡ count q → count s ≡ count p
+        count_around = around_count p q r s part h.known h.holds gives h.there h.lacks ids all cover
+            made
+
+        shape_r : shape_of_pass r ≡ shape_of_pass p
+        shape_r = shape_n p q r s part h.known h.holds gives h.there h.lacks ids all cover made
+
+        there_still : IsThere (shape_of_pass r) part
+        there_still = subst (λ (z : Shape). IsThere z part) (sym shape_r) h.there
+
+        given : DoesSilently r s (part_ids (shape_of_pass r) part)
+        given = gave_silently r s made.does.known part gives
+
+        pub frame_given : (b : ℕ) (f : Frame) → KnowsFrame (view r) b f → KnowsFrame (view s) b f
+        frame_given = frame_to r s part given there_still
+
+        pub tree_given : (i : ℕ) (t : Tree) → i < (shape_of_pass p).indexes
+            → KnowsTree (view r) i t → KnowsTree (view s) i t
+        tree_given i t below = tree_to r s part given there_still i t
+            (subst (λ (z : Shape). i < z.indexes) (sym shape_r) below)

@@ -16,7 +16,7 @@ use Rattle.tree_shrinking.specs.Shrinking.{Shrinks}
 use Rattle.tree_shrinking.specs.Joins.{WalksUp}
 use Rattle.tree_shrinking.proofs.GivenLemmas.{rests_more, freed_append}
 
-module _ (p q r s : TreePass) (i : ℕ) (key : FieldList) (below : i < (shape_of_pass p).indexes)
+module _ {p q r s : TreePass} {i : ℕ} {key : FieldList} (below : i < (shape_of_pass p).indexes)
     (few : (shape_of_pass p).pages ≤ 65536)
     (fields : length key ≡ fields_for (shape_of_pass p) i) (none : count p ≡ 0)
     (took : TakesTree p i q) (walks : WalksUp q i key r) (gave : GivesTree r i s) where

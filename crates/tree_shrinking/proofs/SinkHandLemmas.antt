@@ -14,22 +14,49 @@ use Rattle.buffer_pool.specs.Frames.{TakesOut, PutsBack}
 use Rattle.tree_smo.specs.Remakes.{Remakes, IsAsBefore}
 use Rattle.tree_smo.specs.Storeys.{storeys_ids}
 use Rattle.tree_smo.proofs.RemakeLemmas.{known_remade, shows_known}
-use Rattle.tree_smo.proofs.StoreyLemmas.{top_out, low_out, top_in, low_in, came_back}
+use Rattle.buffer_pool.specs.Hands.{HasOut}
+use Rattle.tree_smo.proofs.StoreyLemmas.{top_out, low_out, low_back, top_in, low_in, came_back}
 use Rattle.tree_shrinking.specs.LiftHands.{SuitsSinking, SinksStoreys}
 
-module _ (root child : ℕ) (apart : child ≢ root) (p q r : TreePass) (top low : Frame)
-    (first : TakesOut p root top q) (second : TakesOut q child low r) where
+-- both frames were taken out of their places
+pub record TakesBothOut (root child : ℕ) (p r : TreePass) (top low : Frame) : Type 0 where
+  pub apart : child ≢ root
+  pub between : TreePass
+  pub first : TakesOut p root top between
+  pub second : TakesOut between child low r
+
+module _ {root child : ℕ} {p r : TreePass} {top low : Frame}
+    (o : TakesBothOut root child p r top low) where
+  -- as they were known
+  pub top_was : (t : Frame) → HasFrame p root t t → HasOut r root t × (top ≡ t)
+  top_was = top_out root child o.apart p o.between r top low o.first o.second
+
+  low_was : (b : Frame) → HasFrame p child b b → HasOut r child b × (low ≡ b)
+  low_was = low_out root child o.apart p o.between r top low o.first o.second
+
   -- what came out can be lifted
   pub suits_sinking : SuitsSinking p root child → SuitsLiftFrames top low
-  suits_sinking s = subst (λ x. SuitsLiftFrames x low)
-      (sym (top_out root child apart p q r top low first second s.top s.has_top).1)
-      (subst (λ x. SuitsLiftFrames s.top x)
-      (sym (low_out root child apart p q r top low first second s.low s.has_low).1) s.suits)
+  suits_sinking s = subst (λ x. SuitsLiftFrames x low) (sym (top_was s.top s.has_top).1)
+      (subst (λ x. SuitsLiftFrames s.top x) (sym (low_was s.low s.has_low).1) s.suits)
+
+  -- the second one can be put back behind the first
+  pub low_there : (u : TreePass) (new : Frame) → PutsBack r root new u → (b : Frame)
+      → HasFrame p child b b → HasOut u child b
+  low_there = low_back root child o.apart p o.between r top low o.first o.second
 
   module _ (u v : TreePass) (new newer : Frame) (third : PutsBack r root new u)
       (fourth : PutsBack u child newer v) where
     back : Remakes p v (storeys_ids (shape_of_pass p) root child)
-    back = came_back root child apart p q r top low first second u v new newer third fourth
+    back = came_back root child o.apart p o.between r top low o.first o.second u v new newer third
+        fourth
+
+    top_now : (t : Frame) → HasFrame p root t t → HasFrame v root t new
+    top_now = top_in root child o.apart p o.between r top low o.first o.second u v new newer third
+        fourth
+
+    low_now : (b : Frame) → HasFrame p child b b → HasFrame v child b newer
+    low_now = low_in root child o.apart p o.between r top low o.first o.second u v new newer third
+        fourth
 
     -- what came back after a lift
     pub storeys_sunk : KeepsHashing top new × KeepsHashing low newer
@@ -37,18 +64,12 @@ module _ (root child : ℕ) (apart : child ≢ root) (p q r : TreePass) (top low
     storeys_sunk hash lifts t b has_top has_low = record {
       top = new;
       low = newer;
-      has_top = top_in root child apart p q r top low first second u v new newer third fourth t
-          has_top;
-      has_low = low_in root child apart p q r top low first second u v new newer third fourth b
-          has_low;
-      lifts = subst (λ x. LiftsFrame x new b newer)
-          (top_out root child apart p q r top low first second t has_top).1
-          (subst (λ x. LiftsFrame top new x newer)
-          (low_out root child apart p q r top low first second b has_low).1 lifts);
-      top_hash = subst (λ x. KeepsHashing x new)
-          (top_out root child apart p q r top low first second t has_top).1 hash.0;
-      low_hash = subst (λ x. KeepsHashing x newer)
-          (low_out root child apart p q r top low first second b has_low).1 hash.1;
+      has_top = top_now t has_top;
+      has_low = low_now b has_low;
+      lifts = subst (λ x. LiftsFrame x new b newer) (top_was t has_top).1
+          (subst (λ x. LiftsFrame top new x newer) (low_was b has_low).1 lifts);
+      top_hash = subst (λ x. KeepsHashing x new) (top_was t has_top).1 hash.0;
+      low_hash = subst (λ x. KeepsHashing x newer) (low_was b has_low).1 hash.1;
       remakes = back;
     }
 
@@ -62,16 +83,12 @@ module _ (root child : ℕ) (apart : child ≢ root) (p q r : TreePass) (top low
     }
       where
         has_top : HasFrame v root s.top s.top
-        has_top = subst (HasFrame v root s.top)
-            (same ∙ (top_out root child apart p q r top low first second s.top s.has_top).1)
-            (top_in root child apart p q r top low first second u v new newer third fourth s.top
-            s.has_top)
+        has_top = subst (HasFrame v root s.top) (same ∙ (top_was s.top s.has_top).1)
+            (top_now s.top s.has_top)
 
         has_low : HasFrame v child s.low s.low
-        has_low = subst (HasFrame v child s.low)
-            (same' ∙ (low_out root child apart p q r top low first second s.low s.has_low).1)
-            (low_in root child apart p q r top low first second u v new newer third fourth s.low
-            s.has_low)
+        has_low = subst (HasFrame v child s.low) (same' ∙ (low_was s.low s.has_low).1)
+            (low_now s.low s.has_low)
 
         shapes : shape_of_pass v ≡ shape_of_pass p
         shapes = ap (λ (z : View). z.terms.shape) back.same_view

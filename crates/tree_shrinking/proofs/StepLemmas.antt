@@ -19,7 +19,7 @@ use Rattle.tree_growth.proofs.HandLemmas.{still_gave}
 use Rattle.tree_growth.proofs.KnownLemmas.{lacked_apart}
 use Rattle.tree_growth.proofs.PageLemmas.{HasKey, its_level, reaches_kept}
 
-module _ (p q r : TreePass) (i : ℕ) (key : FieldList) (at : PageInHand) (child : ℕ)
+module _ {p q r : TreePass} {i : ℕ} {key : FieldList} {at : PageInHand} {child : ℕ}
     (way : IsGoingDown p i key (at.block ∷ [])) (is : IsPageInHand (view p) i key 0 at)
     (above : 0 < at.level) (takes : TakesChild p at.block i mode.Ge key child q)
     (gave : GivesFrame q at.block r) (low : PageInHand) (looks : Looks r child 0 low) where

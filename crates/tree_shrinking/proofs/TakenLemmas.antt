@@ -7,6 +7,7 @@ use Rattle.index_page.specs.Rows.{Child}
 use Rattle.forest_law.specs.declared.objects.Frame.{Frame}
 use Rattle.forest_world.specs.Held.{TreePass, shape_of_pass}
 use Rattle.call_law.specs.Hands.{KnowsFrame}
+use Rattle.call_law.specs.Spoken.{View}
 use Rattle.buffer_pool.specs.Forests.{IsFittedTree}
 use Rattle.buffer_pool.specs.Frames.{GivesFrame}
 use Rattle.buffer_pool.specs.Hands.{MayGiveBack}
@@ -42,67 +43,64 @@ above_still p q parent asked i h still = record {
 }
 
 -- before the first page is taken
-module _ (p : TreePass) (parent : ℕ) (asked : Siblings) (i : ℕ) (key : FieldList)
+module _ {p : TreePass} {parent : ℕ} {asked : Siblings} {i : ℕ} {key : FieldList}
     (way : IsGoingDown p i key (parent ∷ [])) (h : HoldsAbovePair (view p) parent asked i) where
   pub first_live : IsLive (view p) asked.left
-  first_live w law fits = left_live (view p) w law fits parent asked i h
+  first_live w law fits = let fitted : IsFittedTree (view p) =
+      record { whole = w; is_lawful = law; fits = fits } in left_live fitted h
 
   pub first_others : IsFittedTree (view p) → HoldsOtherPages (view p) asked.left
   first_others fitted = holds_others (view p) asked.left (parent ∷ [])
       (way_knows p i key (parent ∷ []) way) (
         has_other (view p) asked.left parent h.up h.above.page h.knows h.above.paged
-            (left_other (view p) fitted.whole fitted.is_lawful fitted.fits parent asked i h),
+            (left_other fitted h),
         tt,
       )
 
   -- the first page was taken
-  module _ (left : ℕ) (q : TreePass) (first : PagesIn p asked.left left q) where
+  module _ {left : ℕ} {q : TreePass} (first : PagesIn p asked.left left q) where
     pub one : GoesTo p i key (parent ∷ left ∷ []) q
-    one = way_took p q i key (parent ∷ []) (parent ∷ left ∷ []) way left asked.left first
-        (λ k each. (each.1.0, (each.0, tt))) refl
+    one = way_took way first (λ k each. (each.1.0, (each.0, tt))) refl
 
     abbrev above_first : HoldsAbovePair (view q) parent asked i
-    above_first = above_still p q parent asked i h (still_took p q asked.left left first parent)
+    above_first = above_still p q parent asked i h (still_took first parent)
 
     pub second_live : IsLive (view q) asked.right
-    second_live w law fits = right_live (view q) w law fits parent asked i above_first
+    second_live w law fits = let fitted : IsFittedTree (view q) =
+        record { whole = w; is_lawful = law; fits = fits } in right_live fitted above_first
 
     pub second_others : IsFittedTree (view q) → HoldsOtherPages (view q) asked.right
     second_others fitted =
-        let w = fitted.whole in let law = fitted.is_lawful in let fits = fitted.fits in
         let up = above_first in
         holds_others (view q) asked.right (parent ∷ left ∷ [])
         (way_knows q i key (parent ∷ left ∷ []) one.way) (
           has_other (view q) asked.right parent up.up up.above.page up.knows up.above.paged
-              (right_other (view q) w law fits parent asked i up),
+              (right_other fitted up),
           (
             has_other (view q) asked.right left first.frame first.has.page first.knows
                 first.has.paged
-                (λ e. pair_differ (view q) w law fits parent asked i up
-                (sym first.has.number ∙ e)),
+                (λ e. pair_differ fitted up (sym first.has.number ∙ e)),
             tt,
           ),
         )
 
     -- and the second one
-    module _ (right : ℕ) (r : TreePass) (second : PagesIn q asked.right right r)
+    module _ {right : ℕ} {r : TreePass} (second : PagesIn q asked.right right r)
         (fitted : IsFittedTree (view r)) where
       two : GoesTo q i key (parent ∷ left ∷ right ∷ []) r
-      two = way_took q r i key (parent ∷ left ∷ []) (parent ∷ left ∷ right ∷ []) one.way right
-          asked.right second (λ k each. (each.1.1.0, (each.0, (each.1.0, tt)))) refl
+      two = way_took one.way second (λ k each. (each.1.1.0, (each.0, (each.1.0, tt)))) refl
 
       still : (b : ℕ) → StillKnows q b r
-      still = still_took q r asked.right right second
+      still = still_took second
 
       abbrev above_second : HoldsAbovePair (view r) parent asked i
       above_second = above_still q r parent asked i above_first (still parent)
 
       pub takes_pair : TakesPair p (pair_in parent asked left right) asked i key r
       takes_pair =
-          let w = fitted.whole in let law = fitted.is_lawful in let fits = fitted.fits in
           let up = above_second in
           let knows = still left first.frame first.knows in record {
-            to = to_both p q r i key (parent ∷ left ∷ []) (parent ∷ left ∷ right ∷ []) one two;
+            to = to_both one two;
             held = record {
               level = h.level;
               up = h.up;
@@ -112,10 +110,8 @@ module _ (p : TreePass) (parent : ℕ) (asked : Siblings) (i : ℕ) (key : Field
               knows_left = knows;
               knows_right = second.knows;
               above = h.above;
-              is_left = left_page (view r) w law fits parent asked i up left first.frame knows
-                  first.has;
-              is_right = right_page (view r) w law fits parent asked i up right second.frame
-                  second.knows second.has;
+              is_left = left_page fitted up left first.frame knows first.has;
+              is_right = right_page fitted up right second.frame second.knows second.has;
               points = record {
                 fore = h.points.fore;
                 this = h.points.this;
@@ -128,41 +124,37 @@ module _ (p : TreePass) (parent : ℕ) (asked : Siblings) (i : ℕ) (key : Field
             };
             left = first.has.number;
             right = second.has.number;
-            still = λ f knows. still parent f (still_took p q asked.left left first parent f knows);
+            still = λ f knows. still parent f (still_took first parent f knows);
           }
 
 -- both are given back
-module _ (p q r : TreePass) (pair : Pair) (i : ℕ) (key : FieldList)
+module _ {p q : TreePass} {pair : Pair} {i : ℕ} {key : FieldList}
     (way : IsGoingDown p i key (pair.parent ∷ pair.left ∷ pair.right ∷ []))
     (h : HoldsPair (view p) pair i) (fitted : IsFittedTree (view p))
     (first : GivesFrame p pair.right q) where
   apart_left : pair.left ≢ pair.parent
-  apart_left = left_parent (view p) fitted.whole fitted.is_lawful fitted.fits pair i h
+  apart_left = left_parent fitted h
 
   apart_right : pair.right ≢ pair.parent
-  apart_right = right_parent (view p) fitted.whole fitted.is_lawful fitted.fits pair i h
+  apart_right = right_parent fitted h
 
   apart_both : pair.right ≢ pair.left
-  apart_both = both_apart (view p) fitted.whole fitted.is_lawful fitted.fits pair i h
+  apart_both = both_apart fitted h
 
   abbrev gave_right : GoesTo p i key (pair.parent ∷ pair.left ∷ []) q
-  gave_right = way_gave p q i key (pair.parent ∷ pair.left ∷ pair.right ∷ [])
-      (pair.parent ∷ pair.left ∷ []) way pair.right first
-      (λ k ne each. (each.0, (each.1.0, (ne, tt)))) refl
+  gave_right = way_gave way first (λ k ne each. (each.0, (each.1.0, (ne, tt)))) refl
 
   pub left_held : MayGiveBack q pair.left
   left_held = may_give_back q gave_right.way.known pair.left i h.level h.lower
       (still_gave p q pair.right way.known first pair.left h.lower (λ e. apart_both (sym e))
       h.knows_left) h.is_left
 
-  module _ (second : GivesFrame q pair.left r) where
+  module _ {r : TreePass} (second : GivesFrame q pair.left r) where
     abbrev gave_left : GoesTo q i key (pair.parent ∷ []) r
-    gave_left = way_gave q r i key (pair.parent ∷ pair.left ∷ []) (pair.parent ∷ [])
-        gave_right.way pair.left second (λ k ne each. (each.0, (ne, tt))) refl
+    gave_left = way_gave gave_right.way second (λ k ne each. (each.0, (ne, tt))) refl
 
-    abbrev pub pair_back : GoesTo p i key (pair.parent ∷ []) r
-    pair_back = to_both p q r i key (pair.parent ∷ pair.left ∷ []) (pair.parent ∷ []) gave_right
-        gave_left
+    abbrev pair_back : GoesTo p i key (pair.parent ∷ []) r
+    pair_back = to_both gave_right gave_left
 
     pub parent_still : StillKnows p pair.parent r
     parent_still f knows = still_gave q r pair.left gave_right.way.known second pair.parent f
@@ -171,31 +163,22 @@ module _ (p q r : TreePass) (pair : Pair) (i : ℕ) (key : FieldList)
 
     -- as both were known
     pub gives_pair : GivesPair p pair i key r
-    gives_pair =
-        let two = pair.parent ∷ pair.left ∷ [] in
-        let one = pair.parent ∷ [] in
-        let all = pair_back.goes.added.references in
-        let shapes = same_shape p q gave_right.goes.added gave_right.goes.adds in
-        record {
-          to = pair_back;
-          still = parent_still;
-          right = λ f knows. subst (λ g. WasGiven (shape_of_pass p) pair.right g all)
-              (frame_one (view p) pair.right first.frame f (first.taken, first.held) knows)
-              (given_more gave_right.goes.added.references all
-              (among_first p q r i key two one gave_right gave_left) (shape_of_pass p)
-              (shape_of_pass p) refl pair.right first.frame
-              (gave_among p q i key (pair.parent ∷ pair.left ∷ pair.right ∷ []) two way pair.right
-              first (λ k ne each. (each.0, (each.1.0, (ne, tt)))) refl));
-          left = λ f knows. subst (λ g. WasGiven (shape_of_pass p) pair.left g all)
-              (frame_one (view q) pair.left second.frame f (second.taken, second.held)
-              (still_gave p q pair.right way.known first pair.left f (λ e. apart_both (sym e))
-              knows))
-              (given_more gave_left.goes.added.references all
-              (among_second p q r i key two one gave_right gave_left) (shape_of_pass q)
-              (shape_of_pass p) shapes pair.left second.frame
-              (gave_among q r i key two one gave_right.way pair.left second
-              (λ k ne each. (each.0, (ne, tt))) refl));
-        }
+    gives_pair = let all = pair_back.goes.added.references in record {
+      to = pair_back;
+      still = parent_still;
+      right = λ f knows. subst (λ g. WasGiven (shape_of_pass p) pair.right g all)
+          (frame_one (view p) pair.right first.frame f (first.taken, first.held) knows)
+          (given_more (among_first gave_right gave_left) refl
+          (gave_among (pair.parent ∷ pair.left ∷ []) way first
+          (λ k ne each. (each.0, (each.1.0, (ne, tt)))) refl));
+      left = λ f knows. subst (λ g. WasGiven (shape_of_pass p) pair.left g all)
+          (frame_one (view q) pair.left second.frame f (second.taken, second.held)
+          (still_gave p q pair.right way.known first pair.left f (λ e. apart_both (sym e)) knows))
+          (given_more (among_second gave_right gave_left)
+          (same_shape p q gave_right.goes.added gave_right.goes.adds)
+          (gave_among (pair.parent ∷ []) gave_right.way second (λ k ne each. (each.0, (ne, tt)))
+          refl));
+    }
 
 -- a page in hand can be read
 pub paged_frame : (p : TreePass) → IsKnown p → (b i level : ℕ) (f : Frame)
@@ -203,10 +186,10 @@ pub paged_frame : (p : TreePass) → IsKnown p → (b i level : ℕ) (f : Frame)
 paged_frame p known b i level f knows page = (f, page.page, frame_has p known b f knows, page.paged)
 
 -- pages that are to be merged can be
-pub can_merge : (p : TreePass) (pair : Pair) (i : ℕ) (h : HoldsPair (view p) pair i)
+pub can_merge : {v : View} {pair : Pair} {i : ℕ} (h : HoldsPair v pair i)
     → AreToJoin h.is_left.page h.is_right.page pair.right_asks
-    → CanMerge (view p) pair.parent pair.left pair.right i
-can_merge p pair i h join = record {
+    → CanMerge v pair.parent pair.left pair.right i
+can_merge h join = record {
   level = h.level;
   up = h.up;
   lower = h.lower;

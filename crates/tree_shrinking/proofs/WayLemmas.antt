@@ -25,15 +25,15 @@ use Rattle.tree_growth.proofs.HandLemmas.{frames_apart, way_more, way_less, goes
 use Rattle.tree_growth.proofs.KnownLemmas.{lacked_apart}
 use Rattle.tree_shrinking.specs.Pairs.{GoesTo, StillKnows}
 
-module _ (p q : TreePass) (i : ℕ) (key : FieldList) (bs cs : List ℕ)
-    (way : IsGoingDown p i key bs) (b : ℕ) where
+module _ {p q : TreePass} {i : ℕ} {key : FieldList} {bs cs : List ℕ}
+    (way : IsGoingDown p i key bs) where
   -- a page was taken besides
-  pub way_took : (n : ℕ) → PagesIn p n b q
+  pub way_took : {n b : ℕ} → PagesIn p n b q
       → ((k : ℕ) → AllByRecursion (λ (c : ℕ). k ≢ frame_id (shape_of_pass p) c) cs
       → (k ≢ frame_id (shape_of_pass p) b)
       × AllByRecursion (λ (c : ℕ). k ≢ frame_id (shape_of_pass p) c) bs)
       → length cs ≡ length bs + 1 → GoesTo p i key cs q
-  way_took n took cover long =
+  way_took {b = b} took cover long =
       let does = took.silently.does in let s = shape_of_pass p in
       let had = way.count in let more = took.count in record {
         goes = goes_silently p q (frame_id s b ∷ []) took.silently;
@@ -46,18 +46,18 @@ module _ (p q : TreePass) (i : ℕ) (key : FieldList) (bs cs : List ℕ)
       }
 
   -- a frame was given back
-  unfoldable pub way_gave : GivesFrame p b q
+  unfoldable pub way_gave : {b : ℕ} → GivesFrame p b q
       → ((k : ℕ) → k ≢ frame_id (shape_of_pass p) b
       → AllByRecursion (λ (c : ℕ). k ≢ frame_id (shape_of_pass p) c) cs
       → AllByRecursion (λ (c : ℕ). k ≢ frame_id (shape_of_pass p) c) bs)
       → length bs ≡ length cs + 1 → GoesTo p i key cs q
-  way_gave gave cover long = record {
+  way_gave {b} gave cover long = record {
     goes = goes_gave p q b way.known gave;
     way = way_less p q i key bs cs way b gave cover long;
   }
 
   -- a frame is lacked now, while others changed
-  unfoldable pub way_without : (ks : List ℕ) (a : Added) → Adds (view p) (view q) a → a.said ≡ []
+  unfoldable pub way_without : (b : ℕ) (ks : List ℕ) (a : Added) → Adds (view p) (view q) a → a.said ≡ []
       → HoldsTheRest (view p) (view q) ks → IsKnown q
       → get_elem? (view q).held (frame_id (shape_of_pass p) b) ≡ some None
       → ((k : ℕ) → k ≢ tree_id i → k ≢ frame_id (shape_of_pass p) b
@@ -65,7 +65,7 @@ module _ (p q : TreePass) (i : ℕ) (key : FieldList) (bs cs : List ℕ)
       → AllByRecursion (λ (j : ℕ). k ≢ j) ks
       × AllByRecursion (λ (c : ℕ). k ≢ frame_id (shape_of_pass p) c) bs)
       → (t : Tree) → KnowsTree (view q) i t → count q ≡ length cs + 1 → GoesTo p i key cs q
-  way_without ks a adds silent rest known lacks cover t knows counted =
+  way_without b ks a adds silent rest known lacks cover t knows counted =
       let shape = same_shape p q a adds in
       let only : HoldsOnly (view q) i cs = λ k h held not apart. (
       let apart0 = subst
@@ -90,20 +90,20 @@ module _ (p q : TreePass) (i : ℕ) (key : FieldList) (bs cs : List ℕ)
       }
 
 -- one way behind another
-unfoldable pub to_both : (p q r : TreePass) (i : ℕ) (key : FieldList) (bs cs : List ℕ) → GoesTo p i key bs q
-    → GoesTo q i key cs r → GoesTo p i key cs r
-to_both p q r i key bs cs first second =
+unfoldable pub to_both : {p q r : TreePass} {i : ℕ} {key : FieldList} {bs cs : List ℕ}
+    → GoesTo p i key bs q → GoesTo q i key cs r → GoesTo p i key cs r
+to_both {p} {q} {r} first second =
     record { goes = goes_both p q r first.goes second.goes; way = second.way }
 
 -- a call that got nothing leaves all in hand
-module _ (p q : TreePass) (got : GetsNothing p q) where
+module _ {p q : TreePass} (got : GetsNothing p q) where
   pub still_nothing : (b : ℕ) → StillKnows p b q
   still_nothing b f knows = let does = got.silently.does in
       frame_still (view p) (view q) [] does.adds.numbers does.rest b tt f knows
 
-  pub way_nothing : (i : ℕ) (key : FieldList) (bs : List ℕ) → IsGoingDown p i key bs
+  pub way_nothing : {i : ℕ} {key : FieldList} {bs : List ℕ} → IsGoingDown p i key bs
       → GoesTo p i key bs q
-  way_nothing i key bs way = let does = got.silently.does in let same = got.count in
+  way_nothing {i} {key} {bs} way = let does = got.silently.does in let same = got.count in
       let had = way.count in record {
         goes = goes_silently p q [] got.silently;
         way = way_more p q i key bs bs way [] got.silently.added does.adds does.rest does.known
@@ -113,7 +113,7 @@ module _ (p q : TreePass) (got : GetsNothing p q) where
       }
 
 -- a frame that is known stays so where a page was taken
-pub still_took : (p q : TreePass) (n b : ℕ) → PagesIn p n b q → (c : ℕ) → StillKnows p c q
-still_took p q n b took c f knows = let does = took.silently.does in
+pub still_took : {p q : TreePass} {n b : ℕ} → PagesIn p n b q → (c : ℕ) → StillKnows p c q
+still_took {p} {q} {n} {b} took c f knows = let does = took.silently.does in
     frame_still (view p) (view q) (frame_id (shape_of_pass p) b ∷ []) does.adds.numbers does.rest c
     (frames_apart (shape_of_pass p) c b (lacked_apart p c b f took.lacked knows), tt) f knows

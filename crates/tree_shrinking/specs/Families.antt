@@ -1,11 +1,8 @@
 -- A child of a page, and those beside it under the same page.
-use Rattle.std.specs.Prelude.{ℕ, suc, ◌≡◌, Option, Some, None, List, ◌∷◌, ◌++◌}
+use Rattle.std.specs.Prelude.{ℕ, ◌≡◌, true, false, Option, Some, None, option_map, List, ◌∷◌, ◌++◌}
 use Rattle.index_page.specs.Rows.{Row, Child, find_row, first_of_rows, last_of_rows}
-use Rattle.forest_law.specs.declared.objects.Frame.{Frame}
-use Rattle.call_law.specs.Hands.{KnowsFrame}
-use Rattle.call_law.specs.Spoken.{View}
-use Rattle.buffer_pool.specs.Pages.{HasTreePage}
 use Rattle.tree_shrinking.specs.declared.families.Family.{Family}
+use Rattle.tree_shrinking.specs.declared.pairs.Siblings.{Siblings}
 
 -- the row points to this page; where there is no row, there is no page
 abbrev pub PointsTo : Option Row → Option ℕ → Type 0
@@ -27,10 +24,12 @@ pub record TellsFamily (rows : List Row) (family : Family) : Type 0 where
   pub left : PointsTo (last_of_rows fore) family.left
   pub right : PointsTo (first_of_rows aft) family.right
 
--- the pass holds a page of an index above the leaves, with these children
-pub record HoldsFamily (v : View) (parent i : ℕ) (family : Family) : Type 0 where
-  pub level : ℕ
-  pub up : Frame
-  pub knows : KnowsFrame v parent up
-  pub above : HasTreePage up i (suc level)
-  pub tells : TellsFamily above.page.rows family
+-- the page before the child and the child, which may be the light one, if there is such a page
+abbrev pub siblings_before : Family → Option Siblings
+siblings_before family =
+    option_map (λ (n : ℕ). record { left = n; right = family.child; right_asks = true }) family.left
+
+-- the child, which may be the light one, and the page after it
+abbrev pub siblings_after : Family → Option Siblings
+siblings_after family =
+    option_map (λ (n : ℕ). record { left = family.child; right = n; right_asks = false }) family.right

@@ -1,5 +1,5 @@
 -- What is told on the way up of pages that were merged, or weren't.
-use Rattle.std.specs.Prelude.{ℕ, ◌≡◌, ◌<◌, ◌≤◌, true, false, Some, [], ◌∷◌}
+use Rattle.std.specs.Prelude.{ℕ, ◌≡◌, ◌<◌, ◌≤◌, Option, Some, [], ◌∷◌}
 use Rattle.key_tuple.specs.Order.{FieldList}
 use Rattle.key_tuple.specs.declared.mode.Mode.TheVariants as mode
 use Rattle.latch_space.specs.Passes.{view}
@@ -34,21 +34,13 @@ pub record LeavesPair (p : TreePass) (parent : ℕ) (asked : Siblings) (i : ℕ)
   pub apart : StayApart (shape_of_pass p) i asked.left asked.right asked.right_asks
       back.to.goes.added.references
 
--- the same of the child and the page before it, where there is one
-pub record LeavesBefore (p : TreePass) (parent i : ℕ) (family : Family) (key : FieldList)
-    (q : TreePass) : Type 0 where
+-- the same of these, where two are named
+pub record LeavesPairIf (p : TreePass) (parent : ℕ) (asked : Option Siblings) (i : ℕ)
+    (key : FieldList) (q : TreePass) : Type 0 where
   pub back : ComesBack p parent i key q
   pub still : StillKnows p parent q
-  pub apart : (n : ℕ) → family.left ≡ Some n → StayApart (shape_of_pass p) i n family.child true
-      back.to.goes.added.references
-
--- the same of the child and the page after it
-pub record LeavesAfter (p : TreePass) (parent i : ℕ) (family : Family) (key : FieldList)
-    (q : TreePass) : Type 0 where
-  pub back : ComesBack p parent i key q
-  pub still : StillKnows p parent q
-  pub apart : (n : ℕ) → family.right ≡ Some n → StayApart (shape_of_pass p) i family.child n false
-      back.to.goes.added.references
+  pub apart : (s : Siblings) → asked ≡ Some s → StayApart (shape_of_pass p) i s.left s.right
+      s.right_asks back.to.goes.added.references
 
 -- the child that has the key stays alone under the page above, which is as it was
 pub record LeavesChild (p : TreePass) (parent i : ℕ) (key : FieldList)

@@ -1,5 +1,5 @@
 -- A merge that is to be made, with the page behind in hand, and what is made by it.
-use Rattle.std.specs.Prelude.{ℕ, ◌≡◌, Option, Some, None, List, ◌∷◌}
+use Rattle.std.specs.Prelude.{ℕ, ◌≡◌, Option, List, ◌∷◌}
 use Rattle.latch_space.specs.Passes.{view, count}
 use Rattle.index_law.specs.Shape.{Shape}
 use Rattle.forest_law.specs.Numbers.{frame_id}
@@ -7,12 +7,12 @@ use Rattle.forest_world.specs.Held.{TreePass, shape_of_pass}
 use Rattle.call_law.specs.Spoken.{View}
 use Rattle.hash_maintain.specs.Moves.{first_hashed}
 use Rattle.buffer_pool.specs.Calls.{DoesSilently}
-use Rattle.buffer_pool.specs.Parts.{part_of_index, part_ids, KnowsPartIf}
+use Rattle.buffer_pool.specs.Parts.{part_of_index, KnowsPartIf}
 use Rattle.tree_merging.specs.FrameMerges.{MergesUnder}
 use Rattle.tree_smo.specs.declared.halves.SplitBlocks.{SplitBlocks}
 use Rattle.tree_smo.specs.declared.halves.SplitHands.{SplitHands}
 use Rattle.tree_smo.specs.Halves.{KnowsHalves}
-use Rattle.tree_smo.specs.Plans.{HoldsNext, next_ids, KnowsNext}
+use Rattle.tree_smo.specs.Plans.{HoldsNext, next_ids, more_ids, KnowsNext}
 use Rattle.tree_shrinking.specs.Merging.{CanMerge}
 
 -- the pass holds all that the merge changes: the three pages, and the one behind them, where there
@@ -35,18 +35,12 @@ pub record MergesSo (v v' : View) (at : SplitBlocks) (i : ℕ) (next : Option �
   pub merges : MergesUnder was.can.lower now.left was.can.upper now.right was.can.up now.up
   pub behind : KnowsNext v' next
 
--- those of the frame of the page behind, where there is one, and of the partition of this index, if
--- there is one
-abbrev pub behind_ids : Shape → (next hashed : Option ℕ) → List ℕ
-behind_ids shape None hashed = part_ids shape (part_of_index shape hashed)
-behind_ids shape (Some b) hashed =
-    frame_id shape b ∷ part_ids shape (part_of_index shape hashed)
-
--- the numbers of all objects that a merge changes
+-- the numbers of all objects that a merge changes, with that of the partition of this index, if there
+-- is one
 abbrev pub merged_ids : Shape → SplitBlocks → (next hashed : Option ℕ) → List ℕ
 merged_ids shape at next hashed =
     frame_id shape at.parent ∷ frame_id shape at.child ∷ frame_id shape at.right
-    ∷ behind_ids shape next hashed
+    ∷ more_ids shape next (part_of_index shape hashed)
 
 -- the merge was made, while the partition of both pages' index, if one is hashed, kept up with it
 pub record MergesHashed (p : TreePass) (at : SplitBlocks) (i : ℕ) (next : Option ℕ)

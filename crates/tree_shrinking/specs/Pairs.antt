@@ -1,5 +1,5 @@
 -- Two pages that follow one another under a page in hand, on the way up.
-use Rattle.std.specs.Prelude.{ℕ, suc, ◌≡◌, ◌<◌, ◌≤◌, ◌+◌, Bool, true, false, if◌then◌else◌, Some, List, [], ◌∷◌}
+use Rattle.std.specs.Prelude.{ℕ, suc, ◌≡◌, ◌<◌, ◌≤◌, ◌+◌, Bool, true, false, if◌then◌else◌, Option, Some, List, [], ◌∷◌}
 use Rattle.key_tuple.specs.Order.{FieldList}
 use Rattle.latch_space.specs.Passes.{view}
 use Rattle.index_page.specs.Loads.{load_of}
@@ -24,6 +24,14 @@ pub record HoldsAbovePair (v : View) (parent : ℕ) (asked : Siblings) (i : ℕ)
   pub knows : KnowsFrame v parent up
   pub above : HasTreePage up i (suc level)
   pub points : PointsAtPair above.page.rows asked.left asked.right
+
+-- it holds such a page, which points to these, where two are named
+pub record HoldsAboveIf (v : View) (parent : ℕ) (asked : Option Siblings) (i : ℕ) : Type 0 where
+  pub level : ℕ
+  pub up : Frame
+  pub knows : KnowsFrame v parent up
+  pub above : HasTreePage up i (suc level)
+  pub points : (s : Siblings) → asked ≡ Some s → PointsAtPair above.page.rows s.left s.right
 
 -- and it holds both pages
 pub record HoldsPair (v : View) (pair : Pair) (i : ℕ) : Type 0 where

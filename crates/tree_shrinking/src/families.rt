@@ -13,8 +13,10 @@ ghost use Rattle.tree_descent.specs.Descents.{HoldsInner};
 ghost use Rattle.tree_descent.specs.Leaves.{cut_in};
 ghost use Rattle.tree_descent.specs.Paths.{PicksChild};
 ghost use Rattle.tree_shrinking.specs.Families.{IsChildAt, TellsFamily};
+ghost use Rattle.tree_shrinking.specs.Families.{siblings_before, siblings_after};
 
-use buffer_pool::frame;
+use crate::pairs::Siblings;
+use crate::reading::held_page;
 use forest_world::{ForestPass, ForestSpace};
 use index_page::{Page, Place};
 use key_tuple::{Key, Mode};
@@ -28,6 +30,34 @@ pub(crate) struct Family {
     pub left: Option<u32>,
     /// The number of the page after it, if the same page points to that.
     pub right: Option<u32>,
+}
+
+/// The page before the child and the child, which may be the light one.
+pub(crate) fn siblings_before(family: Family) -> Option<Siblings>
+    ensures { result ≡ siblings_before family }
+{
+    match family.left {
+        Some(left) => Some(Siblings {
+            left,
+            right: family.child,
+            right_asks: true,
+        }),
+        None => None,
+    }
+}
+
+/// The child, which may be the light one, and the page after it.
+pub(crate) fn siblings_after(family: Family) -> Option<Siblings>
+    ensures { result ≡ siblings_after family }
+{
+    match family.right {
+        Some(right) => Some(Siblings {
+            left: family.child,
+            right,
+            right_asks: false,
+        }),
+        None => None,
+    }
 }
 
 /// The child that has the key, of the page in hand, and those beside it.
@@ -50,10 +80,7 @@ pub(crate) fn family_in(
 {
     let _ = index;
     pass.fits();
-    match &frame(space, pass, block).page {
-        Some(page) => family_on(page, key),
-        None => unreachable!(),
-    }
+    family_on(held_page(space, pass, block), key)
 }
 
 /// The same of a page.

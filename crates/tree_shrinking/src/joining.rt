@@ -1,25 +1,20 @@
 //! A page is merged with one beside it, with the page above in hand.
-ghost use Rattle.std.specs.Prelude.{◌≡◌, [], ◌∷◌, Ok, true, false, length, Some};
+ghost use Rattle.std.specs.Prelude.{◌≡◌, [], ◌∷◌, Ok, true, false};
 ghost use Rattle.key_tuple.specs.declared.mode.Mode.TheVariants as mode;
 ghost use Rattle.latch_space.specs.Passes.{view, IsSamePass};
 ghost use Rattle.latch_space.specs.Spaces.{IsPassOf};
-ghost use Rattle.index_page.specs.Page.{PageRows};
-ghost use Rattle.forest_law.specs.declared.objects.Frame.{Frame};
-ghost use Rattle.forest_world.specs.Held.{HasFrame};
 ghost use Rattle.buffer_pool.specs.Forests.{IsForest, IsFittedTree};
 ghost use Rattle.tree_descent.specs.Descents.{HoldsInner};
-ghost use Rattle.tree_growth.specs.Pages.{HoldsPagedFrame};
 ghost use Rattle.tree_growth.specs.Ways.{IsGoingDown};
-ghost use Rattle.tree_shrinking.specs.Families.{HoldsFamily};
-ghost use Rattle.tree_shrinking.specs.Joins.{LeavesPair, LeavesBefore, LeavesAfter, LeavesChild};
-ghost use Rattle.tree_shrinking.specs.Joins.{FreesUnder};
-ghost use Rattle.tree_shrinking.specs.Pairs.{HoldsAbovePair, HoldsJoined, ComesBack};
+ghost use Rattle.tree_shrinking.specs.Joins.{LeavesPair, LeavesPairIf, LeavesChild, FreesUnder};
+ghost use Rattle.tree_shrinking.specs.Pairs.{HoldsAbovePair, HoldsAboveIf, HoldsJoined, ComesBack};
 
-use crate::families::{Family, family_in};
+use crate::families::{family_in, siblings_after, siblings_before};
 use crate::lifting::lift;
 use crate::merging::merge_children;
 use crate::pairs::{Pair, Siblings, are_to_join, give_pair_back, take_pair};
-use buffer_pool::{frame, give_back};
+use crate::reading::held_page;
+use buffer_pool::give_back;
 use forest_world::{ForestPass, ForestSpace};
 use index_page::loads_add_up;
 use key_tuple::{Key, NoMemory};
@@ -51,85 +46,42 @@ pub(crate) fn join_child<R: Wait>(
 {
     pass.fits();
     let family = family_in(space, pass, parent, index, key);
-    if join_left(alloc, space, pass, parent, family, index, key, wait)? {
+    let before = siblings_before(family);
+    if join_beside(alloc, space, pass, parent, before, index, key, wait)? {
         return Ok(true);
     }
-    join_right(alloc, space, pass, parent, family, index, key, wait)
+    let after = siblings_after(family);
+    join_beside(alloc, space, pass, parent, after, index, key, wait)
 }
 
-/// Merges the child with the page before it, if there is one.
-fn join_left<R: Wait>(
+/// Merges the child with a page beside it, if there is such a page.
+fn join_beside<R: Wait>(
     alloc: Global,
     space: &ForestSpace,
     pass: &mut ForestPass,
     parent: u32,
-    family: Family,
+    beside: Option<Siblings>,
     index: u32,
     key: &Key,
     wait: &R,
 ) -> Result<bool, NoMemory>
     requires own { IsForest space.now × IsPassOf space.now pass.old }
     requires way { IsGoingDown pass.old index key.now.tuple (parent ∷ []) }
-    requires held { HoldsFamily (view pass.old) parent index family }
+    requires held { HoldsAboveIf (view pass.old) parent beside index }
     ensures own { IsSamePass pass.old pass.new × IsPassOf space.now pass.new }
     ensures back { ComesBack pass.old parent index key.now.tuple pass.new }
     ensures apart { result ≡ Ok false
-        → LeavesBefore pass.old parent index family key.now.tuple pass.new }
+        → LeavesPairIf pass.old parent beside index key.now.tuple pass.new }
     ensures freed { result ≡ Ok true
         → FreesUnder pass.old parent index key.now.tuple pass.new }
     ensures fits { IsFittedTree (view pass.new) }
 {
-    match family.left {
+    match beside {
         None => {
             pass.fits();
             Ok(false)
         }
-        Some(left) => {
-            let asked = Siblings {
-                left,
-                right: family.child,
-                right_asks: true,
-            };
-            join_pair(alloc, space, pass, parent, asked, index, key, wait)
-        }
-    }
-}
-
-/// Merges the child with the page after it, if there is one.
-fn join_right<R: Wait>(
-    alloc: Global,
-    space: &ForestSpace,
-    pass: &mut ForestPass,
-    parent: u32,
-    family: Family,
-    index: u32,
-    key: &Key,
-    wait: &R,
-) -> Result<bool, NoMemory>
-    requires own { IsForest space.now × IsPassOf space.now pass.old }
-    requires way { IsGoingDown pass.old index key.now.tuple (parent ∷ []) }
-    requires held { HoldsFamily (view pass.old) parent index family }
-    ensures own { IsSamePass pass.old pass.new × IsPassOf space.now pass.new }
-    ensures back { ComesBack pass.old parent index key.now.tuple pass.new }
-    ensures apart { result ≡ Ok false
-        → LeavesAfter pass.old parent index family key.now.tuple pass.new }
-    ensures freed { result ≡ Ok true
-        → FreesUnder pass.old parent index key.now.tuple pass.new }
-    ensures fits { IsFittedTree (view pass.new) }
-{
-    match family.right {
-        None => {
-            pass.fits();
-            Ok(false)
-        }
-        Some(right) => {
-            let asked = Siblings {
-                left: family.child,
-                right,
-                right_asks: false,
-            };
-            join_pair(alloc, space, pass, parent, asked, index, key, wait)
-        }
+        Some(asked) => join_pair(alloc, space, pass, parent, asked, index, key, wait),
     }
 }
 
@@ -201,7 +153,8 @@ fn lift_only<R: Wait>(
 {
     let _ = key;
     pass.fits();
-    if number_in(space, pass, parent) != index || count_in(space, pass, parent) > 1 {
+    let page = held_page(space, pass, parent);
+    if page.head().number != index || page.count() > 1 {
         give_back(space, pass, child);
         return Ok(true);
     }
@@ -211,31 +164,5 @@ fn lift_only<R: Wait>(
             give_back(space, pass, child);
             Err(error)
         }
-    }
-}
-
-/// The number of a page in hand.
-fn number_in(space: &ForestSpace, pass: &ForestPass, block: u32) -> u32
-    requires own { IsForest space.now × IsPassOf space.now pass.now }
-    requires held { HoldsPagedFrame pass.now block }
-    ensures { (f : Frame) (page : PageRows) → HasFrame pass.now block f f → f.page ≡ Some page
-        → result ≡ page.head.number }
-{
-    match &frame(space, pass, block).page {
-        Some(page) => page.head().number,
-        None => unreachable!(),
-    }
-}
-
-/// How many rows a page in hand has.
-fn count_in(space: &ForestSpace, pass: &ForestPass, block: u32) -> u32
-    requires own { IsForest space.now × IsPassOf space.now pass.now }
-    requires held { HoldsPagedFrame pass.now block }
-    ensures { (f : Frame) (page : PageRows) → HasFrame pass.now block f f → f.page ≡ Some page
-        → result ≡ length page.rows }
-{
-    match &frame(space, pass, block).page {
-        Some(page) => u32::from(page.count()),
-        None => unreachable!(),
     }
 }

@@ -11,6 +11,7 @@ mod levels;
 mod lifting;
 mod merging;
 mod pairs;
+mod reading;
 mod settling;
 mod shrinking;
 mod sinking;

@@ -1,19 +1,16 @@
 //! Two pages that follow one another are taken, and weighed.
-ghost use Rattle.std.specs.Prelude.{◌≡◌, [], ◌∷◌, Some};
+ghost use Rattle.std.specs.Prelude.{[], ◌∷◌};
 ghost use Rattle.latch_space.specs.Passes.{view, IsSamePass};
 ghost use Rattle.latch_space.specs.Spaces.{IsPassOf};
-ghost use Rattle.index_page.specs.Loads.{load_of};
-ghost use Rattle.index_page.specs.Page.{PageRows};
-ghost use Rattle.forest_law.specs.declared.objects.Frame.{Frame};
-ghost use Rattle.forest_world.specs.Held.{HasFrame};
 ghost use Rattle.buffer_pool.specs.Forests.{IsForest, IsFittedTree};
 ghost use Rattle.tree_growth.specs.Pages.{HoldsPagedFrame};
 ghost use Rattle.tree_growth.specs.Ways.{IsGoingDown};
 ghost use Rattle.tree_shrinking.specs.Joins.{GivesPair};
 ghost use Rattle.tree_shrinking.specs.Pairs.{HoldsAbovePair, HoldsPair, TellsJoin, pair_in, TakesPair};
 
+use crate::reading::held_page;
 use crate::{LIGHT_LOAD, MERGED_LOAD};
-use buffer_pool::{frame, give_back, page_in};
+use buffer_pool::{give_back, page_in};
 use forest_world::{ForestPass, ForestSpace};
 use key_tuple::Key;
 use std::sync::Wait;
@@ -99,22 +96,9 @@ pub(crate) fn are_to_join(space: &ForestSpace, pass: &ForestPass, pair: Pair) ->
     requires right { HoldsPagedFrame pass.now pair.right }
     ensures { TellsJoin pass.now pair result }
 {
-    let left = load_in(space, pass, pair.left);
-    let right = load_in(space, pass, pair.right);
+    let left = u64::from(held_page(space, pass, pair.left).load());
+    let right = u64::from(held_page(space, pass, pair.right).load());
     let most = u64::from(MERGED_LOAD);
     let asks = if pair.right_asks { right } else { left };
     asks < u64::from(LIGHT_LOAD) && left <= most && right <= most - left
-}
-
-/// What the rows of a page in hand take.
-fn load_in(space: &ForestSpace, pass: &ForestPass, block: u32) -> u64
-    requires own { IsForest space.now × IsPassOf space.now pass.now }
-    requires held { HoldsPagedFrame pass.now block }
-    ensures { (f : Frame) (page : PageRows) → HasFrame pass.now block f f → f.page ≡ Some page
-        → result ≡ load_of page.rows }
-{
-    match &frame(space, pass, block).page {
-        Some(page) => u64::from(page.load()),
-        None => unreachable!(),
-    }
 }

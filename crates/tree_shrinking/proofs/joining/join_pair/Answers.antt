@@ -1,6 +1,5 @@
 use Rattle.std.proofs.Common.{[], ◌∷◌}
 use Rattle.buffer_pool.proofs.CallLemmas.{frame_has}
-use Rattle.tree_shrinking.specs.Pairs.{pair_in}
 use Rattle.tree_growth.proofs.HandLemmas.{no_frame_but, no_table}
 use Rattle.tree_shrinking.proofs.JoinedLemmas.{way_joined, holds_joined}
 use Rattle.tree_shrinking.proofs.JoinLemmas.{back_after, pair_still, taken_back, failed_back}
@@ -22,17 +21,13 @@ are_to_join-requires-clause-right g c = let took = c.take_pair-left.ensures.took
     h.upper h.knows_right h.is_right
 
 pub returns-then-not-are_to_join-clause-back : goal.returns-then-not-are_to_join-clause-back
-returns-then-not-are_to_join-clause-back g c =
-    taken_back c.args.pass.now c.take_pair-left.new.pass c.give_pair_back.new.pass
-    (pair_in c.args.parent c.args.asked c.take_pair-left.result.0 c.take_pair-left.result.1)
-    c.args.asked c.args.index c.args.key.now.tuple c.take_pair-left.ensures.took c.give_pair_back.ensures.gave.to
-    c.give_pair_back.ensures.gave.still
+returns-then-not-are_to_join-clause-back g c = let gave = c.give_pair_back.ensures.gave in
+    taken_back c.take_pair-left.ensures.took gave.to gave.still
 
 pub returns-then-not-are_to_join-clause-apart : goal.returns-then-not-are_to_join-clause-apart
 returns-then-not-are_to_join-clause-apart g c e =
     let took = c.take_pair-left.ensures.took in let h = took.held in let q = c.take_pair-left.new.pass in
-    leaves_pair c.args.pass.now q c.give_pair_back.new.pass c.args.parent c.args.asked
-    c.take_pair-left.result.0 c.take_pair-left.result.1 c.args.index c.args.key.now.tuple took c.give_pair_back.ensures.gave
+    leaves_pair took c.give_pair_back.ensures.gave
     (c.are_to_join.ensures.no h.lower h.upper h.is_left.page h.is_right.page
     (frame_has q took.to.way.known c.take_pair-left.result.0 h.lower h.knows_left)
     (frame_has q took.to.way.known c.take_pair-left.result.1 h.upper h.knows_right) h.is_left.paged
@@ -41,9 +36,7 @@ returns-then-not-are_to_join-clause-apart g c e =
 pub merge_children-requires-clause-held : goal.merge_children-requires-clause-held
 merge_children-requires-clause-held g c = let took = c.take_pair-left.ensures.took in
     let h = took.held in let q = c.take_pair-left.new.pass in
-    can_merge q
-    (pair_in c.args.parent c.args.asked c.take_pair-left.result.0 c.take_pair-left.result.1)
-    c.args.index h
+    can_merge h
     (c.are_to_join.ensures.yes h.lower h.upper h.is_left.page h.is_right.page
     (frame_has q took.to.way.known c.take_pair-left.result.0 h.lower h.knows_left)
     (frame_has q took.to.way.known c.take_pair-left.result.1 h.upper h.knows_right) h.is_left.paged
@@ -65,50 +58,32 @@ merge_children-requires-clause-tables g c =
 
 pub lift_only-requires-clause-way : goal.lift_only-requires-clause-way
 lift_only-requires-clause-way g c =
-    (way_joined c.take_pair-left.new.pass c.merge_children.new.pass c.args.parent c.take_pair-left.result.0
-    c.take_pair-left.result.1 c.args.index c.args.key.now.tuple c.take_pair-left.ensures.fits
-    c.take_pair-left.ensures.took.to.way c.in-Ok.ensures.ok).way
+    (way_joined c.take_pair-left.ensures.fits c.take_pair-left.ensures.took.to.way
+    c.in-Ok.ensures.ok).way
 
 pub lift_only-requires-clause-held : goal.lift_only-requires-clause-held
 lift_only-requires-clause-held g c =
-    holds_joined c.take_pair-left.new.pass c.merge_children.new.pass c.args.parent c.take_pair-left.result.0
-    c.take_pair-left.result.1 c.args.index c.args.key.now.tuple c.take_pair-left.ensures.fits
-    c.take_pair-left.ensures.took.to.way c.in-Ok.ensures.ok c.loads_add_up.ensures
+    holds_joined c.take_pair-left.ensures.fits c.take_pair-left.ensures.took.to.way
+    c.in-Ok.ensures.ok c.loads_add_up.ensures
 
 pub give_pair_back-requires-in-Err-clause-held : goal.give_pair_back-requires-in-Err-clause-held
 give_pair_back-requires-in-Err-clause-held g c =
-    pair_still c.take_pair-left.new.pass c.merge_children.new.pass
-    (pair_in c.args.parent c.args.asked c.take_pair-left.result.0 c.take_pair-left.result.1)
-    c.args.index
-    c.in-Err.ensures.memory c.take_pair-left.ensures.took.held
+    pair_still c.in-Err.ensures.memory c.take_pair-left.ensures.took.held
 
 pub returns-in-Ok-clause-back : goal.returns-in-Ok-clause-back
-returns-in-Ok-clause-back g c =
-    let p = c.args.pass.now in let q = c.take_pair-left.new.pass in let r = c.merge_children.new.pass in
-    let pair = pair_in c.args.parent c.args.asked c.take_pair-left.result.0
-    c.take_pair-left.result.1 in let i = c.args.index in let key = c.args.key.now.tuple in
-    back_after p r c.lift_only.new.pass pair.parent i key (pair.parent ∷ pair.left ∷ [])
-    (to_both p q r i key (pair.parent ∷ pair.left ∷ pair.right ∷ []) (pair.parent ∷ pair.left ∷ [])
-    c.take_pair-left.ensures.took.to
-    (way_joined q r pair.parent pair.left pair.right i key c.take_pair-left.ensures.fits
-    c.take_pair-left.ensures.took.to.way c.in-Ok.ensures.ok)) c.lift_only.ensures.back
+returns-in-Ok-clause-back g c = let took = c.take_pair-left.ensures.took in
+    back_after (to_both took.to
+    (way_joined c.take_pair-left.ensures.fits took.to.way c.in-Ok.ensures.ok))
+    c.lift_only.ensures.back
 
 pub returns-in-Err-clause-back : goal.returns-in-Err-clause-back
-returns-in-Err-clause-back g c =
-    failed_back c.args.pass.now c.take_pair-left.new.pass c.merge_children.new.pass
-    c.give_pair_back-in-Err.new.pass
-    (pair_in c.args.parent c.args.asked c.take_pair-left.result.0 c.take_pair-left.result.1)
-    c.args.asked c.args.index c.args.key.now.tuple
-    c.take_pair-left.ensures.took c.in-Err.ensures.memory c.give_pair_back-in-Err.ensures.gave.to
-    c.give_pair_back-in-Err.ensures.gave.still
+returns-in-Err-clause-back g c = let gave = c.give_pair_back-in-Err.ensures.gave in
+    failed_back c.take_pair-left.ensures.took c.in-Err.ensures.memory gave.to gave.still
 
 pub returns-in-Ok-clause-apart : goal.returns-in-Ok-clause-apart
 returns-in-Ok-clause-apart g c e = absurd (c.lift_only.ensures.merged e)
 
 pub returns-in-Ok-clause-freed : goal.returns-in-Ok-clause-freed
 returns-in-Ok-clause-freed g c e =
-    frees_pair c.args.pass.now c.take_pair-left.new.pass c.merge_children.new.pass
-    c.lift_only.new.pass
-    (pair_in c.args.parent c.args.asked c.take_pair-left.result.0 c.take_pair-left.result.1)
-    c.args.asked c.args.index c.args.key.now.tuple c.take_pair-left.ensures.fits
-    c.take_pair-left.ensures.took c.in-Ok.ensures.ok c.lift_only.ensures.back
+    frees_pair c.take_pair-left.ensures.fits c.take_pair-left.ensures.took c.in-Ok.ensures.ok
+    c.lift_only.ensures.back

@@ -1,24 +1,25 @@
-use Rattle.std.proofs.Common.{[], ◌∷◌, arith}
+use Rattle.std.proofs.Common.{[], ◌∷◌, length, ap, sym, ◌∙◌, arith}
+use Rattle.index_page.specs.declared.head.PageHead.{PageHead}
+use Rattle.index_page.specs.Page.{PageRows}
 use Rattle.buffer_pool.proofs.CallLemmas.{frame_has}
 use Rattle.tree_growth.proofs.HandLemmas.{no_frame_but, no_table}
 use Rattle.tree_shrinking.proofs.OnlyLemmas.{back_given, back_failed, can_lift, back_lifted}
 use Rattle.tree_shrinking.proofs.joining.lift_only.Goals as goal
 
-pub returns-then-number_in-index-clause-back : goal.returns-then-number_in-index-clause-back
-returns-then-number_in-index-clause-back g c =
-    back_given c.args.pass.now c.args.parent c.args.child c.args.index c.args.key.now.tuple
-    c.requires.way c.requires.held c.give_back.new.pass c.give_back.ensures.gave
+pub returns-then-head-index-clause-back : goal.returns-then-head-index-clause-back
+returns-then-head-index-clause-back g c =
+    back_given c.requires.way c.requires.held c.give_back.ensures.gave
 
 pub lift-requires-clause-held : goal.lift-requires-clause-held
 lift-requires-clause-held g c = let h = c.requires.held in let p = c.args.pass.now in
-    let counted = c.count_in.ensures h.up h.above.page
+    let page = c.held_page-page.ensures h.up h.above.page
     (frame_has p c.requires.way.known c.args.parent h.up h.knows_up) h.above.paged in
-    let few = c.if-count_in-gt1.false in
-    let number = c.number_in.ensures h.up h.above.page
-    (frame_has p c.requires.way.known c.args.parent h.up h.knows_up) h.above.paged in
-    let root = c.if-number_in-index.false in
-    can_lift p c.args.parent c.args.child c.args.index c.args.key.now.tuple c.requires.way h
-    (omega (arith, number, root)) (omega (arith, counted, few))
+    let number = c.head.ensures ∙ ap (λ (r : PageRows). r.head) page in
+    let counted = c.count.ensures ∙ ap (λ (r : PageRows). length r.rows) page in
+    let few = c.if-count-gt1.false in
+    can_lift c.requires.way h
+    (sym (ap (λ (z : PageHead). z.number) number) ∙ c.if-head-index.false)
+    (omega (arith, counted, few))
 
 pub lift-requires-clause-frames : goal.lift-requires-clause-frames
 lift-requires-clause-frames g c =
@@ -32,11 +33,9 @@ lift-requires-clause-tables g c =
 
 pub returns-in-Ok-clause-back : goal.returns-in-Ok-clause-back
 returns-in-Ok-clause-back g c =
-    back_lifted c.args.pass.now c.args.parent c.args.child c.args.index c.args.key.now.tuple
-    c.requires.way c.requires.held c.lift.new.pass c.in-Ok.ensures.ok
+    back_lifted c.requires.way c.requires.held c.in-Ok.ensures.ok
 
 pub returns-in-Err-clause-back : goal.returns-in-Err-clause-back
 returns-in-Err-clause-back g c =
-    back_failed c.args.pass.now c.args.parent c.args.child c.args.index c.args.key.now.tuple
-    c.requires.way c.requires.held c.lift.new.pass c.give_back-in-Err.new.pass c.in-Err.ensures.memory
+    back_failed c.requires.way c.requires.held c.in-Err.ensures.memory
     c.give_back-in-Err.ensures.gave

@@ -7,9 +7,7 @@ use Rattle.tree_shrinking.proofs.levels.join_level.Goals as goal
 
 pub returns-then-at-level-clause-to : goal.returns-then-at-level-clause-to
 returns-then-at-level-clause-to g c =
-    given_at_once c.args.pass.now c.walk_above-at.new.pass c.args.index c.args.key.now.tuple
-    c.walk_above-at.result c.walk_above-at.ensures.reaches c.give_back.new.pass
-    c.give_back.ensures.gave
+    given_at_once c.walk_above-at.ensures.reaches c.give_back.ensures.gave
 
 pub join_child-merged-requires-clause-held : goal.join_child-merged-requires-clause-held
 join_child-merged-requires-clause-held g c = let high = c.if-at-level.false in
@@ -18,34 +16,27 @@ join_child-merged-requires-clause-held g c = let high = c.if-at-level.false in
 
 pub returns-in_err-merged-clause-to : goal.returns-in_err-merged-clause-to
 returns-in_err-merged-clause-to g c =
-    given_after c.args.pass.now c.walk_above-at.new.pass c.args.index c.args.key.now.tuple
-    c.walk_above-at.result c.walk_above-at.ensures.reaches c.join_child-merged.new.pass
-    c.give_back-2.new.pass c.join_child-merged.ensures.back c.give_back-2.ensures.gave
+    given_after c.walk_above-at.ensures.reaches c.join_child-merged.ensures.back
+    c.give_back-2.ensures.gave
 
 pub returns-then-branch-clause-to : goal.returns-then-branch-clause-to
 returns-then-branch-clause-to g c =
-    given_after c.args.pass.now c.walk_above-at.new.pass c.args.index c.args.key.now.tuple
-    c.walk_above-at.result c.walk_above-at.ensures.reaches c.join_child-merged.new.pass
-    c.give_back-2.new.pass c.join_child-merged.ensures.back c.give_back-2.ensures.gave
+    given_after c.walk_above-at.ensures.reaches c.join_child-merged.ensures.back
+    c.give_back-2.ensures.gave
 
 pub returns-else-branch-clause-to : goal.returns-else-branch-clause-to
 returns-else-branch-clause-to g c =
-    given_after c.args.pass.now c.walk_above-at.new.pass c.args.index c.args.key.now.tuple
-    c.walk_above-at.result c.walk_above-at.ensures.reaches c.join_child-merged.new.pass
-    c.give_back-2.new.pass c.join_child-merged.ensures.back c.give_back-2.ensures.gave
+    given_after c.walk_above-at.ensures.reaches c.join_child-merged.ensures.back
+    c.give_back-2.ensures.gave
 
 pub returns-then-at-level-clause-rests : goal.returns-then-at-level-clause-rests
 returns-then-at-level-clause-rests g c e =
-    rests_below c.args.pass.now c.walk_above-at.new.pass c.args.index c.args.level
-    c.args.key.now.tuple c.walk_above-at.result c.walk_above-at.ensures.reaches
-    c.give_back.new.pass c.if-at-level.true (c.walk_above-at.ensures.root c.if-at-level.true)
-    c.give_back.ensures.gave
+    rests_below c.walk_above-at.ensures.reaches c.if-at-level.true
+    (c.walk_above-at.ensures.root c.if-at-level.true) c.give_back.ensures.gave
 
 pub returns-then-branch-clause-freed : goal.returns-then-branch-clause-freed
 returns-then-branch-clause-freed g c above e =
-    frees_one c.args.pass.now c.walk_above-at.new.pass c.args.index c.args.level
-    c.args.key.now.tuple c.walk_above-at.result c.walk_above-at.ensures.reaches
-    c.join_child-merged.new.pass c.give_back-2.new.pass c.give_back-2.ensures.gave
+    frees_one c.walk_above-at.ensures.reaches c.give_back-2.ensures.gave
     (c.in_ok-merged.ensures.freed (ap Ok c.if-branch.true))
 
 pub returns-else-branch-clause-rests : goal.returns-else-branch-clause-rests
@@ -57,7 +48,5 @@ returns-else-branch-clause-rests g c e =
     let inner = holds_inner v i key 0 at is over in
     let above = c.walk_above-at.ensures.above (omega (arith, high)) in
     let lev = level_above v i key 0 at is over inner in
-    rests_under c.args.pass.now c.walk_above-at.new.pass i c.args.level key at
-    c.walk_above-at.ensures.reaches c.join_child-merged.new.pass c.give_back-2.new.pass
-    c.give_back-2.ensures.gave inner (omega (arith, above, lev))
+    rests_under c.walk_above-at.ensures.reaches c.give_back-2.ensures.gave inner (omega (arith, above, lev))
     (c.in_ok-merged.ensures.apart (ap Ok c.if-branch.false) inner)

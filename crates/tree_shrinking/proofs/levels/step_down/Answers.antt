@@ -22,14 +22,10 @@ child_for-child-requires-clause-tables g c =
 
 pub returns-clause-reaches : goal.returns-clause-reaches
 returns-clause-reaches g c =
-    steps_down c.args.pass.now c.child_for-child.new.pass c.give_back.new.pass c.args.index
-    c.args.key.now.tuple c.args.at c.child_for-child.result c.requires.way c.requires.held
-    c.requires.inner c.child_for-child.ensures.took c.give_back.ensures.gave c.page_in_hand.result
-    c.page_in_hand.ensures
+    steps_down c.requires.way c.requires.held c.requires.inner c.child_for-child.ensures.took
+    c.give_back.ensures.gave c.page_in_hand.result c.page_in_hand.ensures
 
 pub returns-clause-lower : goal.returns-clause-lower
 returns-clause-lower g c =
-    step_lower c.args.pass.now c.child_for-child.new.pass c.give_back.new.pass c.args.index
-    c.args.key.now.tuple c.args.at c.child_for-child.result c.requires.way c.requires.held
-    c.requires.inner c.child_for-child.ensures.took c.give_back.ensures.gave c.page_in_hand.result
-    c.page_in_hand.ensures
+    step_lower c.requires.way c.requires.held c.requires.inner c.child_for-child.ensures.took
+    c.give_back.ensures.gave c.page_in_hand.result c.page_in_hand.ensures

@@ -1,11 +1,11 @@
 use Rattle.buffer_pool.proofs.SpaceLemmas.{objects_of}
 use Rattle.tree_shrinking.proofs.InTreesLemmas.{lift_inside}
-use Rattle.tree_shrinking.proofs.LiftLemmas.{no_tables_sunk}
+use Rattle.tree_shrinking.proofs.TableLemmas.{tables_sunk}
 use Rattle.tree_shrinking.proofs.lifting.lift.Goals as goal
 
 pub sink_hashed-requires-clause-inside : goal.sink_hashed-requires-clause-inside
 sink_hashed-requires-clause-inside g c = let p = c.args.pass.now in
-    lift_inside p c.args.index c.args.root c.args.child c.requires.held
+    lift_inside p c.requires.held
     (objects_of c.args.space.now p c.requires.own.0 c.requires.own.1) c.requires.frames
 
 pub sink_hashed-requires-clause-parts : goal.sink_hashed-requires-clause-parts
@@ -13,5 +13,4 @@ sink_hashed-requires-clause-parts g c = c.requires.tables.parts
 
 pub free_page-requires-clause-tables : goal.free_page-requires-clause-tables
 free_page-requires-clause-tables g c =
-    no_tables_sunk c.args.pass.now c.sink_hashed.new.pass c.args.index c.args.root c.args.child
-    c.requires.index c.in_ok-sink_hashed.ensures.ok c.requires.tables
+    tables_sunk c.requires.index c.in_ok-sink_hashed.ensures.ok c.requires.tables

@@ -9,11 +9,9 @@ give_back-requires-clause-held c = let h = c.requires.held in
 
 pub give_back-requires-2-clause-held : goal.give_back-requires-2-clause-held
 give_back-requires-2-clause-held c =
-    left_held c.args.pass.now c.give_back.new.pass c.give_back.new.pass c.args.pair c.args.index
-    c.args.key.now.tuple c.requires.way c.requires.held c.fits.ensures c.give_back.ensures.gave
+    left_held c.requires.way c.requires.held c.fits.ensures c.give_back.ensures.gave
 
 pub returns-clause-gave : goal.returns-clause-gave
 returns-clause-gave c =
-    gives_pair c.args.pass.now c.give_back.new.pass c.give_back-2.new.pass c.args.pair
-    c.args.index c.args.key.now.tuple c.requires.way c.requires.held c.fits.ensures
-    c.give_back.ensures.gave c.give_back-2.ensures.gave
+    gives_pair c.requires.way c.requires.held c.fits.ensures c.give_back.ensures.gave
+    c.give_back-2.ensures.gave

@@ -1,12 +1,20 @@
-use Rattle.std.proofs.Common.{◌<◌, ◌^◌, sym, subst, arith}
+use Rattle.std.proofs.Common.{◌<◌, ◌^◌, sym, subst, arith, rules}
 use Rattle.std.proofs.lemmas.Result.{on_ok_weaker, on_err_weaker}
-use Rattle.latch_space.specs.Passes.{view}
 use Rattle.index_law.specs.Shape.{Shape}
-use Rattle.buffer_pool.specs.Parts.{HoldsPartIf, GivesPartIf, KnowsPartIf}
-use Rattle.tree_smo.proofs.PartHeldLemmas.{suits}
-use Rattle.tree_shrinking.proofs.PartAroundLemmas.{held_does, held_shape, inside_held, their_part, count_held}
-use Rattle.tree_shrinking.proofs.MergeAroundLemmas.{merge_held, part_after, known_merged, merge_around, none_around}
+use Rattle.tree_smo.proofs.HashedLemmas.{either_way}
+use Rattle.tree_shrinking.proofs.PartAroundLemmas.{HoldsBeside, holds_beside, held_does, held_shape, count_held, inside_held, their_part, kept_part, none_around}
+use Rattle.tree_shrinking.proofs.MergeAroundLemmas.{merge_held, made_part, merge_around}
+use Rattle.tree_shrinking.proofs.settling.merge_hashed.Given as given
 use Rattle.tree_shrinking.proofs.settling.merge_hashed.Goals as goal
+use Rattle.tree_shrinking.proofs.settling.merge_hashed.Goals.{After-hold_part_for-part}
+
+-- the partition of both pages' index is held, if one of both is hashed
+beside : (g : given.Over) (c : After-hold_part_for-part g)
+    → HoldsBeside c.args.pass.now c.args.at.right c.args.at.child c.hold_part_for-part.result
+    c.hold_part_for-part.new.pass
+beside g c = holds_beside c.hashed_index-hashed.result c.requires.known c.fits.ensures
+    c.requires.parts c.hashed_index-hashed.ensures c.hold_part_for-part.ensures.named
+    c.hold_part_for-part.ensures.held
 
 pub hashed_index-hashed-requires-clause-from : goal.hashed_index-hashed-requires-clause-from
 hashed_index-hashed-requires-clause-from g c =
@@ -16,87 +24,44 @@ pub hashed_index-hashed-requires-clause-to : goal.hashed_index-hashed-requires-c
 hashed_index-hashed-requires-clause-to g c =
     (c.requires.held.can.lower, c.requires.held.can.knows_left)
 
-pub make_merge-made-requires-clause-held : goal.make_merge-made-requires-clause-held
-make_merge-made-requires-clause-held g c = let p = c.args.pass.now in let q = c.hold_part_for-part.new.pass in
-    merge_held p q c.args.at c.args.index c.args.next c.hashed_index-hashed.result
-    c.requires.known (suits p c.fits.ensures).parts c.requires.parts
-    (subst (λ z. HoldsPartIf p z q) c.hold_part_for-part.ensures.named
-    c.hold_part_for-part.ensures.held) c.hashed_index-hashed.ensures
-    c.requires.held
+pub make_merge-made-requires : goal.make_merge-made-requires
+make_merge-made-requires g c =
+    let h = beside g (goal.at.make_merge-made-requires g c).After-hold_part_for-part in
+    record {
+      own = search rules;
+      held = merge_held c.args.at c.args.index c.args.next h c.requires.held;
+      inside = inside_held h c.requires.inside;
+      hash = their_part h;
+      known = (held_does h).does.known;
+      few = subst (λ (s : Shape). s.pages < 2 ^ 32) (sym (held_shape h)) c.requires.few;
+      room = (let more = count_held h in let room = c.requires.room in omega (arith, more, room));
+    }
 
-pub make_merge-made-requires-clause-inside : goal.make_merge-made-requires-clause-inside
-make_merge-made-requires-clause-inside g c = let p = c.args.pass.now in let q = c.hold_part_for-part.new.pass in
-    inside_held p q c.hashed_index-hashed.result c.requires.known
-    (suits p c.fits.ensures).parts
-    (subst (λ z. HoldsPartIf p z q) c.hold_part_for-part.ensures.named
-    c.hold_part_for-part.ensures.held)
-    c.requires.inside
-
-pub make_merge-made-requires-clause-hash : goal.make_merge-made-requires-clause-hash
-make_merge-made-requires-clause-hash g c = let p = c.args.pass.now in let q = c.hold_part_for-part.new.pass in
-    their_part p q c.hashed_index-hashed.result c.requires.known
-    (suits p c.fits.ensures).parts
-    (subst (λ z. HoldsPartIf p z q) c.hold_part_for-part.ensures.named
-    c.hold_part_for-part.ensures.held)
-    c.args.at.right c.args.at.child c.hashed_index-hashed.ensures
-
-pub make_merge-made-requires-clause-known : goal.make_merge-made-requires-clause-known
-make_merge-made-requires-clause-known g c = let p = c.args.pass.now in let q = c.hold_part_for-part.new.pass in
-    (held_does p q c.hashed_index-hashed.result c.requires.known
-    (suits p c.fits.ensures).parts
-    (subst (λ z. HoldsPartIf p z q) c.hold_part_for-part.ensures.named
-    c.hold_part_for-part.ensures.held)).does.known
-
-pub make_merge-made-requires-clause-few : goal.make_merge-made-requires-clause-few
-make_merge-made-requires-clause-few g c = let p = c.args.pass.now in let q = c.hold_part_for-part.new.pass in
-    subst (λ (s : Shape). s.pages < 2 ^ 32) (sym (held_shape p q c.hashed_index-hashed.result c.requires.known
-    (suits p c.fits.ensures).parts
-    (subst (λ z. HoldsPartIf p z q) c.hold_part_for-part.ensures.named
-    c.hold_part_for-part.ensures.held))) c.requires.few
-
-pub make_merge-made-requires-clause-room : goal.make_merge-made-requires-clause-room
-make_merge-made-requires-clause-room g c = let p = c.args.pass.now in let q = c.hold_part_for-part.new.pass in
-    let more = count_held p q c.hold_part_for-part.result c.hold_part_for-part.ensures.held in
-    let room = c.requires.room in omega (arith, more, room)
-
-pub give_part_if-requires-clause-held : goal.give_part_if-requires-clause-held
-give_part_if-requires-clause-held g c = let p = c.args.pass.now in let q = c.hold_part_for-part.new.pass in
-    subst (KnowsPartIf (view c.make_merge-made.new.pass))
-    (sym c.hold_part_for-part.ensures.named)
-    (part_after p q c.args.at c.args.index c.args.next c.hashed_index-hashed.result
-    c.requires.known (suits p c.fits.ensures).parts c.requires.parts
-    (subst (λ z. HoldsPartIf p z q) c.hold_part_for-part.ensures.named
-    c.hold_part_for-part.ensures.held) c.hashed_index-hashed.ensures
-    c.make_merge-made.new.pass c.make_merge-made.result c.make_merge-made.ensures.ok
-    c.make_merge-made.ensures.err)
-
-pub give_part_if-requires-clause-known : goal.give_part_if-requires-clause-known
-give_part_if-requires-clause-known g c = let p = c.args.pass.now in let q = c.hold_part_for-part.new.pass in
-    known_merged p q c.args.at c.args.index c.args.next c.hashed_index-hashed.result
-    c.requires.known (suits p c.fits.ensures).parts c.requires.parts
-    (subst (λ z. HoldsPartIf p z q) c.hold_part_for-part.ensures.named
-    c.hold_part_for-part.ensures.held) c.hashed_index-hashed.ensures
-    c.make_merge-made.new.pass c.make_merge-made.result c.make_merge-made.ensures.ok
-    c.make_merge-made.ensures.err
+pub give_part_if-requires : goal.give_part_if-requires
+give_part_if-requires g c =
+    let h = beside g (goal.at.give_part_if-requires g c).After-hold_part_for-part in
+    let made = c.make_merge-made in
+    record {
+      own = search rules;
+      known = either_way made.result made.ensures.ok made.ensures.err
+          (λ merges. merges.silently.does.known) (λ same. same.known);
+      held = either_way made.result made.ensures.ok made.ensures.err
+          (made_part c.args.at c.args.index c.args.next h made.new.pass)
+          (kept_part h made.new.pass);
+    }
 
 pub returns-clause-ok : goal.returns-clause-ok
-returns-clause-ok g c = let p = c.args.pass.now in let q = c.hold_part_for-part.new.pass in
-    on_ok_weaker c.make_merge-made.result
-    (merge_around p q c.args.at c.args.index c.args.next c.hashed_index-hashed.result
-    c.requires.known (suits p c.fits.ensures).parts c.requires.parts
-    (subst (λ z. HoldsPartIf p z q) c.hold_part_for-part.ensures.named
-    c.hold_part_for-part.ensures.held) c.hashed_index-hashed.ensures
-    c.make_merge-made.new.pass c.give_part_if.new.pass
-    (subst (λ z. GivesPartIf c.make_merge-made.new.pass z c.give_part_if.new.pass)
-    c.hold_part_for-part.ensures.named c.give_part_if.ensures.gave)) c.make_merge-made.ensures.ok
+returns-clause-ok g c =
+    let h = beside g (goal.at.returns-clause-ok g c).After-hold_part_for-part in
+    let made = c.make_merge-made in
+    on_ok_weaker made.result
+    (λ merges. merge_around c.args.at c.args.index c.args.next h made.new.pass merges
+    c.give_part_if.new.pass c.give_part_if.ensures.gave) made.ensures.ok
 
 pub returns-clause-err : goal.returns-clause-err
-returns-clause-err g c = let p = c.args.pass.now in let q = c.hold_part_for-part.new.pass in
-    on_err_weaker c.make_merge-made.result
-    (none_around p q c.hashed_index-hashed.result c.requires.known
-    (suits p c.fits.ensures).parts
-    (subst (λ z. HoldsPartIf p z q) c.hold_part_for-part.ensures.named
-    c.hold_part_for-part.ensures.held)
-    c.requires.parts c.make_merge-made.new.pass c.give_part_if.new.pass
-    (subst (λ z. GivesPartIf c.make_merge-made.new.pass z c.give_part_if.new.pass)
-    c.hold_part_for-part.ensures.named c.give_part_if.ensures.gave)) c.make_merge-made.ensures.err
+returns-clause-err g c =
+    let h = beside g (goal.at.returns-clause-err g c).After-hold_part_for-part in
+    let made = c.make_merge-made in
+    on_err_weaker made.result
+    (none_around h made.new.pass c.give_part_if.new.pass c.give_part_if.ensures.gave)
+    made.ensures.err

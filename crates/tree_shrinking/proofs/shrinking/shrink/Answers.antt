@@ -24,10 +24,8 @@ returns-clause-quiet g c =
 
 pub returns-clause-ok : goal.returns-clause-ok
 returns-clause-ok g c =
-    let p = c.args.pass.now in let q = c.take_tree.new.pass in
-    let r = c.shrink_up-outcome.new.pass in let s = c.give_tree_back.new.pass in
     let i = c.args.index in let key = c.args.key.now.tuple in
-    on_ok_more (WalksUp q i key r) (Shrinks p i key s) c.shrink_up-outcome.result
-    (λ walks. shrinks p q r s i key c.requires.index c.requires.few c.requires.fields
-    c.requires.nothing c.take_tree.ensures.took walks c.give_tree_back.ensures.gave)
-    c.shrink_up-outcome.ensures.ok
+    on_ok_more (WalksUp c.take_tree.new.pass i key c.shrink_up-outcome.new.pass)
+    (Shrinks c.args.pass.now i key c.give_tree_back.new.pass) c.shrink_up-outcome.result
+    (λ walks. shrinks c.requires.index c.requires.few c.requires.fields c.requires.nothing
+    c.take_tree.ensures.took walks c.give_tree_back.ensures.gave) c.shrink_up-outcome.ensures.ok

@@ -1,4 +1,4 @@
-use Rattle.std.proofs.Common.{ℕ, ◌≡◌, ◌+◌, Option, IfSome, subst, [], Ok, ap, refl, arith}
+use Rattle.std.proofs.Common.{ℕ, ◌≡◌, ◌+◌, Option, IfSome, subst, Ok, ap, refl, arith}
 use Rattle.tree_growth.proofs.AddLemmas.{goes_nowhere}
 use Rattle.tree_growth.proofs.HandLemmas.{same_pass}
 use Rattle.tree_shrinking.proofs.LeaveLemmas.{frees_more, walks_up}
@@ -17,27 +17,22 @@ loop-init g c = record {
 
 pub returns-in_err-above-clause-to : goal.returns-in_err-above-clause-to
 returns-in_err-above-clause-to g c =
-    to_both c.args.pass.now c.loop.pass c.join_level.new.pass c.args.index c.args.key.now.tuple []
-    [] c.loop.invariant.many.to c.join_level.ensures.to
+    to_both c.loop.invariant.many.to c.join_level.ensures.to
 
 pub returns-in-None-2-clause-to : goal.returns-in-None-2-clause-to
 returns-in-None-2-clause-to g c =
-    to_both c.args.pass.now c.loop.pass c.join_level.new.pass c.args.index c.args.key.now.tuple []
-    [] c.loop.invariant.many.to c.join_level.ensures.to
+    to_both c.loop.invariant.many.to c.join_level.ensures.to
 
 pub returns-in-None-2-clause-ok : goal.returns-in-None-2-clause-ok
 returns-in-None-2-clause-ok g c =
-    walks_up c.args.pass.now c.loop.pass c.join_level.new.pass c.args.index c.loop.level
-    c.args.key.now.tuple c.loop.invariant.many
-    (c.in_ok-above.ensures.rests (ap Ok c.in-None-2.is))
+    walks_up c.loop.invariant.many (c.in_ok-above.ensures.rests (ap Ok c.in-None-2.is))
 
 pub loop-preserved : goal.loop-preserved
 loop-preserved g c = record {
   same = same_pass c.args.pass.now c.loop.pass c.join_level.new.pass c.loop.invariant.same
       c.join_level.ensures.own.0;
   own = c.join_level.ensures.own.1;
-  many = frees_more c.args.pass.now c.loop.pass c.join_level.new.pass c.args.index c.loop.level
-      c.in-Some-2.above c.args.key.now.tuple c.loop.invariant.many
+  many = frees_more c.loop.invariant.many
       (c.in_ok-above.ensures.freed c.in-Some-2.above (ap Ok c.in-Some-2.is))
       (subst (λ (o : Option ℕ). IfSome o (λ n. n ≡ c.loop.level + 1)) c.in-Some-2.is
       c.in_ok-above.ensures.above);

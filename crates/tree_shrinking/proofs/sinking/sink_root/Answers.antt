@@ -1,185 +1,86 @@
-use Rattle.std.proofs.Common.{◌-◌, refl, ap, arith}
+use Rattle.std.proofs.Common.{◌-◌, ap, arith, rules}
 use Rattle.forest_law.specs.declared.objects.Tree.{Tree}
-use Rattle.tree_shrinking.proofs.SinkLemmas.{one_lower, sink_call, some_height, suits_sinking, storeys, in_place, moved_rows, is_sunk, tree_there, whole, follows, sinks_root}
+use Rattle.tree_shrinking.proofs.KeptPairLemmas.{in_place, moved_rows}
+use Rattle.tree_shrinking.proofs.SinkLemmas.{one_lower, SinkCall, some_height, suits_sinking, rows_moved, SinkInHand, sink_kept}
+use Rattle.tree_shrinking.proofs.SinkStepLemmas.{SinkMade, tree_there, tree_lowered, whole, follows, sinks_root}
+use Rattle.tree_shrinking.proofs.sinking.sink_root.Given as given
 use Rattle.tree_shrinking.proofs.sinking.sink_root.Goals as goal
+use Rattle.tree_shrinking.proofs.sinking.sink_root.Goals.{After-laws_of_moves, After-keep_up_between, After-change_tree}
+
+-- the call, as lemmas know it
+call : (g : given.Over) (c : After-laws_of_moves g)
+    → SinkCall c.args.pass.now c.args.index c.args.root c.args.child
+call g c = record {
+  known = c.requires.known;
+  fitted = c.fits.ensures;
+  below = c.requires.index;
+  held = c.requires.held;
+  inside = c.requires.inside;
+  hash = c.requires.hash;
+  few = c.requires.few;
+  laws = c.laws_of_moves.ensures;
+}
 
 pub sink_storeys-requires-clause-suits : goal.sink_storeys-requires-clause-suits
-sink_storeys-requires-clause-suits g c = let p = c.args.pass.now in
-    suits_sinking p c.args.index c.args.root c.args.child (sink_call p c.args.index c.args.root c.args.child
-    c.requires.known c.fits.ensures c.requires.index c.requires.held c.requires.inside
-    c.requires.few)
+sink_storeys-requires-clause-suits g c =
+    suits_sinking (call g (goal.at.sink_storeys-requires-clause-suits g c).After-laws_of_moves)
+
+pub keep_up_between-requires : goal.keep_up_between-requires
+keep_up_between-requires g c =
+    let moves = rows_moved (call g (goal.at.keep_up_between-requires g c).After-laws_of_moves)
+    c.sink_storeys.new.pass c.in_ok-sink_storeys.ensures.ok in
+    record {
+      own = search rules;
+      moved = moved_rows moves;
+      place = in_place moves;
+      room = (let same = moves.remakes.same_count in let room = c.requires.room in
+          omega (arith, same, room));
+    }
+
+-- both frames are in hand, and the partition kept up with their rows
+sunk : (g : given.Over) (c : After-keep_up_between g)
+    → SinkCall c.args.pass.now c.args.index c.args.root c.args.child
+    → SinkInHand c.args.pass.now c.args.index c.args.root c.args.child c.keep_up_between.new.pass
+sunk g c call = sink_kept call c.sink_storeys.new.pass c.keep_up_between.new.pass
+    c.in_ok-sink_storeys.ensures.ok c.keep_up_between.ensures.kept
 
 pub tree-old-requires-clause-held : goal.tree-old-requires-clause-held
-tree-old-requires-clause-held g c = let p = c.args.pass.now in let t = c.requires.held.tree in
-    let there = tree_there p c.args.index c.args.root c.args.child (sink_call p c.args.index c.args.root c.args.child
-    c.requires.known c.fits.ensures c.requires.index c.requires.held c.requires.inside
-    c.requires.few)
-    c.keep_up_between.new.pass (is_sunk p c.args.index c.args.root c.args.child (sink_call p c.args.index c.args.root c.args.child
-    c.requires.known c.fits.ensures c.requires.index c.requires.held c.requires.inside
-    c.requires.few)
-    c.sink_storeys.new.pass c.in_ok-sink_storeys.ensures.ok c.laws_of_moves.ensures
-    c.keep_up_between.new.pass c.requires.hash (c.keep_up_between.ensures.kept
-    (moved_rows p c.args.index c.args.root c.args.child (sink_call p c.args.index c.args.root c.args.child
-    c.requires.known c.fits.ensures c.requires.index c.requires.held c.requires.inside
-    c.requires.few)
-    c.sink_storeys.new.pass c.in_ok-sink_storeys.ensures.ok c.requires.hash))) in (t, t, there)
+tree-old-requires-clause-held g c =
+    let at = goal.at.tree-old-requires-clause-held g c in
+    let s = sunk g at.After-keep_up_between (call g at.After-laws_of_moves) in
+    (s.call.held.tree, s.call.held.tree, tree_there s)
 
 pub change_tree-requires-clause-held : goal.change_tree-requires-clause-held
-change_tree-requires-clause-held g c = let p = c.args.pass.now in let t = c.requires.held.tree in
-    let there = tree_there p c.args.index c.args.root c.args.child (sink_call p c.args.index c.args.root c.args.child
-    c.requires.known c.fits.ensures c.requires.index c.requires.held c.requires.inside
-    c.requires.few)
-    c.keep_up_between.new.pass (is_sunk p c.args.index c.args.root c.args.child (sink_call p c.args.index c.args.root c.args.child
-    c.requires.known c.fits.ensures c.requires.index c.requires.held c.requires.inside
-    c.requires.few)
-    c.sink_storeys.new.pass c.in_ok-sink_storeys.ensures.ok c.laws_of_moves.ensures
-    c.keep_up_between.new.pass c.requires.hash (c.keep_up_between.ensures.kept
-    (moved_rows p c.args.index c.args.root c.args.child (sink_call p c.args.index c.args.root c.args.child
-    c.requires.known c.fits.ensures c.requires.index c.requires.held c.requires.inside
-    c.requires.few)
-    c.sink_storeys.new.pass c.in_ok-sink_storeys.ensures.ok c.requires.hash))) in (t, t, there)
+change_tree-requires-clause-held g c =
+    let at = goal.at.change_tree-requires-clause-held g c in
+    let s = sunk g at.After-keep_up_between (call g at.After-laws_of_moves) in
+    (s.call.held.tree, s.call.held.tree, tree_there s)
 
 pub overflow_sub-height : goal.overflow_sub-height
-overflow_sub-height g c = let p = c.args.pass.now in let t = c.requires.held.tree in
-    let there = tree_there p c.args.index c.args.root c.args.child (sink_call p c.args.index c.args.root c.args.child
-    c.requires.known c.fits.ensures c.requires.index c.requires.held c.requires.inside
-    c.requires.few)
-    c.keep_up_between.new.pass (is_sunk p c.args.index c.args.root c.args.child (sink_call p c.args.index c.args.root c.args.child
-    c.requires.known c.fits.ensures c.requires.index c.requires.held c.requires.inside
-    c.requires.few)
-    c.sink_storeys.new.pass c.in_ok-sink_storeys.ensures.ok c.laws_of_moves.ensures
-    c.keep_up_between.new.pass c.requires.hash (c.keep_up_between.ensures.kept
-    (moved_rows p c.args.index c.args.root c.args.child (sink_call p c.args.index c.args.root c.args.child
-    c.requires.known c.fits.ensures c.requires.index c.requires.held c.requires.inside
-    c.requires.few)
-    c.sink_storeys.new.pass c.in_ok-sink_storeys.ensures.ok c.requires.hash))) in
-    let some = some_height p c.args.index c.args.root c.args.child (sink_call p c.args.index c.args.root c.args.child
-    c.requires.known c.fits.ensures c.requires.index c.requires.held c.requires.inside
-    c.requires.few) in
-    let same = ap (λ (z : Tree). z.height) (c.tree-old.ensures t t there) in
+overflow_sub-height g c =
+    let at = goal.at.overflow_sub-height g c in
+    let s = sunk g at.After-keep_up_between (call g at.After-laws_of_moves) in
+    let t = s.call.held.tree in let some = some_height s.call in
+    let same = ap (λ (z : Tree). z.height) (c.tree-old.ensures t t (tree_there s)) in
     omega (arith, some, same)
 
-pub settle-requires-clause-whole : goal.settle-requires-clause-whole
-settle-requires-clause-whole g c = let p = c.args.pass.now in let t = c.requires.held.tree in
-    let there = tree_there p c.args.index c.args.root c.args.child (sink_call p c.args.index c.args.root c.args.child
-    c.requires.known c.fits.ensures c.requires.index c.requires.held c.requires.inside
-    c.requires.few)
-    c.keep_up_between.new.pass (is_sunk p c.args.index c.args.root c.args.child (sink_call p c.args.index c.args.root c.args.child
-    c.requires.known c.fits.ensures c.requires.index c.requires.held c.requires.inside
-    c.requires.few)
-    c.sink_storeys.new.pass c.in_ok-sink_storeys.ensures.ok c.laws_of_moves.ensures
-    c.keep_up_between.new.pass c.requires.hash (c.keep_up_between.ensures.kept
-    (moved_rows p c.args.index c.args.root c.args.child (sink_call p c.args.index c.args.root c.args.child
-    c.requires.known c.fits.ensures c.requires.index c.requires.held c.requires.inside
-    c.requires.few)
-    c.sink_storeys.new.pass c.in_ok-sink_storeys.ensures.ok c.requires.hash))) in
-    let old = c.tree-old.result in
-    whole p c.args.index c.args.root c.args.child (sink_call p c.args.index c.args.root c.args.child
-    c.requires.known c.fits.ensures c.requires.index c.requires.held c.requires.inside
-    c.requires.few)
-    c.keep_up_between.new.pass (is_sunk p c.args.index c.args.root c.args.child (sink_call p c.args.index c.args.root c.args.child
-    c.requires.known c.fits.ensures c.requires.index c.requires.held c.requires.inside
-    c.requires.few)
-    c.sink_storeys.new.pass c.in_ok-sink_storeys.ensures.ok c.laws_of_moves.ensures
-    c.keep_up_between.new.pass c.requires.hash (c.keep_up_between.ensures.kept
-    (moved_rows p c.args.index c.args.root c.args.child (sink_call p c.args.index c.args.root c.args.child
-    c.requires.known c.fits.ensures c.requires.index c.requires.held c.requires.inside
-    c.requires.few)
-    c.sink_storeys.new.pass c.in_ok-sink_storeys.ensures.ok c.requires.hash))) c.laws_of_moves.ensures
-    (record old { height = old.height - 1 })
-    (one_lower t old (record old { height = old.height - 1 }) (c.tree-old.ensures t t there)
-    (some_height p c.args.index c.args.root c.args.child (sink_call p c.args.index c.args.root c.args.child
-    c.requires.known c.fits.ensures c.requires.index c.requires.held c.requires.inside
-    c.requires.few)) refl)
+-- all is in hand that is to be settled
+lowered : (g : given.Over) (c : After-change_tree g)
+    → SinkInHand c.args.pass.now c.args.index c.args.root c.args.child c.keep_up_between.new.pass
+    → SinkMade c.args.pass.now c.args.index c.args.root c.args.child c.change_tree.new.pass
+lowered g c s = let t = s.call.held.tree in let old = c.tree-old.result in
+    tree_lowered s (record old { height = old.height - 1 })
+    (one_lower t old (c.tree-old.ensures t t (tree_there s)) (some_height s.call))
     c.change_tree.new.pass c.change_tree.ensures.changed
 
-pub settle-requires-clause-rule : goal.settle-requires-clause-rule
-settle-requires-clause-rule g c = let p = c.args.pass.now in let t = c.requires.held.tree in
-    let there = tree_there p c.args.index c.args.root c.args.child (sink_call p c.args.index c.args.root c.args.child
-    c.requires.known c.fits.ensures c.requires.index c.requires.held c.requires.inside
-    c.requires.few)
-    c.keep_up_between.new.pass (is_sunk p c.args.index c.args.root c.args.child (sink_call p c.args.index c.args.root c.args.child
-    c.requires.known c.fits.ensures c.requires.index c.requires.held c.requires.inside
-    c.requires.few)
-    c.sink_storeys.new.pass c.in_ok-sink_storeys.ensures.ok c.laws_of_moves.ensures
-    c.keep_up_between.new.pass c.requires.hash (c.keep_up_between.ensures.kept
-    (moved_rows p c.args.index c.args.root c.args.child (sink_call p c.args.index c.args.root c.args.child
-    c.requires.known c.fits.ensures c.requires.index c.requires.held c.requires.inside
-    c.requires.few)
-    c.sink_storeys.new.pass c.in_ok-sink_storeys.ensures.ok c.requires.hash))) in
-    let old = c.tree-old.result in
-    follows p c.args.index c.args.root c.args.child (sink_call p c.args.index c.args.root c.args.child
-    c.requires.known c.fits.ensures c.requires.index c.requires.held c.requires.inside
-    c.requires.few)
-    c.keep_up_between.new.pass (is_sunk p c.args.index c.args.root c.args.child (sink_call p c.args.index c.args.root c.args.child
-    c.requires.known c.fits.ensures c.requires.index c.requires.held c.requires.inside
-    c.requires.few)
-    c.sink_storeys.new.pass c.in_ok-sink_storeys.ensures.ok c.laws_of_moves.ensures
-    c.keep_up_between.new.pass c.requires.hash (c.keep_up_between.ensures.kept
-    (moved_rows p c.args.index c.args.root c.args.child (sink_call p c.args.index c.args.root c.args.child
-    c.requires.known c.fits.ensures c.requires.index c.requires.held c.requires.inside
-    c.requires.few)
-    c.sink_storeys.new.pass c.in_ok-sink_storeys.ensures.ok c.requires.hash))) c.laws_of_moves.ensures
-    (record old { height = old.height - 1 })
-    (one_lower t old (record old { height = old.height - 1 }) (c.tree-old.ensures t t there)
-    (some_height p c.args.index c.args.root c.args.child (sink_call p c.args.index c.args.root c.args.child
-    c.requires.known c.fits.ensures c.requires.index c.requires.held c.requires.inside
-    c.requires.few)) refl)
-    c.change_tree.new.pass c.change_tree.ensures.changed
+pub settle-requires : goal.settle-requires
+settle-requires g c = let at = goal.at.settle-requires g c in
+    let all = lowered g at.After-change_tree (sunk g at.After-keep_up_between
+    (call g at.After-laws_of_moves)) in
+    record { own = search rules; whole = whole all; rule = follows all }
 
 pub returns-clause-ok : goal.returns-clause-ok
-returns-clause-ok g c = let p = c.args.pass.now in let t = c.requires.held.tree in
-    let there = tree_there p c.args.index c.args.root c.args.child (sink_call p c.args.index c.args.root c.args.child
-    c.requires.known c.fits.ensures c.requires.index c.requires.held c.requires.inside
-    c.requires.few)
-    c.keep_up_between.new.pass (is_sunk p c.args.index c.args.root c.args.child (sink_call p c.args.index c.args.root c.args.child
-    c.requires.known c.fits.ensures c.requires.index c.requires.held c.requires.inside
-    c.requires.few)
-    c.sink_storeys.new.pass c.in_ok-sink_storeys.ensures.ok c.laws_of_moves.ensures
-    c.keep_up_between.new.pass c.requires.hash (c.keep_up_between.ensures.kept
-    (moved_rows p c.args.index c.args.root c.args.child (sink_call p c.args.index c.args.root c.args.child
-    c.requires.known c.fits.ensures c.requires.index c.requires.held c.requires.inside
-    c.requires.few)
-    c.sink_storeys.new.pass c.in_ok-sink_storeys.ensures.ok c.requires.hash))) in
-    let old = c.tree-old.result in
-    sinks_root p c.args.index c.args.root c.args.child (sink_call p c.args.index c.args.root c.args.child
-    c.requires.known c.fits.ensures c.requires.index c.requires.held c.requires.inside
-    c.requires.few)
-    c.keep_up_between.new.pass (is_sunk p c.args.index c.args.root c.args.child (sink_call p c.args.index c.args.root c.args.child
-    c.requires.known c.fits.ensures c.requires.index c.requires.held c.requires.inside
-    c.requires.few)
-    c.sink_storeys.new.pass c.in_ok-sink_storeys.ensures.ok c.laws_of_moves.ensures
-    c.keep_up_between.new.pass c.requires.hash (c.keep_up_between.ensures.kept
-    (moved_rows p c.args.index c.args.root c.args.child (sink_call p c.args.index c.args.root c.args.child
-    c.requires.known c.fits.ensures c.requires.index c.requires.held c.requires.inside
-    c.requires.few)
-    c.sink_storeys.new.pass c.in_ok-sink_storeys.ensures.ok c.requires.hash))) c.laws_of_moves.ensures
-    (record old { height = old.height - 1 })
-    (one_lower t old (record old { height = old.height - 1 }) (c.tree-old.ensures t t there)
-    (some_height p c.args.index c.args.root c.args.child (sink_call p c.args.index c.args.root c.args.child
-    c.requires.known c.fits.ensures c.requires.index c.requires.held c.requires.inside
-    c.requires.few)) refl)
-    c.change_tree.new.pass c.change_tree.ensures.changed c.settle.new.pass
-    c.settle.ensures.did
-
-pub keep_up_between-requires-clause-moved : goal.keep_up_between-requires-clause-moved
-keep_up_between-requires-clause-moved g c = let p = c.args.pass.now in
-    moved_rows p c.args.index c.args.root c.args.child (sink_call p c.args.index c.args.root c.args.child
-    c.requires.known c.fits.ensures c.requires.index c.requires.held c.requires.inside
-    c.requires.few)
-    c.sink_storeys.new.pass c.in_ok-sink_storeys.ensures.ok c.requires.hash
-
-pub keep_up_between-requires-clause-place : goal.keep_up_between-requires-clause-place
-keep_up_between-requires-clause-place g c = let p = c.args.pass.now in
-    in_place p c.args.index c.args.root c.args.child (sink_call p c.args.index c.args.root c.args.child
-    c.requires.known c.fits.ensures c.requires.index c.requires.held c.requires.inside
-    c.requires.few)
-    c.sink_storeys.new.pass c.in_ok-sink_storeys.ensures.ok
-
-pub keep_up_between-requires-clause-room : goal.keep_up_between-requires-clause-room
-keep_up_between-requires-clause-room g c = let p = c.args.pass.now in
-    let same = (storeys p c.args.index c.args.root c.args.child (sink_call p c.args.index c.args.root c.args.child
-    c.requires.known c.fits.ensures c.requires.index c.requires.held c.requires.inside
-    c.requires.few)
-    c.sink_storeys.new.pass c.in_ok-sink_storeys.ensures.ok).remakes.same_count in
-    let room = c.requires.room in omega (arith, same, room)
+returns-clause-ok g c = let at = goal.at.returns-clause-ok g c in
+    sinks_root (lowered g at.After-change_tree (sunk g at.After-keep_up_between
+    (call g at.After-laws_of_moves)))
+    c.settle.new.pass c.settle.ensures.did
