@@ -25,7 +25,7 @@ use Rattle.buffer_pool.proofs.AddedLemmas.{frame_still}
 use Rattle.buffer_pool.proofs.CallLemmas.{frame_has}
 use Rattle.buffer_pool.proofs.PartLemmas.{part_has}
 use Rattle.leaf_rows.specs.Finding.{HasSpot}
-use Rattle.index_engine.specs.Hashed.{HoldsBoth, HoldsHashed, HoldsPartKept, KeepsHashed, GivesPartOf, count_with}
+use Rattle.index_engine.specs.Hashed.{HoldsLeafAndPart, HoldsHashed, HoldsPartKept, KeepsHashed, GivesPartOf, count_with_part}
 use Rattle.index_engine.specs.Holds.{IsLeafOf, HoldsFreshAlone, HoldsStill, StaysKnown}
 use Rattle.index_engine.proofs.HashedLemmas.{part_no_frame}
 use Rattle.index_engine.proofs.UpkeepLemmas.{none_hashed}
@@ -134,7 +134,7 @@ module _ (p q q1 : TreePass) (b i : ℕ) (key : FieldList) (spot : Spot)
     (alone : HoldsFreshAlone p b i key spot) (fitted : IsFittedTree (view q)) where
   knows_part : (part : Option ℕ) → part ≡ part_of_index (shape_of_pass p) alone.fresh.frame.hashed
       → HoldsPartIf p part q → StaysKnown q q1 → (view q1).terms ≡ (view q).terms
-      → KnowsPartIf (view q1) part × (count q1 ≡ count_with part)
+      → KnowsPartIf (view q1) part × (count q1 ≡ count_with_part part)
   knows_part None named took stays terms = (tt, stays.count ∙ (ap (λ (z : TreePass). count z) took ∙ alone.one))
   knows_part (Some k) named took stays terms =
       let below = is_below alone.fresh.frame.hashed named in
@@ -162,7 +162,7 @@ module _ (p q q1 : TreePass) (b i : ℕ) (key : FieldList) (spot : Spot)
   pub both_held : (part : Option ℕ)
       → part ≡ part_of_index (shape_of_pass p) alone.fresh.frame.hashed
       → HoldsPartIf p part q → HoldsStill q1 b → StaysKnown q q1
-      → (view q1).terms ≡ (view q).terms → HoldsBoth q1 b part
+      → (view q1).terms ≡ (view q).terms → HoldsLeafAndPart q1 b part
   both_held part named took still stays terms = let knows = knows_part part named took stays terms in record {
     frame = still.frame;
     has = still.has;
@@ -184,11 +184,11 @@ module _ (p q : TreePass) (b : ℕ) where
       (object.Frame g) gave.others
       (λ e. part_no_frame (shape_of_pass p) k b knows.0 (sym e)) has)
 
-  count_gave : (part : Option ℕ) → GivesPartOf p part q → count p ≡ count_with part → count q ≡ 1
+  count_gave : (part : Option ℕ) → GivesPartOf p part q → count p ≡ count_with_part part → count q ≡ 1
   count_gave None gave counted = ap (λ (z : TreePass). count z) gave ∙ counted
   count_gave (Some k) gave counted = let less = gave.count in omega (arith, less, counted)
 
-  module _ (part : Option ℕ) (held : HoldsBoth p b part) (gave : GivesPartOf p part q) where
+  module _ (part : Option ℕ) (held : HoldsLeafAndPart p b part) (gave : GivesPartOf p part q) where
     pub may_go : MayGiveBack q b
     may_go = (held.frame, frame_gave part gave held.partition held.frame held.frame held.has, held.inside)
 

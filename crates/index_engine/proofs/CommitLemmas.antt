@@ -1,5 +1,5 @@
 -- A change that is committed while the leaf is held is right, and is the one that is told.
-use Rattle.std.proofs.Common.{◌≡◌, ◌≢◌, ℕ, ◌+◌, ◌-◌, ◌<◌, true, [], ◌∷◌, ◌++◌, append-nil, append_assoc, length, length-append, take, set, sym, ap, subst, ◌∙◌, arith, refl, List, Option, Some, Result, Ok, Err, Contains, cond}
+use Rattle.std.proofs.Common.{◌≡◌, ◌≢◌, ℕ, ◌+◌, ◌-◌, ◌<◌, true, ◌&&◌, [], ◌∷◌, ◌++◌, append-nil, append_assoc, length, length-append, take, set, sym, ap, subst, ◌∙◌, arith, refl, List, Option, Some, Result, Ok, Err, Contains, cond}
 use Rattle.std.proofs.lemmas.List.{length-map, take_all, take-append-le}
 use mathlib.Core.List.{map-append}
 use mathlib.Core.Option.{some}
@@ -19,7 +19,8 @@ use Rattle.latch_space.proofs.Pointwise.{learnt_known}
 use Rattle.map_history.specs.Map.{MapChange, map_after, is_allowed, AreLawful}
 use Rattle.map_history.specs.Operation.{Make}
 use Rattle.map_history.specs.Reply.{Done, reply_of, refusal}
-use Rattle.map_history.specs.Report.{Replied, dashes}
+use Rattle.map_history.specs.Columns.{may_stand}
+use Rattle.map_history.specs.Report.{Columns, Replied}
 use Rattle.map_history.specs.LegalReport.{Mark, marks_of}
 use Rattle.map_history.proofs.HistoryLemmas.{lawful-last}
 use Rattle.index_law.specs.Answers.{MadeChange}
@@ -39,8 +40,9 @@ use Rattle.index_engine.specs.Commits.{IsCommitted, DidWrite, DidWriteAhead, IsF
 use Rattle.index_engine.proofs.HashedLemmas.{part_no_frame}
 use Rattle.index_engine.proofs.SeenLemmas.{said_alone, said_alone_only, adds_said, one_mark, more_seen, extends_length, now_seen}
 
-module _ (p q : TreePass) (i : ℕ) (change : MapChange) where
-  module _ (deed : MadeChange) (deed_is : deed ≡ record { change = change; columns = dashes })
+module _ (p q : TreePass) (i : ℕ) (change : MapChange) (columns : Columns)
+    (stands : may_stand columns ≡ true) where
+  module _ (deed : MadeChange) (deed_is : deed ≡ record { change = change; columns = columns })
       (vs : List (Option Object)) (point : ℕ)
       (did : DidCommit IsLawful IsRight IsReference (view p) i vs deed point (view q)) where
     abbrev longer : Entries
@@ -80,13 +82,13 @@ module _ (p q : TreePass) (i : ℕ) (change : MapChange) where
         ∙ ap map_after (take_all (length did.list) (changes did.list) (omega (arith, few)))))
 
     right_by : IsRightBy (view p).terms.max_changes longer (Make change)
-        (Replied Done point dashes)
+        (Replied Done point columns)
     right_by = ap (λ m. reply_of m (Make change)) map_before
         ∙ ap (λ c. cond c Done (refusal change))
         (ap (λ (d : MadeChange). is_allowed (map_after (changes did.list)) d.change) (sym deed_is)
         ∙ allowed)
 
-    mark_is : (m : Mark) → Contains (marks_of (Replied Done point dashes)) m
+    mark_is : (m : Mark) → Contains (marks_of (Replied Done point columns)) m
         → (m.point ≡ point) × (m.grows ≡ 1)
     mark_is m among = let same = one_mark (record { point = point; grows = 1 }) m among in
         (ap (λ (z : Mark). z.point) (sym same), ap (λ (z : Mark). z.grows) (sym same))
@@ -100,7 +102,7 @@ module _ (p q : TreePass) (i : ℕ) (change : MapChange) where
       what = what.Change deed;
     }
 
-    once : AnswersOnce (view p) (view q) i (Make change) (Replied Done point dashes)
+    once : AnswersOnce (view p) (view q) i (Make change) (Replied Done point columns)
     once = record {
       added = said_alone (answered ∷ []);
       adds = adds_said (view p) (view q) (answered ∷ [])
@@ -120,7 +122,7 @@ module _ (p q : TreePass) (i : ℕ) (change : MapChange) where
         answer = Replied Done (sym did.point k) (deed_is k).columns;
       } ∷ [];
       fulls = refl;
-      form = refl;
+      form = ap (λ b. b && true) stands;
       least = λ m ys among seen. (let mark = mark_is m among in
           let long = extends_length (view p) i did.list did.extends
           (set (view p).seen i did.list) refl ys seen in
@@ -129,11 +131,11 @@ module _ (p q : TreePass) (i : ℕ) (change : MapChange) where
           let same = ap length (now_seen (view p) i longer extends (view q).seen seen_is zs seen) in
           let long = length_is in omega (arith, mark.0, same, long));
       right = λ zs seen. subst
-          (λ z. IsRightBy (view p).terms.max_changes z (Make change) (Replied Done point dashes))
+          (λ z. IsRightBy (view p).terms.max_changes z (Make change) (Replied Done point columns))
           (now_seen (view p) i longer extends (view q).seen seen_is zs seen) right_by;
     }
 
-    written : IsCommitted p q i change point
+    written : IsCommitted p q i change columns point
     unfolding once
     written = record { once = once; only = said_alone_only (answered ∷ []) }
 
@@ -141,7 +143,7 @@ module _ (p q : TreePass) (i : ℕ) (change : MapChange) where
     shape_is = ap (λ (z : View). z.terms.shape) did.view
 
     -- the change is written once it was made
-    pub did_write : IsKnown q → Learnt p q → DidWrite p q i change point
+    pub did_write : IsKnown q → Learnt p q → DidWrite p q i change columns point
     did_write known learns = record {
       written = written;
       parts = λ k x y has. subst
@@ -158,7 +160,7 @@ module _ (p q : TreePass) (i : ℕ) (change : MapChange) where
     pub did_write_ahead : (b : ℕ) (next : Frame)
         → get_elem? vs (frame_id (shape_of_pass p) b) ≡ some (Some (object.Frame next))
         → ((j : ℕ) → j ≢ frame_id (shape_of_pass p) b → get_elem? vs j ≡ get_elem? (values p) j)
-        → IsWhole p → Foreknows vs p q → DidWriteAhead p q b i change next point
+        → IsWhole p → Foreknows vs p q → DidWriteAhead p q b i change columns next point
     did_write_ahead b next at same whole knows = record {
       written = written;
       parts = λ k x y below has. subst
@@ -219,9 +221,9 @@ module _ (p q : TreePass) (i : ℕ) (change : MapChange) where
 
   -- how the commit ended
   pub commit_ends : IsWhole p → (deed : MadeChange) → i < length (view p).seen
-      → deed ≡ record { change = change; columns = dashes } → (result : Result ℕ LogFull)
+      → deed ≡ record { change = change; columns = columns } → (result : Result ℕ LogFull)
       → EndsCommit IsLawful IsRight IsReference (view p) i (values p) deed result (view q)
-      → Changes p result q → Commits p i change result q
+      → Changes p result q → Commits p i change columns result q
   commit_ends whole deed room deed_is (Ok point) did learns =
       did_write deed deed_is (values p) point did
       (learnt_known p q whole (ap (λ (z : View). z.held) did.view) learns.values) learns
@@ -229,13 +231,13 @@ module _ (p q : TreePass) (i : ℕ) (change : MapChange) where
 
   -- and one ahead of its change
   pub ahead_ends : (deed : MadeChange) → i < length (view p).seen
-      → deed ≡ record { change = change; columns = dashes } → (b : ℕ) (next : Frame)
+      → deed ≡ record { change = change; columns = columns } → (b : ℕ) (next : Frame)
       (vs : List (Option Object))
       → get_elem? vs (frame_id (shape_of_pass p) b) ≡ some (Some (object.Frame next))
       → ((j : ℕ) → j ≢ frame_id (shape_of_pass p) b → get_elem? vs j ≡ get_elem? (values p) j)
       → IsWhole p → (result : Result ℕ LogFull)
       → EndsCommit IsLawful IsRight IsReference (view p) i vs deed result (view q)
-      → Foretells vs p result q → WritesAhead p b i change next result q
+      → Foretells vs p result q → WritesAhead p b i change columns next result q
   ahead_ends deed room deed_is b next vs at same whole (Ok point) did knows =
       did_write_ahead deed deed_is vs point did b next at same whole knows
   ahead_ends deed room deed_is b next vs at same whole (Err full) was hands =

@@ -5,10 +5,10 @@ use mathlib.Core.List.{map-append}
 use mathlib.Core.Option.{some}
 use lib.ListN.{get_elem?}
 use Rattle.key_tuple.specs.Order.{FieldList}
-use Rattle.key_tuple.specs.declared.mode.Mode.TheVariants as mode
 use Rattle.list_facts.proofs.Places.{one_value}
 use Rattle.latch_law.specs.declared.knows.Entry.{Entry}
 use Rattle.latch_space.specs.Passes.{view}
+use Rattle.map_history.specs.declared.columns.How.{How}
 use Rattle.map_history.specs.declared.reply.Reply.{Reply}
 use Rattle.map_history.specs.declared.reply.Reply.TheVariants as words
 use Rattle.map_history.specs.declared.reply.Told.{Told}
@@ -26,15 +26,12 @@ use Rattle.call_law.specs.Once.{AnswersOnce, IsRightBy, HasFulls}
 use Rattle.call_law.specs.Spoken.{View, spoken}
 use Rattle.call_law.specs.Trace.{Added, Adds, AreGivenAt, fulls}
 use Rattle.call_law.proofs.TraceLemmas.{both_added, adds_both, given_both}
-use Rattle.buffer_pool.specs.Frames.{GivesFrame}
-use Rattle.buffer_pool.specs.Pages.{HasNumber}
-use Rattle.forest_world.specs.Held.{TreePass}
+use Rattle.forest_world.specs.Held.{TreePass, shape_of_pass}
 use Rattle.tree_descent.specs.declared.descending.Leaf.{Leaf}
-use Rattle.tree_descent.specs.Descents.{Descends}
-use Rattle.tree_growth.specs.Growing.{GrowsSilently}
-use Rattle.index_engine.specs.Says.{SaysBeside}
-use Rattle.index_engine.specs.Traces.{TellsByLeaf, TellsOfDel, HasLightPage, SeesEach}
-use Rattle.index_engine.proofs.TellLemmas.{leaf_number, ends_all, tells_by_leaf}
+use Rattle.index_engine.specs.Leaving.{ComesToLeaf, AnswersAndLeaves, AnswersDel, MergesLater}
+use Rattle.index_engine.specs.Traces.{IsFoundBy, TellsOfDel, HasLightPage}
+use Rattle.index_engine.proofs.TellLemmas.{TellsFound, tells_found}
+use Rattle.index_engine.proofs.WayLemmas.{ends_told}
 
 -- the answer to a word that a change was made
 pub answer_done : (ask : Ask) (told : Told) (row : Pair) (answer : Answer)
@@ -109,42 +106,64 @@ module _ (v v0 v1 : View) (i : ℕ) (ask : Ask) (answer : Answer) (reply : MapRe
         right = right_still;
       }
 
--- a del after whose answer nothing was done
-pub del_ends : (v v' : View) (i : ℕ) (key : FieldList) (told : Told)
-    → TellsByLeaf v v' i key (Make (Del key)) told (lent_row None) → TellsOfDel v v' i key told
-del_ends v v' i key told tells = record {
-  tells = tells.tells;
-  way = tells.tells.once.added.references;
-  later = [];
-  added = sym (append-nil tells.tells.once.added.references);
-  ends = tells.ends;
-  trees = inl (refl, tells.spares);
-}
+-- a del of a leaf that a search found
+module _ (p p0 q : TreePass) (i : ℕ) (key : FieldList) (leaf : Leaf) (how : How)
+    (went : ComesToLeaf (IsFoundBy (shape_of_pass p) i key how) p i key leaf p0) (told : Told)
+    (by : told.how ≡ how) where
+  abbrev ask : Ask
+  ask = Make (Del key)
 
--- and one after which light pages were merged
-pub del_merges : (p p0 p1 p2 p3 : TreePass) (i : ℕ) (key : FieldList) (leaf : Leaf)
-    (went : Descends p i mode.Ge key leaf p0) (gave : GivesFrame p1 leaf.block p2) (told : Told)
-    → HasNumber gave.frame (leaf_number p p0 p1 p2 i key leaf went gave)
-    → SaysBeside (view p0) (view p1) i (Make (Del key)) told (lent_row None)
-    → told.reply ≡ words.Ok → HasLightPage gave.frame → SeesEach (view p2) i
-    → GrowsSilently p2 p3 → TellsOfDel (view p) (view p3) i key told
-unfolding once_then_more tells_by_leaf ends_all
-del_merges p p0 p1 p2 p3 i key leaf went gave told has says ok light seen merged =
-    let ask = Make (Del key) in
-    let tells = tells_by_leaf p p0 p1 p2 i key leaf went gave ask told (lent_row None) has says in
-    let done = answer_done ask told (lent_row None) tells.tells.answer ok
-    tells.tells.is_told.is in
-    record {
-      tells = record {
-        answer = tells.tells.answer;
-        is_told = tells.tells.is_told;
-        once = once_then_more (view p) (view p2) (view p3) i ask tells.tells.answer Done done.0
-            (columns_told told) done.1 merged.added tells.tells.once merged.grows.adds merged.silent
-            seen.0 seen.1;
-      };
-      way = tells.tells.once.added.references;
-      later = merged.added.references;
-      added = refl;
-      ends = tells.ends;
-      trees = inr light;
-    }
+  tells_first : (between : TreePass)
+      → (answers : AnswersAndLeaves p0 leaf.block i ask told (lent_row None) between)
+      → TellsFound (IsFoundBy (shape_of_pass p) i key how) (view p) (view between) i ask told
+      (lent_row None) answers.gave.frame
+  tells_first between answers = tells_found (IsFoundBy (shape_of_pass p) i key how) p p0 between i key
+      leaf went ask told (lent_row None) answers
+
+  -- after its answer nothing was done
+  del_ends : AnswersAndLeaves p0 leaf.block i ask told (lent_row None) q
+      → TellsOfDel (view p) (view q) i key told
+  del_ends answers = let tells = tells_first q answers in record {
+    tells = tells.tells;
+    way = tells.tells.once.added.references;
+    later = [];
+    added = sym (append-nil tells.tells.once.added.references);
+    ends = (ends_told (shape_of_pass p) i key told.how how by tells.tells.once.added.references
+        tells.ends).0;
+    trees = inl (refl, tells.spares);
+  }
+
+  -- or light pages were merged
+  del_merges : (between : TreePass)
+      → (answers : AnswersAndLeaves p0 leaf.block i ask told (lent_row None) between)
+      → MergesLater answers.gave.frame i told between q → TellsOfDel (view p) (view q) i key told
+  unfolding once_then_more
+  del_merges between answers merges =
+      let tells = tells_first between answers in let merged = merges.merged in
+      let done = answer_done ask told (lent_row None) tells.tells.answer merges.took
+      tells.tells.is_told.is in
+      let ends = ends_told (shape_of_pass p) i key told.how how by
+      tells.tells.once.added.references tells.ends in
+      record {
+        tells = record {
+          answer = tells.tells.answer;
+          is_told = tells.tells.is_told;
+          once = once_then_more (view p) (view between) (view q) i ask tells.tells.answer Done done.0
+              (columns_told told) done.1 merged.added tells.tells.once merged.grows.adds
+              merged.silent merges.seen.0 merges.seen.1;
+        };
+        way = tells.tells.once.added.references;
+        later = merged.added.references;
+        added = refl;
+        ends = ends.0;
+        trees = inr (subst HasLightPage (tells.leaf_is ∙ ends.1) merges.light);
+      }
+
+  pub search_then_del : AnswersDel p0 leaf.block i key told q
+      → TellsOfDel (view p) (view q) i key told
+  search_then_del did = elim did.after [
+    | inl same ↦ del_ends (subst
+        (λ (z : TreePass). AnswersAndLeaves p0 leaf.block i ask told (lent_row None) z) (sym same)
+        did.answers)
+    | inr merges ↦ del_merges did.between did.answers merges
+  ]

@@ -39,7 +39,7 @@ use Rattle.index_engine.specs.Hashed.{IsHashedFor, HoldsPartKept, HoldsPartOf, K
 
 -- a frame without a row, by the one word and by the other
 page_is : (place : ℕ) (o : Option PageRows)
-    → leaves.page_without place o ≡ option_map (page_without place) o
+    → leaves.paged_without place o ≡ option_map (page_without place) o
 page_is place None = refl
 page_is place (Some page) = refl
 
@@ -89,9 +89,9 @@ without_tidy : (place : ℕ) (f : Frame) (o : Option PageRows) → f.page ≡ o
     → IsTidy (hash_block f) → IsTidy (hash_block (without_row place f))
 without_tidy place f None e tidy = subst
     (λ p. IsTidy (record { page = p; figures = f.figures; hashed = f.hashed }))
-    (e ∙ sym (ap (leaves.page_without place) e)) tidy
+    (e ∙ sym (ap (leaves.paged_without place) e)) tidy
 without_tidy place f (Some page) e tidy = tidy_rows f (without_row place f) page
-    (page_without place page) e (ap (leaves.page_without place) e) refl refl refl tidy
+    (page_without place page) e (ap (leaves.paged_without place) e) refl refl refl tidy
 
 pub tidy_without : (place : ℕ) (f : Frame) → IsTidy (hash_block f)
     → IsTidy (hash_block (without_row place f))

@@ -30,9 +30,10 @@ use Rattle.buffer_pool.proofs.CallLemmas.{frame_has}
 use Rattle.buffer_pool.proofs.FrameLemmas.{one_held}
 use Rattle.tree_facts.specs.TreeFrames.{low_of, high_of}
 use Rattle.tree_descent.specs.declared.descending.Leaf.{Leaf}
-use Rattle.tree_descent.specs.Descents.{Descends}
 use Rattle.tree_descent.specs.Leaves.{cut_in, IsPageFor, IsLeafFor}
 use Rattle.index_engine.specs.Holds.{IsLeafOf, HoldsLeaf, HoldsFreshAlone}
+use Rattle.index_engine.specs.Leaving.{ComesToLeaf}
+use Rattle.index_engine.specs.Traces.{Finding}
 
 -- in each state that fits, a frame that is held is the block's
 pub frame_there : (v : View) (b : ℕ) (f : Frame) → KnowsFrame v b f → (w : ForestState)
@@ -74,12 +75,12 @@ module _ (shape : Shape) (i : ℕ) (key : FieldList) (f : Frame)
       (record { at_low = page.within.low; at_high = page.within.high })
 
 -- a leaf to which a way led is held alone
-pub fresh_leaf : (p q : TreePass) (i : ℕ) (key : FieldList) (leaf : Leaf)
-    → Descends p i mode.Ge key leaf q → count p ≡ 0
+pub fresh_leaf : (found : Finding) (p q : TreePass) (i : ℕ) (key : FieldList) (leaf : Leaf)
+    → ComesToLeaf found p i key leaf q → count p ≡ 0
     → length key ≡ fields_for (shape_of_pass p) i
     → ((k : ℕ) → k < (shape_of_pass p).parts → LacksObject (view p) (part_id (shape_of_pass p) k))
     → HoldsFreshAlone q leaf.block i key leaf.spot
-fresh_leaf p q i key leaf went none fits free =
+fresh_leaf found p q i key leaf went none fits free =
     let same = went.silently.does.adds.numbers.terms in
     let known = went.silently.does.known in
     let is = subst

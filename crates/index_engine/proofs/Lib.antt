@@ -35,3 +35,7 @@ pub mod SeekTryLemmas
 pub mod SeekHandLemmas
 pub mod StandLemmas
 pub mod StepLemmas
+pub mod LearnerLemmas
+pub mod SeekLearnLemmas
+pub mod SeekHitLemmas
+pub mod SeekMissLemmas

@@ -10,7 +10,7 @@ use Rattle.forest_law.specs.declared.objects.Frame.{Frame}
 use Rattle.forest_law.specs.Hashed.{hash_block}
 use Rattle.forest_law.specs.HashSteps.{KeepsHashing}
 use Rattle.forest_world.specs.Held.{TreePass, shape_of_pass, HasFrame}
-use Rattle.hash_maintain.specs.Leaves.{kept_frame, without_row, HasRowAt}
+use Rattle.hash_maintain.specs.Leaves.{kept_frame, without_row, HasRowInFrame}
 use Rattle.call_law.specs.Hands.{KnowsFrame}
 use Rattle.call_law.specs.Spoken.{View}
 use Rattle.leaf_rows.specs.Changing.{PutsRow, hashed_as}
@@ -26,7 +26,7 @@ use Rattle.index_engine.proofs.SettleLemmas.{stays_both, parts_same}
 
 -- a row that was put in is there
 put_at : (f g : Frame) (place : ℕ) (key : FieldList) (value : List ℕ)
-    → PutsRow f g place key value → HasRowAt g place
+    → PutsRow f g place key value → HasRowInFrame g place
 put_at f g place key value puts = record {
   page = puts.new;
   page_is = ap (λ (z : Frame). z.page) puts.kept;

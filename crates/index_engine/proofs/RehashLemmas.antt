@@ -7,7 +7,7 @@ use Rattle.hash_upkeep.specs.declared.upkeep.Upkeep.{Upkeep}
 use Rattle.hash_upkeep.specs.declared.upkeep.Upkeep.TheVariants.{Kept, Dropped}
 use Rattle.forest_law.specs.declared.objects.Frame.{Frame}
 use Rattle.forest_law.specs.Steps.{FrameRests}
-use Rattle.hash_maintain.specs.Leaves.{kept_frame, unhashed, HasRowAt}
+use Rattle.hash_maintain.specs.Leaves.{kept_frame, unhashed, HasRowInFrame}
 use Rattle.buffer_pool.specs.Pages.{HasNumber}
 use Rattle.leaf_rows.specs.Changing.{PutsRow, HasRowOf, frame_without, hashed_as}
 use Rattle.leaf_rows.specs.Setting.{frame_with}
@@ -122,7 +122,7 @@ old_rehashed m f key place old = record {
 }
 
 -- the page of a leaf has a row at its place
-pub has_row : (f : Frame) (place : ℕ) (key : FieldList) → HasRowOf f place key → HasRowAt f place
+pub has_row : (f : Frame) (place : ℕ) (key : FieldList) → HasRowOf f place key → HasRowInFrame f place
 has_row f place key row = record {
   page = row.page;
   page_is = row.paged;

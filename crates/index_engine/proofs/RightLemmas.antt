@@ -12,7 +12,7 @@ use Rattle.map_history.specs.declared.reply.Reply.{Reply}
 use Rattle.map_history.specs.Map.{Pair, Map, MapChange, key_of, value_at, is_allowed, map_after}
 use Rattle.map_history.specs.Operation.{Ask, Get, Make, Seek, Scan}
 use Rattle.map_history.specs.Reply.{Done, value_reply, refusal, reply_of}
-use Rattle.map_history.specs.Report.{dashes}
+use Rattle.map_history.specs.Report.{Columns}
 use Rattle.index_page.specs.Page.{PageRows}
 use Rattle.tree_law.specs.Pages.{row_pairs}
 use Rattle.index_law.specs.Answers.{MadeChange, Word, Gives, LogFull, SpaceFull}
@@ -115,10 +115,10 @@ module _ (p : TreePass) (i : ℕ) (key : FieldList) (ask : Ask) (reply : Reply) 
     word_right SpaceFull may = absurd may
 
   -- the answer may be given
-  pub may_answer : MayAnswer IsLawful IsRight IsReference (view p) i
-      (said_word ask (reply_word ask reply row) None dashes)
-  may_answer w law fits xs listed =
-      subst (λ o. IsRight w i (length xs) (said_word ask o None dashes)) (sym can.is_word)
+  pub may_answer : (columns : Columns) → MayAnswer IsLawful IsRight IsReference (view p) i
+      (said_word ask (reply_word ask reply row) None columns)
+  may_answer columns w law fits xs listed =
+      subst (λ o. IsRight w i (length xs) (said_word ask o None columns)) (sym can.is_word)
       (record {
         list = xs;
         there = listed;

@@ -13,7 +13,7 @@ use Rattle.map_history.specs.declared.reply.Reply.TheVariants as words
 use Rattle.map_history.specs.declared.reply.Told.{Told}
 use Rattle.map_history.specs.Map.{Put, Set}
 use Rattle.map_history.specs.Operation.{Ask}
-use Rattle.map_history.specs.Report.{SpaceFull, dashes}
+use Rattle.map_history.specs.Report.{Columns, SpaceFull}
 use Rattle.map_history.specs.LegalReport.{has_form}
 use Rattle.index_law.specs.Answers.{MadeChange, Where, Saying, Replies, Piece, Full, Look}
 use Rattle.index_law.specs.Answers as answers
@@ -31,21 +31,22 @@ use Rattle.tree_growth.specs.Growing.{FindsNoRoom}
 use Rattle.index_engine.specs.declared.write.Write.{Write}
 use Rattle.index_engine.specs.declared.write.Write.TheVariants as write
 use Rattle.index_engine.specs.Writes.{write_asked, KnowsShort, SaysNoRoom, LacksPage}
-use Rattle.index_engine.specs.Says.{told_space_full}
+use Rattle.index_engine.specs.declared.found.Found.{Found}
+use Rattle.index_engine.specs.Says.{columns_by, told_space_full}
 use Rattle.index_engine.specs.Tells.{HasKeyOf}
 
-module _ (p q : TreePass) (i point : ℕ) (ask : Ask)
+module _ (p q : TreePass) (i point : ℕ) (ask : Ask) (columns : Columns)
     (did : DidRead IsLawful IsRight IsReference (view p) i
-    (Replies ask answers.SpaceFull None dashes) point (view q)) where
+    (Replies ask answers.SpaceFull None columns) point (view q)) where
   -- the word
   abbrev said_full : OwnAnswer
-  said_full = answer_said (view p) i did.list (Replies ask answers.SpaceFull None dashes)
+  said_full = answer_said (view p) i did.list (Replies ask answers.SpaceFull None columns)
 
   -- it was said, and nothing else
-  pub says_no_room : SaysNoRoom (view p) (view q) i ask
+  pub says_no_room : SaysNoRoom (view p) (view q) i ask columns
   says_no_room = record {
     added = only_said said_full;
-    adds = read_adds (view p) (view q) i did.list (Replies ask answers.SpaceFull None dashes)
+    adds = read_adds (view p) (view q) i did.list (Replies ask answers.SpaceFull None columns)
         did.extends did.view;
     given = ((refl, refl), tt);
     said = refl;
@@ -55,24 +56,26 @@ module _ (p q : TreePass) (i point : ℕ) (ask : Ask)
 -- a row is to be written, and it may be told that there is no page for it
 pub record AsksForRoom (ask : Ask) : Type 0 where
   pub writes : AsksToWrite ask
-  pub form : has_form ask (SpaceFull dashes) ≡ true
+  pub form : (found : Found) → has_form ask (SpaceFull (columns_by found)) ≡ true
   pub key : HasKeyOf ask words.SpaceFull (lent_row None)
 
 -- no number was free, and the write was told so
-pub room_then_word : (p q r : TreePass) (i : ℕ) (ask : Ask) (told : Told) → AsksForRoom ask
-    → FindsNoRoom p i q → SaysNoRoom (view q) (view r) i ask
-    → told ≡ told_space_full → LacksPage (view p) (view r) i ask told
-room_then_word p q r i ask told asks none word is =
+pub room_then_word : (p q r : TreePass) (i : ℕ) (ask : Ask) (found : Found) (told : Told)
+    → AsksForRoom ask → FindsNoRoom p i q
+    → SaysNoRoom (view q) (view r) i ask (columns_by found)
+    → told ≡ told_space_full found → LacksPage (view p) (view r) i ask told
+room_then_word p q r i ask found told asks none word is =
+    let columns = columns_by found in
     let low = none.grows.adds.numbers.low in
-    let once = full_then_word (view p) (view q) (view r) i ask dashes none.places none.added
+    let once = full_then_word (view p) (view q) (view r) i ask columns none.places none.added
     word.added none.grows.adds word.adds none.given
     (subst (λ n. AreGivenAt i n word.added.said) low word.given) none.silent none.full
-    (word.said ∙ ap (λ n. sayings i n ask (SpaceFull dashes)) low) word.fulls asks.form
+    (word.said ∙ ap (λ n. sayings i n ask (SpaceFull columns)) low) word.fulls (asks.form found)
     asks.writes in
     subst (LacksPage (view p) (view r) i ask) (sym is) (record {
       tells = record {
-        answer = SpaceFull dashes;
-        is_told = record { is = refl; point = refl; key = asks.key; dashed = refl };
+        answer = SpaceFull columns;
+        is_told = record { is = refl; point = refl; key = asks.key; stands = found.stands };
         once = once;
       };
       full = refl;
@@ -83,12 +86,12 @@ pub write_asks : (w : Write) (key : FieldList) (value : List ℕ)
     → AsksForRoom (write_asked w key value)
 write_asks write.Put key value = record {
   writes = record { change = Put key value; asked = refl; row = refl };
-  form = refl;
+  form = λ found. found.stands;
   key = tt;
 }
 write_asks write.Set key value = record {
   writes = record { change = Set key value; asked = refl; row = refl };
-  form = refl;
+  form = λ found. found.stands;
   key = tt;
 }
 
@@ -145,10 +148,10 @@ knows_short p q i none w law fits =
     right.said.2
 
 -- and may tell a write so
-pub may_say_full : (p : TreePass) (i : ℕ) (ask : Ask) → KnowsShort (view p) → AsksToWrite ask
-    → MayAnswer IsLawful IsRight IsReference (view p) i
-    (Replies ask answers.SpaceFull None dashes)
-may_say_full p i ask short writes w law fits xs listed = record {
+pub may_say_full : (p : TreePass) (i : ℕ) (ask : Ask) (columns : Columns) → KnowsShort (view p)
+    → AsksToWrite ask → MayAnswer IsLawful IsRight IsReference (view p) i
+    (Replies ask answers.SpaceFull None columns)
+may_say_full p i ask columns short writes w law fits xs listed = record {
   list = xs;
   there = listed;
   point = omega arith;

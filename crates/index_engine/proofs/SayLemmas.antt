@@ -1,5 +1,5 @@
 -- An answer that is said while the leaf is held is the one that is told.
-use Rattle.std.proofs.Common.{◌≡◌, ◌≢◌, ℕ, true, [], ◌∷◌, length, length-append, set, sym, ap, subst, ◌∙◌, arith, refl, Option, Some, None, Contains}
+use Rattle.std.proofs.Common.{◌≡◌, ◌≢◌, ℕ, true, ◌&&◌, [], ◌∷◌, length, length-append, set, sym, ap, subst, ◌∙◌, arith, refl, Option, Some, None, Contains}
 use Rattle.key_tuple.specs.Order.{FieldList}
 use Rattle.latch_law.specs.Fitting.{DidRead}
 use Rattle.latch_law.specs.Views.{answer_said, reading}
@@ -7,14 +7,12 @@ use Rattle.list_facts.proofs.Places.{same_some}
 use Rattle.latch_space.specs.Passes.{view}
 use Rattle.map_history.specs.declared.reply.Reply.{Reply}
 use Rattle.map_history.specs.declared.reply.Reply.TheVariants as words
-use Rattle.map_history.specs.declared.columns.How.TheVariants as how
-use Rattle.map_history.specs.declared.columns.Note.TheVariants as note
 use Rattle.map_history.specs.Map.{Pair, Map, map_after}
 use Rattle.map_history.specs.Operation.{Ask}
 use Rattle.map_history.specs.Reply.{MapReply, Value, Row, Done, Absent, Duplicate, reply_of}
-use Rattle.map_history.specs.Report.{Columns, Answer, Replied, dashes}
+use Rattle.map_history.specs.Report.{Columns, Answer, Replied}
 use Rattle.map_history.specs.Report as answers
-use Rattle.map_history.specs.LegalReport.{Mark, marks_of, is_done, has_form}
+use Rattle.map_history.specs.LegalReport.{Mark, marks_of, is_done, has_form, may_reply}
 use Rattle.map_history.specs.Told as tells
 use Rattle.tree_law.specs.Pages.{row_pairs}
 use Rattle.index_law.specs.Answers.{Word, Gives, LogFull, SpaceFull, Replies}
@@ -29,7 +27,8 @@ use Rattle.call_law.specs.Hands.{KnowsFrame}
 use Rattle.call_law.specs.Once.{HasFulls, IsRightBy, AnswersOnce}
 use Rattle.call_law.specs.Spoken.{View, OwnAnswer, printed_word, sayings}
 use Rattle.buffer_pool.proofs.AddedLemmas.{only_said, read_adds}
-use Rattle.index_engine.specs.Says.{SeesFull, MaySay, TellsMost, CanSay, SaysOnce}
+use Rattle.index_engine.specs.declared.found.Found.{Found}
+use Rattle.index_engine.specs.Says.{SeesFull, MaySay, TellsMost, CanSay, SaysOnce, columns_by}
 use Rattle.index_engine.specs.Tells.{TellsPoint}
 use Rattle.index_engine.proofs.HoldLemmas.{frame_there}
 use Rattle.index_engine.proofs.SeenLemmas.{one_mark, extends_length, now_seen}
@@ -44,34 +43,38 @@ no_change Absent apart = refl
 no_change Duplicate apart = refl
 
 -- the words of a map's reply print as that reply
-printed_reply : (point : ℕ) (o : Option MapReply) (word : Word) → gives o ≡ Some word
-    → tells.replied_at o (Some point) dashes ≡ Some (printed_word word point dashes)
-printed_reply point None word e = absurd cc
-printed_reply point (Some r) word e =
-    ap (λ w. Some (printed_word w point dashes)) (same_some (Gives r) word e)
+printed_reply : (columns : Columns) (point : ℕ) (o : Option MapReply) (word : Word)
+    → gives o ≡ Some word
+    → tells.replied_at o (Some point) columns ≡ Some (printed_word word point columns)
+printed_reply columns point None word e = absurd cc
+printed_reply columns point (Some r) word e =
+    ap (λ w. Some (printed_word w point columns)) (same_some (Gives r) word e)
 
 -- a word is one answer
-one_saying : (i n : ℕ) (ask : Ask) (word : Word) (point : ℕ)
-    → sayings i n ask (printed_word word point dashes)
-    ≡ record { index = i; by = n; ask = ask; answer = printed_word word point dashes } ∷ []
-one_saying i n ask (Gives r) point = refl
-one_saying i n ask LogFull point = refl
-one_saying i n ask SpaceFull point = refl
+one_saying : (columns : Columns) (i n : ℕ) (ask : Ask) (word : Word) (point : ℕ)
+    → sayings i n ask (printed_word word point columns)
+    ≡ record { index = i; by = n; ask = ask; answer = printed_word word point columns } ∷ []
+one_saying columns i n ask (Gives r) point = refl
+one_saying columns i n ask LogFull point = refl
+one_saying columns i n ask SpaceFull point = refl
 
 module _ (p : TreePass) (i : ℕ) (key : FieldList) (ask : Ask) (reply : Reply) (row : Pair)
-    (can : CanSay p i key ask reply row) where
+    (can : CanSay p i key ask reply row) (found : Found) where
+  abbrev columns : Columns
+  columns = columns_by found
+
   abbrev rows : Map
   rows = row_pairs can.holds.leaf.page.is.page.rows
 
   module _ (q : TreePass) (point : ℕ)
       (did : DidRead IsLawful IsRight IsReference (view p) i
-      (said_word ask (reply_word ask reply row) None dashes) point (view q)) where
+      (said_word ask (reply_word ask reply row) None columns) point (view q)) where
     abbrev most : ℕ
     most = (view p).terms.max_changes
 
-    view_is : view q ≡ reading (view p) i did.list (Replies ask can.word None dashes)
+    view_is : view q ≡ reading (view p) i did.list (Replies ask can.word None columns)
     view_is = did.view
-        ∙ ap (λ o. reading (view p) i did.list (said_word ask o None dashes)) can.is_word
+        ∙ ap (λ o. reading (view p) i did.list (said_word ask o None columns)) can.is_word
 
     seen_is : (view q).seen ≡ set (view p).seen i did.list
     seen_is = ap (λ (z : View). z.seen) view_is
@@ -98,30 +101,31 @@ module _ (p : TreePass) (i : ℕ) (key : FieldList) (ask : Ask) (reply : Reply) 
     answer_is : (r : Reply) (word : Word) → reply_word ask r row ≡ Some word
         → MaySay (view p) i rows ask word → TellsMost r most
         → tells.answer_of ask
-        (record { reply = r; point = Some point; how = how.Dash; note = note.Dash }) row
-        ≡ Some (printed_word word point dashes)
+        (record { reply = r; point = Some point; how = found.how; note = found.note }) row
+        ≡ Some (printed_word word point columns)
     answer_is words.Found word e may tell =
-        printed_reply point (tells.said ask words.Found row) word e
+        printed_reply columns point (tells.said ask words.Found row) word e
     answer_is words.Absent word e may tell =
-        printed_reply point (tells.said ask words.Absent row) word e
-    answer_is words.Ok word e may tell = printed_reply point (tells.said ask words.Ok row) word e
+        printed_reply columns point (tells.said ask words.Absent row) word e
+    answer_is words.Ok word e may tell = printed_reply columns point (tells.said ask words.Ok row) word e
     answer_is words.Duplicate word e may tell =
-        printed_reply point (tells.said ask words.Duplicate row) word e
+        printed_reply columns point (tells.said ask words.Duplicate row) word e
     answer_is words.SpaceFull word e may tell =
         absurd (subst (MaySay (view p) i rows ask) (sym (same_some SpaceFull word e)) may)
     answer_is (words.LogFull n) word e may tell =
         let full = subst (MaySay (view p) i rows ask) (sym (same_some LogFull word e)) may in
-        ap (λ k. Some (answers.LogFull k dashes)) (tell ∙ sym (full_point full.0))
-        ∙ ap (λ w. Some (printed_word w point dashes)) (same_some LogFull word e)
+        ap (λ k. Some (answers.LogFull k columns)) (tell ∙ sym (full_point full.0))
+        ∙ ap (λ w. Some (printed_word w point columns)) (same_some LogFull word e)
 
     form_is : (word : Word) → MaySay (view p) i rows ask word
-        → has_form ask (printed_word word point dashes) ≡ true
-    form_is (Gives r) may = may.form
-    form_is LogFull may = ap (λ a. has_form a (answers.LogFull point dashes)) may.1.asked
+        → has_form ask (printed_word word point columns) ≡ true
+    form_is (Gives r) may = ap (λ b. b && may_reply ask r) found.stands ∙ may.form
+    form_is LogFull may =
+        ap (λ a. has_form a (answers.LogFull point columns)) may.1.asked ∙ found.stands
     form_is SpaceFull may = absurd may
 
     mark_is : (word : Word) (m : Mark) → MaySay (view p) i rows ask word
-        → Contains (marks_of (printed_word word point dashes)) m
+        → Contains (marks_of (printed_word word point columns)) m
         → (m.point ≡ point) × (m.grows ≡ 0)
     mark_is (Gives r) m may among =
         let same = one_mark (record { point = point; grows = is_done r }) m among in (
@@ -134,7 +138,7 @@ module _ (p : TreePass) (i : ℕ) (key : FieldList) (ask : Ask) (reply : Reply) 
     mark_is SpaceFull m may among = absurd may
 
     right_by : (word : Word) → MaySay (view p) i rows ask word
-        → IsRightBy most did.list ask (printed_word word point dashes)
+        → IsRightBy most did.list ask (printed_word word point columns)
     right_by (Gives r) may = let none = no_change r may.changes_nothing in
         let at = did.point in
         ap (λ n. reply_of (map_at did.list n) ask) (omega (arith, none, at))
@@ -167,27 +171,27 @@ module _ (p : TreePass) (i : ℕ) (key : FieldList) (ask : Ask) (reply : Reply) 
 
     -- and no answer comes with a full
     fulls_are : (word : Word) → MaySay (view p) i rows ask word
-        → HasFulls (printed_word word point dashes) []
+        → HasFulls (printed_word word point columns) []
     fulls_are (Gives r) may = refl
     fulls_are LogFull may = refl
     fulls_are SpaceFull may = absurd may
 
     -- what was said
     abbrev answered : OwnAnswer
-    answered = answer_said (view p) i did.list (Replies ask can.word None dashes)
+    answered = answer_said (view p) i did.list (Replies ask can.word None columns)
 
-    once : AnswersOnce (view p) (view q) i ask (printed_word can.word point dashes)
+    once : AnswersOnce (view p) (view q) i ask (printed_word can.word point columns)
     once = record {
       added = only_said answered;
-      adds = read_adds (view p) (view q) i did.list (Replies ask can.word None dashes)
+      adds = read_adds (view p) (view q) i did.list (Replies ask can.word None columns)
           did.extends view_is;
       given = ((refl, refl), tt);
       said = ap (λ n. record {
         index = i;
         by = (view p).low;
         ask = ask;
-        answer = printed_word can.word n dashes;
-      } ∷ []) (sym did.point) ∙ sym (one_saying i (view p).low ask can.word point);
+        answer = printed_word can.word n columns;
+      } ∷ []) (sym did.point) ∙ sym (one_saying columns i (view p).low ask can.word point);
       fulls = fulls_are can.word can.may;
       form = form_is can.word can.may;
       least = λ m ys among seen. (let mark = mark_is can.word m can.may among in
@@ -198,22 +202,22 @@ module _ (p : TreePass) (i : ℕ) (key : FieldList) (ask : Ask) (reply : Reply) 
           seen) in
           let at = did.point in omega (arith, mark.0, same, at));
       right = λ zs seen. subst
-          (λ z. IsRightBy most z ask (printed_word can.word point dashes))
+          (λ z. IsRightBy most z ask (printed_word can.word point columns))
           (now_seen (view p) i did.list did.extends (view q).seen seen_is zs seen)
           (right_by can.word can.may);
     }
 
     -- what is told is the one answer
     pub says_once : SaysOnce (view p) (view q) i ask
-        (record { reply = reply; point = Some point; how = how.Dash; note = note.Dash }) row
+        (record { reply = reply; point = Some point; how = found.how; note = found.note }) row
     unfolding once
     says_once = record {
-      answer = printed_word can.word point dashes;
+      answer = printed_word can.word point columns;
       is_told = record {
         is = answer_is reply can.word can.is_word can.may can.most;
         point = point_is reply can.word can.is_word can.may can.most;
         key = can.row_key;
-        dashed = refl;
+        stands = found.stands;
       };
       once = once;
       only = record { refused = refl; references = refl };

@@ -112,6 +112,7 @@ module _ (p q s : TreePass) (b i : ℕ) (looks : OnlyLooks (view p) (view q) i)
   err_later key value (Err e) refuses = record {
     looks = looks_both (view p) (view q) (view s) i looks refuses.looks;
     holds = refuses.holds;
+    number = number_later p q b refuses.holds.frame same.held same_terms refuses.number;
     stays = stays_later refuses.stays;
   }
 
@@ -201,6 +202,12 @@ module _ (p : TreePass) (b i place : ℕ) (key : FieldList) (value : List ℕ)
         refused_bare e refuses = record {
           looks = grown_looks;
           holds = refuses;
+          number = λ g n knows has. subst (λ z. HasNumber z n)
+              (one_known (view p3) b bare refuses.frame
+              (subst (λ (v : View). KnowsFrame v b bare) (sym same.view) has_bare.held)
+              refuses.holds.has.held)
+              (number_rehashed bare f n
+              (subst (λ z. HasNumber z n) (one_known (view p) b g f knows held.holds.has.held) has));
           stays = record {
             known = known_after p2 p3 b refuses.frame same
                 (λ j h differs has. settled.stays.known j h has) refuses.holds.has;

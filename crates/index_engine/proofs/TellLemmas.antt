@@ -1,8 +1,7 @@
 -- What a whole call leaves behind: a leaf was held, something was said, and it was given back.
-use Rattle.std.proofs.Common.{◌≡◌, ℕ, List, [], ◌∷◌, ◌++◌, append-nil, Option, Some, None, sym, ap, subst, ◌∙◌, refl}
+use Rattle.std.proofs.Common.{◌≡◌, ◌≢◌, ℕ, List, [], ◌∷◌, ◌++◌, append-nil, Option, Some, None, sym, ap, subst, ◌∙◌, refl}
 use Rattle.std.specs.List.{AllByRecursion}
 use Rattle.key_tuple.specs.Order.{FieldList}
-use Rattle.key_tuple.specs.declared.mode.Mode.TheVariants as mode
 use Rattle.latch_law.specs.declared.knows.Reference.{Reference}
 use Rattle.latch_law.specs.declared.knows.Refusal.{Refusal}
 use Rattle.latch_law.specs.declared.knows.Terms.{Terms}
@@ -10,11 +9,12 @@ use Rattle.latch_law.specs.Views.{holding}
 use Rattle.latch_law.specs.Whole.{reference}
 use Rattle.latch_space.specs.Has.{SameHands, IsKnown}
 use Rattle.latch_space.specs.Passes.{view}
+use Rattle.map_history.specs.declared.reply.Reply.TheVariants as words
 use Rattle.map_history.specs.declared.reply.Told.{Told}
 use Rattle.map_history.specs.Map.{Pair, MapChange}
 use Rattle.map_history.specs.Operation.{Ask, Make}
 use Rattle.map_history.specs.Reply.{Done}
-use Rattle.map_history.specs.Report.{Replied, dashes}
+use Rattle.map_history.specs.Report.{Replied}
 use Rattle.index_law.specs.Shape.{Shape}
 use Rattle.forest_law.specs.declared.objects.Frame.{Frame}
 use Rattle.forest_law.specs.declared.objects.Object.{Object}
@@ -34,12 +34,14 @@ use Rattle.buffer_pool.specs.Tries.{tries_alone}
 use Rattle.buffer_pool.proofs.PartLemmas.{part_no_tree}
 use Rattle.buffer_pool.proofs.AddedLemmas.{only_given, gave_adds, frame_no_tree, given_spares, spares_both}
 use Rattle.tree_descent.specs.declared.descending.Leaf.{Leaf}
-use Rattle.tree_descent.specs.Descents.{Descends}
+use Rattle.index_engine.specs.declared.found.Found.{Found}
 use Rattle.index_engine.specs.Commits.{IsCommitted}
 use Rattle.index_engine.specs.Holds.{HoldsLeaf, KeepsNumber}
 use Rattle.index_engine.specs.Hashed.{GivesPartOf}
-use Rattle.index_engine.specs.Says.{SaysOnce, SaysBeside, OnlyLooks, LooksBeside, SparesPages, AnswersHolding, told_made}
-use Rattle.index_engine.specs.Traces.{EndsOnLeaf, TellsByLeaf}
+use Rattle.index_engine.specs.Leaving.{ComesToLeaf, AnswersAndLeaves}
+use Rattle.index_engine.specs.Says.{SaysOnce, SaysBeside, OnlyLooks, LooksBeside, SparesPages, AnswersHolding, columns_by, told_made}
+use Rattle.index_engine.specs.Tells.{TellsOnce}
+use Rattle.index_engine.specs.Traces.{Finding, EndsOnLeaf}
 use Rattle.index_engine.proofs.FrameTraceLemmas.{frames_both, said_frames}
 use Rattle.index_engine.proofs.HoldLemmas.{frame_again}
 use Rattle.index_engine.proofs.SettleLemmas.{stays_same}
@@ -76,13 +78,14 @@ says_same v v0 v1 i ask told row says same =
     subst (λ (z : View). SaysOnce v z i ask told row) (sym same) says
 
 -- a change that was written is told so
-pub says_made : (p q : TreePass) (i : ℕ) (change : MapChange) (row : Pair) (told : Told)
-    (point : ℕ) → told ≡ told_made point → IsCommitted p q i change point
+pub says_made : (p q : TreePass) (i : ℕ) (change : MapChange) (row : Pair) (found : Found)
+    (told : Told) (point : ℕ) → told ≡ told_made found point
+    → IsCommitted p q i change (columns_by found) point
     → SaysOnce (view p) (view q) i (Make change) told row
-says_made p q i change row told point is written =
+says_made p q i change row found told point is written =
     subst (λ t. SaysOnce (view p) (view q) i (Make change) t row) (sym is) (record {
-      answer = Replied Done point dashes;
-      is_told = record { is = refl; point = refl; key = tt; dashed = refl };
+      answer = Replied Done point (columns_by found);
+      is_told = record { is = refl; point = refl; key = tt; stands = found.stands };
       once = written.once;
       only = written.only;
       placed = λ e. cc;
@@ -204,8 +207,16 @@ module _ (p0 q0 q1 p1 : TreePass) (i : ℕ) where
   beside_looks (Some k) took gave looks =
       part_looks k took gave looks.quiet.adds.numbers.terms looks
 
-module _ (p p0 p1 p2 : TreePass) (i : ℕ) (key : FieldList) (leaf : Leaf)
-    (went : Descends p i mode.Ge key leaf p0) (gave : GivesFrame p1 leaf.block p2) where
+-- a leaf that stays while something is said is given back with its number
+pub number_gave : (p q r : TreePass) (b : ℕ) (f : Frame) → KnowsFrame (view p) b f → SameHands p q
+    → (view q).terms ≡ (view p).terms → (gave : GivesFrame q b r)
+    → KeepsNumber (view p) b gave.frame
+number_gave p q r b f knows same terms gave = subst (KeepsNumber (view p) b)
+    (gave_known q r b f (knows_same p q b f same.held terms knows) gave)
+    (number_stays (view p) b f knows)
+
+module _ (found : Finding) (p p0 p1 p2 : TreePass) (i : ℕ) (key : FieldList) (leaf : Leaf)
+    (went : ComesToLeaf found p i key leaf p0) (gave : GivesFrame p1 leaf.block p2) where
   abbrev pub shape : Shape
   shape = shape_of_pass p
 
@@ -213,22 +224,12 @@ module _ (p p0 p1 p2 : TreePass) (i : ℕ) (key : FieldList) (leaf : Leaf)
   abbrev pub leaf_number : ℕ
   leaf_number = went.is.page.is.page.head.number
 
-  -- it is so still where the hand stays
-  pub number_kept : SameHands p0 p1 → (view p1).terms ≡ (view p0).terms
-      → HasNumber gave.frame leaf_number
-  number_kept same terms = subst (λ f. HasNumber f leaf_number)
-      (gave_known p1 p2 leaf.block went.frame
-      (knows_same p0 p1 leaf.block went.frame same.held terms went.knows) gave)
-      (page_number went.frame i 0 went.is.page.is)
+  -- it is so still where that was kept
+  pub number_kept : KeepsNumber (view p0) leaf.block gave.frame → HasNumber gave.frame leaf_number
+  number_kept keeps =
+      keeps went.frame leaf_number went.knows (page_number went.frame i 0 went.is.page.is)
 
-  -- and where the leaf was answered of, beside its partition
-  pub number_between : (f : Frame) → KnowsFrame (view p1) leaf.block f
-      → KeepsNumber (view p0) leaf.block f → HasNumber gave.frame leaf_number
-  number_between f knows keeps = subst (λ g. HasNumber g leaf_number)
-      (gave_known p1 p2 leaf.block f knows gave)
-      (keeps went.frame leaf_number went.knows (page_number went.frame i 0 went.is.page.is))
-
-  -- what the descent added, and the reference to the leaf
+  -- what the search added, and the reference to the leaf
   abbrev pub way : Added
   way = went.silently.added
 
@@ -252,16 +253,16 @@ module _ (p p0 p1 p2 : TreePass) (i : ℕ) (key : FieldList) (leaf : Leaf)
         (given_spares (shape_of_pass p1) (frame_id (shape_of_pass p1) leaf.block) gave.taken
         (object.Frame gave.frame) (frame_no_tree (shape_of_pass p1) leaf.block)))
 
-    -- the references are those of the descent, those beside, and the leaf's
+    -- the references are those of the search, those beside, and the leaf's
     pub references_are : all_added.references
         ≡ (way.references ++ s.references)
         ++ reference (frame_id shape leaf.block) gave.taken (object.Frame gave.frame) ∷ []
     references_are = ap (λ (t : Terms Shape). (way.references ++ s.references)
         ++ reference (frame_id t.shape leaf.block) gave.taken (object.Frame gave.frame) ∷ []) terms
 
-    -- and so are those of frames, by the descent's path
+    -- and so are those of frames, by the search's
     pub frames_are : frame_references all_added.references
-        ≡ (went.path.vain ++ went.path.path)
+        ≡ frame_references way.references
         ++ reference (frame_id shape leaf.block) gave.taken (object.Frame gave.frame) ∷ []
     frames_are =
         let last = reference (frame_id shape leaf.block) gave.taken (object.Frame gave.frame)
@@ -269,41 +270,57 @@ module _ (p p0 p1 p2 : TreePass) (i : ℕ) (key : FieldList) (leaf : Leaf)
         ap (λ (z : List (Reference Object)). frame_references z) references_are
         ∙ (frames_both (way.references ++ s.references) last
         ∙ ap (λ z. z ++ last) (frames_both way.references s.references
-        ∙ ((λ k. went.path.references k ++ beside.frames k)
-        ∙ append-nil (went.path.vain ++ went.path.path))))
+        ∙ ((λ k. frame_references way.references ++ beside.frames k)
+        ∙ append-nil (frame_references way.references))))
 
-    unfoldable pub ends_all : HasNumber gave.frame leaf_number
-        → EndsOnLeaf shape i key all_added.references
-    ends_all has = record {
-      vain = went.path.vain;
-      path = went.path.path;
+    unfoldable pub ends_all : KeepsNumber (view p0) leaf.block gave.frame
+        → EndsOnLeaf shape found all_added.references
+    ends_all keeps = record {
+      before = frame_references way.references;
       block = leaf.block;
       taken = gave.taken;
       leaf = gave.frame;
       is = frames_are;
       number = leaf_number;
-      has = has;
-      leads = went.path.leads;
+      has = number_kept keeps;
+      came = went.came;
     }
 
-  -- the answer was told by that leaf
-  unfoldable pub tells_by_leaf : (ask : Ask) (told : Told) (row : Pair)
-      → HasNumber gave.frame leaf_number → SaysBeside (view p0) (view p1) i ask told row
-      → TellsByLeaf (view p) (view p2) i key ask told row
-  unfolding quiet_of quiet_then_once once_then_silent
-  tells_by_leaf ask told row has says =
-      let terms = says.once.adds.numbers.terms ∙ went.silently.does.adds.numbers.terms in
-      let quiet = quiet_of (view p) (view p0) i way went.silently.does.adds went.silently.silent in
-      let once = quiet_then_once i ask says.answer (view p) (view p0) (view p1) quiet says.once in
-      let beside = subst (λ (t : Terms Shape). SparesPages t.shape says.once.added)
-      went.silently.does.adds.numbers.terms says.beside in
-      record {
-        tells = record {
-          answer = says.answer;
-          is_told = says.is_told;
-          once = once_then_silent i ask says.answer (view p) (view p1) (view p2) back once
-              back_adds refl (ap (λ (z : View). z.seen) gave.view);
-        };
-        ends = ends_all says.once.added beside terms has;
-        spares = spares_all says.once.added beside terms;
-      }
+-- what is told by a leaf that was found so, and which references the leaf's ends
+pub record TellsFound (found : Finding) (v v' : View) (i : ℕ) (ask : Ask) (told : Told) (row : Pair)
+    (leaf : Frame) : Type 0 where
+  pub tells : TellsOnce v v' i ask told row
+  pub ends : EndsOnLeaf v.terms.shape found tells.once.added.references
+  pub leaf_is : leaf ≡ ends.leaf
+  pub spares : SparesTrees v.terms.shape tells.once.added
+  pub placed : told.reply ≢ words.SpaceFull
+
+-- the answer was told by the leaf in hand
+unfoldable pub tells_found : (found : Finding) (p p0 p2 : TreePass) (i : ℕ) (key : FieldList)
+    (leaf : Leaf) → ComesToLeaf found p i key leaf p0 → (ask : Ask) (told : Told) (row : Pair)
+    → (answers : AnswersAndLeaves p0 leaf.block i ask told row p2)
+    → TellsFound found (view p) (view p2) i ask told row answers.gave.frame
+unfolding quiet_of quiet_then_once once_then_silent ends_all
+tells_found found p p0 p2 i key leaf went ask told row answers =
+    let p1 = answers.between in let gave = answers.gave in let says = answers.says in
+    let terms = says.once.adds.numbers.terms ∙ went.silently.does.adds.numbers.terms in
+    let added = went.silently.added in
+    let quiet = quiet_of (view p) (view p0) i added went.silently.does.adds went.silently.silent in
+    let once = quiet_then_once i ask says.answer (view p) (view p0) (view p1) quiet says.once in
+    let beside = subst (λ (t : Terms Shape). SparesPages t.shape says.once.added)
+    went.silently.does.adds.numbers.terms says.beside in
+    record {
+      tells = record {
+        answer = says.answer;
+        is_told = says.is_told;
+        once = once_then_silent i ask says.answer (view p) (view p1) (view p2)
+            (back found p p0 p1 p2 i key leaf went gave) once
+            (back_adds found p p0 p1 p2 i key leaf went gave) refl
+            (ap (λ (z : View). z.seen) gave.view);
+      };
+      ends = ends_all found p p0 p1 p2 i key leaf went gave says.once.added beside terms
+          answers.number;
+      leaf_is = refl;
+      spares = spares_all found p p0 p1 p2 i key leaf went gave says.once.added beside terms;
+      placed = says.placed;
+    }

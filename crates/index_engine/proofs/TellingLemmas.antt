@@ -1,5 +1,5 @@
 -- A seek's reply is the one that is told, where it speaks.
-use Rattle.std.proofs.Common.{◌≡◌, ◌≢◌, ℕ, true, false, cond, [], ◌∷◌, ◌++◌, ◌-◌, length, set, sym, ap, subst, ◌∙◌, arith, refl, Option, Some, None, Contains}
+use Rattle.std.proofs.Common.{◌≡◌, ◌≢◌, ℕ, true, false, ◌&&◌, cond, [], ◌∷◌, ◌++◌, ◌-◌, length, set, sym, ap, subst, ◌∙◌, arith, refl, Option, Some, None, Contains}
 use Rattle.key_tuple.specs.Order.{FieldList}
 use Rattle.key_tuple.specs.declared.mode.Mode.{Mode}
 use Rattle.latch_law.specs.declared.knows.Statement.TheVariants as what
@@ -8,12 +8,10 @@ use Rattle.latch_law.specs.Views.{answer_said, reading}
 use Rattle.list_facts.proofs.Places.{same_some}
 use Rattle.map_history.specs.declared.reply.Reply.{Reply}
 use Rattle.map_history.specs.declared.reply.Reply.TheVariants as words
-use Rattle.map_history.specs.declared.columns.How.TheVariants as how
-use Rattle.map_history.specs.declared.columns.Note.TheVariants as note
 use Rattle.map_history.specs.Map.{Pair, Map, map_after}
 use Rattle.map_history.specs.Operation.{Ask, Seek}
 use Rattle.map_history.specs.Reply.{MapReply, Done, row_reply, sought, reply_of}
-use Rattle.map_history.specs.Report.{Replied, dashes}
+use Rattle.map_history.specs.Report.{Columns, Replied}
 use Rattle.map_history.specs.LegalReport.{Mark, is_done, may_reply}
 use Rattle.map_history.specs.Told as tells
 use Rattle.index_law.specs.Answers.{Word, Gives, Saying, Replies, speaks_at}
@@ -27,7 +25,8 @@ use Rattle.call_law.specs.Once.{IsRightBy, AnswersOnce}
 use Rattle.call_law.specs.Spoken.{View, OwnAnswer, printed_word, spoken_saying}
 use Rattle.call_law.specs.Trace.{full_places}
 use Rattle.buffer_pool.proofs.AddedLemmas.{only_said, read_adds}
-use Rattle.index_engine.specs.Says.{SaysOnce, OnlyLooks}
+use Rattle.index_engine.specs.declared.found.Found.{Found}
+use Rattle.index_engine.specs.Says.{SaysOnce, OnlyLooks, columns_by}
 use Rattle.index_engine.specs.Seeks.{CanTell}
 use Rattle.index_engine.specs.Tells.{TellsPoint}
 use Rattle.index_engine.proofs.CallLemmas.{says_word}
@@ -50,48 +49,49 @@ row_undone None = refl
 row_undone (Some row) = refl
 
 -- what a word says is right if the word is, where it speaks
-said_right : (w : ForestState) (xs : Entries) (ask : Ask) (o : Option Word) (bound : Option ℕ)
+said_right : (columns : Columns) (w : ForestState) (xs : Entries) (ask : Ask) (o : Option Word)
+    (bound : Option ℕ)
     → (speaks_at bound (length xs) ≡ true → (word : Word) → o ≡ Some word
     → IsWord w xs (length xs) ask word)
-    → IsSaid w xs (length xs) (said_word ask o bound dashes)
-said_right w xs ask None bound right = tt
-said_right w xs ask (Some word) bound right = λ speaks. right speaks word refl
+    → IsSaid w xs (length xs) (said_word ask o bound columns)
+said_right columns w xs ask None bound right = tt
+said_right columns w xs ask (Some word) bound right = λ speaks. right speaks word refl
 
 -- at a point where a reply doesn't speak, nothing is printed of it
-silent_saying : (i point n : ℕ) (ask : Ask) (o : Option Word) (bound : Option ℕ)
+silent_saying : (columns : Columns) (i point n : ℕ) (ask : Ask) (o : Option Word) (bound : Option ℕ)
     → speaks_at bound point ≡ false
-    → spoken_saying i point n (said_word ask o bound dashes) ≡ []
-silent_saying i point n ask None bound silent = refl
-silent_saying i point n ask (Some word) bound silent =
+    → spoken_saying i point n (said_word ask o bound columns) ≡ []
+silent_saying columns i point n ask None bound silent = refl
+silent_saying columns i point n ask (Some word) bound silent =
     ap (λ b. cond b (record {
       index = i;
       by = n;
       ask = ask;
-      answer = printed_word word point dashes;
+      answer = printed_word word point columns;
     } ∷ []) []) silent
 
 -- and no reply comes with a full
-no_full : (ask : Ask) (o : Option Word) (bound : Option ℕ)
-    → full_places (what.Answer (said_word ask o bound dashes)) ≡ []
-no_full ask None bound = refl
-no_full ask (Some word) bound = refl
+no_full : (columns : Columns) (ask : Ask) (o : Option Word) (bound : Option ℕ)
+    → full_places (what.Answer (said_word ask o bound columns)) ≡ []
+no_full columns ask None bound = refl
+no_full columns ask (Some word) bound = refl
 
 -- what is said is the answer that is told
-answer_is : (ask : Ask) (r : Reply) (row : Pair) (point : ℕ) (reply : MapReply)
+answer_is : (found : Found) (ask : Ask) (r : Reply) (row : Pair) (point : ℕ) (reply : MapReply)
     → tells.said ask r row ≡ Some reply
     → tells.answer_of ask
-    (record { reply = r; point = Some point; how = how.Dash; note = note.Dash }) row
-    ≡ Some (Replied reply point dashes)
-answer_is ask words.Found row point reply says =
-    ap (λ o. tells.replied_at o (Some point) dashes) says
-answer_is ask words.Absent row point reply says =
-    ap (λ o. tells.replied_at o (Some point) dashes) says
-answer_is ask words.Ok row point reply says =
-    ap (λ o. tells.replied_at o (Some point) dashes) says
-answer_is ask words.Duplicate row point reply says =
-    ap (λ o. tells.replied_at o (Some point) dashes) says
-answer_is ask words.SpaceFull row point reply says = absurd cc
-answer_is ask (words.LogFull n) row point reply says = absurd cc
+    (record { reply = r; point = Some point; how = found.how; note = found.note }) row
+    ≡ Some (Replied reply point (columns_by found))
+answer_is found ask words.Found row point reply says =
+    ap (λ o. tells.replied_at o (Some point) (columns_by found)) says
+answer_is found ask words.Absent row point reply says =
+    ap (λ o. tells.replied_at o (Some point) (columns_by found)) says
+answer_is found ask words.Ok row point reply says =
+    ap (λ o. tells.replied_at o (Some point) (columns_by found)) says
+answer_is found ask words.Duplicate row point reply says =
+    ap (λ o. tells.replied_at o (Some point) (columns_by found)) says
+answer_is found ask words.SpaceFull row point reply says = absurd cc
+answer_is found ask (words.LogFull n) row point reply says = absurd cc
 
 point_is : (ask : Ask) (r : Reply) (row : Pair) (point : ℕ) (reply : MapReply)
     → tells.said ask r row ≡ Some reply → TellsPoint r (Some point)
@@ -112,12 +112,15 @@ has_page ask words.SpaceFull row reply says e = absurd cc
 has_page ask (words.LogFull n) row reply says e = absurd cc
 
 module _ (v : View) (i : ℕ) (mode : Mode) (tuple : FieldList) (bound : Option ℕ) (reply : Reply)
-    (row : Pair) (can : CanTell v i mode tuple bound reply row) where
+    (row : Pair) (can : CanTell v i mode tuple bound reply row) (found : Found) where
+  abbrev columns : Columns
+  columns = columns_by found
+
   abbrev ask : Ask
   ask = Seek mode tuple
 
   abbrev said : Saying
-  said = said_word ask (reply_word ask reply row) bound dashes
+  said = said_word ask (reply_word ask reply row) bound columns
 
   -- the reply may be given
   pub may_tell : MayAnswer IsLawful IsRight IsReference v i said
@@ -125,7 +128,7 @@ module _ (v : View) (i : ℕ) (mode : Mode) (tuple : FieldList) (bound : Option 
     list = xs;
     there = listed;
     point = omega arith;
-    said = said_right w xs ask (reply_word ask reply row) bound (λ speaks word is.
+    said = said_right columns w xs ask (reply_word ask reply row) bound (λ speaks word is.
         (let map = map_after (changes xs) in
         let says = can w law (fits_known w v fits) xs listed speaks in
         subst (IsWord w xs (length xs) ask)
@@ -151,9 +154,9 @@ module _ (v : View) (i : ℕ) (mode : Mode) (tuple : FieldList) (bound : Option 
         adds = read_adds v v' i did.list said did.extends did.view;
         given = ((refl, refl), tt);
         said = ap (λ z. z ++ [])
-            (silent_saying i (length did.list) v.low ask (reply_word ask reply row) bound
+            (silent_saying columns i (length did.list) v.low ask (reply_word ask reply row) bound
             (ap (speaks_at bound) (sym did.point) ∙ silent));
-        fulls = ap (λ z. z ++ []) (no_full ask (reply_word ask reply row) bound);
+        fulls = ap (λ z. z ++ []) (no_full columns ask (reply_word ask reply row) bound);
       };
       only = record { refused = refl; references = refl };
     }
@@ -175,10 +178,10 @@ module _ (v : View) (i : ℕ) (mode : Mode) (tuple : FieldList) (bound : Option 
           (fits_known did.stands.whole v' did.stands.fits)) did.list did.stands.list at_end
 
       abbrev replies : Saying
-      replies = Replies ask (Gives answer) bound dashes
+      replies = Replies ask (Gives answer) bound columns
 
       view_is : v' ≡ reading v i did.list replies
-      view_is = did.view ∙ ap (λ o. reading v i did.list (said_word ask o bound dashes))
+      view_is = did.view ∙ ap (λ o. reading v i did.list (said_word ask o bound columns))
           (says_word map ask reply row says)
 
       seen_is : v'.seen ≡ set v.seen i did.list
@@ -197,7 +200,7 @@ module _ (v : View) (i : ℕ) (mode : Mode) (tuple : FieldList) (bound : Option 
           ap (λ n. reply_of (map_at did.list n) ask) (omega (arith, none, at))
           ∙ ap (λ m. reply_of m ask) (map_at_end did.list)
 
-      once : AnswersOnce v v' i ask (Replied answer point dashes)
+      once : AnswersOnce v v' i ask (Replied answer point columns)
       once = record {
         added = only_said (answer_said v i did.list replies);
         adds = read_adds v v' i did.list replies did.extends view_is;
@@ -206,16 +209,17 @@ module _ (v : View) (i : ℕ) (mode : Mode) (tuple : FieldList) (bound : Option 
           index = i;
           by = v.low;
           ask = ask;
-          answer = Replied answer (length did.list) dashes;
+          answer = Replied answer (length did.list) columns;
         } ∷ []) [] ++ []) at_end
             ∙ ap (λ n. record {
               index = i;
               by = v.low;
               ask = ask;
-              answer = Replied answer n dashes;
+              answer = Replied answer n columns;
             } ∷ []) (sym did.point);
         fulls = refl;
-        form = row_form mode tuple (sought mode tuple map);
+        form = ap (λ b. b && may_reply ask answer) found.stands
+            ∙ row_form mode tuple (sought mode tuple map);
         least = λ m ys among seen. (let mark = mark_is m among in
             let long = extends_length v i did.list did.extends v'.seen seen_is ys seen in
             let at = did.point in omega (arith, mark.0, mark.1, long, at));
@@ -223,20 +227,20 @@ module _ (v : View) (i : ℕ) (mode : Mode) (tuple : FieldList) (bound : Option 
             let same = ap length (now_seen v i did.list did.extends v'.seen seen_is zs seen) in
             let at = did.point in omega (arith, mark.0, same, at));
         right = λ zs seen. subst
-            (λ z. IsRightBy v.terms.max_changes z ask (Replied answer point dashes))
+            (λ z. IsRightBy v.terms.max_changes z ask (Replied answer point columns))
             (now_seen v i did.list did.extends v'.seen seen_is zs seen) right_here;
       }
 
       pub tells_answer : SaysOnce v v' i ask
-          (record { reply = reply; point = Some point; how = how.Dash; note = note.Dash }) row
+          (record { reply = reply; point = Some point; how = found.how; note = found.note }) row
       unfolding once
       tells_answer = record {
-        answer = Replied answer point dashes;
+        answer = Replied answer point columns;
         is_told = record {
-          is = answer_is ask reply row point answer says;
+          is = answer_is found ask reply row point answer says;
           point = point_is ask reply row point answer says;
           key = tt;
-          dashed = refl;
+          stands = found.stands;
         };
         once = once;
         only = record { refused = refl; references = refl };

@@ -1,122 +1,129 @@
--- What a try of a put leaves behind that went down to a leaf and wasn't answered there.
-use Rattle.std.proofs.Common.{◌≡◌, ◌≢◌, inl, inr, ℕ, ◌+◌, ◌<◌, ◌++◌, List, sym, subst, ◌∙◌, refl}
+-- How a leaf was found, and what a call leaves behind that held it and answered nothing.
+use Rattle.std.proofs.Common.{◌≡◌, inl, inr, ℕ, List, sym, subst, ◌∙◌, refl}
 use Rattle.key_tuple.specs.Order.{FieldList}
 use Rattle.key_tuple.specs.declared.mode.Mode.TheVariants as mode
+use Rattle.latch_law.specs.declared.knows.Reference.{Reference}
 use Rattle.latch_law.specs.declared.knows.Terms.{Terms}
-use Rattle.latch_law.specs.Whole.{reference}
 use Rattle.latch_space.specs.Passes.{view}
-use Rattle.map_history.specs.declared.reply.Reply.TheVariants as words
+use Rattle.map_history.specs.declared.columns.How.{How}
 use Rattle.map_history.specs.declared.reply.Told.{Told}
 use Rattle.map_history.specs.Map.{Pair}
 use Rattle.map_history.specs.Operation.{Ask}
-use Rattle.index_page.specs.declared.error.PageError.{PageError}
-use Rattle.index_page.specs.declared.error.PageError.TheVariants as refused
-use Rattle.index_page.specs.declared.TheConstants.{PAGE_ROOM}
-use Rattle.index_page.specs.Loads.{charge_of, load_of}
-use Rattle.index_page.specs.Rows.{Bytes}
-use Rattle.tree_law.specs.TreeShape.{In}
-use Rattle.tree_law.proofs.ListLemmas.{In-append_right}
+use Rattle.search_info.specs.declared.knows.Knows.{Knows}
 use Rattle.index_law.specs.Shape.{Shape}
 use Rattle.forest_law.specs.declared.objects.Frame.{Frame}
-use Rattle.forest_law.specs.declared.objects.Object.TheVariants as object
-use Rattle.forest_law.specs.Numbers.{frame_id}
+use Rattle.forest_law.specs.declared.objects.Object.{Object}
 use Rattle.forest_world.specs.Held.{TreePass, shape_of_pass}
 use Rattle.call_law.specs.Once.{IsQuiet}
+use Rattle.call_law.specs.Spoken.{View}
+use Rattle.call_law.specs.Trace.{SparesTrees}
 use Rattle.call_law.proofs.TraceLemmas.{quiet_of, quiet_both}
-use Rattle.buffer_pool.specs.Frames.{GivesFrame}
 use Rattle.tree_descent.specs.declared.descending.Leaf.{Leaf}
 use Rattle.tree_descent.specs.Descents.{Descends}
-use Rattle.tree_descent.specs.Leaves.{cut_in, IsPageFor}
-use Rattle.index_engine.specs.Changes.{HoldsRefusing}
-use Rattle.index_engine.specs.Holds.{HoldsLeaf}
-use Rattle.index_engine.specs.Says.{LooksBeside, SparesPages}
-use Rattle.index_engine.specs.Traces.{LackedRoom, TellsByLeaf, TellsOfWrite, GivesUp}
-use Rattle.index_engine.proofs.HoldLemmas.{gave_is}
-use Rattle.index_engine.proofs.TellLemmas.{way, back, back_adds, spares_all, references_are}
+use Rattle.leaf_search.specs.declared.searched.Searched.{Searched}
+use Rattle.leaf_search.specs.Searches.{Searches}
+use Rattle.index_engine.specs.Leaving.{ComesToLeaf, LooksAndLeaves}
+use Rattle.index_engine.specs.Says.{SparesPages}
+use Rattle.index_engine.specs.Traces.{Finding, AreWayTo, IsFoundBy, EndsOnLeaf, TellsByLeaf}
+use Rattle.index_engine.proofs.TellLemmas.{TellsFound, back, back_adds, ends_all, spares_all}
 
--- an answer by a leaf is one of a put
-pub by_leaf_of_write : (p q : TreePass) (i : ℕ) (key : FieldList) (value : List ℕ) (ask : Ask)
-    (told : Told) (row : Pair) → told.reply ≢ words.SpaceFull
-    → TellsByLeaf (view p) (view q) i key ask told row
-    → TellsOfWrite (view p) (view q) i key value ask told row
-by_leaf_of_write p q i key value ask told row placed tells = record {
-  tells = tells.tells;
-  ends = λ here. tells.ends;
-  full = λ none. absurd (placed none);
-  trees = inl tells.spares;
+-- a search found the leaf by the hash, or by a way
+pub by_search : (p : TreePass) (l : Knows) (i : ℕ) (key : FieldList) (s : Searched) (q : TreePass)
+    (m : Knows) → Searches p l i key s q m
+    → ComesToLeaf (IsFoundBy (shape_of_pass p) i key s.how) p i key s.leaf q
+by_search p l i key s q m found = record {
+  silently = found.silently;
+  lacked = found.lacked;
+  frame = found.frame;
+  knows = found.knows;
+  is = found.is;
+  came = elim found.came [
+    | inl hit ↦ inl hit
+    | inr down ↦ inr (
+      down.0,
+      record {
+        vain = down.1.vain;
+        path = down.1.path;
+        is = down.1.references;
+        leads = down.1.leads;
+      },
+    )
+  ];
+  count = found.count;
 }
 
--- the page of a frame with the key's position, on which the row has too little room
-abbrev IsFullLeaf : Shape → ℕ → FieldList → List ℕ → Frame → Type 0
-IsFullLeaf shape i key value f =
-    (page : IsPageFor shape f i 0 (cut_in shape i mode.Ge key))
-    × (PAGE_ROOM < load_of page.is.page.rows + charge_of key (Bytes value))
+-- a descent is a way
+pub by_way : (p : TreePass) (i : ℕ) (key : FieldList) (leaf : Leaf) (q : TreePass)
+    → Descends p i mode.Ge key leaf q
+    → ComesToLeaf (AreWayTo (shape_of_pass p) i key) p i key leaf q
+by_way p i key leaf q went = record {
+  silently = went.silently;
+  lacked = went.lacked;
+  frame = went.frame;
+  knows = went.knows;
+  is = went.is;
+  came = record {
+    vain = went.path.vain;
+    path = went.path.path;
+    is = went.path.references;
+    leads = went.path.leads;
+  };
+  count = went.count;
+}
 
-module _ (p p0 p1 p2 : TreePass) (i : ℕ) (key : FieldList) (value : List ℕ) (leaf : Leaf)
-    (went : Descends p i mode.Ge key leaf p0) (gave : GivesFrame p1 leaf.block p2)
-    (looks : LooksBeside (view p0) (view p1) i) where
-  pub beside : SparesPages (shape_of_pass p) looks.quiet.added
-  beside = subst (λ (t : Terms Shape). SparesPages t.shape looks.quiet.added)
-      went.silently.does.adds.numbers.terms looks.beside
+-- nothing is told of a leaf that was found so, and the references are the leaf's at the end
+pub record LooksFound (found : Finding) (v v' : View) (i : ℕ) (leaf : Frame) : Type 0 where
+  pub quiet : IsQuiet v v' i
+  pub ends : EndsOnLeaf v.terms.shape found quiet.added.references
+  pub leaf_is : leaf ≡ ends.leaf
+  pub spares : SparesTrees v.terms.shape quiet.added
 
-  pub terms_are : (view p1).terms ≡ (view p).terms
-  terms_are = looks.quiet.adds.numbers.terms ∙ went.silently.does.adds.numbers.terms
+-- so it is where nothing was answered while the leaf was held
+unfoldable pub looks_found : (found : Finding) (p p0 p2 : TreePass) (i : ℕ) (key : FieldList)
+    (leaf : Leaf) → ComesToLeaf found p i key leaf p0
+    → (looks : LooksAndLeaves p0 leaf.block i p2)
+    → LooksFound found (view p) (view p2) i looks.gave.frame
+unfolding quiet_of quiet_both ends_all
+looks_found found p p0 p2 i key leaf went left =
+    let p1 = left.between in let gave = left.gave in let looks = left.looks in
+    let first = went.silently.does.adds.numbers.terms in
+    let terms = looks.quiet.adds.numbers.terms ∙ first in
+    let beside = subst (λ (t : Terms Shape). SparesPages t.shape looks.quiet.added) first
+    looks.beside in
+    record {
+      quiet = quiet_both (view p) (view p1) (view p2) i
+          (quiet_both (view p) (view p0) (view p1) i
+          (quiet_of (view p) (view p0) i went.silently.added went.silently.does.adds
+          went.silently.silent) looks.quiet)
+          (quiet_of (view p1) (view p2) i (back found p p0 p1 p2 i key leaf went gave)
+          (back_adds found p p0 p1 p2 i key leaf went gave) refl);
+      ends = ends_all found p p0 p1 p2 i key leaf went gave looks.quiet.added beside terms
+          left.number;
+      leaf_is = refl;
+      spares = spares_all found p p0 p1 p2 i key leaf went gave looks.quiet.added beside terms;
+    }
 
-  -- nothing was answered
-  unfoldable pub went_quiet : IsQuiet (view p) (view p2) i
-  went_quiet =
-      quiet_both (view p) (view p1) (view p2) i
-      (quiet_both (view p) (view p0) (view p1) i
-      (quiet_of (view p) (view p0) i (way p p0 p1 p2 i key leaf went gave)
-      went.silently.does.adds went.silently.silent) looks.quiet)
-      (quiet_of (view p1) (view p2) i (back p p0 p1 p2 i key leaf went gave)
-      (back_adds p p0 p1 p2 i key leaf went gave) refl)
+-- what is told of the search is how the leaf was found
+pub ends_told : (shape : Shape) (i : ℕ) (key : FieldList) (told how : How) → told ≡ how
+    → (qs : List (Reference Object)) → (ends : EndsOnLeaf shape (IsFoundBy shape i key how) qs)
+    → (e : EndsOnLeaf shape (IsFoundBy shape i key told) qs) × (ends.leaf ≡ e.leaf)
+ends_told shape i key told how by qs ends = subst
+    (λ h. (e : EndsOnLeaf shape (IsFoundBy shape i key h) qs) × (ends.leaf ≡ e.leaf)) (sym by)
+    (ends, refl)
 
-  -- and no tree was taken
-  unfoldable pub went_up : GivesUp (view p) (view p2) i key value
-  unfolding quiet_of quiet_both went_quiet
-  went_up = record {
-    quiet = went_quiet;
-    trees = inl (spares_all p p0 p1 p2 i key leaf went gave looks.quiet.added beside terms_are);
-  }
+-- an answer that was told by a leaf that a search found
+pub tells_search : (v v' : View) (i : ℕ) (key : FieldList) (how : How) (ask : Ask)
+    (told : Told) (row : Pair) (leaf : Frame) → told.how ≡ how
+    → TellsFound (IsFoundBy v.terms.shape i key how) v v' i ask told row leaf
+    → TellsByLeaf v v' i key ask told row
+tells_search v v' i key how ask told row leaf by tells = record {
+  tells = tells.tells;
+  ends = (ends_told v.terms.shape i key told.how how by tells.tells.once.added.references
+      tells.ends).0;
+  spares = tells.spares;
+}
 
-  module _ (f : Frame) (holds : HoldsLeaf p1 leaf.block i key f f)
-      (full : PAGE_ROOM < load_of holds.leaf.page.is.page.rows + charge_of key (Bytes value)) where
-    full_leaf : IsFullLeaf (shape_of_pass p) i key value gave.frame
-    full_leaf = subst
-        (λ (t : Terms Shape). IsFullLeaf t.shape i key value gave.frame) terms_are
-        (subst (IsFullLeaf (shape_of_pass p1) i key value)
-        (gave_is p1 p2 leaf.block f holds.has gave)
-        (holds.leaf.page, full))
-
-    -- so the way led to a leaf without room
-    pub went_lacked : LackedRoom (shape_of_pass p) i key value went_up.quiet.added.references
-    unfolding quiet_of quiet_both went_quiet went_up
-    went_lacked =
-        record {
-          block = leaf.block;
-          taken = gave.taken;
-          leaf = gave.frame;
-          among = subst
-              (In (reference (frame_id (shape_of_pass p) leaf.block) gave.taken
-              (object.Frame gave.frame)))
-              (sym (references_are p p0 p1 p2 i key leaf went gave looks.quiet.added beside terms_are))
-              (In-append_right _ (went.silently.added.references ++ looks.quiet.added.references) _
-              (inl refl));
-          page = full_leaf.0;
-          full = full_leaf.1;
-        }
-
--- and so it did where no memory lacked
-pub refused_lacks : (p p0 p1 p2 : TreePass) (i : ℕ) (key : FieldList) (value : List ℕ) (leaf : Leaf)
-    (went : Descends p i mode.Ge key leaf p0) (gave : GivesFrame p1 leaf.block p2) (e : PageError)
-    (looks : LooksBeside (view p0) (view p1) i)
-    (held : HoldsRefusing p1 leaf.block i key value e)
-    → (e ≡ refused.NoMemory → ⊥)
-    → LackedRoom (shape_of_pass p) i key value
-    (went_up p p0 p1 p2 i key value leaf went gave looks).quiet.added.references
-refused_lacks p p0 p1 p2 i key value leaf went gave e looks held other =
-    elim held.why [
-      | inl memory ↦ absurd (other memory)
-      | inr full ↦ went_lacked p p0 p1 p2 i key value leaf went gave looks held.frame held.holds full
-    ]
+-- what is so of a key is so of the same key
+pub about_key : (P : ℕ → FieldList → Type 0) (i j : ℕ) (k l : FieldList) → i ≡ j → k ≡ l → P i k
+    → P j l
+about_key P i j k l index key so = subst (λ z. P j z) key (subst (λ z. P z k) index so)

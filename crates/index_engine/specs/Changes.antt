@@ -20,7 +20,7 @@ use Rattle.leaf_rows.specs.Changing.{LacksRow, PutsRow, WasPut, HasRowOf, HasSom
 use Rattle.leaf_rows.specs.Finding.{HasSpot}
 use Rattle.leaf_rows.specs.Setting.{frame_with, IsNoLonger, IsLongerValue, SetsValue, PageBefore, frame_before, value_refusal, LacksRoomFor}
 use Rattle.index_engine.specs.Hashed.{KeepsHashed}
-use Rattle.index_engine.specs.Holds.{HoldsLeaf, StaysKnown}
+use Rattle.index_engine.specs.Holds.{HoldsLeaf, KeepsNumber, StaysKnown}
 use Rattle.index_engine.specs.Says.{OnlyLooks}
 
 -- the frame has a leaf, on which the key belongs at the spot
@@ -189,11 +189,13 @@ abbrev pub LeafIsBack : TreePass → TreePass → ℕ → PageBefore → Type 0
 LeafIsBack p q b before = (i : ℕ) (key : FieldList) (f g : Frame) → HoldsLeaf p b i key f g
     → frame_before before g ≡ f → HoldsLeaf q b i key f f
 
--- nothing was answered, since the row wasn't taken, and what was held is held as it is known to be
+-- nothing was answered, since the row wasn't taken, and what was held is held as it is known to be,
+-- the leaf with its number
 pub record RefusesHolding (p q : TreePass) (b i : ℕ) (key : FieldList) (value : List ℕ)
     (e : PageError) : Type 0 where
   pub looks : OnlyLooks (view p) (view q) i
   pub holds : HoldsRefusing q b i key value e
+  pub number : KeepsNumber (view p) b holds.frame
   pub stays : StaysKnown p q
 
 -- the pass knows and holds as much as before

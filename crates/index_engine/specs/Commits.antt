@@ -7,7 +7,7 @@ use Rattle.latch_space.specs.Passes.{view, count}
 use Rattle.map_history.specs.Map.{MapChange, is_allowed, key_of}
 use Rattle.map_history.specs.Operation.{Make}
 use Rattle.map_history.specs.Reply.{Done}
-use Rattle.map_history.specs.Report.{Replied, dashes}
+use Rattle.map_history.specs.Report.{Columns, Replied}
 use Rattle.index_page.specs.Page.{PageRows}
 use Rattle.tree_law.specs.Pages.{row_pairs, IsOrderly}
 use Rattle.hash_partition.specs.Part.{Part}
@@ -60,14 +60,17 @@ pub record CanWriteAhead (p : TreePass) (b i : ℕ) (key : FieldList) (change : 
   pub about : key_of change ≡ key
   pub makes : MakesChange (shape_of_pass p) change known next
 
--- the change is in its list, by the pass's name and at the point, and nothing else was said
-pub record IsCommitted (p q : TreePass) (i : ℕ) (change : MapChange) (point : ℕ) : Type 0 where
-  pub once : AnswersOnce (view p) (view q) i (Make change) (Replied Done point dashes)
+-- the change is in its list, by the pass's name, with these columns and at the point, and nothing
+-- else was said
+pub record IsCommitted (p q : TreePass) (i : ℕ) (change : MapChange) (columns : Columns)
+    (point : ℕ) : Type 0 where
+  pub once : AnswersOnce (view p) (view q) i (Make change) (Replied Done point columns)
   pub only : IsOnlySaid once.added
 
 -- the change is written, and all that is in hand is known to be what it is
-pub record DidWrite (p q : TreePass) (i : ℕ) (change : MapChange) (point : ℕ) : Type 0 where
-  pub written : IsCommitted p q i change point
+pub record DidWrite (p q : TreePass) (i : ℕ) (change : MapChange) (columns : Columns)
+    (point : ℕ) : Type 0 where
+  pub written : IsCommitted p q i change columns point
   pub frames : (b : ℕ) (f g : Frame) → HasFrame p b f g → HasFrame q b g g
   pub parts : (k : ℕ) (x y : Part) → HasPart p k x y → HasPart q k y y
   pub known : IsKnown q
@@ -75,9 +78,9 @@ pub record DidWrite (p q : TreePass) (i : ℕ) (change : MapChange) (point : ℕ
 
 -- the change is written ahead, and the block's frame is known to be the next one, which it isn't
 -- yet; all else in hand is known to be what it is
-pub record DidWriteAhead (p q : TreePass) (b i : ℕ) (change : MapChange) (next : Frame)
-    (point : ℕ) : Type 0 where
-  pub written : IsCommitted p q i change point
+pub record DidWriteAhead (p q : TreePass) (b i : ℕ) (change : MapChange) (columns : Columns)
+    (next : Frame) (point : ℕ) : Type 0 where
+  pub written : IsCommitted p q i change columns point
   pub frame : (f g : Frame) → HasFrame p b f g → HasFrame q b next g
   pub parts : (k : ℕ) (x y : Part) → k < (shape_of_pass p).parts → HasPart p k x y → HasPart q k y y
   pub rest : IsKnownBut q (frame_id (shape_of_pass q) b)
@@ -91,12 +94,12 @@ pub record IsFullThen (p q : TreePass) (i n : ℕ) : Type 0 where
   pub same : SameHands p q
 
 -- how a commit ends
-abbrev pub Commits : TreePass → ℕ → MapChange → Result ℕ LogFull → TreePass → Type 0
-Commits p i change (Ok point) q = DidWrite p q i change point
-Commits p i change (Err full) q = IsFullThen p q i full.0
+abbrev pub Commits : TreePass → ℕ → MapChange → Columns → Result ℕ LogFull → TreePass → Type 0
+Commits p i change columns (Ok point) q = DidWrite p q i change columns point
+Commits p i change columns (Err full) q = IsFullThen p q i full.0
 
 -- how one ends that is ahead of its change
-abbrev pub WritesAhead : TreePass → (b i : ℕ) → MapChange → Frame → Result ℕ LogFull → TreePass
-    → Type 0
-WritesAhead p b i change next (Ok point) q = DidWriteAhead p q b i change next point
-WritesAhead p b i change next (Err full) q = IsFullThen p q i full.0
+abbrev pub WritesAhead : TreePass → (b i : ℕ) → MapChange → Columns → Frame → Result ℕ LogFull
+    → TreePass → Type 0
+WritesAhead p b i change columns next (Ok point) q = DidWriteAhead p q b i change columns next point
+WritesAhead p b i change columns next (Err full) q = IsFullThen p q i full.0

@@ -5,6 +5,8 @@ use lib.ListN.{get_elem?}
 use Rattle.key_tuple.specs.Order.{FieldList}
 use Rattle.latch_space.specs.Passes.{view, IsSamePass}
 use Rattle.latch_space.specs.Spaces.{IsPassOf}
+use Rattle.search_info.specs.declared.knows.Knows.{Knows}
+use Rattle.search_info.specs.Passes.{knowledge, IsLearnPassOf, IsSameLearnPass}
 use Rattle.forest_law.specs.State.{fields_for}
 use Rattle.call_law.specs.Spoken.{View}
 use Rattle.index_engine.specs.declared.engine.Engine.{Engine}
@@ -14,13 +16,18 @@ use Rattle.index_engine.specs.declared.engine.EnginePass.{EnginePass}
 abbrev pub known : EnginePass → View
 known pass = view pass.world
 
+-- what the pass has learnt, and tried to teach
+abbrev pub learnt : EnginePass → Knows
+learnt pass = knowledge pass.learn
+
 -- it is a pass of this engine
 abbrev pub IsOf : Engine → EnginePass → Type 0
-IsOf engine pass = IsPassOf engine.space pass.world
+IsOf engine pass = IsPassOf engine.space pass.world × IsLearnPassOf engine.learner pass.learn
 
 -- it is the same pass, and its engine's sizes are the same
 pub record IsSame (p q : EnginePass) : Type 0 where
   pub pass : IsSamePass p.world q.world
+  pub learn : IsSameLearnPass p.learn q.learn
   pub sizes : q.sizes ≡ p.sizes
 
 -- how many indexes there are

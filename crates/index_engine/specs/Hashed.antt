@@ -1,7 +1,6 @@
 -- How the leaf in hand is kept hashed, by the partition that is held besides.
 use Rattle.std.specs.Prelude.{ℕ, ◌≡◌, ◌≢◌, ◌<◌, Option, Some, None, List, ◌∷◌}
 use Rattle.key_tuple.specs.Order.{FieldList}
-use Rattle.key_tuple.specs.declared.mode.Mode.TheVariants as mode
 use Rattle.latch_space.specs.Has.{IsKnown}
 use Rattle.latch_space.specs.Passes.{view, count}
 use Rattle.index_page.specs.declared.spot.Spot.{Spot}
@@ -16,14 +15,13 @@ use Rattle.forest_law.specs.Numbers.{frame_id}
 use Rattle.forest_law.specs.Outside.{HasNoOutside}
 use Rattle.forest_law.specs.Steps.{FrameRests}
 use Rattle.forest_world.specs.Held.{TreePass, shape_of_pass, HasFrame, HasPart, IsKnownBeyond}
-use Rattle.hash_maintain.specs.Leaves.{kept_frame, without_row, unhashed, HasRowAt}
+use Rattle.hash_maintain.specs.Leaves.{kept_frame, without_row, unhashed, HasRowInFrame}
 use Rattle.hash_maintain.specs.Parting.{LacksPart, GivesPart}
 use Rattle.call_law.specs.Hands.{HoldsNoPart}
 use Rattle.buffer_pool.specs.Forests.{IsFittedTree}
 use Rattle.buffer_pool.specs.Frames.{GivesFrame}
 use Rattle.buffer_pool.specs.Parts.{part_of_index, part_ids, HoldsPartIf, KnowsPartIf}
-use Rattle.tree_descent.specs.Descents.{Descends}
-use Rattle.index_engine.specs.declared.holding.Held.{Held}
+use Rattle.tree_descent.specs.declared.descending.Leaf.{Leaf}
 use Rattle.index_engine.specs.Holds.{HoldsFresh, HoldsFreshAlone, StaysKnown}
 use Rattle.index_engine.specs.Says.{OnlyLooks}
 
@@ -70,7 +68,7 @@ pub record HoldsRowCame (p : TreePass) (b place : ℕ) : Type 0 where
   pub known : Frame
   pub now : Frame
   pub has : HasFrame p b known now
-  pub row : HasRowAt now place
+  pub row : HasRowInFrame now place
   pub hash : KeepsHashed p index b known now (without_row place now)
 
 -- the block's frame in hand has a row at the place, and the partition is exact of it
@@ -79,7 +77,7 @@ pub record HoldsRowToGo (p : TreePass) (b place : ℕ) : Type 0 where
   pub known : Frame
   pub now : Frame
   pub has : HasFrame p b known now
-  pub row : HasRowAt now place
+  pub row : HasRowInFrame now place
   pub hash : KeepsHashed p index b known now now
 
 -- the partition kept up with the block, whose frame f is now g, or dropped it: it is exact of what
@@ -147,30 +145,28 @@ pub record HoldsHashed (p : TreePass) (b i : ℕ) (key : FieldList) (spot : Spot
   pub fresh : HoldsFresh p b i key spot
   pub hash : KeepsHashed p fresh.frame.hashed b fresh.frame fresh.frame fresh.frame
 
--- a way led to the leaf, and then the partition was taken of the index that it is hashed for
-pub record HoldsToChange (p : TreePass) (i : ℕ) (key : FieldList) (held : Held)
+-- of the leaf in hand the partition was taken of the index that it is hashed for
+pub record HoldsToChange (p : TreePass) (i : ℕ) (key : FieldList) (leaf : Leaf) (part : Option ℕ)
     (q : TreePass) : Type 0 where
-  pub between : TreePass
-  pub went : Descends p i mode.Ge key held.leaf between
-  pub alone : HoldsFreshAlone between held.leaf.block i key held.leaf.spot
-  pub named : held.part ≡ part_of_index (shape_of_pass between) alone.fresh.frame.hashed
-  pub took : HoldsPartIf between held.part q
+  pub alone : HoldsFreshAlone p leaf.block i key leaf.spot
+  pub named : part ≡ part_of_index (shape_of_pass p) alone.fresh.frame.hashed
+  pub took : HoldsPartIf p part q
   pub fits : IsFittedTree (view q)
 
 -- how many objects are held: a frame, and the partition, if there is one
-abbrev pub count_with : Option ℕ → ℕ
-count_with None = 1
-count_with (Some k) = 2
+abbrev pub count_with_part : Option ℕ → ℕ
+count_with_part None = 1
+count_with_part (Some k) = 2
 
 -- the pass holds the block's frame, which is what it is known to be and has no page outside the
 -- trees, the partition, if there is one, and nothing else
-pub record HoldsBoth (p : TreePass) (b : ℕ) (part : Option ℕ) : Type 0 where
+pub record HoldsLeafAndPart (p : TreePass) (b : ℕ) (part : Option ℕ) : Type 0 where
   pub frame : Frame
   pub has : HasFrame p b frame frame
   pub inside : HasNoOutside frame
   pub known : IsKnown p
   pub partition : KnowsPartIf (view p) part
-  pub count : count p ≡ count_with part
+  pub count : count p ≡ count_with_part part
 
 -- the partition, if there is one, went out as it was known; else the pass is as before
 abbrev pub GivesPartOf : TreePass → Option ℕ → TreePass → Type 0

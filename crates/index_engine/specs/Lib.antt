@@ -1,7 +1,10 @@
 pub mod Tells
 pub mod Traces
+pub mod Searched
 pub mod Engines
+pub mod Learners
 pub mod Holds
+pub mod Leaving
 pub mod Hashed
 pub mod Says
 pub mod Commits

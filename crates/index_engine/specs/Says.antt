@@ -4,14 +4,12 @@ use mathlib.Core.Option.{some}
 use lib.ListN.{get_elem?}
 use Rattle.key_tuple.specs.Order.{FieldList}
 use Rattle.latch_space.specs.Passes.{view}
-use Rattle.map_history.specs.declared.columns.How.TheVariants as how
-use Rattle.map_history.specs.declared.columns.Note.TheVariants as note
 use Rattle.map_history.specs.declared.reply.Reply.{Reply}
 use Rattle.map_history.specs.declared.reply.Reply.TheVariants as words
 use Rattle.map_history.specs.declared.reply.Told.{Told}
 use Rattle.map_history.specs.Map.{Pair, Map, key_of}
 use Rattle.map_history.specs.Operation.{Ask, Get, Make}
-use Rattle.map_history.specs.Report.{Answer}
+use Rattle.map_history.specs.Report.{Columns, Answer}
 use Rattle.tree_law.specs.Pages.{row_pairs}
 use Rattle.index_law.specs.Answers.{Word, Gives, SpaceFull}
 use Rattle.index_law.specs.Answers as answers
@@ -24,6 +22,7 @@ use Rattle.forest_world.specs.Held.{TreePass}
 use Rattle.call_law.specs.Once.{IsQuiet, AnswersOnce}
 use Rattle.call_law.specs.Spoken.{View}
 use Rattle.call_law.specs.Trace.{Added, IsOnlySaid, SparesTrees, frame_references}
+use Rattle.index_engine.specs.declared.found.Found.{Found}
 use Rattle.index_engine.specs.Holds.{HoldsLeaf, HoldsStill, KeepsNumber, StaysKnown}
 use Rattle.index_engine.specs.Tells.{HasKeyOf, IsTold}
 
@@ -105,11 +104,16 @@ pub record LooksBeside (v v' : View) (i : ℕ) : Type 0 where
   pub quiet : IsQuiet v v' i
   pub beside : SparesPages v.terms.shape quiet.added
 
+-- the two columns of what is told by a leaf that was found so
+abbrev pub columns_by : Found → Columns
+columns_by found = record { how = found.how; note = found.note }
+
 -- what is told of a change that was made at the point
-abbrev pub told_made : ℕ → Told
-told_made point = record { reply = words.Ok; point = Some point; how = how.Dash; note = note.Dash }
+abbrev pub told_made : Found → ℕ → Told
+told_made found point =
+    record { reply = words.Ok; point = Some point; how = found.how; note = found.note }
 
 -- what is told where there is no page for a row
-abbrev pub told_space_full : Told
-told_space_full =
-    record { reply = words.SpaceFull; point = None; how = how.Dash; note = note.Dash }
+abbrev pub told_space_full : Found → Told
+told_space_full found =
+    record { reply = words.SpaceFull; point = None; how = found.how; note = found.note }

@@ -1,5 +1,5 @@
 -- What a seek holds: leaves of its index, and nothing else.
-use Rattle.std.specs.Prelude.{ℕ, ◌≡◌, ◌⊎◌, Option, Some, None, IsSome, List, [], ◌∷◌, length}
+use Rattle.std.specs.Prelude.{ℕ, ◌≡◌, ◌⊎◌, Bool, Option, Some, None, IsSome, List, [], ◌∷◌, length}
 use Rattle.key_tuple.specs.Order.{FieldList}
 use Rattle.key_tuple.specs.declared.mode.Mode.{Mode}
 use Rattle.latch_space.specs.Has.{IsKnown}
@@ -8,6 +8,7 @@ use Rattle.forest_law.specs.declared.objects.Frame.{Frame}
 use Rattle.forest_world.specs.Held.{TreePass, shape_of_pass}
 use Rattle.call_law.specs.Hands.{KnowsFrame, HoldsNoFrameBut, HoldsNoTable}
 use Rattle.call_law.specs.Spoken.{View}
+use Rattle.hash_guess.specs.Hits.{HoldsHit}
 use Rattle.tree_descent.specs.declared.descending.Leaf.{Leaf}
 use Rattle.tree_descent.specs.Leaves.{IsLeafFor}
 use Rattle.tree_descent.specs.Ways.{HoldsPage}
@@ -56,6 +57,18 @@ pub record HoldsBothLeaves (p : TreePass) (i : ℕ) (mode : Mode) (tuple : Field
   pub next : Frame
   pub knows_next : KnowsFrame (view p) m next
   pub beside : IsLeafBeside (shape_of_pass p) (side_of mode) leaf.block i frame m next
+
+-- it holds the leaf with the tuple's position, and the one beside it, if there is one
+abbrev pub HoldsPair : TreePass → ℕ → Mode → FieldList → Leaf → Option ℕ → Type 0
+HoldsPair p i mode tuple leaf None = HoldsLast p i mode tuple leaf
+HoldsPair p i mode tuple leaf (Some m) = HoldsBothLeaves p i mode tuple leaf m
+
+-- it holds a leaf alone, whose row at the place is shown to be the one that the mode asks for
+pub record HoldsHitAlone (p : TreePass) (i : ℕ) (mode : Mode) (tuple : FieldList)
+    (block place : ℕ) : Type 0 where
+  pub only : HoldsLeavesAlone p (block ∷ [])
+  pub found : Bool
+  pub hit : HoldsHit (view p) i mode tuple block place found
 
 -- the pass holds a leaf of the index, and nothing that is sought comes before it
 pub record StandsOn (p : TreePass) (b i : ℕ) (mode : Mode) (tuple : FieldList)

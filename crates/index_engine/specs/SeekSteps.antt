@@ -1,13 +1,17 @@
 -- What the parts of a seek do.
-use Rattle.std.specs.Prelude.{ℕ, ◌≡◌, Option, Some, None}
+use Rattle.std.specs.Prelude.{ℕ, ◌≡◌, ◌⊎◌, Option, Some, None, IfSome}
 use Rattle.std.specs.List.{AllByRecursion}
 use Rattle.key_tuple.specs.KeyPlace.{KeyPlace}
 use Rattle.key_tuple.specs.Order.{FieldList}
 use Rattle.key_tuple.specs.declared.mode.Mode.{Mode}
 use Rattle.latch_space.specs.Passes.{view, count}
+use Rattle.map_history.specs.declared.columns.Note.{Note}
 use Rattle.map_history.specs.declared.reply.Told.{Told}
 use Rattle.map_history.specs.Map.{Pair}
 use Rattle.map_history.specs.Operation.{Ask, Seek}
+use Rattle.map_history.specs.Report.{Columns}
+use Rattle.map_history.specs.Told.{columns_told}
+use Rattle.search_info.specs.declared.knows.Knows.{Knows}
 use Rattle.index_law.specs.Shape.{Shape}
 use Rattle.forest_law.specs.declared.objects.Frame.{Frame}
 use Rattle.forest_world.specs.Held.{TreePass, shape_of_pass}
@@ -15,7 +19,12 @@ use Rattle.call_law.specs.Hands.{KnowsFrame}
 use Rattle.call_law.specs.Once.{IsQuiet}
 use Rattle.call_law.specs.Spoken.{View}
 use Rattle.call_law.specs.Trace.{Added, SparesTrees, frame_references}
-use Rattle.buffer_pool.specs.Pages.{HasNumber}
+use Rattle.buffer_pool.specs.Frames.{GivesFrame}
+use Rattle.buffer_pool.specs.Pages.{HasNumber, HasTreePage}
+use Rattle.tree_neighbours.specs.declared.pairs.LeafPair.{LeafPair}
+use Rattle.tree_neighbours.specs.Pairs.{DescendsPair}
+use Rattle.leaf_search.specs.Downs.{figures_at}
+use Rattle.leaf_search.specs.Lessons.{Teaches}
 use Rattle.index_engine.specs.declared.seek_call.Stand.{Stand}
 use Rattle.index_engine.specs.declared.seek_call.Stand.TheVariants.{On, Ends}
 use Rattle.index_engine.specs.Says.{SaysOnce, OnlyLooks}
@@ -43,6 +52,11 @@ StandsThen p q b i mode tuple (On walk) row = (walk.block ≡ b) × OnlyLooks (v
     × SawPast (view q) b i walk.point mode tuple
 StandsThen p q b i mode tuple (Ends told) row =
     SaysIf (view p) (view q) i (Seek mode tuple) told row
+
+-- what is told has these columns, if the seek ends with an answer
+abbrev pub TellsColumns : Columns → Stand → Type 0
+TellsColumns columns (On walk) = Unit {0}
+TellsColumns columns (Ends told) = IfSome told (λ t. columns_told t ≡ columns)
 
 -- this was added: the operation was answered once and that is told, or nothing was answered
 abbrev pub Answered : View → View → ℕ → Ask → Option Told → Pair → Added → Type 0
@@ -83,6 +97,43 @@ pub record TriesSeek (v v' : View) (i : ℕ) (mode : Mode) (tuple : FieldList) (
   pub answered : Answered v v' i (Seek mode tuple) told row added
   pub ends : EndsOnLeaves v.terms.shape i mode tuple added.references
   pub spares : SparesTrees v.terms.shape added
+
+-- the answer was told by leaves to which a way led, and no tree was taken
+pub record TellsByWay (v v' : View) (i : ℕ) (mode : Mode) (tuple : FieldList) (told : Told)
+    (row : Pair) : Type 0 where
+  pub tells : TellsOnce v v' i (Seek mode tuple) told row
+  pub ends : EndsOnLeaves v.terms.shape i mode tuple tells.once.added.references
+  pub spares : SparesTrees v.terms.shape tells.once.added
+
+-- a seek went on from the leaf in the block, as it was known, without an answer, and was answered
+-- by leaves to which a way led later
+pub record SeeksLater (shape : Shape) (v v' : View) (b i : ℕ) (mode : Mode) (tuple : FieldList)
+    (told : Told) (row : Pair) : Type 0 where
+  pub between : View
+  pub out : Pair
+  pub first : EndsFromLeaf shape v between b i mode tuple None out
+  pub again : TellsByWay between v' i mode tuple told row
+
+-- a seek was answered from the leaf in the block, or later
+abbrev pub SeeksFrom : Shape → View → View → (b i : ℕ) → Mode → FieldList → Told → Pair → Type 0
+SeeksFrom shape v v' b i mode tuple told row =
+    EndsFromLeaf shape v v' b i mode tuple (Some told) row
+    ⊎ SeeksLater shape v v' b i mode tuple told row
+
+-- a way led to the leaves, which are held, and was learnt from
+pub record FindsPair (p : TreePass) (l : Knows) (i : ℕ) (mode : Mode) (tuple : FieldList)
+    (pair : LeafPair) (told : Note) (q : TreePass) (m : Knows) : Type 0 where
+  pub between : TreePass
+  pub went : DescendsPair p i mode tuple pair between
+  pub taught : Teaches between l i pair.leaf.block (figures_at pair.leaf.spot) told q m
+
+-- a seek was answered by the leaf in the block, which was given back
+pub record AnswersHit (p : TreePass) (b i : ℕ) (mode : Mode) (tuple : FieldList) (told : Told)
+    (row : Pair) (q : TreePass) : Type 0 where
+  pub between : TreePass
+  pub says : SaysOnce (view p) (view between) i (Seek mode tuple) told row
+  pub gave : GivesFrame between b q
+  pub page : HasTreePage gave.frame i 0
 
 -- nothing was answered and no tree taken
 pub record TriesInVain (v v' : View) (i : ℕ) : Type 0 where

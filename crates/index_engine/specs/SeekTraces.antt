@@ -1,10 +1,12 @@
 -- What a seek leaves behind: the way that it went, and the leaves beside.
-use Rattle.std.specs.Prelude.{ℕ, ◌≡◌, List, ◌∷◌, ◌++◌}
+use Rattle.std.specs.Prelude.{ℕ, ◌≡◌, ◌≢◌, ◌⊎◌, List, [], ◌∷◌, ◌++◌}
 use Rattle.std.specs.List.{AllByRecursion}
 use Rattle.key_tuple.specs.Order.{FieldList}
 use Rattle.key_tuple.specs.declared.mode.Mode.{Mode}
 use Rattle.latch_law.specs.declared.knows.Reference.{Reference}
 use Rattle.latch_law.specs.Whole.{reference}
+use Rattle.map_history.specs.declared.columns.How.{How}
+use Rattle.map_history.specs.declared.columns.How.TheVariants as ways
 use Rattle.map_history.specs.declared.reply.Told.{Told}
 use Rattle.map_history.specs.Map.{Pair}
 use Rattle.map_history.specs.Operation.{Seek}
@@ -50,9 +52,20 @@ pub record EndsOnLeaves (shape : Shape) (i : ℕ) (mode : Mode) (tuple : FieldLi
   pub leads : LeadFromRoot shape (cut_in shape i mode tuple) i 0 number path
   pub begin : BeginOnLeaf shape i number leaves
 
--- the answer was told by leaves to which a way led, and no tree was taken
+-- of the references there is one of a frame, and that is of a leaf of the index
+pub record IsOfOneLeaf (shape : Shape) (i : ℕ) (qs : List (Reference Object)) : Type 0 where
+  pub leaf : Reference Object
+  pub is : frame_references qs ≡ leaf ∷ []
+  pub page : IsLeafReference shape i leaf
+
+-- the hash led to one leaf; or a way led to leaves
+abbrev pub LeavesFoundBy : Shape → ℕ → Mode → FieldList → How → List (Reference Object) → Type 0
+LeavesFoundBy shape i mode tuple how qs = ((how ≡ ways.Hit) × IsOfOneLeaf shape i qs)
+    ⊎ ((how ≢ ways.Hit) × EndsOnLeaves shape i mode tuple qs)
+
+-- the answer was told by leaves that were found as the columns say, and no tree was taken
 pub record TellsOfSeek (v v' : View) (i : ℕ) (mode : Mode) (tuple : FieldList) (told : Told)
     (row : Pair) : Type 0 where
   pub tells : TellsOnce v v' i (Seek mode tuple) told row
-  pub ends : EndsOnLeaves v.terms.shape i mode tuple tells.once.added.references
+  pub ends : LeavesFoundBy v.terms.shape i mode tuple told.how tells.once.added.references
   pub spares : SparesTrees v.terms.shape tells.once.added

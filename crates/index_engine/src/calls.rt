@@ -1,19 +1,24 @@
 //! The operations.
 ghost use Rattle.std.specs.Prelude.{◌≡◌, ◌≢◌, ◌<◌, None, IfOk, OnErr};
+ghost use Rattle.key_tuple.specs.declared.mode.Mode.TheVariants as mode;
 ghost use Rattle.map_history.specs.Map as map;
 ghost use Rattle.map_history.specs.Operation as asked;
+ghost use Rattle.map_history.specs.Told.{columns_told};
 ghost use Rattle.index_law.specs.Meanings.{lent_row};
-ghost use Rattle.index_engine.specs.Engines.{known, IsOf, IsSame, indexes_of, FitsKey};
+ghost use Rattle.leaf_search.specs.Tries.{TriesAfter};
+ghost use Rattle.index_engine.specs.Engines.{known, learnt, IsOf, IsSame, indexes_of, FitsKey};
 ghost use Rattle.index_engine.specs.Engines.{FitsTuple};
+ghost use Rattle.index_engine.specs.Searched.{SearchedFor, SoughtFor};
 ghost use Rattle.index_engine.specs.SeekTraces.{TellsOfSeek};
 ghost use Rattle.index_engine.specs.Traces.{TellsByLeaf, TellsOfDel, TellsOfWrite, GivesUp};
+ghost use Rattle.index_engine.specs.Writes.{mode_of_write, write_asked};
 
 use crate::engine::{Engine, EnginePass};
-use crate::seek_call::SeekCall;
-use crate::tree_call::TreeCall;
 use crate::write::Write;
+use hash_guess::{Guess, guess};
 use key_tuple::{Key, Mode, NoMemory, Tuple, Value};
-use map_history::{Reply, RowBuf, Told};
+use leaf_search::{how_of, note_of_hit};
+use map_history::{How, Reply, RowBuf, Told};
 use std::sync::Wait;
 
 impl Engine {
@@ -32,9 +37,15 @@ impl Engine {
         ensures own { IsSame pass.old pass.new × IsOf self.now pass.new }
         ensures told { TellsByLeaf (known pass.old) (known pass.new) index key.now.tuple
             (asked.Get key.now.tuple) result out.new }
+        ensures tried { TriesAfter (learnt pass.old) index result.how (learnt pass.new) }
+        ensures searched { SearchedFor pass.old index mode.Ge key.now.tuple (columns_told result)
+            pass.new }
         ensures kept { result.reply ≢ Reply.Found → out.new ≡ out.old }
     {
-        self.call(index, key, wait).get(&mut pass.world, out)
+        let (world, learn) = (&mut pass.world, &mut pass.learn);
+        let searched = self.find(world, learn, index, key, Mode::Ge, wait);
+        self.call(index, key, &searched, wait)
+            .get(&mut pass.world, &searched.leaf, out)
     }
 
     /// The row that the mode asks for: `Found`, with the row in `out`, or `Absent`. One that isn't
@@ -54,15 +65,28 @@ impl Engine {
         ensures own { IsSame pass.old pass.new × IsOf self.now pass.new }
         ensures told { TellsOfSeek (known pass.old) (known pass.new) index mode tuple.now result
             out.new }
+        ensures tried { TriesAfter (learnt pass.old) index result.how (learnt pass.new) }
+        ensures searched { SoughtFor pass.old index mode tuple.now (columns_told result) pass.new }
     {
-        let call = SeekCall {
-            space: &self.space,
-            index,
-            mode,
-            tuple,
-            wait,
-        };
-        call.seek(&mut pass.world, out)
+        let (world, learn) = (&mut pass.world, &mut pass.learn);
+        match guess(&self.space, world, &self.learner, learn, index, tuple, mode) {
+            Guess::Hit {
+                block,
+                place,
+                learn,
+                ..
+            } => {
+                let note = note_of_hit(&learn);
+                self.seek_call(index, mode, tuple, How::Hit, note, wait)
+                    .end_on_hit(&mut pass.world, block, place, out)
+            }
+            Guess::Miss { cause, .. } => {
+                let (world, learn) = (&mut pass.world, &mut pass.learn);
+                let (pair, note) = self.find_pair(world, learn, index, mode, tuple, wait);
+                self.seek_call(index, mode, tuple, how_of(&cause), note, wait)
+                    .seek(&mut pass.world, &pair, out)
+            }
+        }
     }
 
     /// A new row: `Ok`, `Duplicate` where the key is there, `LogFull` where the index has had all
@@ -84,12 +108,14 @@ impl Engine {
         ensures ok { IfOk result (λ told. TellsOfWrite (known pass.old) (known pass.new) index
             key.now.tuple value.now (asked.Make (map.Put key.now.tuple value.now)) told
             (lent_row None)) }
-        ensures err { OnErr result (GivesUp (known pass.old) (known pass.new) index key.now.tuple
-            value.now) }
+        ensures tried { IfOk result (λ told. TriesAfter (learnt pass.old) index told.how
+            (learnt pass.new)) }
+        ensures searched { IfOk result (λ told. SearchedFor pass.old index mode.Le key.now.tuple
+            (columns_told told) pass.new) }
+        ensures err { OnErr result (GivesUp (known pass.old) (known pass.new) (learnt pass.old)
+            (learnt pass.new) index key.now.tuple value.now) }
     {
-        let most = u64::from(pass.sizes.max_changes);
-        self.call(index, key, wait)
-            .write(&mut pass.world, most, Write::Put, value)
+        self.write(pass, index, key, Write::Put, value, wait)
     }
 
     /// Another value for a row: `Ok`, `Absent` where the key isn't there, `LogFull`, or `SpaceFull`
@@ -111,12 +137,14 @@ impl Engine {
         ensures ok { IfOk result (λ told. TellsOfWrite (known pass.old) (known pass.new) index
             key.now.tuple value.now (asked.Make (map.Set key.now.tuple value.now)) told
             (lent_row None)) }
-        ensures err { OnErr result (GivesUp (known pass.old) (known pass.new) index key.now.tuple
-            value.now) }
+        ensures tried { IfOk result (λ told. TriesAfter (learnt pass.old) index told.how
+            (learnt pass.new)) }
+        ensures searched { IfOk result (λ told. SearchedFor pass.old index mode.Ge key.now.tuple
+            (columns_told told) pass.new) }
+        ensures err { OnErr result (GivesUp (known pass.old) (known pass.new) (learnt pass.old)
+            (learnt pass.new) index key.now.tuple value.now) }
     {
-        let most = u64::from(pass.sizes.max_changes);
-        self.call(index, key, wait)
-            .write(&mut pass.world, most, Write::Set, value)
+        self.write(pass, index, key, Write::Set, value, wait)
     }
 
     /// A row taken out: `Ok`, `Absent` where the key isn't there, or `LogFull`.
@@ -126,23 +154,44 @@ impl Engine {
         requires key { FitsKey self.now index key.now.tuple }
         ensures own { IsSame pass.old pass.new × IsOf self.now pass.new }
         ensures told { TellsOfDel (known pass.old) (known pass.new) index key.now.tuple result }
+        ensures tried { TriesAfter (learnt pass.old) index result.how (learnt pass.new) }
+        ensures searched { SearchedFor pass.old index mode.Ge key.now.tuple (columns_told result)
+            pass.new }
     {
-        self.call(index, key, wait).del(&mut pass.world)
+        let (world, learn) = (&mut pass.world, &mut pass.learn);
+        let searched = self.find(world, learn, index, key, Mode::Ge, wait);
+        self.call(index, key, &searched, wait)
+            .del(&mut pass.world, &searched.leaf)
     }
 
-    /// A call about a key of an index.
-    fn call<'a, R>(&'a self, index: u32, key: &'a Key, wait: &'a R) -> TreeCall<'a, R>
+    /// A put or a set.
+    fn write<R: Wait>(
+        &self,
+        pass: &mut EnginePass,
+        index: u32,
+        key: &Key,
+        write: Write,
+        value: &Value,
+        wait: &R,
+    ) -> Result<Told, NoMemory>
+        requires own { IsOf self.now pass.old }
         requires index { index < indexes_of self.now }
         requires key { FitsKey self.now index key.now.tuple }
-        ensures space { result.space.now ≡ self.now.space }
-        ensures about { (result.index ≡ index) × (result.key.now ≡ key.now) }
+        ensures own { IsSame pass.old pass.new × IsOf self.now pass.new }
+        ensures ok { IfOk result (λ told. TellsOfWrite (known pass.old) (known pass.new) index
+            key.now.tuple value.now (write_asked write key.now.tuple value.now) told
+            (lent_row None)) }
+        ensures tried { IfOk result (λ told. TriesAfter (learnt pass.old) index told.how
+            (learnt pass.new)) }
+        ensures searched { IfOk result (λ told. SearchedFor pass.old index (mode_of_write write) key.now.tuple
+            (columns_told told) pass.new) }
+        ensures err { OnErr result (GivesUp (known pass.old) (known pass.new) (learnt pass.old)
+            (learnt pass.new) index key.now.tuple value.now) }
     {
-        TreeCall {
-            space: &self.space,
-            alloc: self.alloc,
-            index,
-            key,
-            wait,
-        }
+        let most = u64::from(pass.sizes.max_changes);
+        let (world, learn) = (&mut pass.world, &mut pass.learn);
+        let searched = self.find(world, learn, index, key, write.mode(), wait);
+        self.call(index, key, &searched, wait)
+            .write(&mut pass.world, &searched.leaf, most, write, value)
     }
 }

@@ -2,18 +2,18 @@
 ghost use Rattle.std.specs.Prelude.{◌≡◌, ℕ, None};
 ghost use Rattle.latch_space.specs.Passes.{IsSamePass};
 ghost use Rattle.latch_space.specs.Spaces.{IsPassOf};
-ghost use Rattle.map_history.specs.Report.{dashes};
 ghost use Rattle.index_law.specs.Meanings.{change_lent, change_by};
 ghost use Rattle.forest_law.specs.declared.objects.Frame.{Frame};
 ghost use Rattle.forest_law.specs.Opening.{new_frame};
 ghost use Rattle.index_engine.specs.Commits.{CanCommit, Commits, CanWriteAhead, WritesAhead};
+ghost use Rattle.index_engine.specs.Says.{columns_by};
 
+use crate::found::Found;
 use crate::tree_call::TreeCall;
 use forest_law::blocks_ask_the_same;
 use forest_world::ForestPass;
 use index_law::{ChangeRef, Deed};
 use latch_space::LogFull;
-use map_history::{How, Note};
 use std::marker::Brand;
 use std::sync::Wait;
 
@@ -42,11 +42,11 @@ impl<R: Wait> TreeCall<'_, R> {
             (change_lent change) }
         ensures own { IsSamePass pass.old pass.new × IsPassOf self.now.space.now pass.new }
         ensures did { Commits pass.old self.now.index (change_lent change.entry)
-            result pass.new }
+            (columns_by self.now.found) result pass.new }
     {
         blocks_ask_the_same();
         self.space
-            .commit(pass, self.index, &deed(change), self.wait)
+            .commit(pass, self.index, &deed(change, self.found), self.wait)
     }
 
     /// Commits the change before it is made: the leaf becomes known as `X.leaf`, which it isn't
@@ -61,22 +61,23 @@ impl<R: Wait> TreeCall<'_, R> {
             (change_lent change) X.leaf }
         ensures own { IsSamePass pass.old pass.new × IsPassOf self.now.space.now pass.new }
         ensures did { WritesAhead pass.old X.block self.now.index (change_lent change.entry)
-            X.leaf result pass.new }
+            (columns_by self.now.found) X.leaf result pass.new }
     {
         blocks_ask_the_same();
+        let deed = deed(change, self.found);
         self.space
-            .commit_ahead::<Brand, Deed<'_>, R>(pass, self.index, &deed(change), self.wait)
+            .commit_ahead::<Brand, Deed<'_>, R>(pass, self.index, &deed, self.wait)
     }
 }
 
-/// The change, with no columns yet.
-fn deed(change: ChangeRef<'_>) -> Deed<'_>
+/// The change, with the columns that are told of it.
+fn deed(change: ChangeRef<'_>, found: Found) -> Deed<'_>
     ensures { change_by result
-        ≡ record { change = change_lent change.entry; columns = dashes } }
+        ≡ record { change = change_lent change.entry; columns = columns_by found } }
 {
     Deed {
         change,
-        how: How::Dash,
-        note: Note::Dash,
+        how: found.how,
+        note: found.note,
     }
 }

@@ -4,11 +4,14 @@ ghost use Rattle.latch_space.specs.Passes.{view, count, IsSamePass};
 ghost use Rattle.latch_space.specs.Spaces.{IsPassOf};
 ghost use Rattle.map_history.specs.Map as map;
 ghost use Rattle.map_history.specs.Operation.{Make};
+ghost use Rattle.map_history.specs.Told.{columns_told};
 ghost use Rattle.index_law.specs.Meanings.{lent_row};
 ghost use Rattle.index_engine.specs.Changes.{HoldsOldRow};
 ghost use Rattle.index_engine.specs.Hashed.{HoldsHashed};
-ghost use Rattle.index_engine.specs.Says.{CanSay, SaysOnce, AnswersHolding};
-ghost use Rattle.index_engine.specs.Traces.{SeesEach, HasLightPage, TellsOfDel};
+ghost use Rattle.index_engine.specs.Holds.{HoldsFreshAlone};
+ghost use Rattle.index_engine.specs.Leaving.{AnswersDel};
+ghost use Rattle.index_engine.specs.Says.{columns_by, CanSay, SaysOnce, AnswersHolding};
+ghost use Rattle.index_engine.specs.Traces.{SeesEach, HasLightPage};
 ghost use Rattle.latch_space.specs.Has.{SameHands};
 ghost use Rattle.forest_law.specs.declared.objects.Frame.{Frame};
 ghost use Rattle.tree_growth.specs.Growing.{GrowsSilently};
@@ -28,19 +31,22 @@ use tree_descent::Leaf;
 use tree_shrinking::{LIGHT_LOAD, shrink};
 
 impl<R: Wait> TreeCall<'_, R> {
-    /// Takes the row of the key out, if the index has it and its list has room.
-    pub(crate) fn del(&self, pass: &mut ForestPass) -> Told
+    /// Takes the row of the key out of its leaf in hand, if the index has it and its list has room,
+    /// and gives the leaf back.
+    pub(crate) fn del(&self, pass: &mut ForestPass, leaf: &Leaf) -> Told
         requires own { IsPassOf self.now.space.now pass.old }
-        requires nothing { count pass.old ≡ 0 }
+        requires alone { HoldsFreshAlone pass.old leaf.now.block self.now.index
+            self.now.key.now.tuple leaf.now.spot }
         ensures own { IsSamePass pass.old pass.new × IsPassOf self.now.space.now pass.new }
         ensures nothing { count pass.new ≡ 0 }
-        ensures told { TellsOfDel (view pass.old) (view pass.new) self.now.index
-            self.now.key.now.tuple result }
+        ensures told { AnswersDel pass.old leaf.now.block self.now.index self.now.key.now.tuple
+            result pass.new }
+        ensures columns { columns_told result ≡ columns_by self.now.found }
     {
-        let held = self.hold_to_change(pass);
-        let told = self.del_held(pass, &held.leaf);
-        let is_light = is_light(self.frame(pass, held.leaf.block));
-        self.let_both_go(pass, held.leaf.block, held.part);
+        let part = self.hold_to_change(pass, leaf);
+        let told = self.del_held(pass, leaf);
+        let is_light = is_light(self.frame(pass, leaf.block));
+        self.let_both_go(pass, leaf.block, part);
         if is_light && took_out(&told) {
             self.merge(pass);
         }
@@ -71,6 +77,7 @@ impl<R: Wait> TreeCall<'_, R> {
         ensures own { IsSamePass pass.old pass.new × IsPassOf self.now.space.now pass.new }
         ensures did { AnswersHolding pass.old pass.new leaf.now.block self.now.index
             (Make (map.Del self.now.key.now.tuple)) result (lent_row None) }
+        ensures columns { columns_told result ≡ columns_by self.now.found }
     {
         match find_row(self.frame(pass, leaf.block), &leaf.spot, self.key) {
             Some(place) => {
@@ -91,11 +98,12 @@ impl<R: Wait> TreeCall<'_, R> {
         ensures own { IsSamePass pass.old pass.new × IsPassOf self.now.space.now pass.new }
         ensures did { AnswersHolding pass.old pass.new block self.now.index
             (Make (map.Del self.now.key.now.tuple)) result (lent_row None) }
+        ensures columns { columns_told result ≡ columns_by self.now.found }
     {
         match self.write_ahead::<X>(pass, ChangeRef::Del { key: self.key }) {
             Ok(point) => {
                 self.delete(pass, block, place);
-                made(point)
+                made(self.found, point)
             }
             Err(LogFull(count)) => {
                 self.row_came(pass, block, place);
@@ -116,6 +124,7 @@ impl<R> TreeCall<'_, R> {
         ensures did { SaysOnce (view pass.old) (view pass.new) self.now.index
             (Make (map.Del self.now.key.now.tuple)) result (lent_row None) }
         ensures kept { SameHands pass.old pass.new }
+        ensures columns { columns_told result ≡ columns_by self.now.found }
     {
         let op = OpRef::Del {
             index: self.index,

@@ -5,7 +5,8 @@ ghost use Rattle.latch_law.specs.Views.{left_part, right_part, both_parts};
 ghost use Rattle.forest_law.specs.Law.{IsLawful};
 ghost use Rattle.index_law.specs.Rightness.{IsRight};
 ghost use Rattle.forest_law.specs.References.{IsReference};
-ghost use Rattle.index_engine.specs.Engines.{known, IsOf, IsSame};
+ghost use Rattle.search_info.specs.Parts.{lower_part, upper_part, joined_parts};
+ghost use Rattle.index_engine.specs.Engines.{known, learnt, IsOf, IsSame};
 
 use crate::engine::{Engine, EnginePass};
 use key_tuple::NoMemory;
@@ -22,14 +23,21 @@ impl Engine {
         ensures kept { IfOk result (λ _. known pass.new ≡ left_part (known pass.old)) }
         ensures given { IfOk result (λ other. IsOf self.now other × (other.sizes ≡ pass.old.sizes)
             × (known other ≡ right_part (known pass.old))) }
-        ensures err { OnErr result (known pass.new ≡ known pass.old) }
+        ensures taught { IfOk result (λ other. (learnt pass.new ≡ lower_part (learnt pass.old))
+            × (learnt other ≡ upper_part (learnt pass.old))) }
+        ensures err { OnErr result ((known pass.new ≡ known pass.old)
+            × (learnt pass.new ≡ learnt pass.old)) }
     {
         let world = self
             .space
             .split(alloc, &mut pass.world)
             .map_err(|_| NoMemory)?;
+        let Ok(learn) = self.learner.split(&mut pass.learn) else {
+            unreachable!()
+        };
         Ok(EnginePass {
             world,
+            learn,
             sizes: pass.sizes,
         })
     }
@@ -41,9 +49,15 @@ impl Engine {
         requires next { (known pass.old).end ≡ (known other).low }
         ensures own { IsSame pass.old pass.new × IsOf self.now pass.new }
         ensures joined { known pass.new ≡ both_parts (known pass.old) (known other) }
+        ensures taught { learnt pass.new ≡ joined_parts (learnt pass.old) (learnt other) }
     {
-        let EnginePass { world, sizes: _ } = other;
+        let EnginePass {
+            world,
+            learn,
+            sizes: _,
+        } = other;
         self.space.join(&mut pass.world, world);
+        self.learner.join(&mut pass.learn, learn);
     }
 }
 

@@ -1,14 +1,16 @@
 //! The value of a key.
 ghost use Rattle.std.specs.Prelude.{◌≡◌, ◌≢◌, Some};
-ghost use Rattle.latch_space.specs.Passes.{view, count, IsSamePass};
+ghost use Rattle.latch_space.specs.Passes.{count, IsSamePass};
 ghost use Rattle.latch_space.specs.Spaces.{IsPassOf};
 ghost use Rattle.map_history.specs.Operation as asked;
-ghost use Rattle.map_history.specs.Told.{Says};
+ghost use Rattle.map_history.specs.Told.{Says, columns_told};
 ghost use Rattle.index_page.specs.Page.{PageRows};
 ghost use Rattle.tree_law.specs.Pages.{row_pairs};
 ghost use Rattle.index_engine.specs.Changes.{HasSpotIn};
 ghost use Rattle.index_engine.specs.Tells.{HasKeyOf};
-ghost use Rattle.index_engine.specs.Traces.{TellsByLeaf};
+ghost use Rattle.index_engine.specs.Holds.{HoldsFreshAlone};
+ghost use Rattle.index_engine.specs.Leaving.{AnswersAndLeaves};
+ghost use Rattle.index_engine.specs.Says.{columns_by};
 ghost use Rattle.leaf_rows.specs.Finding.{HasSpot};
 
 use crate::tree_call::TreeCall;
@@ -17,24 +19,25 @@ use index_page::{Page, Spot};
 use key_tuple::Key;
 use leaf_rows::find_key;
 use map_history::{OpRef, Reply, RowBuf, Told};
-use std::sync::Wait;
+use tree_descent::Leaf;
 
-impl<R: Wait> TreeCall<'_, R> {
-    /// Looks the key up while its leaf is held.
-    pub(crate) fn get(&self, pass: &mut ForestPass, out: &mut RowBuf) -> Told
+impl<R> TreeCall<'_, R> {
+    /// Looks the key up on its leaf in hand, and gives that back.
+    pub(crate) fn get(&self, pass: &mut ForestPass, leaf: &Leaf, out: &mut RowBuf) -> Told
         requires own { IsPassOf self.now.space.now pass.old }
-        requires nothing { count pass.old ≡ 0 }
+        requires alone { HoldsFreshAlone pass.old leaf.now.block self.now.index
+            self.now.key.now.tuple leaf.now.spot }
         ensures own { IsSamePass pass.old pass.new × IsPassOf self.now.space.now pass.new }
         ensures nothing { count pass.new ≡ 0 }
-        ensures told { TellsByLeaf (view pass.old) (view pass.new) self.now.index
-            self.now.key.now.tuple (asked.Get self.now.key.now.tuple) result out.new }
+        ensures told { AnswersAndLeaves pass.old leaf.now.block self.now.index
+            (asked.Get self.now.key.now.tuple) result out.new pass.new }
+        ensures columns { columns_told result ≡ columns_by self.now.found }
         ensures kept { result.reply ≢ Reply.Found → out.new ≡ out.old }
     {
         let op = OpRef::Get {
             index: self.index,
             key: self.key,
         };
-        let leaf = self.hold(pass);
         let reply = look_up(self.frame(pass, leaf.block), &leaf.spot, self.key, out);
         let told = self.say(pass, op, reply, Some(out));
         self.let_go(pass, leaf.block);

@@ -1,12 +1,13 @@
 //! Room for a row, or the answer that there is no page for it.
-ghost use Rattle.std.specs.Prelude.{◌≡◌, IfOk, OnErr};
+ghost use Rattle.std.specs.Prelude.{◌≡◌, IfOk, IfSome, OnErr};
 ghost use Rattle.latch_space.specs.Has.{SameHands};
 ghost use Rattle.latch_space.specs.Passes.{view, count, IsSamePass};
 ghost use Rattle.latch_space.specs.Spaces.{IsPassOf};
 ghost use Rattle.map_history.specs.Operation.{operation_by};
+ghost use Rattle.map_history.specs.Told.{columns_told};
 ghost use Rattle.call_law.specs.Once.{IsQuiet};
 ghost use Rattle.index_engine.specs.Writes.{write_asked, KnowsShort, SaysNoRoom, TellsGrowth};
-ghost use Rattle.index_engine.specs.Says.{told_space_full};
+ghost use Rattle.index_engine.specs.Says.{columns_by, told_space_full};
 
 use crate::tree_call::TreeCall;
 use crate::write::Write;
@@ -15,7 +16,7 @@ use forest_world::ForestPass;
 use index_law::Say;
 use index_page::{Body, charge};
 use key_tuple::{NoMemory, Value};
-use map_history::{How, Note, OpRef, Reply, Told};
+use map_history::{OpRef, Reply, Told};
 use std::sync::Wait;
 use tree_growth::make_room;
 
@@ -34,6 +35,8 @@ impl<R: Wait> TreeCall<'_, R> {
         ensures nothing { count pass.new ≡ 0 }
         ensures ok { IfOk result (λ told. TellsGrowth (view pass.old) (view pass.new) self.now.index
             (write_asked write self.now.key.now.tuple value.now) told) }
+        ensures columns { IfOk result (λ told. IfSome told
+            (λ t. columns_told t ≡ columns_by self.now.found)) }
         ensures err { OnErr result (IsQuiet (view pass.old) (view pass.new) self.now.index) }
     {
         self.key.tuple().is_within_limits();
@@ -58,16 +61,16 @@ impl<R> TreeCall<'_, R> {
         requires short { KnowsShort (view pass.old) }
         ensures own { IsSamePass pass.old pass.new × IsPassOf self.now.space.now pass.new }
         ensures did { SaysNoRoom (view pass.old) (view pass.new) self.now.index
-            (write_asked write self.now.key.now.tuple value.now) }
+            (write_asked write self.now.key.now.tuple value.now) (columns_by self.now.found) }
         ensures kept { SameHands pass.old pass.new }
-        ensures told { result ≡ told_space_full }
+        ensures told { result ≡ told_space_full self.now.found }
     {
         let op = self.write_op(write, value);
         let told = Told {
             reply: Reply::SpaceFull,
             point: None,
-            how: How::Dash,
-            note: Note::Dash,
+            how: self.found.how,
+            note: self.found.note,
         };
         let said = Say::Reply {
             op,

@@ -1,14 +1,14 @@
 //! The leaf of a key is held, looked at and given back.
 ghost use Rattle.std.specs.Prelude.{◌≡◌};
-ghost use Rattle.key_tuple.specs.declared.mode.Mode.TheVariants as mode;
 ghost use Rattle.latch_space.specs.Passes.{count, IsSamePass};
 ghost use Rattle.latch_space.specs.Spaces.{IsPassOf};
 ghost use Rattle.forest_law.specs.declared.objects.Frame.{Frame};
-ghost use Rattle.forest_world.specs.Held.{HasFrame};
+ghost use Rattle.forest_world.specs.Held.{shape_of_pass, HasFrame};
 ghost use Rattle.buffer_pool.specs.Frames.{GivesFrame};
 ghost use Rattle.buffer_pool.specs.Hands.{HoldsFrame};
-ghost use Rattle.tree_descent.specs.Descents.{Descends};
 ghost use Rattle.index_engine.specs.Holds.{HoldsFreshAlone, HoldsKnown};
+ghost use Rattle.index_engine.specs.Leaving.{ComesToLeaf};
+ghost use Rattle.index_engine.specs.Traces.{AreWayTo};
 
 use crate::tree_call::TreeCall;
 use buffer_pool::{frame, give_back};
@@ -17,21 +17,15 @@ use key_tuple::Mode;
 use std::sync::Wait;
 use tree_descent::{Leaf, descend};
 
-/// A leaf in hand, and the partition that is held besides, if there is one.
-#[derive(Clone, Copy)]
-pub(crate) struct Held {
-    pub(crate) leaf: Leaf,
-    pub(crate) part: Option<u32>,
-}
-
 impl<R: Wait> TreeCall<'_, R> {
     /// Goes down from the root, and holds the leaf.
     pub(crate) fn hold(&self, pass: &mut ForestPass) -> Leaf
         requires own { IsPassOf self.now.space.now pass.old }
         requires nothing { count pass.old ≡ 0 }
         ensures own { IsSamePass pass.old pass.new × IsPassOf self.now.space.now pass.new }
-        ensures went { Descends pass.old self.now.index mode.Ge self.now.key.now.tuple
-            result pass.new }
+        ensures went { ComesToLeaf (AreWayTo (shape_of_pass pass.old) self.now.index
+            self.now.key.now.tuple) pass.old self.now.index self.now.key.now.tuple result
+            pass.new }
         ensures held { HoldsFreshAlone pass.new result.block self.now.index self.now.key.now.tuple
             result.spot }
     {

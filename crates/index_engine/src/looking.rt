@@ -1,10 +1,11 @@
 //! What a seek reads of a leaf in hand, and what it says of it.
-ghost use Rattle.std.specs.Prelude.{◌≡◌, false, None, Some, if◌then◌else◌};
+ghost use Rattle.std.specs.Prelude.{◌≡◌, false, None, Some, IsSome, IfSome, if◌then◌else◌};
 ghost use Rattle.key_tuple.specs.KeyPlace.{KeyPlace};
 ghost use Rattle.latch_space.specs.Has.{IsKnown, SameHands};
 ghost use Rattle.latch_space.specs.Passes.{view, IsSamePass};
 ghost use Rattle.latch_space.specs.Spaces.{IsPassOf};
 ghost use Rattle.map_history.specs.Operation.{Seek};
+ghost use Rattle.map_history.specs.Told.{columns_told};
 ghost use Rattle.index_page.specs.Page.{PageRows};
 ghost use Rattle.index_page.specs.Search.{Finds};
 ghost use Rattle.index_law.specs.Answers as answers;
@@ -12,10 +13,10 @@ ghost use Rattle.buffer_pool.specs.Hands.{MayGiveBack};
 ghost use Rattle.buffer_pool.specs.Frames.{GivesFrame};
 ghost use Rattle.tree_descent.specs.Ways.{HoldsPage};
 ghost use Rattle.tree_neighbours.specs.Sides.{side_of, row_on};
-ghost use Rattle.index_engine.specs.Says.{OnlyLooks};
+ghost use Rattle.index_engine.specs.Says.{columns_by, OnlyLooks};
 ghost use Rattle.index_engine.specs.Seeks.{TellsRow, CanTell};
 ghost use Rattle.index_engine.specs.SeekHands.{StandsOn};
-ghost use Rattle.index_engine.specs.SeekSteps.{SaysIf, CountsPast, StandsThen};
+ghost use Rattle.index_engine.specs.SeekSteps.{SaysIf, CountsPast, StandsThen, TellsColumns};
 
 use crate::seek_call::{SeekCall, Stand, Walk};
 use buffer_pool::{frame, give_back};
@@ -23,7 +24,7 @@ use forest_world::{ForestPass, Frame};
 use index_law::Say;
 use index_page::{Page, Place, Spot};
 use key_tuple::{Mode, Tuple};
-use map_history::{How, Note, OpRef, Reply, RowBuf, Told};
+use map_history::{OpRef, Reply, RowBuf, Told};
 use tree_neighbours::{Side, side_of};
 
 impl<R> SeekCall<'_, R> {
@@ -43,6 +44,7 @@ impl<R> SeekCall<'_, R> {
         ensures kept { SameHands pass.old pass.new }
         ensures then { StandsThen pass.old pass.new block self.now.index self.now.mode
             self.now.tuple.now result out.new }
+        ensures columns { TellsColumns (columns_by self.now.found) result }
     {
         if self.take_row_of(pass, block, out) {
             return Stand::Ends(self.tell(pass, Reply::Found, out, bound));
@@ -86,9 +88,12 @@ impl<R> SeekCall<'_, R> {
         ensures kept { SameHands pass.old pass.new }
         ensures did { SaysIf (view pass.old) (view pass.new) self.now.index
             (Seek self.now.mode self.now.tuple.now) result row.now }
+        ensures speaks { bound ≡ None → IsSome result }
+        ensures columns { IfSome result (λ told. columns_told told
+            ≡ columns_by self.now.found) }
     {
-        let how = How::Dash;
-        let note = Note::Dash;
+        let how = self.found.how;
+        let note = self.found.note;
         let op = OpRef::Seek {
             index: self.index,
             mode: self.mode,

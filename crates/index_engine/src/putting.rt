@@ -4,12 +4,13 @@ ghost use Rattle.latch_space.specs.Passes.{IsSamePass};
 ghost use Rattle.latch_space.specs.Spaces.{IsPassOf};
 ghost use Rattle.map_history.specs.Map as map;
 ghost use Rattle.map_history.specs.Operation.{Make};
+ghost use Rattle.map_history.specs.Told.{columns_told};
 ghost use Rattle.index_law.specs.Meanings.{lent_row};
 ghost use Rattle.latch_space.specs.Has.{IsKnown};
 ghost use Rattle.index_engine.specs.Changes.{HoldsNewRow, HoldsNewRowAt, HoldsRefusing, HoldsToPut};
 ghost use Rattle.index_engine.specs.Changes.{IsTakenOut, KnowsAsMuch, RefusesHolding};
 ghost use Rattle.index_engine.specs.Hashed.{HoldsHashed};
-ghost use Rattle.index_engine.specs.Says.{AnswersHolding};
+ghost use Rattle.index_engine.specs.Says.{columns_by, AnswersHolding};
 
 use crate::changing::find_row;
 use crate::saying::made;
@@ -39,6 +40,7 @@ impl<R: Wait> TreeCall<'_, R> {
         ensures own { IsSamePass pass.old pass.new × IsPassOf self.now.space.now pass.new }
         ensures ok { IfOk result (λ told. AnswersHolding pass.old pass.new leaf.now.block
             self.now.index (Make (map.Put self.now.key.now.tuple value.now)) told (lent_row None)) }
+        ensures columns { IfOk result (λ told. columns_told told ≡ columns_by self.now.found) }
         ensures err { IfErr result (λ e. RefusesHolding pass.old pass.new leaf.now.block
             self.now.index self.now.key.now.tuple value.now e) }
     {
@@ -90,10 +92,11 @@ impl<R: Wait> TreeCall<'_, R> {
         ensures own { IsSamePass pass.old pass.new × IsPassOf self.now.space.now pass.new }
         ensures did { AnswersHolding pass.old pass.new block self.now.index
             (Make (map.Put self.now.key.now.tuple value.now)) result (lent_row None) }
+        ensures columns { columns_told result ≡ columns_by self.now.found }
     {
         let key = self.key;
         match self.commit(pass, ChangeRef::Put { key, value }) {
-            Ok(point) => made(point),
+            Ok(point) => made(self.found, point),
             Err(LogFull(count)) => {
                 self.take_out(pass, block, place);
                 let index = self.index;

@@ -5,12 +5,15 @@ ghost use Rattle.latch_space.specs.Passes.{view, IsSamePass};
 ghost use Rattle.latch_space.specs.Spaces.{IsPassOf};
 ghost use Rattle.map_history.specs.Operation.{operation_by};
 ghost use Rattle.index_law.specs.Meanings.{lent_row};
-ghost use Rattle.index_engine.specs.Says.{CanSay, SaysOnce, SeesFull, OnlyLooks, told_made};
+ghost use Rattle.map_history.specs.Told.{columns_told};
+ghost use Rattle.index_engine.specs.Says.{CanSay, SaysOnce, SeesFull, OnlyLooks};
+ghost use Rattle.index_engine.specs.Says.{columns_by, told_made};
 
+use crate::found::Found;
 use crate::tree_call::TreeCall;
 use forest_world::ForestPass;
 use index_law::Say;
-use map_history::{How, Note, OpRef, Reply, RowBuf, Told};
+use map_history::{OpRef, Reply, RowBuf, Told};
 
 impl<R> TreeCall<'_, R> {
     /// Answers the operation at the end of the list, without a change.
@@ -29,9 +32,10 @@ impl<R> TreeCall<'_, R> {
             (operation_by op.entry).ask result (lent_row row.entry) }
         ensures kept { SameHands pass.old pass.new }
         ensures reply { result.reply ≡ reply }
+        ensures columns { columns_told result ≡ columns_by self.now.found }
     {
-        let how = How::Dash;
-        let note = Note::Dash;
+        let how = self.found.how;
+        let note = self.found.note;
         let point = self.space.read_point(
             pass,
             self.index,
@@ -66,13 +70,13 @@ impl<R> TreeCall<'_, R> {
 }
 
 /// What is told of a change that was made at the point.
-pub(crate) fn made(point: u64) -> Told
-    ensures { result ≡ told_made point }
+pub(crate) fn made(found: Found, point: u64) -> Told
+    ensures { result ≡ told_made found point }
 {
     Told {
         reply: Reply::Ok,
         point: Some(point),
-        how: How::Dash,
-        note: Note::Dash,
+        how: found.how,
+        note: found.note,
     }
 }

@@ -3,17 +3,20 @@ ghost use Rattle.std.specs.Prelude.{◌<◌, ◌≤◌, length};
 ghost use Rattle.forest_law.specs.State.{fields_for};
 ghost use Rattle.buffer_pool.specs.Forests.{IsForest};
 
+use crate::found::Found;
 use forest_world::ForestSpace;
 use key_tuple::{Mode, Tuple};
 use map_history::Told;
 
-/// A call about the row of an index that the mode asks for. Its methods get the pass each time.
+/// A call about the row of an index that the mode asks for, once its first leaf was found so. Its
+/// methods get the pass each time.
 #[derive(Drop)]
 pub(crate) struct SeekCall<'a, R> {
     pub(crate) space: &'a ForestSpace,
     pub(crate) index: u32,
     pub(crate) mode: Mode,
     pub(crate) tuple: &'a Tuple,
+    pub(crate) found: Found,
     pub(crate) wait: &'a R,
     ghost forest: { IsForest space.now },
     ghost there: { index < space.now.terms.shape.indexes },

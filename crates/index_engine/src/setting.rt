@@ -5,11 +5,12 @@ ghost use Rattle.latch_space.specs.Passes.{view, IsSamePass};
 ghost use Rattle.latch_space.specs.Spaces.{IsPassOf};
 ghost use Rattle.map_history.specs.Map as map;
 ghost use Rattle.map_history.specs.Operation.{Make};
+ghost use Rattle.map_history.specs.Told.{columns_told};
 ghost use Rattle.index_law.specs.Meanings.{lent_row};
 ghost use Rattle.index_engine.specs.Changes.{HoldsRowOf, HoldsRowToSet, HoldsGrownRow};
 ghost use Rattle.index_engine.specs.Changes.{HoldsKeptAlone, IsLongerIn, RefusesHolding};
 ghost use Rattle.index_engine.specs.Hashed.{HoldsHashed};
-ghost use Rattle.index_engine.specs.Says.{CanSay, SaysOnce, AnswersHolding};
+ghost use Rattle.index_engine.specs.Says.{columns_by, CanSay, SaysOnce, AnswersHolding};
 
 use crate::changing::find_row;
 use crate::committing::Becomes;
@@ -45,6 +46,7 @@ impl<R: Wait> TreeCall<'_, R> {
         ensures ok { IfOk result (λ told. AnswersHolding pass.old pass.new leaf.now.block
             self.now.index (Make (map.Set self.now.key.now.tuple value.now)) told
             (lent_row None)) }
+        ensures columns { IfOk result (λ told. columns_told told ≡ columns_by self.now.found) }
         ensures err { IfErr result (λ e. RefusesHolding pass.old pass.new leaf.now.block
             self.now.index self.now.key.now.tuple value.now e) }
     {
@@ -69,6 +71,7 @@ impl<R: Wait> TreeCall<'_, R> {
         ensures own { IsSamePass pass.old pass.new × IsPassOf self.now.space.now pass.new }
         ensures ok { IfOk result (λ told. AnswersHolding pass.old pass.new block self.now.index
             (Make (map.Set self.now.key.now.tuple value.now)) told (lent_row None)) }
+        ensures columns { IfOk result (λ told. columns_told told ≡ columns_by self.now.found) }
         ensures err { IfErr result (λ e. RefusesHolding pass.old pass.new block self.now.index
             self.now.key.now.tuple value.now e) }
     {
@@ -97,6 +100,7 @@ impl<R: Wait> TreeCall<'_, R> {
         ensures own { IsSamePass pass.old pass.new × IsPassOf self.now.space.now pass.new }
         ensures ok { IfOk result (λ told. AnswersHolding pass.old pass.new block self.now.index
             (Make (map.Set self.now.key.now.tuple value.now)) told (lent_row None)) }
+        ensures columns { IfOk result (λ told. columns_told told ≡ columns_by self.now.found) }
         ensures err { IfErr result (λ e. RefusesHolding pass.old pass.new block self.now.index
             self.now.key.now.tuple value.now e) }
     {
@@ -125,12 +129,13 @@ impl<R: Wait> TreeCall<'_, R> {
         ensures own { IsSamePass pass.old pass.new × IsPassOf self.now.space.now pass.new }
         ensures did { AnswersHolding pass.old pass.new block self.now.index
             (Make (map.Set self.now.key.now.tuple value.now)) result (lent_row None) }
+        ensures columns { columns_told result ≡ columns_by self.now.found }
     {
         let key = self.key;
         match self.write_ahead::<X>(pass, ChangeRef::Set { key, value }) {
             Ok(point) => {
                 self.rewrite(pass, block, place, value);
-                made(point)
+                made(self.found, point)
             }
             Err(LogFull(count)) => self.say_of_set(pass, value, Reply::LogFull(count)),
         }
@@ -152,10 +157,11 @@ impl<R: Wait> TreeCall<'_, R> {
         ensures own { IsSamePass pass.old pass.new × IsPassOf self.now.space.now pass.new }
         ensures did { AnswersHolding pass.old pass.new block self.now.index
             (Make (map.Set self.now.key.now.tuple value.now)) result (lent_row None) }
+        ensures columns { columns_told result ≡ columns_by self.now.found }
     {
         let key = self.key;
         match self.commit(pass, ChangeRef::Set { key, value }) {
-            Ok(point) => made(point),
+            Ok(point) => made(self.found, point),
             Err(LogFull(count)) => {
                 self.restore(pass, block, before);
                 self.say_of_set(pass, value, Reply::LogFull(count))
@@ -174,6 +180,7 @@ impl<R> TreeCall<'_, R> {
         ensures did { SaysOnce (view pass.old) (view pass.new) self.now.index
             (Make (map.Set self.now.key.now.tuple value.now)) result (lent_row None) }
         ensures kept { SameHands pass.old pass.new }
+        ensures columns { columns_told result ≡ columns_by self.now.found }
     {
         let op = OpRef::Set {
             index: self.index,

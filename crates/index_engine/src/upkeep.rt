@@ -2,12 +2,12 @@
 ghost use Rattle.std.specs.Prelude.{◌≡◌};
 ghost use Rattle.latch_space.specs.Passes.{view, count, IsSamePass};
 ghost use Rattle.latch_space.specs.Spaces.{IsPassOf};
-ghost use Rattle.index_engine.specs.Hashed.{DropsBlock, GivesBoth, GivesPartOf, HoldsAtRest, HoldsBoth};
+ghost use Rattle.index_engine.specs.Hashed.{DropsBlock, GivesBoth, GivesPartOf, HoldsAtRest, HoldsLeafAndPart};
 ghost use Rattle.index_engine.specs.Hashed.{HoldsHashed, HoldsKept, HoldsRowCame, HoldsRowToGo};
 ghost use Rattle.index_engine.specs.Hashed.{HoldsToChange};
 ghost use Rattle.index_engine.specs.Hashed.{KeepsRowThatCame, KeepsRowToGo, Settles};
+ghost use Rattle.index_engine.specs.Holds.{HoldsFreshAlone};
 
-use crate::holding::Held;
 use crate::tree_call::TreeCall;
 use buffer_pool::{frame_back, frame_out, give_back, hold_part_for};
 use forest_law::blocks_ask_the_same;
@@ -17,23 +17,23 @@ use hash_maintain::{
 };
 use index_page::Place;
 use std::sync::Wait;
+use tree_descent::Leaf;
 
 impl<R: Wait> TreeCall<'_, R> {
-    /// Goes down from the root, and holds the leaf, and besides the partition of the index that it
-    /// is hashed for, if it is: rows of a hashed leaf change while that is held.
-    pub(crate) fn hold_to_change(&self, pass: &mut ForestPass) -> Held
+    /// Holds besides the leaf in hand the partition of the index that it is hashed for, if it is:
+    /// rows of a hashed leaf change while that is held.
+    pub(crate) fn hold_to_change(&self, pass: &mut ForestPass, leaf: &Leaf) -> Option<u32>
         requires own { IsPassOf self.now.space.now pass.old }
-        requires nothing { count pass.old ≡ 0 }
+        requires alone { HoldsFreshAlone pass.old leaf.now.block self.now.index
+            self.now.key.now.tuple leaf.now.spot }
         ensures own { IsSamePass pass.old pass.new × IsPassOf self.now.space.now pass.new }
-        ensures went { HoldsToChange pass.old self.now.index self.now.key.now.tuple result
+        ensures took { HoldsToChange pass.old self.now.index self.now.key.now.tuple leaf.now result
             pass.new }
-        ensures held { HoldsHashed pass.new result.leaf.block self.now.index
-            self.now.key.now.tuple result.leaf.spot }
+        ensures held { HoldsHashed pass.new leaf.now.block self.now.index self.now.key.now.tuple
+            leaf.now.spot }
     {
-        let leaf = self.hold(pass);
         let hashed = self.frame(pass, leaf.block).hashed;
-        let part = hold_part_for(self.space, pass, hashed, self.wait);
-        Held { leaf, part }
+        hold_part_for(self.space, pass, hashed, self.wait)
     }
 
     /// Keeps up with the row at the place, which came to the leaf.
@@ -97,7 +97,7 @@ impl<R> TreeCall<'_, R> {
     /// Gives the partition back, if there is one, and then the leaf.
     pub(crate) fn let_both_go(&self, pass: &mut ForestPass, block: u32, part: Option<u32>)
         requires own { IsPassOf self.now.space.now pass.old }
-        requires held { HoldsBoth pass.old block part }
+        requires held { HoldsLeafAndPart pass.old block part }
         ensures own { IsSamePass pass.old pass.new × IsPassOf self.now.space.now pass.new }
         ensures nothing { count pass.new ≡ 0 }
         ensures gave { GivesBoth pass.old block part pass.new }
@@ -109,7 +109,7 @@ impl<R> TreeCall<'_, R> {
     /// Gives the partition back, if there is one.
     fn give_part(&self, pass: &mut ForestPass, block: u32, part: Option<u32>)
         requires own { IsPassOf self.now.space.now pass.old }
-        requires held { HoldsBoth pass.old block part }
+        requires held { HoldsLeafAndPart pass.old block part }
         ensures own { IsSamePass pass.old pass.new × IsPassOf self.now.space.now pass.new }
         ensures gave { GivesPartOf pass.old part pass.new }
     {

@@ -1,10 +1,12 @@
 //! The walk of a seek: from leaf to leaf, while each is without a row.
-ghost use Rattle.std.specs.Prelude.{◌≡◌, [], ◌∷◌};
+ghost use Rattle.std.specs.Prelude.{◌≡◌, [], ◌∷◌, IfSome};
 ghost use Rattle.latch_space.specs.Passes.{view, count, IsSamePass};
 ghost use Rattle.latch_space.specs.Spaces.{IsPassOf};
+ghost use Rattle.map_history.specs.Told.{columns_told};
 ghost use Rattle.forest_world.specs.Held.{shape_of_pass};
 ghost use Rattle.index_engine.specs.SeekHands.{HoldsLeavesAlone, StandsOn, WalksAt};
-ghost use Rattle.index_engine.specs.SeekSteps.{EndsSeek, WalksThen};
+ghost use Rattle.index_engine.specs.Says.{columns_by};
+ghost use Rattle.index_engine.specs.SeekSteps.{EndsSeek, WalksThen, TellsColumns};
 
 use crate::seek_call::{SeekCall, Stand, Walk};
 use forest_world::ForestPass;
@@ -22,6 +24,8 @@ impl<R: Wait> SeekCall<'_, R> {
         ensures nothing { count pass.new ≡ 0 }
         ensures ends { EndsSeek (shape_of_pass pass.old) (view pass.old) (view pass.new)
             self.now.index self.now.mode self.now.tuple.now result out.new }
+        ensures columns { IfSome result (λ told. columns_told told
+            ≡ columns_by self.now.found) }
     {
         let mut here = from;
         for _ in self.wait.forever() {
@@ -40,6 +44,7 @@ impl<R: Wait> SeekCall<'_, R> {
         ensures own { IsSamePass pass.old pass.new × IsPassOf self.now.space.now pass.new }
         ensures then { WalksThen pass.old pass.new self.now.index self.now.mode self.now.tuple.now
             result out.new }
+        ensures columns { TellsColumns (columns_by self.now.found) result }
     {
         let side = side_of(self.mode);
         match take_beside(self.space, pass, from.block, self.index, side, self.wait) {
@@ -68,6 +73,7 @@ impl<R: Wait> SeekCall<'_, R> {
         ensures own { IsSamePass pass.old pass.new × IsPassOf self.now.space.now pass.new }
         ensures then { WalksThen pass.old pass.new self.now.index self.now.mode self.now.tuple.now
             result out.new }
+        ensures columns { TellsColumns (columns_by self.now.found) result }
     {
         match self.stand_on(pass, block, out, Some(point)) {
             Stand::On(walk) => Stand::On(walk),

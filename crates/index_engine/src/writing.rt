@@ -1,13 +1,16 @@
 //! A write of a row, which is tried until it is answered.
-ghost use Rattle.std.specs.Prelude.{◌≡◌, IfOk, IfErr, OnErr, None};
+ghost use Rattle.std.specs.Prelude.{◌≡◌, IfOk, IfErr, IfSome, OnErr, None};
 ghost use Rattle.latch_space.specs.Passes.{view, count, IsSamePass};
 ghost use Rattle.latch_space.specs.Spaces.{IsPassOf};
+ghost use Rattle.map_history.specs.Told.{columns_told};
+ghost use Rattle.call_law.specs.Once.{IsQuiet};
 ghost use Rattle.index_law.specs.Meanings.{lent_row};
 ghost use Rattle.index_engine.specs.Changes.{RefusesHolding};
 ghost use Rattle.index_engine.specs.Hashed.{HoldsHashed};
-ghost use Rattle.index_engine.specs.Says.{AnswersHolding};
-ghost use Rattle.index_engine.specs.Traces.{TellsOfWrite, GivesUp};
-ghost use Rattle.index_engine.specs.Writes.{write_asked, TriesWrite};
+ghost use Rattle.index_engine.specs.Holds.{HoldsFreshAlone};
+ghost use Rattle.index_engine.specs.Says.{columns_by, AnswersHolding};
+ghost use Rattle.index_engine.specs.Writes.{write_asked, AnswersWrite, LeavesUnanswered};
+ghost use Rattle.index_engine.specs.Writes.{TellsAgain, TriesWrite};
 
 use crate::tree_call::TreeCall;
 use crate::write::Write;
@@ -19,10 +22,39 @@ use std::sync::Wait;
 use tree_descent::Leaf;
 
 impl<R: Wait> TreeCall<'_, R> {
-    /// Writes the row of the key, if the index allows it and its list has room. Where the leaf has
-    /// no room, it is made, and all is tried again: another may have put the key by then or taken
-    /// it out, or taken the room. `most` is how many changes the list may have.
+    /// Writes the row of the key on its leaf in hand, if the index allows it and its list has room,
+    /// and gives the leaf back. Where that has no room, it is made, and all is tried again: another
+    /// may have put the key by then or taken it out, or taken the room. `most` is how many changes
+    /// the list may have.
     pub(crate) fn write(
+        &self,
+        pass: &mut ForestPass,
+        leaf: &Leaf,
+        most: u64,
+        write: Write,
+        value: &Value,
+    ) -> Result<Told, NoMemory>
+        requires own { IsPassOf self.now.space.now pass.old }
+        requires most { most ≡ self.now.space.now.terms.max_changes }
+        requires alone { HoldsFreshAlone pass.old leaf.now.block self.now.index
+            self.now.key.now.tuple leaf.now.spot }
+        ensures own { IsSamePass pass.old pass.new × IsPassOf self.now.space.now pass.new }
+        ensures nothing { count pass.new ≡ 0 }
+        ensures ok { IfOk result (λ told. AnswersWrite pass.old leaf.now.block self.now.index
+            self.now.key.now.tuple value.now
+            (write_asked write self.now.key.now.tuple value.now) told pass.new) }
+        ensures columns { IfOk result (λ told. columns_told told ≡ columns_by self.now.found) }
+        ensures err { OnErr result (LeavesUnanswered pass.old leaf.now.block self.now.index
+            self.now.key.now.tuple value.now pass.new) }
+    {
+        match self.try_write(pass, leaf, most, write, value)? {
+            Some(told) => Ok(told),
+            None => self.write_again(pass, most, write, value),
+        }
+    }
+
+    /// Goes down from the root, and tries the same on that leaf, until it is answered.
+    fn write_again(
         &self,
         pass: &mut ForestPass,
         most: u64,
@@ -34,42 +66,47 @@ impl<R: Wait> TreeCall<'_, R> {
         requires nothing { count pass.old ≡ 0 }
         ensures own { IsSamePass pass.old pass.new × IsPassOf self.now.space.now pass.new }
         ensures nothing { count pass.new ≡ 0 }
-        ensures ok { IfOk result (λ told. TellsOfWrite (view pass.old) (view pass.new)
-            self.now.index self.now.key.now.tuple value.now
-            (write_asked write self.now.key.now.tuple value.now) told (lent_row None)) }
-        ensures err { OnErr result (GivesUp (view pass.old) (view pass.new) self.now.index
-            self.now.key.now.tuple value.now) }
+        ensures ok { IfOk result (λ told. TellsAgain (view pass.old) (view pass.new)
+            self.now.index self.now.key.now.tuple
+            (write_asked write self.now.key.now.tuple value.now) told) }
+        ensures columns { IfOk result (λ told. columns_told told ≡ columns_by self.now.found) }
+        ensures err { OnErr result (IsQuiet (view pass.old) (view pass.new) self.now.index) }
     {
         for _ in self.wait.forever() {
-            if let Some(told) = self.try_write(pass, most, write, value)? {
+            let leaf = self.hold(pass);
+            if let Some(told) = self.try_write(pass, &leaf, most, write, value)? {
                 return Ok(told);
             }
         }
         unreachable!()
     }
 
-    /// One try of that. It answers `None` where it is to be tried again.
+    /// One try of that, with the leaf in hand. It answers `None` where it is to be tried again.
     fn try_write(
         &self,
         pass: &mut ForestPass,
+        leaf: &Leaf,
         most: u64,
         write: Write,
         value: &Value,
     ) -> Result<Option<Told>, NoMemory>
         requires own { IsPassOf self.now.space.now pass.old }
         requires most { most ≡ self.now.space.now.terms.max_changes }
-        requires nothing { count pass.old ≡ 0 }
+        requires alone { HoldsFreshAlone pass.old leaf.now.block self.now.index
+            self.now.key.now.tuple leaf.now.spot }
         ensures own { IsSamePass pass.old pass.new × IsPassOf self.now.space.now pass.new }
         ensures nothing { count pass.new ≡ 0 }
-        ensures ok { IfOk result (λ told. TriesWrite (view pass.old) (view pass.new) self.now.index
+        ensures ok { IfOk result (λ told. TriesWrite pass.old leaf.now.block self.now.index
             self.now.key.now.tuple value.now
-            (write_asked write self.now.key.now.tuple value.now) told) }
-        ensures err { OnErr result (GivesUp (view pass.old) (view pass.new) self.now.index
-            self.now.key.now.tuple value.now) }
+            (write_asked write self.now.key.now.tuple value.now) told pass.new) }
+        ensures columns { IfOk result (λ told. IfSome told
+            (λ t. columns_told t ≡ columns_by self.now.found)) }
+        ensures err { OnErr result (LeavesUnanswered pass.old leaf.now.block self.now.index
+            self.now.key.now.tuple value.now pass.new) }
     {
-        let held = self.hold_to_change(pass);
-        let written = self.write_held(pass, &held.leaf, most, write, value);
-        self.let_both_go(pass, held.leaf.block, held.part);
+        let part = self.hold_to_change(pass, leaf);
+        let written = self.write_held(pass, leaf, most, write, value);
+        self.let_both_go(pass, leaf.block, part);
         match written {
             Ok(told) => Ok(Some(told)),
             Err(refusal) => match refusal {
@@ -96,6 +133,7 @@ impl<R: Wait> TreeCall<'_, R> {
         ensures ok { IfOk result (λ told. AnswersHolding pass.old pass.new leaf.now.block
             self.now.index (write_asked write self.now.key.now.tuple value.now) told
             (lent_row None)) }
+        ensures columns { IfOk result (λ told. columns_told told ≡ columns_by self.now.found) }
         ensures err { IfErr result (λ e. RefusesHolding pass.old pass.new leaf.now.block
             self.now.index self.now.key.now.tuple value.now e) }
     {

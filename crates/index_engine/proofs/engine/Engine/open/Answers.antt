@@ -1,7 +1,10 @@
-use Rattle.std.proofs.Common.{◌≡◌, ◌<◌, ◌≤◌, ℕ, zero, suc, List, [], ◌∷◌, length, refl, arith, rules, subst}
+use Rattle.std.proofs.Common.{◌≡◌, ◌<◌, ◌≤◌, ℕ, zero, suc, List, [], ◌∷◌, length, refl, arith, rules, subst, ap}
 use Rattle.std.specs.Prelude.{slice_index_or}
 use lib.ListN.{get_elem?}
+use Rattle.latch_law.specs.declared.knows.Terms.{Terms}
+use Rattle.index_law.specs.Shape.{Shape}
 use Rattle.forest_law.specs.State.{or_zero}
+use Rattle.index_engine.proofs.LearnerLemmas.{knows_first}
 use Rattle.index_engine.proofs.engine.Engine.open.Goals as goal
 
 -- a number of a list, by the one look-up and by the other
@@ -16,5 +19,12 @@ open_forest-requires-clause-hash c = record {
   some = search rules;
   fit = search rules;
   keyed = λ i below. subst (λ n. 1 ≤ n) (number_at c.args.fields.now i below)
-      (c.requires.keyed i 0 below);
+      (c.requires.keyed i 0 below).0;
 }
+
+pub invariant_of-engine-clause-learns : goal.invariant_of-engine-clause-learns
+invariant_of-engine-clause-learns c = let fields = c.args.fields.now in
+    let terms = c.in_ok-space.ensures.terms in
+    knows_first c.in_ok-learner.learner c.in_ok-space.space.terms.shape fields c.args.lanes
+    c.in_ok-learner.ensures.opening (ap (λ (t : Terms Shape). t.shape.fields) terms)
+    (ap (λ (t : Terms Shape). t.shape.indexes) terms)

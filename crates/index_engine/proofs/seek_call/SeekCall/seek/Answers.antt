@@ -1,34 +1,22 @@
-use Rattle.std.proofs.Common.{subst, rules}
+use Rattle.std.proofs.Common.{inl, inr, subst}
 use Rattle.latch_space.specs.Passes.{view}
-use Rattle.index_engine.specs.SeekSteps.{TriesSeek}
-use Rattle.index_engine.proofs.SeekTryLemmas.{tries_vain, vain_none, vain_both, vain_then_tells}
+use Rattle.forest_world.specs.Held.{shape_of_pass}
+use Rattle.index_engine.specs.SeekSteps.{EndsFromLeaf}
 use Rattle.index_engine.proofs.seek_call.SeekCall.seek.Goals as goal
 
-pub loop-init : goal.loop-init
-loop-init g c = record {
-  own = search rules;
-  nothing = c.requires.nothing;
-  vain = vain_none (view c.args.pass.now) c.args.self.now.index;
-}
+pub returns-in-Some-clause-told : goal.returns-in-Some-clause-told
+returns-in-Some-clause-told g c = let call = c.args.self.now in let p = c.args.pass.now in
+    let q = c.look_on.new.pass in
+    inl (subst (λ o. EndsFromLeaf (shape_of_pass p) (view p) (view q) c.args.pair.now.leaf.block
+    call.index call.mode call.tuple.now o c.look_on.new.out) c.in-Some.is c.look_on.ensures.ends)
 
-pub returns-in-Some-try_seek-clause-told : goal.returns-in-Some-try_seek-clause-told
-returns-in-Some-try_seek-clause-told g c = let call = c.args.self.now in
-    vain_then_tells (view c.args.pass.now) (view c.loop.pass) (view c.try_seek.new.pass)
-    call.index c.loop.invariant.vain call.mode call.tuple.now c.in-Some-try_seek.told
-    c.try_seek.new.out
-    (subst
-    (λ o. TriesSeek (view c.loop.pass) (view c.try_seek.new.pass) call.index call.mode
-    call.tuple.now o c.try_seek.new.out) c.in-Some-try_seek.is c.try_seek.ensures.tried)
-
-pub loop-preserved : goal.loop-preserved
-loop-preserved g c = let call = c.args.self.now in record {
-  own = search rules;
-  nothing = c.try_seek.ensures.nothing;
-  vain = vain_both (view c.args.pass.now) (view c.loop.pass) (view c.try_seek.new.pass) call.index
-      c.loop.invariant.vain
-      (tries_vain (view c.loop.pass) (view c.try_seek.new.pass) call.index call.mode
-      call.tuple.now c.try_seek.new.out
-      (subst
-      (λ o. TriesSeek (view c.loop.pass) (view c.try_seek.new.pass) call.index call.mode
-      call.tuple.now o c.try_seek.new.out) c.in_default.is c.try_seek.ensures.tried));
-}
+pub returns-in-None-clause-told : goal.returns-in-None-clause-told
+returns-in-None-clause-told g c = let call = c.args.self.now in let p = c.args.pass.now in
+    let q = c.look_on.new.pass in inr (record {
+      between = view q;
+      out = c.look_on.new.out;
+      first = subst (λ o. EndsFromLeaf (shape_of_pass p) (view p) (view q)
+          c.args.pair.now.leaf.block call.index call.mode call.tuple.now o c.look_on.new.out)
+          c.in-None.is c.look_on.ensures.ends;
+      again = c.seek_again.ensures.told;
+    })

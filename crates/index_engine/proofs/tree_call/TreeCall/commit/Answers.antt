@@ -4,6 +4,7 @@ use Rattle.latch_space.specs.Passes.{values}
 use Rattle.forest_law.specs.declared.objects.Object.TheVariants as object
 use Rattle.index_law.specs.Meanings.{change_lent, change_by}
 use Rattle.buffer_pool.proofs.SpaceLemmas.{objects_of, held_below}
+use Rattle.index_engine.specs.Says.{columns_by}
 use Rattle.index_engine.proofs.CommitLemmas.{commit_ends}
 use Rattle.index_engine.proofs.FollowLemmas.{leaf_follows}
 use Rattle.index_engine.proofs.KeptLemmas.{whole_kept}
@@ -30,7 +31,8 @@ returns-clause-did g c = let call = c.args.self.now in let p = c.args.pass.now i
     let indexes = ap (λ z. z.indexes) c.requires.own.1 in let below = call.there in
     let lists = call.forest.lists in
     let room = sees_each p call.index (omega (arith, indexes, lists, below)) in
-    commit_ends p c.commit.new.pass call.index (change_lent c.args.change)
+    commit_ends p c.commit.new.pass call.index (change_lent c.args.change) (columns_by call.found)
+    call.found.stands
     (whole_kept p can.index can.block can.known can.made can.made can.made can.holds.has can.hash)
     (change_by c.deed.result) room c.deed.ensures c.commit.result c.commit.ensures.did
     c.commit.ensures.hands

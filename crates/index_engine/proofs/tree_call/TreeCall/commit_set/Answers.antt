@@ -62,7 +62,7 @@ returns-in-Ok-clause-did g c = let held = c.requires.held in let call = c.args.s
     let key = call.key.now.tuple in let change = map.Set key c.args.value.now in
     let makes = set_makes (shape_of_pass p) call.index key held.known held.holds.leaf held.made
     c.args.value.now held.sets in record {
-      says = says_made p c.commit.new.pass call.index change (lent_row None) c.made.result
+      says = says_made p c.commit.new.pass call.index change (lent_row None) call.found c.made.result
           c.in-Ok.point c.made.ensures did.written;
       holds = record {
         frame = held.made;

@@ -95,7 +95,7 @@ returns-in-Ok-clause-did g c = let held = c.requires.held in let call = c.args.s
     let hash = hash_next p b call.index c.args.place key next held in
     record {
       says = says_same (view p) (view q) (view r) call.index ask c.made.result (lent_row None)
-          (says_made p q call.index change (lent_row None) c.made.result c.in-Ok.point
+          (says_made p q call.index change (lent_row None) call.found c.made.result c.in-Ok.point
           c.made.ensures did.written) c.delete.ensures.same.view;
       holds = record {
         frame = next;

@@ -12,7 +12,7 @@ pub returns-in-SpaceFull-clause-ok : goal.returns-in-SpaceFull-clause-ok
 returns-in-SpaceFull-clause-ok g c = let call = c.args.self.now in
     let key = call.key.now.tuple in let value = c.args.value.now in
     room_then_word c.args.pass.now c.make_room-room.new.pass c.say_space_full.new.pass call.index
-    (write_asked c.args.write key value) c.say_space_full.result
+    (write_asked c.args.write key value) call.found c.say_space_full.result
     (write_asks c.args.write key value)
     (c.make_room-room.ensures.full (c.in-Err.is ∙ ap Err c.in-SpaceFull.is))
     c.say_space_full.ensures.did c.say_space_full.ensures.told

@@ -4,7 +4,9 @@ use Rattle.forest_law.specs.Numbers.{pool_id, frame_id, part_id}
 use Rattle.forest_law.specs.State.{fields_for}
 use Rattle.forest_world.specs.Held.{shape_of_pass}
 use Rattle.buffer_pool.proofs.SpaceLemmas.{objects_of}
+use Rattle.index_engine.specs.Traces.{AreWayTo}
 use Rattle.index_engine.proofs.HoldLemmas.{fresh_leaf}
+use Rattle.index_engine.proofs.WayLemmas.{by_way}
 use Rattle.index_engine.proofs.tree_call.TreeCall.hold.Goals as goal
 
 pub descend-requires-clause-frames : goal.descend-requires-clause-frames
@@ -22,12 +24,18 @@ descend-requires-clause-tables g c = let call = c.args.self.now in let p = c.arg
           (omega (arith, objects, below));
     }
 
+pub returns-clause-went : goal.returns-clause-went
+returns-clause-went g c = let call = c.args.self.now in
+    by_way c.args.pass.now call.index call.key.now.tuple c.descend.result c.descend.new.pass
+    c.descend.ensures.went
+
 pub returns-clause-held : goal.returns-clause-held
-returns-clause-held g c = let call = c.args.self.now in
-    fresh_leaf c.args.pass.now c.descend.new.pass call.index call.key.now.tuple c.descend.result
-    c.descend.ensures.went c.requires.nothing
-    (call.fits ∙ ap (λ t. fields_for t.shape call.index) (sym c.requires.own.1))
-    (λ k below. lacks_each c.args.pass.now (part_id (shape_of_pass c.args.pass.now) k)
-    c.requires.nothing
-    (let objects = objects_of call.space.now c.args.pass.now call.forest c.requires.own in
+returns-clause-held g c = let call = c.args.self.now in let p = c.args.pass.now in
+    let key = call.key.now.tuple in
+    fresh_leaf (AreWayTo (shape_of_pass p) call.index key) p c.descend.new.pass call.index key
+    c.descend.result
+    (by_way p call.index key c.descend.result c.descend.new.pass c.descend.ensures.went)
+    c.requires.nothing (call.fits ∙ ap (λ t. fields_for t.shape call.index) (sym c.requires.own.1))
+    (λ k below. lacks_each p (part_id (shape_of_pass p) k) c.requires.nothing
+    (let objects = objects_of call.space.now p call.forest c.requires.own in
     omega (arith, objects, below)))

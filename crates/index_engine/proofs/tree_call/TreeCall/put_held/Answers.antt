@@ -131,6 +131,10 @@ returns-in-Err-clause-err g c = let call = c.args.self.now in
     let later = ap (λ v. v.terms) same ∙ terms in record {
       looks = looks_same (view p) (view q) (view r) call.index c.is_full.ensures.looked same;
       holds = c.in-Err.ensures.err;
+      number = (let refusing = c.in-Err.ensures.err in
+          number_later p r c.args.leaf.now.block refusing.frame
+          (ap (λ v. v.held) same ∙ c.is_full.ensures.kept.held) later
+          (number_stays (view r) c.args.leaf.now.block refusing.frame refusing.holds.has.held));
       stays = record {
         known = c.in-Err.ensures.known;
         parts = parts_same (view p) (view r)

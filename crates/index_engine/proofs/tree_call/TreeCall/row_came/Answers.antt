@@ -1,5 +1,5 @@
 use Rattle.std.proofs.Common.{refl, sym, subst}
-use Rattle.hash_maintain.specs.Leaves.{without_row, HasRowAt}
+use Rattle.hash_maintain.specs.Leaves.{without_row, HasRowInFrame}
 use Rattle.index_engine.proofs.UpkeepLemmas.{asks_tidy, asks_exact, asks_place, asks_room, goes_back, row_is_kept}
 use Rattle.index_engine.proofs.tree_call.TreeCall.row_came.Goals as goal
 
@@ -11,7 +11,7 @@ insert_in_frame-requires-clause-tidy g c = let held = c.requires.held in
 
 pub insert_in_frame-requires-clause-row : goal.insert_in_frame-requires-clause-row
 insert_in_frame-requires-clause-row g c = let held = c.requires.held in
-    subst (λ z. HasRowAt z c.args.place)
+    subst (λ z. HasRowInFrame z c.args.place)
     (sym (c.frame_out-frame.ensures.out.out held.known held.now held.has).1) held.row
 
 pub insert_in_frame-requires-clause-exact : goal.insert_in_frame-requires-clause-exact

@@ -1,5 +1,5 @@
 use Rattle.std.proofs.Common.{refl, sym, subst}
-use Rattle.hash_maintain.specs.Leaves.{without_row, HasRowAt}
+use Rattle.hash_maintain.specs.Leaves.{without_row, HasRowInFrame}
 use Rattle.index_engine.proofs.UpkeepLemmas.{asks_tidy, asks_exact, asks_place, asks_room, goes_back, row_is_kept}
 use Rattle.index_engine.proofs.tree_call.TreeCall.row_goes.Goals as goal
 
@@ -11,7 +11,7 @@ delete_in_frame-requires-clause-tidy g c = let held = c.requires.held in
 
 pub delete_in_frame-requires-clause-row : goal.delete_in_frame-requires-clause-row
 delete_in_frame-requires-clause-row g c = let held = c.requires.held in
-    subst (λ z. HasRowAt z c.args.place)
+    subst (λ z. HasRowInFrame z c.args.place)
     (sym (c.frame_out-frame.ensures.out.out held.known held.now held.has).1) held.row
 
 pub delete_in_frame-requires-clause-exact : goal.delete_in_frame-requires-clause-exact

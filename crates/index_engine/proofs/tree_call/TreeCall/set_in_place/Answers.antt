@@ -77,7 +77,7 @@ returns-in-Ok-clause-did g c = let held = c.requires.held in let call = c.args.s
     record {
       says = says_same (view p) (view q) (view r) call.index (Make change) c.made.result
           (lent_row None)
-          (says_made p q call.index change (lent_row None) c.made.result
+          (says_made p q call.index change (lent_row None) call.found c.made.result
           c.in-Ok.point c.made.ensures did.written) c.rewrite.ensures.same.view;
       holds = record {
         frame = next;

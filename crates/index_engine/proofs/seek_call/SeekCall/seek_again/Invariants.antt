@@ -2,7 +2,7 @@ use Rattle.std.proofs.Common.{◌≡◌}
 use Rattle.latch_space.specs.Passes.{view, count, IsSamePass}
 use Rattle.latch_space.specs.Spaces.{IsPassOf}
 use Rattle.index_engine.specs.SeekSteps.{TriesInVain}
-use Rattle.index_engine.proofs.seek_call.SeekCall.seek.Given as goal
+use Rattle.index_engine.proofs.seek_call.SeekCall.seek_again.Given as goal
 
 abbrev pub invariant-loop : goal.invariant-loop
 invariant-loop g l = record {

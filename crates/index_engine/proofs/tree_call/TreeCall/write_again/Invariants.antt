@@ -1,12 +1,12 @@
 use Rattle.std.proofs.Common.{◌≡◌}
 use Rattle.latch_space.specs.Passes.{view, count, IsSamePass}
 use Rattle.latch_space.specs.Spaces.{IsPassOf}
-use Rattle.index_engine.specs.Traces.{GivesUp}
-use Rattle.index_engine.proofs.tree_call.TreeCall.write.Given as goal
+use Rattle.call_law.specs.Once.{IsQuiet}
+use Rattle.index_engine.proofs.tree_call.TreeCall.write_again.Given as goal
 
 abbrev pub invariant-loop : goal.invariant-loop
 invariant-loop g l = record {
   own : IsSamePass l.initial.pass l.pass × IsPassOf l.self.space.now l.pass;
   nothing : count l.pass ≡ 0;
-  tries : GivesUp (view l.initial.pass) (view l.pass) l.self.index l.self.key.now.tuple l.value;
+  quiet : IsQuiet (view l.initial.pass) (view l.pass) l.self.index;
 }

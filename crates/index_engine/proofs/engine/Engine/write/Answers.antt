@@ -1,0 +1,58 @@
+use Rattle.std.proofs.Common.{◌≡◌, ap, subst, ◌∙◌, IfOk, OnErr}
+use Rattle.std.proofs.lemmas.Result.{IfOk-weaker}
+use Rattle.search_info.specs.Passes.{knowledge}
+use Rattle.map_history.specs.declared.reply.Told.{Told}
+use Rattle.map_history.specs.Report.{Columns}
+use Rattle.map_history.specs.Told.{columns_told}
+use Rattle.index_engine.specs.Engines.{learnt}
+use Rattle.index_engine.specs.Says.{columns_by}
+use Rattle.leaf_search.specs.Traces.{SearchTrace}
+use Rattle.index_engine.specs.Searched.{SearchedFor}
+use Rattle.index_engine.specs.Writes.{mode_of_write, write_asked, AnswersWrite, LeavesUnanswered}
+use Rattle.index_engine.proofs.TryLemmas.{search_then_write, search_then_gives_up}
+use Rattle.index_engine.proofs.WayLemmas.{by_search, about_key}
+use Rattle.index_engine.proofs.engine.Engine.write.Goals as goal
+
+pub returns-clause-ok : goal.returns-clause-ok
+returns-clause-ok g c = let p = c.args.pass.now.world in let p0 = c.find-searched.new.pass in
+    let q = c.write.new.pass in let i = c.args.index in let key = c.args.key.now.tuple in
+    let value = c.args.value.now in let s = c.find-searched.result in
+    let m = knowledge c.find-searched.new.learn in let call = c.call.result in
+    let about = c.call.ensures.about in
+    search_then_write p p0 q i key value s.leaf s.how
+    (by_search p (learnt c.args.pass.now) i key s p0 m c.find-searched.ensures.searched)
+    (write_asked c.args.write key value) c.write.result
+    (IfOk-weaker c.write.result (λ (told : Told). columns_told told ≡ columns_by call.found)
+    (λ (told : Told). told.how ≡ s.how)
+    (λ told same. ap (λ (z : Columns). z.how) (same ∙ c.call.ensures.found))
+    c.write.ensures.columns)
+    (about_key (λ n k. IfOk c.write.result
+    (λ (told : Told). AnswersWrite p0 s.leaf.block n k value (write_asked c.args.write k value) told q))
+    call.index i call.key.now.tuple key about.0 (ap (λ k. k.tuple) about.1) c.write.ensures.ok)
+
+pub returns-clause-err : goal.returns-clause-err
+returns-clause-err g c = let p = c.args.pass.now.world in let p0 = c.find-searched.new.pass in
+    let q = c.write.new.pass in let i = c.args.index in let key = c.args.key.now.tuple in
+    let value = c.args.value.now in let s = c.find-searched.result in
+    let l = learnt c.args.pass.now in let m = knowledge c.find-searched.new.learn in
+    let call = c.call.result in let about = c.call.ensures.about in
+    let searched = c.find-searched.ensures.searched in
+    search_then_gives_up p p0 q i key value s.leaf s.how (by_search p l i key s p0 m searched) l m
+    searched.tried c.write.result
+    (about_key (λ n k. OnErr c.write.result (LeavesUnanswered p0 s.leaf.block n k value q))
+    call.index i call.key.now.tuple key about.0 (ap (λ k. k.tuple) about.1) c.write.ensures.err)
+
+pub returns-clause-searched : goal.returns-clause-searched
+returns-clause-searched g c = let i = c.args.index in let key = c.args.key.now.tuple in
+    let mode = mode_of_write c.args.write in let s = c.find-searched.result in
+    IfOk-weaker c.write.result
+    (λ (told : Told). columns_told told ≡ columns_by c.call.result.found)
+    (λ (told : Told). SearchedFor c.args.pass.now i mode key (columns_told told) _)
+    (λ told same. record {
+      searched = s;
+      between = c.find-searched.new.pass;
+      trace = subst (λ m. SearchTrace c.args.pass.now.world (learnt c.args.pass.now) i m key s
+          c.find-searched.new.pass (knowledge c.find-searched.new.learn)) c.mode.ensures
+          c.find-searched.ensures.trace;
+      told = same ∙ c.call.ensures.found;
+    }) c.write.ensures.columns

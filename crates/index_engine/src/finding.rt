@@ -1,0 +1,88 @@
+//! The leaf of a key is found, by the hash or by a way down.
+ghost use Rattle.std.specs.Prelude.{◌≡◌, ◌<◌, true};
+ghost use Rattle.latch_space.specs.Passes.{count, IsSamePass};
+ghost use Rattle.latch_space.specs.Spaces.{IsPassOf};
+ghost use Rattle.map_history.specs.Columns.{may_stand};
+ghost use Rattle.search_info.specs.Passes.{knowledge, IsLearnPassOf, IsSameLearnPass};
+ghost use Rattle.leaf_search.specs.Searches.{columns_found, Searches};
+ghost use Rattle.leaf_search.specs.Traces.{SearchTrace};
+ghost use Rattle.index_engine.specs.Engines.{indexes_of, FitsKey};
+ghost use Rattle.index_engine.specs.Holds.{HoldsFreshAlone};
+ghost use Rattle.index_engine.specs.Says.{columns_by};
+
+use crate::engine::Engine;
+use crate::found::Found;
+use crate::tree_call::TreeCall;
+use forest_world::ForestPass;
+use key_tuple::{Key, Mode};
+use leaf_search::{Searched, search_key};
+use search_info::LearnPass;
+use std::sync::Wait;
+
+impl Engine {
+    /// Holds the leaf of the key, which is found by the hash or by a way down, as `mode` asks.
+    pub(crate) fn find<R: Wait>(
+        &self,
+        pass: &mut ForestPass,
+        learn: &mut LearnPass,
+        index: u32,
+        key: &Key,
+        mode: Mode,
+        wait: &R,
+    ) -> Searched
+        requires own { IsPassOf self.now.space pass.old }
+        requires learner { IsLearnPassOf self.now.learner learn.old }
+        requires index { index < indexes_of self.now }
+        requires key { FitsKey self.now index key.now.tuple }
+        requires nothing { count pass.old ≡ 0 }
+        ensures own { IsSamePass pass.old pass.new × IsPassOf self.now.space pass.new }
+        ensures learner { IsSameLearnPass learn.old learn.new
+            × IsLearnPassOf self.now.learner learn.new }
+        ensures searched { Searches pass.old (knowledge learn.old) index key.now.tuple result
+            pass.new (knowledge learn.new) }
+        ensures trace { SearchTrace pass.old (knowledge learn.old) index mode key.now.tuple result
+            pass.new (knowledge learn.new) }
+        ensures held { HoldsFreshAlone pass.new result.leaf.block index key.now.tuple
+            result.leaf.spot }
+    {
+        search_key(
+            &self.space,
+            pass,
+            &self.learner,
+            learn,
+            index,
+            key,
+            mode,
+            wait,
+        )
+    }
+
+    /// A call about a key of an index, whose leaf was found so.
+    pub(crate) fn call<'a, R>(
+        &'a self,
+        index: u32,
+        key: &'a Key,
+        searched: &Searched,
+        wait: &'a R,
+    ) -> TreeCall<'a, R>
+        requires index { index < indexes_of self.now }
+        requires key { FitsKey self.now index key.now.tuple }
+        requires stands { may_stand (columns_found searched.now) ≡ true }
+        ensures space { result.space.now ≡ self.now.space }
+        ensures about { (result.index ≡ index) × (result.key.now ≡ key.now) }
+        ensures found { columns_by result.found ≡ columns_found searched.now }
+    {
+        let found = Found {
+            how: searched.how,
+            note: searched.note,
+        };
+        TreeCall {
+            space: &self.space,
+            alloc: self.alloc,
+            index,
+            key,
+            found,
+            wait,
+        }
+    }
+}
