@@ -1,0 +1,3 @@
+pub mod PlaceLemmas
+pub mod StepLemmas
+pub mod SumLemmas

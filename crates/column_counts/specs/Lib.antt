@@ -1,0 +1,4 @@
+pub mod Places
+pub mod Sums
+pub mod Counted
+pub mod Laws
