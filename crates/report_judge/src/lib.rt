@@ -3,6 +3,7 @@
 #![tactic(auto)]
 
 mod asked;
+mod columns;
 mod drawn;
 mod history;
 mod judging;
@@ -12,7 +13,7 @@ mod verdict;
 mod words;
 
 pub use asked::{Act, Index, Line, read_schema};
+pub use columns::COUNTS;
 pub use drawn::{draw, lane_text, lane_texts, schema_text, seek_lane_text, slices_of};
 pub use judging::{LIMITS, Lie, Limits, judge, judge_within, read_lanes};
 pub use keys::Reach;
-pub use told::COUNTS;

@@ -1,12 +1,9 @@
 //! What a report tells, read line by line against what was asked.
 use crate::asked::{Act, Index, Line};
+use crate::columns::{may_stand, statistics_of};
 use crate::judging::Lie;
 use crate::words::{Reader, number_of, words_of};
 use std::alloc::Global;
-
-/// What a line of statistics says after the name.
-pub const COUNTS: &str =
-    "hit 0 off 0 cold 0 short 0 part-busy 0 no-entry 0 block-busy 0 clock 0 unequal 0 by-clock 0 by-busy 0 by-moved 0 by-last 0 built 0 same 0 arena 0 raced 0 worn 0";
 
 /// What a line was told.
 #[derive(Clone, Copy, PartialEq, Eq)]
@@ -26,6 +23,8 @@ pub(crate) struct Answer<'a> {
     pub(crate) line: Line<'a>,
     pub(crate) said: Said<'a>,
     pub(crate) point: Option<u64>,
+    pub(crate) how: &'a str,
+    pub(crate) note: &'a str,
 }
 
 /// A change, with the lane and the line that it names.
@@ -54,7 +53,7 @@ pub(crate) fn read_report<'a>(
     reader.expect_line("ahi run")?;
     let lanes = read_lanes(alloc, &mut reader, asked)?;
     let lists = read_lists(alloc, &mut reader, indexes)?;
-    read_statistics(alloc, &mut reader, indexes)?;
+    read_statistics(alloc, &mut reader, indexes, &lanes)?;
     reader.expect_line("end")?;
     reader.expect_end()?;
     Ok(Report { lanes, lists })
@@ -89,30 +88,38 @@ fn read_answers<'a>(
 }
 
 fn answer_of<'a>(line: Line<'a>, words: &[&'a str]) -> Option<Answer<'a>> {
-    let (number, said, point) = match words {
-        [number, "ok", point, "-", "-"] => (*number, Said::Done, Some(point_of(point)?)),
-        [number, "found", value, point, "-", "-"] => (
-            *number,
-            Said::Found(value),
-            Some(point_of(point)?),
-        ),
-        [number, "found", key, value, point, "-", "-"] => (
-            *number,
-            Said::Row(key, value),
-            Some(point_of(point)?),
-        ),
-        [number, "absent", point, "-", "-"] => (*number, Said::Absent, Some(point_of(point)?)),
-        [number, "duplicate", point, "-", "-"] => {
-            (*number, Said::Duplicate, Some(point_of(point)?))
-        }
-        [number, "log-full", count, "-", "-"] => (*number, Said::LogFull, Some(number_of(count)?)),
-        [number, "space-full", "-", "-"] => (*number, Said::SpaceFull, None),
-        _ => return None,
+    let (before, columns) = words.split_at(words.len().checked_sub(2)?);
+    let [how, note] = columns else {
+        return None;
     };
-    if number_of(number)? != line.number {
+    let (number, said, point) = said_of(before)?;
+    if number != line.number || !may_stand(how, note) {
         return None;
     }
-    Some(Answer { line, said, point })
+    Some(Answer {
+        line,
+        said,
+        point,
+        how,
+        note,
+    })
+}
+
+/// The number of a line, and what it was told, from the words before the columns.
+fn said_of<'a>(words: &[&'a str]) -> Option<(u64, Said<'a>, Option<u64>)> {
+    let (number, said, point) = match words {
+        [number, "ok", point] => (*number, Said::Done, Some(point_of(point)?)),
+        [number, "found", value, point] => { (*number, Said::Found(value), Some(point_of(point)?)) }
+        [number, "found", key, value, point] => {
+            (*number, Said::Row(key, value), Some(point_of(point)?))
+        }
+        [number, "absent", point] => (*number, Said::Absent, Some(point_of(point)?)),
+        [number, "duplicate", point] => (*number, Said::Duplicate, Some(point_of(point)?)),
+        [number, "log-full", count] => (*number, Said::LogFull, Some(number_of(count)?)),
+        [number, "space-full"] => (*number, Said::SpaceFull, None),
+        _ => return None,
+    };
+    Some((number_of(number)?, said, point))
 }
 
 fn point_of(word: &str) -> Option<u64> {
@@ -177,13 +184,16 @@ fn change_of<'a>(number: u64, words: &[&'a str]) -> Option<Change<'a>> {
     })
 }
 
+/// The lines that count the columns of the lanes' answers, one of each index.
 fn read_statistics(
     alloc: Global,
     reader: &mut Reader<'_>,
     indexes: &[Index<'_>],
+    lanes: &[Vec<Answer<'_>>],
 ) -> Result<(), Lie> {
-    for index in indexes {
-        reader.expect_line(format!(in alloc; "stats {} {COUNTS}", index.name)?.as_str())?;
+    for (place, index) in indexes.iter().enumerate() {
+        let line = statistics_of(alloc, index.name, place, lanes)?;
+        reader.expect_line(line.as_str())?;
     }
     Ok(())
 }

@@ -1,0 +1,85 @@
+//! The two last words of answers, and the statistics that count them.
+use crate::told::Answer;
+use std::alloc::{AllocError, Global};
+
+/// What a line of statistics says after the name, where all answers have two dashes.
+pub const COUNTS: &str =
+    "hit 0 off 0 cold 0 short 0 part-busy 0 no-entry 0 block-busy 0 clock 0 unequal 0 by-clock 0 by-busy 0 by-moved 0 by-last 0 built 0 same 0 arena 0 raced 0 worn 0";
+
+/// The words that are counted, in their order.
+const COUNTED: [&str; 18] = [
+    "hit",
+    "off",
+    "cold",
+    "short",
+    "part-busy",
+    "no-entry",
+    "block-busy",
+    "clock",
+    "unequal",
+    "by-clock",
+    "by-busy",
+    "by-moved",
+    "by-last",
+    "built",
+    "same",
+    "arena",
+    "raced",
+    "worn",
+];
+
+/// Whether the two words may stand beside one another.
+pub(crate) fn may_stand(how: &str, note: &str) -> bool {
+    match how {
+        "-" => note == "-",
+        "hit" => note == "-" || is_uncounted(note),
+        "off" | "cold" | "short" | "part-busy" | "no-entry" | "block-busy" | "clock" | "unequal" =>
+            is_build(note) || is_uncounted(note),
+        _ => false,
+    }
+}
+
+/// Whether a note tells what became of a build.
+fn is_build(note: &str) -> bool {
+    note == "no" || note == "built" || note == "same" || note == "arena"
+}
+
+/// Whether a note tells that a search wasn't counted.
+fn is_uncounted(note: &str) -> bool {
+    note == "raced" || note == "worn"
+}
+
+/// The line of an index's statistics, by the answers of all lanes.
+pub(crate) fn statistics_of(
+    alloc: Global,
+    name: &str,
+    index: usize,
+    lanes: &[Vec<Answer<'_>>],
+) -> Result<String, AllocError> {
+    let mut line = format!(in alloc; "stats {name}")?;
+    for word in COUNTED {
+        let times = times(word, index, lanes);
+        line.push_str(format!(in alloc; " {word} {times}")?.as_str())?;
+    }
+    Ok(line)
+}
+
+/// How many answers of an index have the word.
+fn times(word: &str, index: usize, lanes: &[Vec<Answer<'_>>]) -> u64 {
+    let mut times: u64 = 0;
+    for answers in lanes {
+        times = times.wrapping_add(times_in(word, index, answers));
+    }
+    times
+}
+
+/// How many of them in one lane.
+fn times_in(word: &str, index: usize, answers: &[Answer<'_>]) -> u64 {
+    let mut times: u64 = 0;
+    for answer in answers {
+        if answer.line.index == index && (answer.how == word || answer.note == word) {
+            times = times.wrapping_add(1);
+        }
+    }
+    times
+}
