@@ -12,4 +12,6 @@ pub mod MergeLemmas
 pub mod MergedLemmas
 pub mod TrailLemmas
 pub mod JoinLemmas
+pub mod TaughtLemmas
+pub mod TriedLemmas
 pub mod ExampleLemmas

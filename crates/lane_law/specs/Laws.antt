@@ -10,8 +10,11 @@ use lib.ListN.{get_elem?}
 use Rattle.change_log.specs.Log.{ChangeNote, Log}
 use Rattle.change_log.specs.Merge.{IsMerge}
 use Rattle.map_history.specs.Operation.{is_scan}
-use Rattle.map_history.specs.Report.{Answer, AnswerLine, Report}
-use Rattle.map_history.specs.LegalReport.{Line, Run, Precedes, marks_of, IsLegalReport}
+use Rattle.leaf_search.specs.Tries.{TriesAfter}
+use Rattle.search_info.specs.declared.knows.Knows.{Knows}
+use Rattle.map_history.specs.Report.{Columns, Answer, AnswerLine, Report}
+use Rattle.map_history.specs.LegalReport.{Line, Run, Precedes, columns_of, columns_at}
+use Rattle.map_history.specs.LegalReport.{marks_of, IsLegalReport}
 use Rattle.forest_law.specs.State.{ForestState}
 use Rattle.index_law.specs.State.{Entries}
 use Rattle.index_law.specs.Answers.{MadeChange}
@@ -21,6 +24,7 @@ use Rattle.call_law.specs.Spoken.{View, spoken}
 use Rattle.call_law.specs.Once.{AnswersOnce}
 use Rattle.lane_law.specs.Worked.{answered, AreInOrder, Worked}
 use Rattle.lane_law.specs.Runs.{all_sayings, HasNoScan, RunsAll, AreEntries}
+use Rattle.lane_law.specs.Taught.{Taught, IsTaught, AreTold}
 use Rattle.lane_law.specs.Trail.{Changed, IsEntered, IsTrail}
 use Rattle.lane_law.specs.Merged.{notes_of, lane_notes, all_notes, HasNotes, IsNumbered, HasMerged}
 
@@ -86,3 +90,18 @@ abbrev pub TrailsAreWhole : Type 0
 TrailsAreWhole = (run : Run) (report : Report) (v : View) (w : ForestState) → IsTrail run report v
     → Fits IsRight IsReference w v → (i n : ℕ) (e : Entry MadeChange) → IsEntry w i n e
     → Changed v i (n + 1) e.by e.change × IsEntered report i (n + 1) e.by e.change
+
+-- A lane whose pass of the learner tried what its answers ask for goes on by one line, after whose
+-- search that was tried for which the word in its column asks.
+pub record LanesTeach : Type 0 where
+  pub none : (l : Knows) → Taught l l [] []
+  pub more : (l m n : Knows) (lines : List Line) (answers : List AnswerLine) (line : Line)
+      (answer : Answer) (c : Columns) → length answers ≡ length lines
+      → columns_of answer ≡ c ∷ [] → Taught l m lines answers
+      → TriesAfter m line.op.index c.how n
+      → Taught l n (lines ++ line ∷ []) (answers ++ answered line answer ∷ [])
+
+-- of each index the pass of all lanes tried as many hits, misses and descents as its columns tell
+abbrev pub TriesAreColumns : Type 0
+TriesAreColumns = (run : Run) (report : Report) (m : Knows) → IsTaught run report m
+    → (i : ℕ) → AreTold m.tries i (columns_at run report i)

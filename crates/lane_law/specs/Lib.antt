@@ -3,6 +3,7 @@ pub mod Worked
 pub mod Runs
 pub mod Merged
 pub mod Trail
+pub mod Taught
 pub mod Reports
 pub mod Laws
 pub mod Example

@@ -1,4 +1,4 @@
--- Lines that ask indexes with so many fields, and answers that tell of no hash.
+-- Lines that ask indexes with so many fields.
 use Rattle.std.specs.Prelude.{ℕ, ◌≡◌, ◌≤◌, List, length}
 use Rattle.std.specs.List.{AllByRecursion}
 use mathlib.Core.Option.{some}
@@ -7,7 +7,6 @@ use Rattle.key_tuple.specs.Order.{FieldList}
 use Rattle.map_history.specs.declared.op.Op.{Op}
 use Rattle.map_history.specs.declared.op.Op.TheVariants as op
 use Rattle.map_history.specs.declared.line.Line.{Line}
-use Rattle.map_history.specs.Report.{Answer, Replied, LogFull, SpaceFull, Scanned, dashes}
 
 -- a key of an index that has so many fields
 abbrev pub IsKeyOf : List ℕ → ℕ → FieldList → Type 0
@@ -30,10 +29,3 @@ IsOpOf fields (op.Scan index from to limit) = ⊥
 -- lines that all ask so
 abbrev pub AreLinesOf : List ℕ → List Line → Type 0
 AreLinesOf fields lines = AllByRecursion (λ (line : Line). IsOpOf fields line.op) lines
-
--- an answer that tells of no hash: its columns are dashes
-abbrev pub HasDashes : Answer → Type 0
-HasDashes (Replied reply point columns) = columns ≡ dashes
-HasDashes (LogFull n columns) = columns ≡ dashes
-HasDashes (SpaceFull columns) = columns ≡ dashes
-HasDashes (Scanned pieces) = ⊥

@@ -2,6 +2,7 @@
 ghost use Rattle.lane_law.specs.Example.{LanesExample, ExampleStands};
 ghost use Rattle.lane_law.specs.Laws.{LanesGoOn, RunsJoin, LanesAreLegal, MergedLogsAreLists};
 ghost use Rattle.lane_law.specs.Laws.{MergedLogsAreEntries, PassesAreTrails, TrailsAreWhole};
+ghost use Rattle.lane_law.specs.Laws.{LanesTeach, TriesAreColumns};
 
 /// A lane goes on line by line.
 pub fn lanes_go_on()
@@ -36,6 +37,16 @@ pub fn passes_are_trails()
 /// A space has no changes but those of such a pass.
 pub fn trails_are_whole()
     ensures { TrailsAreWhole }
+{}
+
+/// A lane's pass of the learner goes on line by line.
+pub fn lanes_teach()
+    ensures { LanesTeach }
+{}
+
+/// What was tried is as much as the columns of the report tell.
+pub fn tries_are_columns()
+    ensures { TriesAreColumns }
 {}
 
 /// Two lanes of one line each, for which all this holds.

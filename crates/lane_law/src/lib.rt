@@ -5,6 +5,7 @@
 mod laws;
 
 pub use laws::{
-    example_stands, lanes_are_legal, lanes_go_on, merged_logs_are_entries, merged_logs_are_lists,
-    passes_are_trails, runs_join, trails_are_whole, worked_example,
+    example_stands, lanes_are_legal, lanes_go_on, lanes_teach, merged_logs_are_entries,
+    merged_logs_are_lists, passes_are_trails, runs_join, trails_are_whole, tries_are_columns,
+    worked_example,
 };
