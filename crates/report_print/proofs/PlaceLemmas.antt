@@ -9,7 +9,7 @@ use Rattle.list_facts.proofs.Places.{one_at}
 use Rattle.std.proofs.lemmas.List.{length-map}
 use Rattle.io_port.specs.declared.sink.Sink.{Ghosts}
 use Rattle.change_log.specs.declared.change.LaneChange.{LaneChange}
-use Rattle.change_log.specs.Log.{ChangeNote, note_of}
+use Rattle.change_log.specs.Log.{note_of}
 use Rattle.change_log.specs.Merge.{note_lists}
 use Rattle.report_print.specs.declared.halt.Halt.{Halt}
 use Rattle.report_print.specs.Prints.{PrintsTo}

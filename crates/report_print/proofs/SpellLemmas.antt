@@ -4,6 +4,7 @@ use Rattle.std.proofs.lemmas.List.{length-map}
 use Rattle.std.proofs.lemmas.List.Concat.{concat_is}
 use Rattle.std.proofs.lemmas.List.Folds.{flat_map-map}
 use Rattle.std.specs.List.{slice_get, AllByRecursion, AllZip, flat_map, enumerate_from, zip}
+use Rattle.map_history.specs.declared.counts.Counts.{Counts}
 use Rattle.map_history.specs.Report.{AnswerLine, ChangeLine, IndexPart}
 use Rattle.map_history.specs.Spelling.{spell, change_text, changes_text, stats_text, lane_text}
 use Rattle.report_text.specs.Texts.{answer_line_text}
@@ -12,7 +13,7 @@ use Rattle.change_log.specs.Entries.{printed_entry, ArePrinted, AreCountedUp}
 use Rattle.report_text.specs.Printed.{entry_text, noted_text}
 use Rattle.list_facts.proofs.Elements.{all_zip_length}
 use Rattle.report_print.specs.Texts as text
-use Rattle.report_print.specs.Texts.{first_line, end_line, lane_line, lanes_text, changes_line, index_text, indexes_text, name_stats, report_text_of}
+use Rattle.report_print.specs.Texts.{first_line, end_line, lane_line, lanes_text, changes_line, index_text, indexes_text, index_stats, statistics_text, report_text_of}
 use Rattle.lane_law.specs.Reports.{part_with, report_with}
 
 -- the lanes from the number k + 1 on
@@ -43,27 +44,29 @@ printed_long : (notes : List ChangeNote) (entries : List ChangeLine) → ArePrin
 printed_long notes entries printed = sym (length-map notes printed_entry) ∙ (ap length printed ∙ length-map entries (λ (e : ChangeLine). Some e))
 
 -- an index
-index_spelled : (name : List ℕ) (notes : List ChangeNote) (entries : List ChangeLine) → ArePrinted notes entries → AreCountedUp notes → index_text (name, notes) ≡ changes_text (part_with (name, entries))
-index_spelled name notes entries printed counted =
+index_spelled : (name : List ℕ) (notes : List ChangeNote) (entries : List ChangeLine) (counts : Counts) → ArePrinted notes entries → AreCountedUp notes → index_text (name, notes) ≡ changes_text (part_with (name, (entries, counts)))
+index_spelled name notes entries counts printed counted =
     let rest = changes_spelled 0 notes entries printed (λ n note at. let is = counted n note at in omega arith) in
     λ j. changes_line name (printed_long notes entries printed j) ++ rest j
 
-indexes_spelled : (names : List (List ℕ)) (changes : List (List ChangeNote)) (entries : List (List ChangeLine)) → AllZip ArePrinted changes entries → AllByRecursion AreCountedUp changes → indexes_text names changes ≡ flat_map changes_text (map part_with (zip names entries))
-indexes_spelled [] changes entries printed counted = refl
-indexes_spelled (name ∷ names) [] [] printed counted = refl
-indexes_spelled (name ∷ names) [] (list ∷ entries) printed counted = absurd printed
-indexes_spelled (name ∷ names) (notes ∷ changes) [] printed counted = absurd printed
-indexes_spelled (name ∷ names) (notes ∷ changes) (list ∷ entries) printed counted = λ j. index_spelled name notes list printed.0 counted.0 j ++ indexes_spelled names changes entries printed.1 counted.1 j
+indexes_spelled : (names : List (List ℕ)) (changes : List (List ChangeNote)) (entries : List (List ChangeLine)) (counts : List Counts) → length counts ≡ length names → AllZip ArePrinted changes entries → AllByRecursion AreCountedUp changes → indexes_text names changes ≡ flat_map changes_text (map part_with (zip names (zip entries counts)))
+indexes_spelled [] changes entries counts long printed counted = refl
+indexes_spelled (name ∷ names) [] [] counts long printed counted = refl
+indexes_spelled (name ∷ names) [] (list ∷ entries) counts long printed counted = absurd printed
+indexes_spelled (name ∷ names) (notes ∷ changes) [] counts long printed counted = absurd printed
+indexes_spelled (name ∷ names) (notes ∷ changes) (list ∷ entries) [] long printed counted = absurd (omega (arith, long))
+indexes_spelled (name ∷ names) (notes ∷ changes) (list ∷ entries) (n ∷ counts) long printed counted = λ j. index_spelled name notes list n printed.0 counted.0 j ++ indexes_spelled names changes entries counts (omega (arith, long)) printed.1 counted.1 j
 
 -- the statistics
-statistics_spelled : (names : List (List ℕ)) (entries : List (List ChangeLine)) → length entries ≡ length names → flat_map name_stats names ≡ flat_map (λ (part : IndexPart). stats_text part.name part.counts) (map part_with (zip names entries))
-statistics_spelled [] entries long = refl
-statistics_spelled (name ∷ names) [] long = absurd (omega (arith, long))
-statistics_spelled (name ∷ names) (list ∷ entries) long = ap (λ t. name_stats name ++ t) (statistics_spelled names entries (omega (arith, long)))
+statistics_spelled : (names : List (List ℕ)) (entries : List (List ChangeLine)) (counts : List Counts) → length entries ≡ length names → statistics_text names counts ≡ flat_map (λ (part : IndexPart). stats_text part.name part.counts) (map part_with (zip names (zip entries counts)))
+statistics_spelled [] entries counts long = refl
+statistics_spelled (name ∷ names) [] counts long = absurd (omega (arith, long))
+statistics_spelled (name ∷ names) (list ∷ entries) [] long = refl
+statistics_spelled (name ∷ names) (list ∷ entries) (n ∷ counts) long = ap (λ t. index_stats (name, n) ++ t) (statistics_spelled names entries counts (omega (arith, long)))
 
 -- and all of it
-pub report_spelled : (names : List (List ℕ)) (answers : List (List AnswerLine)) (changes : List (List ChangeNote)) (entries : List (List ChangeLine)) → length changes ≡ length names → AllZip ArePrinted changes entries → AllByRecursion AreCountedUp changes
-    → report_text_of names (map (map answer_line_text) answers) changes ≡ spell (report_with answers names entries)
-report_spelled names answers changes entries long printed counted =
-    let statistics = statistics_spelled names entries (all_zip_length ArePrinted changes entries printed ∙ long) in
-    λ j. first_line ++ lanes_spelled 0 answers j ++ indexes_spelled names changes entries printed counted j ++ statistics j ++ end_line
+pub report_spelled : (names : List (List ℕ)) (answers : List (List AnswerLine)) (changes : List (List ChangeNote)) (entries : List (List ChangeLine)) (counts : List Counts) → length changes ≡ length names → length counts ≡ length names → AllZip ArePrinted changes entries → AllByRecursion AreCountedUp changes
+    → report_text_of names (map (map answer_line_text) answers) changes counts ≡ spell (report_with answers names entries counts)
+report_spelled names answers changes entries counts long counts_long printed counted =
+    let statistics = statistics_spelled names entries counts (all_zip_length ArePrinted changes entries printed ∙ long) in
+    λ j. first_line ++ lanes_spelled 0 answers j ++ indexes_spelled names changes entries counts counts_long printed counted j ++ statistics j ++ end_line

@@ -1,8 +1,8 @@
--- The text of a report, from the texts of its answers and the changes of its indexes.
+-- The text of a report, from the texts of its answers, and the changes and counts of its indexes.
 use Rattle.std.specs.Prelude.{ℕ, List, [], ◌∷◌, ◌++◌, length, codes, decimal}
 use Rattle.std.specs.List.{concat, flat_map, enumerate_from, zip}
+use Rattle.map_history.specs.declared.counts.Counts.{Counts}
 use Rattle.map_history.specs.Spelling.{stats_text}
-use Rattle.map_history.specs.Statistics.{counts_of}
 use Rattle.map_history.specs.Text.{line_of}
 use Rattle.change_log.specs.Log.{ChangeNote}
 use Rattle.report_text.specs.Printed.{noted_text}
@@ -39,11 +39,16 @@ index_text part = changes_line part.0 (length part.1) ++ flat_map noted_text par
 abbrev pub indexes_text : List (List ℕ) → List (List ChangeNote) → List ℕ
 indexes_text names changes = flat_map index_text (zip names changes)
 
--- the statistics of an index of this name, of which no word was counted
-abbrev pub name_stats : List ℕ → List ℕ
-name_stats name = stats_text name (counts_of [])
+-- the statistics of an index of this name
+abbrev pub index_stats : List ℕ × Counts → List ℕ
+index_stats index = stats_text index.0 index.1
+
+-- the statistics of all indexes
+abbrev pub statistics_text : List (List ℕ) → List Counts → List ℕ
+statistics_text names counts = flat_map index_stats (zip names counts)
 
 -- the report of some lanes over indexes of these names
-abbrev pub report_text_of : List (List ℕ) → List (List (List ℕ)) → List (List ChangeNote) → List ℕ
-report_text_of names answers changes = first_line ++ lanes_text answers
-    ++ indexes_text names changes ++ flat_map name_stats names ++ end_line
+abbrev pub report_text_of : List (List ℕ) → List (List (List ℕ)) → List (List ChangeNote)
+    → List Counts → List ℕ
+report_text_of names answers changes counts = first_line ++ lanes_text answers
+    ++ indexes_text names changes ++ statistics_text names counts ++ end_line
