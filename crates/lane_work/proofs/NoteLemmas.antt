@@ -1,5 +1,5 @@
--- What a line notes by the word that it is told is what its answer notes.
-use Rattle.std.proofs.Common.{◌≡◌, ◌≢◌, ℕ, ◌+◌, [], ap, subst, ◌∙◌, refl, Option, Some, None}
+-- What a line notes by the word that it is told is what its answer notes, and the columns that it is told are those of its answer.
+use Rattle.std.proofs.Common.{◌≡◌, ◌≢◌, ℕ, ◌+◌, [], ◌∷◌, ap, sym, ◌∙◌, refl, Option, Some, None}
 use Rattle.list_facts.proofs.Places.{same_some}
 use Rattle.map_history.specs.declared.columns.How.{How}
 use Rattle.map_history.specs.declared.columns.Note.{Note}
@@ -8,11 +8,10 @@ use Rattle.map_history.specs.declared.reply.Reply.TheVariants as word
 use Rattle.map_history.specs.Map.{Pair}
 use Rattle.map_history.specs.Operation.{Ask, Get, Make, Seek, Scan}
 use Rattle.map_history.specs.Reply.{MapReply, Value, Row, Done, Absent, Duplicate}
-use Rattle.map_history.specs.Report.{Columns, Answer, Replied, LogFull, SpaceFull, dashes}
-use Rattle.map_history.specs.LegalReport.{Line}
+use Rattle.map_history.specs.Report.{Columns, Answer, Replied, LogFull, SpaceFull}
+use Rattle.map_history.specs.LegalReport.{Line, columns_of}
 use Rattle.map_history.specs.Told.{said, replied_at, answer_of}
 use Rattle.lane_law.specs.Merged.{notes_of}
-use Rattle.lane_law.specs.Lines.{HasDashes}
 use Rattle.lane_work.specs.Works.{told_notes}
 
 -- a reply without a change notes nothing
@@ -67,16 +66,17 @@ noted_by k line word.Duplicate point how note row answer e = plain_notes k line 
 noted_by k line word.SpaceFull point how note row answer e = ap (notes_of k line) (same_some (SpaceFull (record { how = how; note = note })) answer e)
 noted_by k line (word.LogFull n) point how note row answer e = ap (notes_of k line) (same_some (LogFull n (record { how = how; note = note })) answer e)
 
-reply_dashes : (o : Option MapReply) (point : Option ℕ) (columns : Columns) (answer : Answer) → columns ≡ dashes → replied_at o point columns ≡ Some answer → HasDashes answer
-reply_dashes None point columns answer is e = absurd cc
-reply_dashes (Some r) None columns answer is e = absurd cc
-reply_dashes (Some r) (Some p) columns answer is e = subst HasDashes (same_some (Replied r p columns) answer e) is
+reply_columns : (o : Option MapReply) (point : Option ℕ) (columns : Columns) (answer : Answer) → replied_at o point columns ≡ Some answer → columns_of answer ≡ columns ∷ []
+reply_columns None point columns answer e = absurd cc
+reply_columns (Some r) None columns answer e = absurd cc
+reply_columns (Some r) (Some p) columns answer e = ap columns_of (sym (same_some (Replied r p columns) answer e))
 
--- an answer that is told with dashes, and isn't that space is full, has dashes
-pub dashes_told : (ask : Ask) (reply : Reply) (point : Option ℕ) (how : How) (note : Note) (row : Pair) (answer : Answer) → answer_of ask (record { reply = reply; point = point; how = how; note = note }) row ≡ Some answer → record { how = how; note = note } ≡ dashes → HasDashes answer
-dashes_told ask word.Found point how note row answer e is = reply_dashes (said ask word.Found row) point (record { how = how; note = note }) answer is e
-dashes_told ask word.Absent point how note row answer e is = reply_dashes (Some Absent) point (record { how = how; note = note }) answer is e
-dashes_told ask word.Ok point how note row answer e is = reply_dashes (Some Done) point (record { how = how; note = note }) answer is e
-dashes_told ask word.Duplicate point how note row answer e is = reply_dashes (Some Duplicate) point (record { how = how; note = note }) answer is e
-dashes_told ask word.SpaceFull point how note row answer e is = subst HasDashes (same_some (SpaceFull (record { how = how; note = note })) answer e) is
-dashes_told ask (word.LogFull n) point how note row answer e is = subst HasDashes (same_some (LogFull n (record { how = how; note = note })) answer e) is
+-- an answer has the two columns that were told
+pub columns_told_by : (ask : Ask) (reply : Reply) (point : Option ℕ) (how : How) (note : Note) (row : Pair) (answer : Answer) → answer_of ask (record { reply = reply; point = point; how = how; note = note }) row ≡ Some answer
+    → columns_of answer ≡ record { how = how; note = note } ∷ []
+columns_told_by ask word.Found point how note row answer e = reply_columns (said ask word.Found row) point (record { how = how; note = note }) answer e
+columns_told_by ask word.Absent point how note row answer e = reply_columns (Some Absent) point (record { how = how; note = note }) answer e
+columns_told_by ask word.Ok point how note row answer e = reply_columns (Some Done) point (record { how = how; note = note }) answer e
+columns_told_by ask word.Duplicate point how note row answer e = reply_columns (Some Duplicate) point (record { how = how; note = note }) answer e
+columns_told_by ask word.SpaceFull point how note row answer e = ap columns_of (sym (same_some (SpaceFull (record { how = how; note = note })) answer e))
+columns_told_by ask (word.LogFull n) point how note row answer e = ap columns_of (sym (same_some (LogFull n (record { how = how; note = note })) answer e))

@@ -14,12 +14,12 @@ use Rattle.index_engine.specs.Tells.{IsTold, TellsOnce}
 use Rattle.index_engine.specs.Traces.{TellsOfWrite}
 
 any_row : (c : MapChange) (reply : Reply) (point : Option ℕ) (how : How) (note : Note) (row other : Pair) (answer : Answer) → IsTold (Make c) (record { reply = reply; point = point; how = how; note = note }) row answer → IsTold (Make c) (record { reply = reply; point = point; how = how; note = note }) other answer
-any_row c word.Found point how note row other answer t = record { is = t.is; point = t.point; key = t.key; dashed = t.dashed }
-any_row c word.Absent point how note row other answer t = record { is = t.is; point = t.point; key = t.key; dashed = t.dashed }
-any_row c word.Ok point how note row other answer t = record { is = t.is; point = t.point; key = t.key; dashed = t.dashed }
-any_row c word.Duplicate point how note row other answer t = record { is = t.is; point = t.point; key = t.key; dashed = t.dashed }
-any_row c word.SpaceFull point how note row other answer t = record { is = t.is; point = t.point; key = t.key; dashed = t.dashed }
-any_row c (word.LogFull n) point how note row other answer t = record { is = t.is; point = t.point; key = t.key; dashed = t.dashed }
+any_row c word.Found point how note row other answer t = record { is = t.is; point = t.point; key = t.key; stands = t.stands }
+any_row c word.Absent point how note row other answer t = record { is = t.is; point = t.point; key = t.key; stands = t.stands }
+any_row c word.Ok point how note row other answer t = record { is = t.is; point = t.point; key = t.key; stands = t.stands }
+any_row c word.Duplicate point how note row other answer t = record { is = t.is; point = t.point; key = t.key; stands = t.stands }
+any_row c word.SpaceFull point how note row other answer t = record { is = t.is; point = t.point; key = t.key; stands = t.stands }
+any_row c (word.LogFull n) point how note row other answer t = record { is = t.is; point = t.point; key = t.key; stands = t.stands }
 
 -- so it is the same whatever row stands in the buffer
 pub shows_no_row : (told : Told) (v v' : View) (i : ℕ) (c : MapChange) (row other : Pair)

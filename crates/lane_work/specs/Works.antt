@@ -1,29 +1,35 @@
 -- What a lane's work is.
 use Rattle.std.specs.Prelude.{ℕ, ◌≡◌, Option, Some, List, [], ◌∷◌, ◌++◌, map}
+use Rattle.std.specs.List.{zip}
+use Rattle.map_history.specs.declared.counts.Counts.{Counts}
 use Rattle.map_history.specs.declared.reply.Reply.{Reply}
 use Rattle.map_history.specs.declared.reply.Reply.TheVariants as word
 use Rattle.map_history.specs.declared.reply.Told.{Told}
 use Rattle.map_history.specs.declared.line.Line.{Line}
 use Rattle.map_history.specs.Lines.{line_text}
-use Rattle.std.specs.List.{AllByRecursion}
 use Rattle.change_log.specs.Log.{ChangeNote, Log}
 use Rattle.map_history.specs.LegalReport as legal
 use Rattle.map_history.specs.Report.{AnswerLine}
-use Rattle.call_law.specs.Spoken.{View}
+use Rattle.index_engine.specs.declared.engine.EnginePass.{EnginePass}
+use Rattle.index_engine.specs.Engines.{known, learnt}
 use Rattle.report_text.specs.Texts.{answer_line_text}
-use Rattle.lane_law.specs.Lines.{HasDashes}
 use Rattle.lane_law.specs.Worked.{Worked}
 use Rattle.lane_law.specs.Merged.{lane_notes}
+use Rattle.lane_law.specs.Taught.{Taught}
+use Rattle.column_counts.specs.Counted.{AreCounts}
 
--- The lines were answered one after another by a pass that knew v and knows v': their answers are
--- printed so, the changes among them are noted, and no column tells of a hash.
-pub record Works (v v' : View) (lines : List legal.Line) (texts : List (List ℕ))
-    (log : Log) : Type 0 where
+-- The lines were answered one after another by a pass that was p and is q, which tried what their
+-- columns ask for: their answers are printed so, the changes among them are noted, and their columns
+-- are counted index by index.
+pub record Works (p q : EnginePass) (lines : List legal.Line) (texts : List (List ℕ)) (log : Log)
+    (counts : List Counts) : Type 0 where
   pub answers : List AnswerLine
-  pub worked : Worked v v' lines answers
+  pub worked : Worked (known p) (known q) lines answers
+  pub taught : Taught (learnt p) (learnt q) lines answers
   pub printed : texts ≡ map answer_line_text answers
-  pub noted : log.noted ≡ lane_notes v.low lines answers
-  pub dashed : AllByRecursion (λ (a : AnswerLine). HasDashes a.answer) answers
+  pub noted : log.noted ≡ lane_notes (known p).low lines answers
+  pub counted : AreCounts (known p).terms.indexes (λ i. legal.columns_in i (zip lines answers))
+      counts
 
 -- what is noted of a line that is told so: a change that was made
 abbrev pub told_notes : ℕ → legal.Line → Told → List ChangeNote

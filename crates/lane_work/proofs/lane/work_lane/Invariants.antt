@@ -1,6 +1,6 @@
 use Rattle.std.proofs.Common.{◌≡◌, ◌≤◌, length, take}
 use Rattle.map_history.specs.Lines.{line_texts}
-use Rattle.index_engine.specs.Engines.{known, IsOf, IsSame}
+use Rattle.index_engine.specs.Engines.{IsOf, IsSame}
 use Rattle.lane_work.specs.Works.{Works}
 use Rattle.lane_work.proofs.lane.work_lane.Given as goal
 
@@ -9,7 +9,7 @@ abbrev pub invariant-loop-line : goal.invariant-loop-line
 invariant-loop-line g l = record {
   same : IsSame l.fn.pass l.pass;
   own : IsOf l.engine l.pass;
-  works : Works (known l.fn.pass) (known l.pass) (line_texts (take l.line-index l.lines)) l.answers l.log;
+  works : Works l.fn.pass l.pass (line_texts (take l.line-index l.lines)) l.answers l.log l.counts.items;
   room : l.log.room ≡ length l.lines;
   few : length l.log.noted ≤ l.line-index;
 }
