@@ -5,8 +5,11 @@ use mathlib.Core.Option.{some, some-injective, some-ne-none}
 use lib.ListN.{get_elem?}
 use Rattle.latch_law.specs.Views.{said_below, said_from, middle, left_part, right_part}
 use Rattle.call_law.specs.Spoken.{View, OwnAnswer}
-use Rattle.lane_work.specs.Engine.{Engine, EnginePass, known, IsOf}
-use Rattle.lane_threads.specs.Dealt.{said_by, IsSigned, IsLane, AreLanes, IsShare, AreDealt, AddsDealt}
+use Rattle.list_facts.specs.Parts.{made_below, made_from}
+use Rattle.search_info.specs.Parts.{maker, cut_at, lower_part, upper_part}
+use Rattle.search_info.specs.declared.knows.Knows.{Knows}
+use Rattle.lane_work.specs.Engine.{Engine, EnginePass, known, learnt, IsOf}
+use Rattle.lane_threads.specs.Dealt.{said_by, IsSigned, IsLane, AreLanes, IsShare, AreDealt, AreFresh, AddsDealt}
 use Rattle.lane_threads.proofs.ListLemmas.{at_either, within}
 
 -- each answer has a number from low up to end
@@ -56,24 +59,33 @@ by_all n (x ∷ qs) all = let at = all 0 x refl in let least = at.0 in let most 
     ap (λ (s : List OwnAnswer). x ∷ s) (by_all n qs (λ j q e. all (suc j) q e)) ∙ ap (λ (b : Bool). cond b (x ∷ said_by n qs) (said_by n qs)) (sym (eq-eqb x.by n (omega arith)))
 
 -- what a lower number has of the left part, it has of the whole
-share_left : (whole u p : EnginePass) (n : ℕ) → known u ≡ left_part (known whole) → u.sizes ≡ whole.sizes → n < (known u).end → IsShare u n p → IsShare whole n p
-share_left whole u p n left sizes under share = record {
+share_left : (whole u p : EnginePass) (n : ℕ) → known u ≡ left_part (known whole) → learnt u ≡ lower_part (learnt whole) → u.sizes ≡ whole.sizes → n < (known u).end → IsShare u n p → IsShare whole n p
+share_left whole u p n left lower sizes under share = record {
   sizes = share.sizes ∙ sizes;
   said = λ signed. share.said (subst IsSigned (sym left) (between_below (known whole).low (known whole).end (middle (known whole)) (known whole).said signed))
       ∙ (ap (λ (v : View). said_by n v.said) left ∙ by_below n (middle (known whole)) (known whole).said (subst (λ (v : View). n < v.end) left under));
   seen = share.seen ∙ ap (λ (v : View). v.seen) left;
   references = share.references ∙ ap (λ (v : View). v.references) left;
+  untaught = λ none. share.untaught (ap (λ (m : Knows). m.tries) lower ∙ ap (made_below maker (cut_at (learnt whole))) none);
 }
 
 -- what an upper number has of the right part, it has of the whole
-share_right : (whole w p : EnginePass) (n : ℕ) → known w ≡ right_part (known whole) → w.sizes ≡ whole.sizes → (known w).low ≤ n → IsShare w n p → IsShare whole n p
-share_right whole w p n right sizes over share = record {
+share_right : (whole w p : EnginePass) (n : ℕ) → known w ≡ right_part (known whole) → learnt w ≡ upper_part (learnt whole) → w.sizes ≡ whole.sizes → (known w).low ≤ n → IsShare w n p → IsShare whole n p
+share_right whole w p n right upper sizes over share = record {
   sizes = share.sizes ∙ sizes;
   said = λ signed. share.said (subst IsSigned (sym right) (between_from (known whole).low (known whole).end (middle (known whole)) (known whole).said signed))
       ∙ (ap (λ (v : View). said_by n v.said) right ∙ by_from n (middle (known whole)) (known whole).said (subst (λ (v : View). v.low ≤ n) right over));
   seen = share.seen ∙ ap (λ (v : View). v.seen) right;
   references = share.references ∙ ap (λ (v : View). v.references) right;
+  untaught = λ none. share.untaught (ap (λ (m : Knows). m.tries) upper ∙ ap (made_from maker (cut_at (learnt whole))) none);
 }
+
+-- where the whole had said and tried nothing, no dealt pass has
+pub fresh_dealt : (engine : Engine) (whole : EnginePass) (passes : List EnginePass) → AreDealt engine whole passes → (known whole).said ≡ [] → (learnt whole).tries ≡ [] → AreFresh passes
+fresh_dealt engine whole passes deal none untaught k p e =
+    let share = deal.shares k p e in
+    let signed : IsSigned (known whole) = λ j q at. absurd (some-ne-none q (sym (ap (λ (qs : List OwnAnswer). get_elem? qs j) (sym none) ∙ at))) in
+    (share.said signed ∙ ap (said_by ((known whole).low + k)) none, share.untaught untaught)
 
 -- a pass of one number is dealt as it is
 pub added_one : (engine : Engine) (p : EnginePass) (old new : List EnginePass) → IsOf engine p → (known p).end ≡ (known p).low + 1 → new ≡ old ++ p ∷ [] → AddsDealt engine p old new
@@ -84,13 +96,13 @@ added_one engine p old new own one added = record { passes = p ∷ []; added = a
     lanes (suc k) q e = absurd (some-ne-none q (sym e))
 
     share : IsShare p (known p).low p
-    share = record { sizes = refl; said = λ signed. by_all (known p).low (known p).said (subst (λ (n : ℕ). IsBetween (known p).low n (known p).said) one signed); seen = refl; references = refl }
+    share = record { sizes = refl; said = λ signed. by_all (known p).low (known p).said (subst (λ (n : ℕ). IsBetween (known p).low n (known p).said) one signed); seen = refl; references = refl; untaught = λ none. none }
 
     shares : (k : ℕ) (q : EnginePass) → get_elem? (p ∷ []) k ≡ some q → IsShare p ((known p).low + k) q
     shares zero q e = let same : (known p).low ≡ (known p).low + 0 = omega arith in subst (λ (n : ℕ). IsShare p n q) same (subst (IsShare p (known p).low) (some-injective p q e) share)
     shares (suc k) q e = absurd (some-ne-none q (sym e))
 
-module _ (engine : Engine) (whole u w : EnginePass) (left : known u ≡ left_part (known whole)) (right : known w ≡ right_part (known whole)) (sizes : u.sizes ≡ whole.sizes) (sizes' : w.sizes ≡ whole.sizes) where
+module _ (engine : Engine) (whole u w : EnginePass) (left : known u ≡ left_part (known whole)) (right : known w ≡ right_part (known whole)) (lower : learnt u ≡ lower_part (learnt whole)) (upper : learnt w ≡ upper_part (learnt whole)) (sizes : u.sizes ≡ whole.sizes) (sizes' : w.sizes ≡ whole.sizes) where
   low_same : (known u).low ≡ (known whole).low
   low_same = ap (λ (v : View). v.low) left
 
@@ -118,8 +130,8 @@ module _ (engine : Engine) (whole u w : EnginePass) (left : known u ≡ left_par
       lane k p (inr h) = subst (λ (n : ℕ). IsLane engine n p) (late k h.0 h.1) (b.lanes h.0 p h.2)
 
       share : (k : ℕ) (p : EnginePass) → (get_elem? ps k ≡ some p) ⊎ ((i : ℕ) × (k ≡ length ps + i) × (get_elem? qs i ≡ some p)) → IsShare whole ((known whole).low + k) p
-      share k p (inl e) = subst (λ (n : ℕ). IsShare whole n p) (early k) (share_left whole u p ((known u).low + k) left sizes (let below = within ps k p e in let x = a.long in omega (arith, x, below)) (a.shares k p e))
-      share k p (inr h) = subst (λ (n : ℕ). IsShare whole n p) (late k h.0 h.1) (share_right whole w p ((known w).low + h.0) right sizes' (omega arith) (b.shares h.0 p h.2))
+      share k p (inl e) = subst (λ (n : ℕ). IsShare whole n p) (early k) (share_left whole u p ((known u).low + k) left lower sizes (let below = within ps k p e in let x = a.long in omega (arith, x, below)) (a.shares k p e))
+      share k p (inr h) = subst (λ (n : ℕ). IsShare whole n p) (late k h.0 h.1) (share_right whole w p ((known w).low + h.0) right upper sizes' (omega arith) (b.shares h.0 p h.2))
 
   -- so they are dealt where the second half is
   pub cut_ok : {E : Type 0} (r : Result (Unit {0}) E) (old between new : List EnginePass) → AddsDealt engine u old between → IfOk r (λ _. AddsDealt engine w between new) → IfOk r (λ _. AddsDealt engine whole old new)

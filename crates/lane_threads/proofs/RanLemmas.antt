@@ -1,23 +1,30 @@
 -- What lanes that worked told, noted and said, lane by lane.
 use Rattle.std.proofs.Common.{◌≡◌, ℕ, zero, suc, ◌+◌, Some, Option, IfSome, List, [], ◌∷◌, ◌++◌, length, map, refl, ap, ap₂, sym, ◌∙◌, subst, arith}
-use Rattle.std.specs.List.{AllByRecursion, AllZip, enumerate_from}
+use Rattle.std.proofs.lemmas.List.{map-append}
+use Rattle.std.specs.List.{AllByRecursion, AllZip, enumerate_from, zip}
 use Rattle.std.specs.Prelude.{Vec}
 use Rattle.std.specs.declared.alloc.Global.{Global}
 use mathlib.Core.Option.{some, some-injective, some-ne-none}
 use lib.ListN.{get_elem?}
+use Rattle.latch_law.specs.declared.knows.Terms.{Terms}
+use Rattle.column_counts.specs.Counted.{AreCounts}
+use Rattle.map_history.specs.declared.counts.Counts.{Counts}
 use Rattle.map_history.specs.declared.sizes.Sizes.{Sizes}
 use Rattle.map_history.specs.LegalReport as legal
 use Rattle.map_history.specs.Report.{AnswerLine}
 use Rattle.map_history.specs.declared.line.Line.{Line}
 use Rattle.map_history.specs.Lines.{line_texts}
-use Rattle.call_law.specs.Spoken.{View, Spoken, OwnAnswer, spoken}
-use Rattle.lane_work.specs.Engine.{Engine, EnginePass, known, IsOf}
+use Rattle.index_law.specs.Shape.{Shape}
+use Rattle.call_law.specs.Spoken.{Spoken, OwnAnswer, spoken}
+use Rattle.lane_work.specs.Engine.{Engine, EnginePass, known, learnt, IsOf, indexes_of}
 use Rattle.report_text.specs.Texts.{answer_line_text}
 use Rattle.lane_law.specs.Merged.{lane_notes, all_notes}
+use Rattle.lane_law.specs.Taught.{told_try, lane_tries, all_tries}
 use Rattle.lane_law.specs.Worked.{AreInOrder, lane_sayings}
-use Rattle.lane_law.specs.Lines.{HasDashes}
+use Rattle.search_info.specs.declared.knows.Try.{Try}
 use Rattle.lane_work.specs.Works.{Works}
 use Rattle.lane_threads.specs.Dealt.{IsLane, AreLanes, AreFresh}
+use Rattle.lane_threads.specs.Gathered.{all_tried}
 use Rattle.lane_threads.specs.Said.{SayLanes}
 use Rattle.lane_threads.specs.Together.{lane_texts}
 use Rattle.lane_threads.specs.declared.doer.DoneLane.{DoneLane}
@@ -29,12 +36,13 @@ use Rattle.lane_threads.specs.Doing.{DoesLane, WorkedOnce, IsReadyFor, AreReadyF
 abbrev pub HaveSizes : Sizes → List EnginePass → Type 0
 HaveSizes sizes passes = (k : ℕ) (p : EnginePass) → get_elem? passes k ≡ some p → p.sizes ≡ sizes
 
--- the lane n, which had said nothing, worked these lines
+-- the lane n, which had said and tried nothing, worked these lines
 pub record IsRan (engine : Engine) (sizes : Sizes) (numbered : ℕ × List legal.Line) (done : DoneLane) : Type 0 where
-  pub view : View
-  pub fresh : view.said ≡ []
-  pub low : view.low ≡ numbered.0
-  pub works : Works view (known done.pass) numbered.1 done.work.answers done.work.log
+  pub first : EnginePass
+  pub fresh : (known first).said ≡ []
+  pub untaught : (learnt first).tries ≡ []
+  pub low : (known first).low ≡ numbered.0
+  pub works : Works first done.pass numbered.1 done.work.answers done.work.log done.work.counts.items
   pub one : IsLane engine numbered.0 done.pass
   pub sizes_are : done.pass.sizes ≡ sizes
 
@@ -52,7 +60,7 @@ if_some P o x is h = subst (λ (z : Option _). IfSome z P) is h
 
 module _ (engine : Engine) (sizes : Sizes) where
   -- a lane that was ready and is done
-  ran_one : (n : ℕ) (p : EnginePass) (lines : List Line) (doer doer' : LaneDoer) (done : DoneLane) → IsReadyFor engine p lines doer → WorkedOnce doer doer' → doer'.done ≡ Some done → IsLane engine n p → (known p).said ≡ [] → p.sizes ≡ sizes
+  ran_one : (n : ℕ) (p : EnginePass) (lines : List Line) (doer doer' : LaneDoer) (done : DoneLane) → IsReadyFor engine p lines doer → WorkedOnce doer doer' → doer'.done ≡ Some done → IsLane engine n p → ((known p).said ≡ []) × ((learnt p).tries ≡ []) → p.sizes ≡ sizes
       → IsRan engine sizes (n, line_texts lines) done
   ran_one n p lines doer doer' done ready worked is one fresh same =
       let lane = ready.lane in
@@ -60,10 +68,11 @@ module _ (engine : Engine) (sizes : Sizes) where
       let pass_is = ready.pass_is in
       let low : (known lane.pass).low ≡ n = ap (λ (q : EnginePass). (known q).low) pass_is ∙ one.low in
       record {
-        view = known lane.pass;
-        fresh = ap (λ (q : EnginePass). (known q).said) pass_is ∙ fresh;
+        first = lane.pass;
+        fresh = ap (λ (q : EnginePass). (known q).said) pass_is ∙ fresh.0;
+        untaught = ap (λ (q : EnginePass). (learnt q).tries) pass_is ∙ fresh.1;
         low = low;
-        works = subst (λ (ls : List Line). Works (known lane.pass) (known done.pass) (line_texts ls) done.work.answers done.work.log) ready.lines_are does.works;
+        works = subst (λ (ls : List Line). Works lane.pass done.pass (line_texts ls) done.work.answers done.work.log done.work.counts.items) ready.lines_are does.works;
         one = record {
           own = subst (λ (e : Engine). IsOf e done.pass) ready.engine_is does.own;
           low = does.works.worked.numbers.low ∙ low;
@@ -99,10 +108,11 @@ module _ (engine : Engine) (sizes : Sizes) where
     pub answers : List (List AnswerLine)
     pub long : length done ≡ length lanes
     pub printed : map (λ (d : DoneLane). d.work.answers) done ≡ map (λ (told : List AnswerLine). map answer_line_text told) answers
-    pub dashed : AllByRecursion (λ (told : List AnswerLine). AllByRecursion (λ (a : AnswerLine). HasDashes a.answer) told) answers
     pub noted : map (λ (d : DoneLane). d.work.log.noted) done ≡ all_notes n lanes answers
+    pub counted : AllZip (λ (x : List legal.Line × List AnswerLine) (counts : List Counts). AreCounts (indexes_of engine) (λ i. legal.columns_in i (zip x.0 x.1)) counts) (zip lanes answers) (map (λ (d : DoneLane). d.work.counts.items) done)
     pub in_order : AllZip AreInOrder lanes answers
     pub says : SayLanes n (map (λ (d : DoneLane). d.pass) done) lanes answers
+    pub tried : map told_try (all_tried (map (λ (d : DoneLane). d.pass) done)) ≡ all_tries n lanes answers
     pub own : AreLanes engine n (map (λ (d : DoneLane). d.pass) done)
     pub sizes_are : HaveSizes sizes (map (λ (d : DoneLane). d.pass) done)
 
@@ -131,14 +141,29 @@ module _ (engine : Engine) (sizes : Sizes) where
       spoken_before : List OwnAnswer → ℕ → List Spoken
       spoken_before before n = spoken before ++ lane_sayings n numbered.1 ran.works.answers
 
+  -- a lane that began with nothing tried has tried what it was answered
+  tried_one : (numbered : ℕ × List legal.Line) (d : DoneLane) (ran : IsRan engine sizes numbered d) → map told_try (learnt d.pass).tries ≡ lane_tries numbered.0 numbered.1 ran.works.answers
+  tried_one numbered d ran =
+      let taught = ran.works.taught in
+      let own : (learnt d.pass).tries ≡ taught.tries = taught.added ∙ ap (λ (ts : List Try). ts ++ taught.tries) ran.untaught in
+      let low : (learnt ran.first).low ≡ numbered.0 = ran.first.low ∙ ran.low in
+      ap (map told_try) own ∙ (taught.told ∙ ap (λ (k : ℕ). lane_tries k numbered.1 ran.works.answers) low)
+
+  -- its counts are of as many indexes as the engine has
+  counted_one : (numbered : ℕ × List legal.Line) (d : DoneLane) (ran : IsRan engine sizes numbered d) → AreCounts (indexes_of engine) (λ i. legal.columns_in i (zip numbered.1 ran.works.answers)) d.work.counts.items
+  counted_one numbered d ran =
+      let same : (known ran.first).terms.indexes ≡ indexes_of engine = ap (λ (t : Terms Shape). t.indexes) (sym ran.works.worked.numbers.terms ∙ ran.one.own.0.1) in
+      subst (λ (m : ℕ). AreCounts m (λ i. legal.columns_in i (zip numbered.1 ran.works.answers)) d.work.counts.items) same ran.works.counted
+
   pub told : (n : ℕ) (lanes : List (List legal.Line)) (done : List DoneLane) → AreRan engine sizes n lanes done → AreTold n lanes done
   told n [] [] all = record {
     answers = [];
     long = refl;
     printed = refl;
-    dashed = tt;
     noted = refl;
+    counted = tt;
     in_order = tt;
+    tried = refl;
     says = record { lanes_long = refl; told_long = refl; each = λ k q lines answers a b c. absurd (some-ne-none q (sym a)) };
     own = λ k q e. absurd (some-ne-none q (sym e));
     sizes_are = λ k q e. absurd (some-ne-none q (sym e));
@@ -152,10 +177,11 @@ module _ (engine : Engine) (sizes : Sizes) where
         answers = ran.works.answers ∷ rest.answers;
         long = ap suc rest.long;
         printed = ap₂ ◌∷◌ ran.works.printed rest.printed;
-        dashed = (ran.works.dashed, rest.dashed);
         noted = ap₂ ◌∷◌ (ran.works.noted ∙ ap (λ (m : ℕ). lane_notes m l ran.works.answers) ran.low) rest.noted;
+        counted = (counted_one (n, l) d ran, rest.counted);
         in_order = (ran.works.worked.in_order, rest.in_order);
         says = says_more n l ran.works.answers d.pass lanes rest.answers (map (λ (z : DoneLane). z.pass) done) (said_one (n, l) d ran) rest.says;
+        tried = map-append told_try (learnt d.pass).tries (all_tried (map (λ (z : DoneLane). z.pass) done)) ∙ (λ i. tried_one (n, l) d ran i ++ rest.tried i);
         own = own_more n d.pass (map (λ (z : DoneLane). z.pass) done) ran.one rest.own;
         sizes_are = sizes_more d.pass (map (λ (z : DoneLane). z.pass) done) ran.sizes_are rest.sizes_are;
       }

@@ -1,6 +1,6 @@
 -- That a lane is ready is a fact with one proof at most, so it comes out of its type; and lines of a schema can be worked by an engine for it.
-use Rattle.std.proofs.Common.{◌≡◌, ℕ, List, [], ◌∷◌, length, refl, ap, ◌∙◌, arith}
-use Rattle.std.specs.Coded.{Coded, Coded-set, coded_ℕ, coded_list, coded×, code_by, ×_prop, Unit-prop, le_prop}
+use Rattle.std.proofs.Common.{◌≡◌, ℕ, Bool, List, [], ◌∷◌, length, refl, ap, ◌∙◌, arith}
+use Rattle.std.specs.Coded.{Coded, Coded-set, coded_ℕ, coded_bool, coded_list, coded×, code_by, ×_prop, Unit-prop, le_prop}
 use Rattle.std.specs.List.{AllByRecursion}
 use Rattle.std.specs.declared.alloc.Global.{Global}
 use Rattle.std.specs.Prelude.{Vec}
@@ -8,6 +8,10 @@ use mathlib.Core.Logic.{∥∥₁_elim}
 use mathlib.Core.Option.{is_set}
 use lib.ListN.{get_elem?}
 use Rattle.atomic_table.specs.Seated.{table_id_coded}
+use Rattle.key_tuple.specs.declared.mode.Params.{Params}
+use Rattle.learning.specs.declared.info.Info.{Info}
+use Rattle.search_info.specs.declared.knows.Opening.{Opening}
+use Rattle.search_info.specs.Passes.{knowledge, opening}
 use Rattle.list_facts.proofs.Places.{inside}
 use Rattle.latch_law.specs.declared.knows.Terms.{Terms}
 use Rattle.map_history.specs.declared.op.Op.{Op}
@@ -39,8 +43,31 @@ coded_terms = code_by (Shape × (ℕ × (ℕ × (ℕ × ℕ))))
     (λ p. record { shape = p.0; objects = p.1.0; indexes = p.1.1.0; max_changes = p.1.1.1.0; passes = p.1.1.1.1 })
     (λ _. refl)
 
+-- what an index has learnt
+coded_params : Coded Params
+coded_params = code_by (ℕ × (ℕ × Bool)) (coded× coded_ℕ (coded× coded_ℕ coded_bool))
+    (λ p. (p.fields, (p.bytes, p.left)))
+    (λ p. record { fields = p.0; bytes = p.1.0; left = p.1.1 })
+    (λ _. refl)
+
+coded_info : Coded Info
+coded_info = code_by (ℕ × (ℕ × (Params × (Bool × ℕ))))
+    (coded× coded_ℕ (coded× coded_ℕ (coded× coded_params (coded× coded_bool coded_ℕ))))
+    (λ n. (n.analysis, (n.potential, (n.params, (n.last, n.events)))))
+    (λ p. record { analysis = p.0; potential = p.1.0; params = p.1.1.0; last = p.1.1.1.0; events = p.1.1.1.1 })
+    (λ _. refl)
+
+-- and what a learner was opened with
+coded_opening : Coded Opening
+coded_opening = code_by (List (Info × ℕ) × ℕ) (coded× (coded_list (coded× coded_info coded_ℕ)) coded_ℕ)
+    (λ o. (o.starts, o.passes))
+    (λ p. record { starts = p.0; passes = p.1 })
+    (λ _. refl)
+
 own_prop : (engine : Engine) (pass : EnginePass) → IsProp (IsOf engine pass)
-own_prop engine pass = ×_prop (Coded-set table_id_coded pass.world.seat.table_id engine.space.table.shared.table_id) (Coded-set coded_terms (known pass).terms engine.space.terms)
+own_prop engine pass = ×_prop
+    (×_prop (Coded-set table_id_coded pass.world.seat.table_id engine.space.table.shared.table_id) (Coded-set coded_terms (known pass).terms engine.space.terms))
+    (×_prop (Coded-set table_id_coded pass.learn.seat.table_id engine.learner.table.shared.table_id) (Coded-set coded_opening (knowledge pass.learn).opening (opening engine.learner)))
 
 op_prop : (engine : Engine) (o : Op) → IsProp (IsWorkableOp engine o)
 op_prop engine (op.Get index key) = ×_prop le_prop (is_set (Coded-set coded_ℕ) _ _)
@@ -54,12 +81,13 @@ lines_prop : (engine : Engine) (lines : List Line) → IsProp (AreWorkable engin
 lines_prop engine [] = Unit-prop
 lines_prop engine (line ∷ lines) = ×_prop (op_prop engine line.op) (lines_prop engine lines)
 
-module _ (engine : Engine) (lane : ℕ) (pass : EnginePass) (lines : List Line) (ready : ∥ IsReady engine lane pass lines ∥₁) where
+module _ (engine : Engine) (lane indexes : ℕ) (pass : EnginePass) (lines : List Line) (ready : ∥ IsReady engine lane indexes pass lines ∥₁) where
   -- a lane that is ready has all that its type says
-  pub ready_is : IsReady engine lane pass lines
+  pub ready_is : IsReady engine lane indexes pass lines
   ready_is = record {
     own = ∥∥₁_elim ready (own_prop engine pass) (λ r. r.own);
     lane_is = ∥∥₁_elim ready (Coded-set coded_ℕ _ _) (λ r. r.lane_is);
+    indexes_are = ∥∥₁_elim ready (Coded-set coded_ℕ _ _) (λ r. r.indexes_are);
     lines_can = ∥∥₁_elim ready (lines_prop engine lines) (λ r. r.lines_can);
   }
 

@@ -3,7 +3,7 @@ use Rattle.std.specs.Prelude.{ℕ, ◌≡◌, ◌+◌, ◌<◌, ◌≤◌, List,
 use mathlib.Core.Option.{some}
 use lib.ListN.{get_elem?}
 use Rattle.call_law.specs.Spoken.{OwnAnswer, View}
-use Rattle.lane_work.specs.Engine.{Engine, EnginePass, known, IsOf}
+use Rattle.lane_work.specs.Engine.{Engine, EnginePass, known, learnt, IsOf}
 
 -- the answers of the number n
 abbrev pub said_by : ℕ → List OwnAnswer → List OwnAnswer
@@ -25,12 +25,14 @@ abbrev pub AreLanes : Engine → ℕ → List EnginePass → Type 0
 AreLanes engine n passes = (k : ℕ) (p : EnginePass) → get_elem? passes k ≡ some p
     → IsLane engine (n + k) p
 
--- the pass, whose number is n, has what was said by it, and has seen all that the whole had seen
+-- the pass, whose number is n, has what was said by it, and has seen all that the whole had seen;
+-- where the whole had tried nothing, it hasn't
 pub record IsShare (whole : EnginePass) (n : ℕ) (p : EnginePass) : Type 0 where
   pub sizes : p.sizes ≡ whole.sizes
   pub said : IsSigned (known whole) → (known p).said ≡ said_by n (known whole).said
   pub seen : (known p).seen ≡ (known whole).seen
   pub references : (known p).references ≡ (known whole).references
+  pub untaught : (learnt whole).tries ≡ [] → (learnt p).tries ≡ []
 
 -- there is a pass for each number of the whole, in order, and each has its share
 pub record AreDealt (engine : Engine) (whole : EnginePass) (passes : List EnginePass) : Type 0 where
@@ -39,9 +41,10 @@ pub record AreDealt (engine : Engine) (whole : EnginePass) (passes : List Engine
   pub shares : (k : ℕ) (p : EnginePass) → get_elem? passes k ≡ some p
       → IsShare whole ((known whole).low + k) p
 
--- none has said anything
+-- none has said or tried anything
 abbrev pub AreFresh : List EnginePass → Type 0
-AreFresh passes = (k : ℕ) (p : EnginePass) → get_elem? passes k ≡ some p → (known p).said ≡ []
+AreFresh passes = (k : ℕ) (p : EnginePass) → get_elem? passes k ≡ some p
+    → ((known p).said ≡ []) × ((learnt p).tries ≡ [])
 
 -- the dealt passes were put behind the others
 pub record AddsDealt (engine : Engine) (whole : EnginePass)

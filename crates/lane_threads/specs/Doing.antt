@@ -3,9 +3,10 @@ use Rattle.std.specs.Prelude.{ℕ, ◌≡◌, Some, IfSome, Vec, List, map}
 use Rattle.std.specs.List.{AllZip, zip}
 use Rattle.std.specs.declared.alloc.Global.{Global}
 use Rattle.change_log.specs.Log.{Log}
+use Rattle.map_history.specs.declared.counts.Counts.{Counts}
 use Rattle.map_history.specs.declared.line.Line.{Line}
 use Rattle.map_history.specs.Lines.{line_texts}
-use Rattle.lane_work.specs.Engine.{Engine, EnginePass, known, IsOf, IsSame}
+use Rattle.lane_work.specs.Engine.{Engine, EnginePass, IsOf, IsSame}
 use Rattle.lane_work.specs.Works.{Works}
 use Rattle.lane_threads.specs.declared.doer.DoneLane.{DoneLane}
 use Rattle.lane_threads.specs.declared.doer.LaneDoer.{LaneDoer}
@@ -15,8 +16,8 @@ use Rattle.lane_threads.specs.declared.doer.ReadyLane.{ReadyLane}
 pub record DoesLane (lane : ReadyLane) (done : DoneLane) : Type 0 where
   pub same : IsSame lane.pass done.pass
   pub own : IsOf lane.engine.now done.pass
-  pub works : Works (known lane.pass) (known done.pass)
-      (line_texts lane.lines.now) done.work.answers done.work.log
+  pub works : Works lane.pass done.pass (line_texts lane.lines.now) done.work.answers done.work.log
+      done.work.counts.items
 
 -- a lane that could work is done, unless memory lacked
 abbrev pub WorkedOnce : LaneDoer → LaneDoer → Type 0
@@ -38,11 +39,13 @@ AreReadyFor engine passes lanes doers = AllZip
     IsReadyFor engine given.0 given.1.items doer)
     (zip passes lanes) doers
 
--- these passes, answers and logs are those of the doers, all of which are done
+-- these passes, answers, logs and counts are those of the doers, all of which are done
 pub record AreParts (doers : List LaneDoer) (passes : List EnginePass)
-    (texts : List (List (List ℕ))) (logs : List Log) : Type 0 where
+    (texts : List (List (List ℕ))) (logs : List Log)
+    (counts : List (Vec Counts Global)) : Type 0 where
   pub done : List DoneLane
   pub all_done : map (λ (d : LaneDoer). d.done) doers ≡ map Some done
   pub passes_are : passes ≡ map (λ (d : DoneLane). d.pass) done
   pub texts_are : texts ≡ map (λ (d : DoneLane). d.work.answers) done
   pub logs_are : logs ≡ map (λ (d : DoneLane). d.work.log) done
+  pub counts_are : counts ≡ map (λ (d : DoneLane). d.work.counts) done

@@ -5,7 +5,8 @@ use lib.ListN.{get_elem?}
 use Rattle.list_facts.specs.Parts.{longer}
 use Rattle.call_law.specs.Spoken.{OwnAnswer}
 use Rattle.index_law.specs.State.{Entries}
-use Rattle.lane_work.specs.Engine.{Engine, EnginePass, known, IsOf}
+use Rattle.search_info.specs.declared.knows.Try.{Try}
+use Rattle.lane_work.specs.Engine.{Engine, EnginePass, known, learnt, IsOf}
 
 -- each is a pass of the engine
 abbrev pub ArePassesOf : Engine → List EnginePass → Type 0
@@ -20,13 +21,17 @@ AreInRow passes = (k : ℕ) (p q : EnginePass) → get_elem? passes k ≡ some p
 abbrev pub all_said : List EnginePass → List OwnAnswer
 all_said passes = flat_map (λ (p : EnginePass). (known p).said) passes
 
+-- what they tried, one behind another
+abbrev pub all_tried : List EnginePass → List Try
+all_tried passes = flat_map (λ (p : EnginePass). (learnt p).tries) passes
+
 -- of each index the longest list that any of them has seen
 abbrev pub all_seen : List EnginePass → List Entries
 all_seen [] = []
 all_seen (p ∷ ps) = longer (known p).seen (all_seen ps)
 
 -- One pass of the engine has the numbers from the first of the first pass up to the end of the
--- last, and it said and has seen what they did.
+-- last, and it said, has seen and has tried what they did.
 pub record Gathers (engine : Engine) (passes : List EnginePass) (whole : EnginePass) : Type 0 where
   pub own : IsOf engine whole
   pub low : (p : EnginePass) → get_elem? passes 0 ≡ some p → (known whole).low ≡ (known p).low
@@ -35,5 +40,6 @@ pub record Gathers (engine : Engine) (passes : List EnginePass) (whole : EngineP
   pub sizes : (p : EnginePass) → get_elem? passes 0 ≡ some p → whole.sizes ≡ p.sizes
   pub said : (known whole).said ≡ all_said passes
   pub seen : (known whole).seen ≡ all_seen passes
+  pub tries : (learnt whole).tries ≡ all_tried passes
   pub references : (known whole).references
       ≡ flat_map (λ (p : EnginePass). (known p).references) passes

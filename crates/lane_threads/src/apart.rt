@@ -6,6 +6,7 @@ use crate::doer::{DoneLane, LaneDoer};
 use change_log::LaneLog;
 use key_tuple::NoMemory;
 use lane_work::EnginePass;
+use map_history::Counts;
 use report_text::Texts;
 use std::alloc::Global;
 
@@ -15,6 +16,7 @@ pub(crate) struct Parts<'a> {
     pub(crate) passes: Vec<EnginePass>,
     pub(crate) answers: Vec<Texts>,
     pub(crate) logs: Vec<LaneLog<'a>>,
+    pub(crate) counts: Vec<Vec<Counts>>,
 }
 
 impl<'e, 'a> LaneDoer<'e, 'a> {
@@ -32,20 +34,23 @@ pub(crate) fn take_apart<'e, 'a>(
     doers: Vec<LaneDoer<'e, 'a>>,
 ) -> Result<Parts<'a>, NoMemory>
     ensures { IfOk result (λ parts. AreParts doers.entry.items parts.passes.items
-        parts.answers.items parts.logs.items) }
+        parts.answers.items parts.logs.items parts.counts.items) }
 {
     let mut passes = Vec::with_capacity(alloc, doers.len())?;
     let mut answers = Vec::with_capacity(alloc, doers.len())?;
     let mut logs = Vec::with_capacity(alloc, doers.len())?;
+    let mut counts = Vec::with_capacity(alloc, doers.len())?;
     for doer in doers {
         let DoneLane { pass, work } = doer.done().ok_or(NoMemory)?;
         passes.push(pass)?;
         answers.push(work.answers)?;
         logs.push(work.log)?;
+        counts.push(work.counts)?;
     }
     Ok(Parts {
         passes,
         answers,
         logs,
+        counts,
     })
 }

@@ -1,6 +1,6 @@
 //! Dealing out a pass.
 ghost use Rattle.std.specs.Prelude.{◌≡◌, [], IfOk};
-ghost use Rattle.lane_work.specs.Engine.{known, IsOf};
+ghost use Rattle.lane_work.specs.Engine.{known, learnt, IsOf};
 ghost use Rattle.lane_threads.specs.Dealt.{AreDealt, AreFresh, AddsDealt};
 
 use key_tuple::NoMemory;
@@ -9,6 +9,7 @@ use std::alloc::Global;
 
 /// A pass for each number of this one, in order. After `NoMemory` the pass is gone, and its numbers
 /// with it.
+#[tactic(auto, using(crate::proofs::DealLemmas::fresh_dealt))]
 pub(crate) fn deal(
     alloc: Global,
     engine: &Engine,
@@ -16,7 +17,8 @@ pub(crate) fn deal(
 ) -> Result<Vec<EnginePass>, NoMemory>
     requires own { IsOf engine.now pass }
     ensures ok { IfOk result (λ passes. AreDealt engine.now pass passes.items) }
-    ensures fresh { (known pass).said ≡ [] → IfOk result (λ passes. AreFresh passes.items) }
+    ensures fresh { (known pass).said ≡ [] → (learnt pass).tries ≡ []
+        → IfOk result (λ passes. AreFresh passes.items) }
 {
     let mut passes = Vec::new(alloc);
     deal_onto(alloc, engine, pass, &mut passes)?;

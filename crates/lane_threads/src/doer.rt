@@ -5,15 +5,16 @@ use lane_work::{Engine, EnginePass, LaneWork};
 use map_history::Line;
 use std::alloc::Global;
 
-/// A lane that can work: its lines, its pass, and its number from 1.
+/// A lane that can work: its lines, its pass, its number from 1, and how many indexes there are.
 #[derive(Drop)]
 pub(crate) struct ReadyLane<'e, 'a> {
     pub(crate) alloc: Global,
     pub(crate) engine: &'e Engine,
     pub(crate) pass: EnginePass,
     pub(crate) lane: u32,
+    pub(crate) indexes: usize,
     pub(crate) lines: &'a [Line],
-    ghost ready: { ∥ IsReady engine.now lane pass lines.now ∥₁ },
+    ghost ready: { ∥ IsReady engine.now lane indexes pass lines.now ∥₁ },
 }
 
 /// A lane that has worked: its pass, and what it was told.

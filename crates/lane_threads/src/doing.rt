@@ -19,9 +19,10 @@ impl<'e, 'a> ReadyLane<'e, 'a> {
             engine,
             mut pass,
             lane,
+            indexes,
             lines,
         } = self;
-        let work = work_lane(alloc, engine, &mut pass, lane, lines, wait, gate)?;
+        let work = work_lane(alloc, engine, &mut pass, lane, indexes, lines, wait, gate)?;
         Ok(DoneLane { pass, work })
     }
 }

@@ -2,6 +2,7 @@
 ghost use Rattle.std.specs.Prelude.{◌≡◌, ◌⊎◌, ◌<◌, ◌≤◌, length, Err, IfOk, IfErr, IfSome};
 ghost use Rattle.std.specs.List.{All, AllByRecursion};
 ghost use Rattle.std.specs.Option.{IsSomeAnd};
+ghost use Rattle.key_tuple.specs.declared.TheConstants.{MAX_FIELDS};
 ghost use Rattle.map_history.specs.declared.TheConstants.{MAX_INDEXES, MAX_LANES};
 ghost use Rattle.settings.specs.Limits.{first_broken};
 ghost use Rattle.lane_law.specs.Lines.{AreLinesOf};
@@ -12,20 +13,22 @@ use crate::dealing::deal;
 use crate::gathering::gather;
 use crate::readying::ready_lanes;
 use change_log::LaneLog;
+use column_counts::add_up;
 use lane_work::{Engine, EngineError, EnginePass};
 use lanes::{Gate, run_lanes};
-use map_history::{Line, Sizes};
+use map_history::{Counts, Line, Sizes};
 use report_text::Texts;
 use std::alloc::Global;
 use std::sync::Wait;
 use std::thread::Threads;
 
-/// What lanes were told together: the printed answers of each, what each noted, and the pass of
-/// them all.
+/// What lanes were told together: the printed answers of each, what each noted, for each index the
+/// counts of the words in its answers' columns, and the pass of all lanes.
 #[derive(Drop)]
 pub struct LanesWork<'a> {
     pub answers: Vec<Texts>,
     pub logs: Vec<LaneLog<'a>>,
+    pub counts: Vec<Counts>,
     pub pass: EnginePass,
 }
 
@@ -41,11 +44,11 @@ pub fn work_lanes<'a, R: Threads + Sync, W: Wait + Sync, G: Gate + Sync>(
     gate: &G,
 ) -> Result<LanesWork<'a>, EngineError>
     requires indexes { (0 < length fields.now) × (length fields.now ≤ MAX_INDEXES) }
-    requires keyed { All (λ n. 1 ≤ n) fields.now }
+    requires keyed { All (λ n. (1 ≤ n) × (n ≤ MAX_FIELDS)) fields.now }
     requires lanes { (0 < length lanes.now) × (length lanes.now ≤ MAX_LANES) }
     requires lines { AllByRecursion (λ lines. AreLinesOf fields.now lines.items) lanes.now }
     ensures ok { IfOk result (λ work. RanTogether sizes.now fields.now (lane_texts lanes.now)
-        work.answers.items work.logs.items work.pass) }
+        work.answers.items work.logs.items work.counts.items work.pass) }
     ensures refused { IfSome (first_broken sizes.now (length fields.now) (length lanes.now))
         (λ s. result ≡ Err (EngineError.BadSize s)) }
     ensures cause { IfErr result (λ e. (e ≡ EngineError.NoMemory)
@@ -54,13 +57,15 @@ pub fn work_lanes<'a, R: Threads + Sync, W: Wait + Sync, G: Gate + Sync>(
 {
     let (engine, pass) = Engine::open(alloc, sizes, fields, lanes.len() as u32)?;
     let passes = deal(alloc, &engine, pass)?;
-    let doers = ready_lanes(alloc, &engine, passes, lanes)?;
+    let doers = ready_lanes(alloc, &engine, passes, lanes, fields.len())?;
     let worked = run_lanes(rt, wait, doers, gate);
     let Parts {
         passes,
         answers,
         logs,
+        counts,
     } = take_apart(alloc, worked)?;
+    let counts = add_up(alloc, fields.len(), &counts)?;
     let Some(pass) = gather(&engine, passes) else {
         unreachable!()
     };
@@ -68,6 +73,7 @@ pub fn work_lanes<'a, R: Threads + Sync, W: Wait + Sync, G: Gate + Sync>(
     Ok(LanesWork {
         answers,
         logs,
+        counts,
         pass,
     })
 }

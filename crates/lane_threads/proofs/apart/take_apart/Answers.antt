@@ -17,7 +17,7 @@ loop-doer-init c =
     record {
       rest = items;
       count = omega (arith, len, same);
-      parts = record { done = []; all_done = refl; passes_are = c.in_ok-passes.ensures.items; texts_are = c.in_ok-answers.ensures.items; logs_are = c.in_ok-logs.ensures.items };
+      parts = record { done = []; all_done = refl; passes_are = c.in_ok-passes.ensures.items; texts_are = c.in_ok-answers.ensures.items; logs_are = c.in_ok-logs.ensures.items; counts_are = c.in_ok-counts.ensures.items };
     }
 
 pub loop-doer-preserved : goal.loop-doer-preserved
@@ -33,8 +33,8 @@ loop-doer-preserved c =
     record {
       rest = append_assoc c.loop-doer.yielded (doer ∷ []) _ ∙ (ap (λ (ds : List LaneDoer). c.loop-doer.yielded ++ ds) (sym steps) ∙ so_far.rest);
       count = omega (arith, count, shorter, len);
-      parts = parts_more c.loop-doer.yielded doer lane c.loop-doer.passes.items c.push.new.self.items c.loop-doer.answers.items c.push-in-loop-doer.new.self.items c.loop-doer.logs.items c.push-in-loop-doer-2.new.self.items
-          so_far.parts is c.in_ok-push.ensures.items c.in_ok-push-2.ensures.items c.in_ok-push-3.ensures.items;
+      parts = parts_more c.loop-doer.yielded doer lane c.loop-doer.passes.items c.push.new.self.items c.loop-doer.answers.items c.push-in-loop-doer.new.self.items c.loop-doer.logs.items c.push-in-loop-doer-2.new.self.items c.loop-doer.counts.items c.push-in-loop-doer-3.new.self.items
+          so_far.parts is c.in_ok-push.ensures.items c.in_ok-push-2.ensures.items c.in_ok-push-3.ensures.items c.in_ok-push-4.ensures.items;
     }
 
 pub returns : goal.returns
@@ -42,4 +42,4 @@ returns c =
     let so_far = c.loop-doer.invariant in
     let empty : into_iter_items c.loop-doer.doer-iterator ≡ [] = nothing_left _ (sym so_far.count ∙ c.in-None.ensures.steps.0) in
     let all : c.loop-doer.yielded ≡ c.args.doers.items = sym (append-nil c.loop-doer.yielded) ∙ (ap (λ (ds : List LaneDoer). c.loop-doer.yielded ++ ds) (sym empty) ∙ so_far.rest) in
-    subst (λ (ds : List LaneDoer). AreParts ds c.loop-doer.passes.items c.loop-doer.answers.items c.loop-doer.logs.items) all so_far.parts
+    subst (λ (ds : List LaneDoer). AreParts ds c.loop-doer.passes.items c.loop-doer.answers.items c.loop-doer.logs.items c.loop-doer.counts.items) all so_far.parts

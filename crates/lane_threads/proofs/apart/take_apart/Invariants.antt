@@ -8,5 +8,5 @@ abbrev pub invariant-loop-doer : goal.invariant-loop-doer
 invariant-loop-doer l = record {
   rest : l.yielded ++ into_iter_items l.doer-iterator ≡ l.fn.doers.items;
   count : into_iter_len l.doer-iterator ≡ length (into_iter_items l.doer-iterator);
-  parts : AreParts l.yielded l.passes.items l.answers.items l.logs.items;
+  parts : AreParts l.yielded l.passes.items l.answers.items l.logs.items l.counts.items;
 }

@@ -6,7 +6,7 @@ use Rattle.lane_threads.proofs.dealing.+deal_onto.Goals as goal
 -- src/dealing.rt:27:1
 pub returns-in_ok-deal_onto : goal.returns-in_ok-deal_onto
 returns-in_ok-deal_onto t c = let cut = c.in_ok-upper.ensures in
-    cut_ok c.args.engine.now c.args.pass c.split.new.pass c.in_ok-upper.upper cut.kept cut.given.2 cut.own.0.sizes cut.given.1
+    cut_ok c.args.engine.now c.args.pass c.split.new.pass c.in_ok-upper.upper cut.kept cut.given.2 cut.taught.0 cut.taught.1 cut.own.0.sizes cut.given.1
     c.deal_onto-then-end-low-ge2.result c.args.passes.now.items c.deal_onto.new.passes.items c.deal_onto-then-end-low-ge2.new.passes.items c.in_ok-deal_onto.ensures c.deal_onto-then-end-low-ge2.ensures
 
 -- src/dealing.rt:27:1

@@ -34,5 +34,5 @@ loop-lower-preserved c = let so_far = c.loop-lower.invariant in let lower = c.in
   first = lower;
   others = so_far.first ∷ so_far.others;
   parts = taken_off c.args.passes.items c.pop-in-loop-lower.new.self.items c.loop-lower.passes.items lower (so_far.first ∷ so_far.others) so_far.parts c.in-Some.ensures.items;
-  gathers = gathers_more c.args.engine.now lower c.join.new.pass so_far.first so_far.others c.loop-lower.whole c.join.ensures.own.1 c.join.ensures.own.0.sizes c.join.ensures.joined so_far.gathers;
+  gathers = gathers_more c.args.engine.now lower c.join.new.pass so_far.first so_far.others c.loop-lower.whole c.join.ensures.own.1 c.join.ensures.own.0.sizes c.join.ensures.joined c.join.ensures.taught so_far.gathers;
 }
