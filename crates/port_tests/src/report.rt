@@ -2,7 +2,7 @@
 use change_log::LaneChange;
 use io_port::MemorySink;
 use key_tuple::{Key, Value};
-use map_history::{How, Line, Note, Op, Reply, RowBuf, Told};
+use map_history::{Counts, How, Line, Note, Op, Reply, RowBuf, Told};
 use report_print::{Halt, put_report};
 use report_text::Texts;
 use std::alloc::Global;
@@ -93,16 +93,24 @@ fn names(alloc: Global) -> Option<Vec<String>> {
     Vec::from_array(alloc, [one, two]).ok()
 }
 
+/// No word is counted of the first index, and of the second each as often as its place says.
+fn counts() -> [Counts; 2] {
+    let numbers = [
+        1, 2, 3, 4, 5, 6, 7, 8, 9, 10, 11, 12, 13, 14, 15, 16, 17, 18,
+    ];
+    [Counts::none(), Counts { numbers }]
+}
+
 /// Puts the report of two lanes over two indexes.
 fn put_two_lanes(alloc: Global, sink: &mut MemorySink) -> Option<Result<(), Halt>> {
     let lines = three_lines(alloc)?;
     let answers = both_answers(alloc, &lines)?;
     let changes = changes(alloc, &lines)?;
     let names = names(alloc)?;
-    if changes.len() != names.len() {
+    if changes.len() != names.len() || names.len() != 2 {
         return None;
     }
-    Some(put_report(alloc, sink, &names, &answers, &changes))
+    Some(put_report(alloc, sink, &names, &answers, &changes, &counts()))
 }
 
 /// How putting it ends, over a sink whose puts with these numbers fail, and the sink.
@@ -133,8 +141,8 @@ const REPORT: &[u8] = b"ahi run\n\
     1 1 3 put b y\n\
     stats t hit 0 off 0 cold 0 short 0 part-busy 0 no-entry 0 block-busy 0 clock 0 unequal 0 \
     by-clock 0 by-busy 0 by-moved 0 by-last 0 built 0 same 0 arena 0 raced 0 worn 0\n\
-    stats u hit 0 off 0 cold 0 short 0 part-busy 0 no-entry 0 block-busy 0 clock 0 unequal 0 \
-    by-clock 0 by-busy 0 by-moved 0 by-last 0 built 0 same 0 arena 0 raced 0 worn 0\n\
+    stats u hit 1 off 2 cold 3 short 4 part-busy 5 no-entry 6 block-busy 7 clock 8 unequal 9 \
+    by-clock 10 by-busy 11 by-moved 12 by-last 13 built 14 same 15 arena 16 raced 17 worn 18\n\
     end\n";
 
 #[test]
