@@ -1,19 +1,18 @@
 -- What is put of lanes that were run is a legal report, and their pass did what it tells.
-use Rattle.std.proofs.Common.{◌≡◌, ℕ, List, [], ◌∷◌, length, map, refl, ap, ◌∙◌, sym, subst}
+use Rattle.std.proofs.Common.{◌≡◌, ℕ, List, length, map, ap, ◌∙◌, sym, subst}
 use Rattle.std.proofs.lemmas.List.{length-map}
-use Rattle.std.specs.List.{AllByRecursion, zip}
 use Rattle.std.specs.String.{string_bytes}
 use Rattle.change_log.specs.Log.{ChangeNote, Log}
 use Rattle.change_log.specs.Merge.{AreMerges}
 use Rattle.change_log.specs.Entries.{printed_entries}
 use Rattle.map_history.specs.LegalReport.{Line}
-use Rattle.map_history.specs.Report.{ChangeLine, IndexPart, Report}
+use Rattle.map_history.specs.declared.counts.Counts.{Counts}
+use Rattle.map_history.specs.Report.{ChangeLine, Report}
 use Rattle.map_history.specs.Spelling.{spell}
-use Rattle.map_history.specs.Statistics.{counts_of}
 use Rattle.script.specs.Schema.{SchemaText}
 use Rattle.script.specs.Views.{schema_text}
 use Rattle.lane_threads.specs.Passes.{EnginePass}
-use Rattle.lane_law.specs.Reports.{part_with, report_with}
+use Rattle.lane_law.specs.Reports.{report_with}
 use Rattle.lane_threads.specs.Together.{lane_texts, RanTogether, AreReported}
 use Rattle.lane_threads.proofs.LegalLemmas.{reported}
 use Rattle.report_print.specs.Texts.{report_text_of}
@@ -22,17 +21,12 @@ use Rattle.ahi_cli.specs.declared.files.Script.{Script}
 use Rattle.ahi_cli.specs.Run.{run_over, IsReportBy}
 use Rattle.ahi_cli.specs.Scripts.{IsScript}
 
--- the statistics of parts that count nothing
-have_zeros : (parts : List (List ℕ × List ChangeLine)) → AllByRecursion (λ (part : IndexPart). part.counts ≡ counts_of []) (map part_with parts)
-have_zeros [] = tt
-have_zeros (part ∷ parts) = (refl, have_zeros parts)
-
 -- what is merged of what a call was handed is merged of the same
 pub merged_for : (n n' : ℕ) (logs logs' : List Log) (changes : List (List ChangeNote)) → n' ≡ n → logs' ≡ logs → AreMerges n' logs' changes → AreMerges n logs changes
 merged_for n n' logs logs' changes count same merged = subst (λ (z : ℕ × List Log). AreMerges z.0 z.1 changes) (λ i. (count i, same i)) merged
 
-module _ (script : Script) (is : IsScript script) (texts : List (List (List ℕ))) (logs : List Log) (pass : EnginePass)
-    (ran : RanTogether script.schema.sizes script.schema.fields.items (lane_texts script.lanes.items) texts logs pass)
+module _ (script : Script) (is : IsScript script) (texts : List (List (List ℕ))) (logs : List Log) (counts : List Counts) (pass : EnginePass)
+    (ran : RanTogether script.schema.sizes script.schema.fields.items (lane_texts script.lanes.items) texts logs counts pass)
     (changes : List (List ChangeNote)) (merged : AreMerges (length script.schema.names.items) logs changes) where
   abbrev schema : SchemaText
   schema = schema_text script.schema
@@ -44,7 +38,7 @@ module _ (script : Script) (is : IsScript script) (texts : List (List (List ℕ)
   entries = map printed_entries changes
 
   abbrev report : Report
-  report = report_with ran.answers schema.names entries
+  report = report_with ran.answers schema.names entries counts
 
   -- there is a list for each name
   pub counted : length changes ≡ length schema.names
@@ -54,20 +48,18 @@ module _ (script : Script) (is : IsScript script) (texts : List (List (List ℕ)
   paired = length-map script.schema.names.items string_bytes ∙ sym is.fields
 
   all_reported : AreReported (run_over schema lanes) report pass changes entries
-  all_reported = reported schema.sizes schema.fields schema.names script.lanes.items texts logs pass changes paired is.lines
+  all_reported = reported schema.sizes schema.fields schema.names script.lanes.items texts logs counts pass changes paired is.lines
       (subst (λ n. AreMerges n logs changes) (sym (length-map script.schema.names.items string_bytes)) merged) ran
 
-  spelled : report_text_of schema.names texts changes ≡ spell report
-  spelled = ap (λ t. report_text_of schema.names t changes) ran.printed
-      ∙ report_spelled schema.names ran.answers changes entries counted all_reported.printed all_reported.counted
+  spelled : report_text_of schema.names texts changes counts ≡ spell report
+  spelled = ap (λ t. report_text_of schema.names t changes counts) ran.printed
+      ∙ report_spelled schema.names ran.answers changes entries counts counted (ran.counted.long ∙ sym paired) all_reported.printed all_reported.counted
 
   -- what is put is a legal report, and the pass did what it tells
-  pub told_by : IsReportBy pass schema lanes (report_text_of schema.names texts changes)
+  pub told_by : IsReportBy pass schema lanes (report_text_of schema.names texts changes counts)
   told_by = record {
-    report = record {
-      legal = record { report = report; spelled = spelled; legal = all_reported.legal };
-      without_hash = record { columns = ran.dashed; zeros = have_zeros (zip schema.names entries) };
-    };
+    report = record { report = report; spelled = spelled; legal = all_reported.legal };
     sizes = ran.sizes_are;
     trail = all_reported.trail;
+    tries = all_reported.taught;
   }

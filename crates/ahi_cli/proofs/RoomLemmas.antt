@@ -38,8 +38,8 @@ none_in_lanes (lines ∷ lanes) (answers ∷ told) all none = (
   none_in_lanes lanes told all.1 (λ lane. none (suc lane)),
 )
 
-pub finds_pages : (schema : SchemaText) (lanes : List (List Line)) (bytes : List ℕ) → (told : IsReportOf schema lanes bytes) → enough_pages (run_over schema lanes) < schema.sizes.pages + 2 → HasNoSpaceFull told.legal.report
+pub finds_pages : (schema : SchemaText) (lanes : List (List Line)) (bytes : List ℕ) → (told : IsReportOf schema lanes bytes) → enough_pages (run_over schema lanes) < schema.sizes.pages + 2 → HasNoSpaceFull told.report
 finds_pages schema lanes bytes told enough =
-    let report = told.legal.report in
-    none_in_lanes lanes report.lanes told.legal.legal.but_room.form.lanes (λ lane place lines answers line columns lines_at answers_at at at'.
-    no_space_full (run_over schema lanes) report told.legal.legal enough lane place line columns (record { line_there = (lines, lines_at, at); answer_there = (answers, answers_at, at') }))
+    let report = told.report in
+    none_in_lanes lanes report.lanes told.legal.but_room.form.lanes (λ lane place lines answers line columns lines_at answers_at at at'.
+    no_space_full (run_over schema lanes) report told.legal enough lane place line columns (record { line_there = (lines, lines_at, at); answer_there = (answers, answers_at, at') }))

@@ -80,4 +80,4 @@ abbrev pub AmpleRunsFindPages : Type 0
 AmpleRunsFindPages = (schema : SchemaText) (lanes : List (List Line)) (bytes : List ℕ)
     → (told : IsReportOf schema lanes bytes)
     → enough_pages (run_over schema lanes) < schema.sizes.pages + 2
-    → HasNoSpaceFull told.legal.report
+    → HasNoSpaceFull told.report

@@ -1,17 +1,13 @@
 -- What `run` writes, why it is refused, and what the pass that it leaves did.
-use Rattle.std.specs.Prelude.{ℕ, ◌≡◌, List, [], Option, Some, None}
+use Rattle.std.specs.Prelude.{ℕ, ◌≡◌, List, Option, Some, None}
 use Rattle.std.specs.Option.{ForSome}
-use Rattle.std.specs.List.{AllByRecursion}
 use Rattle.io_port.specs.Shelf.{Files}
 use Rattle.io_port.specs.declared.shelf.Shelf.{Ghosts}
-use Rattle.map_history.specs.LegalReport.{Line, Run, IsLegalReport}
-use Rattle.map_history.specs.Report.{AnswerLine, IndexPart, Report}
-use Rattle.map_history.specs.Spelling.{spell}
-use Rattle.map_history.specs.Statistics.{counts_of}
+use Rattle.map_history.specs.LegalReport.{Line, Run, IsLegalBytes}
 use Rattle.script.specs.Schema.{SchemaText}
-use Rattle.lane_threads.specs.Passes.{EnginePass, known}
+use Rattle.lane_threads.specs.Passes.{EnginePass, known, learnt}
+use Rattle.lane_law.specs.Taught.{IsTaught}
 use Rattle.lane_law.specs.Trail.{IsTrail}
-use Rattle.lane_law.specs.Lines.{HasDashes}
 use Rattle.ahi_cli.specs.declared.stop.Stop.{Stop}
 use Rattle.ahi_cli.specs.declared.stop.Stop.TheVariants.{Usage, Script, Shelf, TooLarge, Sizes, NoMemory}
 use Rattle.ahi_cli.specs.Files.{Failures, failures_of, Spells, FailsAt}
@@ -32,34 +28,22 @@ asked_of words shelf old new = record {
   failures = failures_of shelf old new;
 }
 
--- no column tells of a hash, and all statistics are 0
-pub record IsWithoutHash (report : Report) : Type 0 where
-  pub columns :
-      AllByRecursion (AllByRecursion (λ (a : AnswerLine). HasDashes a.answer)) report.lanes
-  pub zeros : AllByRecursion (λ (part : IndexPart). part.counts ≡ counts_of []) report.indexes
-
 -- the run of these lanes over a schema
 abbrev pub run_over : SchemaText → List (List Line) → Run
 run_over schema lanes = record { sizes = schema.sizes; names = schema.names; lanes = lanes }
 
--- the bytes spell a legal report of the run
-pub record IsLegalText (run : Run) (bytes : List ℕ) : Type 0 where
-  pub report : Report
-  pub spelled : bytes ≡ spell report
-  pub legal : IsLegalReport run report
+-- the bytes spell a legal report of these lanes over a schema
+abbrev pub IsReportOf : SchemaText → List (List Line) → List ℕ → Type 0
+IsReportOf schema lanes bytes = IsLegalBytes (run_over schema lanes) bytes
 
--- the bytes are a legal report of these lanes over a schema
-pub record IsReportOf (schema : SchemaText) (lanes : List (List Line))
-    (bytes : List ℕ) : Type 0 where
-  pub legal : IsLegalText (run_over schema lanes) bytes
-  pub without_hash : IsWithoutHash legal.report
-
--- they are, and what they tell is what this pass did, in an engine of the schema's sizes
+-- they are, and what they tell is what this pass did and tried to teach, in an engine of the
+-- schema's sizes
 pub record IsReportBy (pass : EnginePass) (schema : SchemaText) (lanes : List (List Line))
     (bytes : List ℕ) : Type 0 where
   pub report : IsReportOf schema lanes bytes
   pub sizes : pass.sizes ≡ schema.sizes
-  pub trail : IsTrail (run_over schema lanes) report.legal.report (known pass)
+  pub trail : IsTrail (run_over schema lanes) report.report (known pass)
+  pub tries : IsTaught (run_over schema lanes) report.report (learnt pass)
 
 -- the files spell a schema and lanes, of which the bytes tell so
 pub record TellsFiles (IsTold : SchemaText → List (List Line) → List ℕ → Type 0) (files : Files)

@@ -65,7 +65,8 @@ fn put_work<K: Sink>(
     requires script { IsScript script.now }
     requires allowed { sizes_stop (schema_text script.now.schema) (length script.now.lanes.items) ≡ None }
     requires ran { RanTogether script.now.schema.sizes script.now.schema.fields.items
-        (lane_texts script.now.lanes.items) work.answers.items work.logs.items work.pass }
+        (lane_texts script.now.lanes.items) work.answers.items work.logs.items work.counts.items
+        work.pass }
     requires trail { trail.old ≡ None }
     ensures ends { Ends (TellsScript IsReportOf script.now) (RefusesSizes script.now)
         (output_of K.Sink sink.old sink.new) result }
@@ -76,12 +77,13 @@ fn put_work<K: Sink>(
     let LanesWork {
         answers,
         logs,
+        counts,
         pass,
     } = work;
     let Ok(changes) = merge(alloc, &logs, names.len()) else {
         return Status::NoMemory;
     };
-    match put_report(alloc, sink, names, &answers, &changes) {
+    match put_report(alloc, sink, names, &answers, &changes, &counts) {
         Ok(()) => {
             *trail = Some(pass);
             Status::Done
