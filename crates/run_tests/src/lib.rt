@@ -12,6 +12,8 @@ mod judged;
 #[cfg(test)]
 mod judging;
 #[cfg(test)]
+mod learnt;
+#[cfg(test)]
 mod limits;
 #[cfg(test)]
 mod meeting;
@@ -29,6 +31,8 @@ mod schema_sizes;
 mod seeks;
 #[cfg(test)]
 mod setup;
+#[cfg(test)]
+mod statistics;
 #[cfg(test)]
 mod together;
 #[cfg(test)]

@@ -64,7 +64,7 @@ fn row_lines(alloc: Global, key: usize, value: usize) -> Option<(String, String)
     let value = bytes_of(alloc, 'v', value)?;
     let lane = format!(in alloc; "put t {key} {value}\nget t {key}\n").ok()?;
     let told = format!(in alloc;
-        "1 ok @1 - -\n2 found {value} @1 - -\nchanges t 1\n1 1 1 put {key} {value}\n"
+        "1 ok @1 cold no\n2 found {value} @1 cold no\nchanges t 1\n1 1 1 put {key} {value}\n"
     ).ok()?;
     Some((lane, told))
 }

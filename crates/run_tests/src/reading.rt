@@ -6,10 +6,6 @@ use std::collections::BTreeMap;
 
 pub(crate) const SCHEMA: &str = "index a 1\nindex b 2\nindex c 4\n";
 
-/// What a stats line says after the name.
-const COUNTS: &str =
-    "hit 0 off 0 cold 0 short 0 part-busy 0 no-entry 0 block-busy 0 clock 0 unequal 0 by-clock 0 by-busy 0 by-moved 0 by-last 0 built 0 same 0 arena 0 raced 0 worn 0";
-
 /// The bytes that fields and values are made of.
 const HOSTILE: &[u8] = b"%\x00~a, \n\xff}!\x7f";
 
@@ -148,7 +144,7 @@ impl Table {
         self.count
     }
 
-    /// What a line is told, and how many changes there are then.
+    /// What a line is told, without columns, and how many changes there are then.
     pub(crate) fn tell(
         &mut self,
         alloc: Global,
@@ -162,7 +158,7 @@ impl Table {
             2 => self.set(alloc, line, key, value_text(alloc, asked, LOWER)?)?,
             _ => self.del(alloc, line, &key)?,
         };
-        format!(in alloc; "{line} {said} @{} - -\n", self.count)
+        format!(in alloc; "{line} {said} @{} \n", self.count)
     }
 
     fn get(&self, alloc: Global, key: &String) -> Result<String, AllocError> {
@@ -227,14 +223,4 @@ pub(crate) fn add_changes(
     let head = format!(in alloc; "changes {} {}\n", name_of(index), table.count)?;
     report.push_str(head.as_str())?;
     report.push_str(table.list.as_str())
-}
-
-/// Adds the statistics of the index of this number.
-pub(crate) fn add_statistics(
-    alloc: Global,
-    report: &mut String,
-    index: u64,
-) -> Result<(), AllocError> {
-    let text = format!(in alloc; "stats {} {COUNTS}\n", name_of(index))?;
-    report.push_str(text.as_str())
 }

@@ -1,44 +1,65 @@
 //! Reports byte for byte.
-use crate::setup::{END, LANE, PLAIN, SCHEMA, Setup, ends, run};
+use crate::setup::{LANE, PLAIN, SCHEMA, Setup, ends, run};
+use crate::statistics::stats_line;
 use ahi_cli::Status;
 use std::alloc::Global;
 use std::sync::Wait;
 use std::thread::Threads;
 
-/// A schema, a lane, and its report from the answers up to the statistics.
+/// A schema, a lane, and its report from the answers up to the statistics. Each answer is by a descent
+/// of an index that has learnt nothing yet.
 const REPORTS: [(&str, &str, &str); 7] = [
     (SCHEMA, "", "changes t 0\n"),
     (
         SCHEMA,
         LANE,
-        "1 ok @1 - -\n2 found x @1 - -\n3 ok @2 - -\n4 absent @2 - -\nchanges t 2\n1 1 1 put a x\n2 1 3 del a\n",
+        "1 ok @1 cold no\n2 found x @1 cold no\n3 ok @2 cold no\n4 absent @2 cold no\nchanges t 2\n1 1 1 put a x\n2 1 3 del a\n",
     ),
     (
         SCHEMA,
         "put t a x\nput t a y\n",
-        "1 ok @1 - -\n2 duplicate @1 - -\nchanges t 1\n1 1 1 put a x\n",
+        "1 ok @1 cold no\n2 duplicate @1 cold no\nchanges t 1\n1 1 1 put a x\n",
     ),
-    (SCHEMA, "del t a\n", "1 absent @0 - -\nchanges t 0\n"),
+    (SCHEMA, "del t a\n", "1 absent @0 cold no\nchanges t 0\n"),
     (
         SCHEMA,
         "set t a x\nput t a x\nset t a yz\nget t a\nset t a ~\nget t a\n",
-        "1 absent @0 - -\n2 ok @1 - -\n3 ok @2 - -\n4 found yz @2 - -\n5 ok @3 - -\n6 found ~ @3 - -\nchanges t 3\n1 1 2 put a x\n2 1 3 set a yz\n3 1 5 set a ~\n",
+        "1 absent @0 cold no\n2 ok @1 cold no\n3 ok @2 cold no\n4 found yz @2 cold no\n5 ok @3 cold no\n6 found ~ @3 cold no\nchanges t 3\n1 1 2 put a x\n2 1 3 set a yz\n3 1 5 set a ~\n",
     ),
     (
         "index t 2\n",
         "put t ab,~ 1\nput t a,%00 2\nput t a,~ 3\nget t ab,~\nget t a,%00\nget t a,~\n",
-        "1 ok @1 - -\n2 ok @2 - -\n3 ok @3 - -\n4 found 1 @3 - -\n5 found 2 @3 - -\n6 found 3 @3 - -\nchanges t 3\n1 1 1 put ab,~ 1\n2 1 2 put a,%00 2\n3 1 3 put a,~ 3\n",
+        "1 ok @1 cold no\n2 ok @2 cold no\n3 ok @3 cold no\n4 found 1 @3 cold no\n5 found 2 @3 cold no\n6 found 3 @3 cold no\nchanges t 3\n1 1 1 put ab,~ 1\n2 1 2 put a,%00 2\n3 1 3 put a,~ 3\n",
     ),
     (
         "index t 3\n",
         "put t a,x,1 p\nput t a,x,2 q\nput t a,y,1 r\nput t a,y,2 s\nseek t ge a,y\nseek t g a,x\nseek t le a,x\nseek t l a,y,1\nseek t ge a\nseek t l a\n",
-        "1 ok @1 - -\n2 ok @2 - -\n3 ok @3 - -\n4 ok @4 - -\n5 found a,y,1 r @4 - -\n6 found a,y,1 r @4 - -\n7 found a,x,2 q @4 - -\n8 found a,x,2 q @4 - -\n9 found a,x,1 p @4 - -\n10 absent @4 - -\nchanges t 4\n1 1 1 put a,x,1 p\n2 1 2 put a,x,2 q\n3 1 3 put a,y,1 r\n4 1 4 put a,y,2 s\n",
+        "1 ok @1 cold no\n2 ok @2 cold no\n3 ok @3 cold no\n4 ok @4 cold no\n5 found a,y,1 r @4 cold no\n6 found a,y,1 r @4 cold no\n7 found a,x,2 q @4 cold no\n8 found a,x,2 q @4 cold no\n9 found a,x,1 p @4 cold no\n10 absent @4 cold no\nchanges t 4\n1 1 1 put a,x,1 p\n2 1 2 put a,x,2 q\n3 1 3 put a,y,1 r\n4 1 4 put a,y,2 s\n",
     ),
 ];
 
+/// How many answers are by a descent of an index that has learnt nothing.
+fn count_cold(middle: &str) -> u64 {
+    let mut count: u64 = 0;
+    for line in middle.split('\n') {
+        if line.ends_with(" cold no") {
+            count = count.wrapping_add(1);
+        }
+    }
+    count
+}
+
+/// The last two lines of a report on the index `t` whose answers and changes are these.
+pub(crate) fn end_after(alloc: Global, middle: &str) -> Option<String> {
+    let mut end = stats_line(alloc, &[("cold", count_cold(middle))])?;
+    end.push_str("end\n").ok()?;
+    Some(end)
+}
+
 /// The report of one lane whose answers and changes are these.
 pub(crate) fn report_of(alloc: Global, middle: &str) -> Option<String> {
-    format!(in alloc; "ahi run\nlane 1\n{middle}{END}").ok()
+    let end = end_after(alloc, middle)?;
+    format!(in alloc; "ahi run\nlane 1\n{middle}{end}").ok()
 }
 
 /// Whether a lane is reported so, from its answers up to the statistics.

@@ -22,7 +22,7 @@ fn nine_puts(alloc: Global, value: &str) -> Option<String> {
 fn eight_answers(alloc: Global) -> Option<String> {
     let mut text = String::new(alloc);
     for key in 1..9u32 {
-        let line = format!(in alloc; "{key} ok @{key} - -\n").ok()?;
+        let line = format!(in alloc; "{key} ok @{key} cold no\n").ok()?;
         text.push_str(line.as_str()).ok()?;
     }
     Some(text)
@@ -43,7 +43,7 @@ fn full_report(alloc: Global, value: &str) -> Option<String> {
     let answers = eight_answers(alloc)?;
     let changes = eight_changes(alloc, value)?;
     let middle = format!(in alloc;
-        "{answers}9 space-full - -\n10 found {value} @8 - -\nchanges t 8\n{changes}"
+        "{answers}9 space-full cold no\n10 found {value} @8 cold no\nchanges t 8\n{changes}"
     ).ok()?;
     report_of(alloc, middle.as_str())
 }
@@ -85,7 +85,7 @@ fn is_full_at_the_third<R: AllocGlobal + Threads + Wait + Sync>(rt: &R) -> bool 
         rt,
         "max_changes 2\nindex t 1\n",
         "put t a x\nput t b y\nput t c z\nget t b\nget t c\n",
-        "1 ok @1 - -\n2 ok @2 - -\n3 log-full 2 - -\n4 found y @2 - -\n5 absent @2 - -\nchanges t 2\n1 1 1 put a x\n2 1 2 put b y\n",
+        "1 ok @1 cold no\n2 ok @2 cold no\n3 log-full 2 cold no\n4 found y @2 cold no\n5 absent @2 cold no\nchanges t 2\n1 1 1 put a x\n2 1 2 put b y\n",
     )
 }
 

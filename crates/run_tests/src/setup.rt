@@ -11,10 +11,6 @@ pub(crate) const SCHEMA: &str = "index t 1\n";
 /// The lane whose run has every kind of line.
 pub(crate) const LANE: &str = "put t a x\nget t a\ndel t a\nget t a\n";
 
-/// The last two lines of each report on an index `t`.
-pub(crate) const END: &str =
-    "stats t hit 0 off 0 cold 0 short 0 part-busy 0 no-entry 0 block-busy 0 clock 0 unequal 0 by-clock 0 by-busy 0 by-moved 0 by-last 0 built 0 same 0 arena 0 raced 0 worn 0\nend\n";
-
 /// What is written where the words aren't accepted.
 pub(crate) const USAGE: &str =
     "usage: ahi run SCHEMA LANE.. | ahi page FILE | ahi gen NUMBER LANES LINES\n";

@@ -1,6 +1,7 @@
 //! A gate that looks at what the lanes have done so far, and lets their lines take turns: so each is
 //! asked before its line, and not after it.
-use crate::setup::{END, SCHEMA, at_gate, ends};
+use crate::reported::report_of;
+use crate::setup::{SCHEMA, at_gate, ends};
 use ahi_cli::Status;
 use lanes::Gate;
 use std::alloc::Global;
@@ -71,16 +72,15 @@ const FIRST: &str = "get t a\nput t a x\nget t b\nput t a y\nget t a\nget t a\n"
 const SECOND: &str = "get t a\nget t a\nput t b z\ndel t a\nget t a\n";
 
 const ANSWERS_OF_FIRST: &str =
-    "1 absent @0 - -\n2 ok @1 - -\n3 absent @1 - -\n4 duplicate @2 - -\n5 absent @3 - -\n6 absent @3 - -\n";
+    "1 absent @0 cold no\n2 ok @1 cold no\n3 absent @1 cold no\n4 duplicate @2 cold no\n5 absent @3 cold no\n6 absent @3 cold no\n";
 
 const ANSWERS_OF_SECOND: &str =
-    "1 absent @0 - -\n2 found x @1 - -\n3 ok @2 - -\n4 ok @3 - -\n5 absent @3 - -\n";
+    "1 absent @0 cold no\n2 found x @1 cold no\n3 ok @2 cold no\n4 ok @3 cold no\n5 absent @3 cold no\n";
 
 fn report_in_turns(alloc: Global) -> Option<String> {
     let changes = "changes t 3\n1 1 2 put a x\n2 2 3 put b z\n3 2 4 del a\n";
-    format!(in alloc;
-        "ahi run\nlane 1\n{ANSWERS_OF_FIRST}lane 2\n{ANSWERS_OF_SECOND}{changes}{END}"
-    ).ok()
+    let middle = format!(in alloc; "{ANSWERS_OF_FIRST}lane 2\n{ANSWERS_OF_SECOND}{changes}").ok()?;
+    report_of(alloc, middle.as_str())
 }
 
 /// Whether the two lanes are reported as their lines in turns are answered.

@@ -45,7 +45,22 @@ pub(super) fn judge_edited(alloc: Global, edits: &[(&str, &str)]) -> Option<Resu
     Some(judge(alloc, SCHEMA, &LANES, report.as_bytes()))
 }
 
+/// Words for the dashes of some answers, and the statistics that count them.
+const COLUMNS: Edits = &[
+    ("2 ok @1 - -", "2 ok @1 cold no"),
+    ("3 found x @1 - -", "3 found x @1 no-entry built"),
+    ("5 absent @2 - -", "5 absent @2 hit -"),
+    ("8 ok @1 - -", "8 ok @1 hit raced"),
+    ("4 found y @4 - -", "4 found y @4 no-entry same"),
+    ("stats t hit 0 off 0 cold 0", "stats t hit 1 off 0 cold 1"),
+    ("no-entry 0", "no-entry 2"),
+    ("built 0 same 0", "built 1 same 1"),
+    ("stats u hit 0", "stats u hit 1"),
+    ("raced 0 worn 0\nend", "raced 1 worn 0\nend"),
+];
+
 #[test]
 fn a_run_of_two_lanes_is_legal(rt: HostRuntime) {
     assert_eq!(rt; judge_edited(rt.alloc(), &[]), Some(Ok(())));
+    assert_eq!(rt; judge_edited(rt.alloc(), COLUMNS), Some(Ok(())));
 }

@@ -4,12 +4,23 @@ use report_judge::{Lie, judge};
 use std::alloc::Global;
 
 /// Edits of the report, and the line that isn't in its form then.
-const FORMS: [(Edits, u64); 14] = [
+const FORMS: [(Edits, u64); 19] = [
     (&[("2 ok @1", "02 ok @1")], 3),
     (&[("2 ok @1", "2 ok @01")], 3),
     (&[("2 ok @1", "2  ok @1")], 3),
     (&[("2 ok @1", "2 space-full @1")], 3),
-    (&[("2 ok @1 - -", "2 ok @1 hit -")], 3),
+    (&[("2 ok @1 - -", "2 ok @1 hit no")], 3),
+    (&[("2 ok @1 - -", "2 ok @1 - built")], 3),
+    (&[("2 ok @1 - -", "2 ok @1 off -")], 3),
+    (&[("2 ok @1 - -", "2 ok @1 by-clock -")], 3),
+    (&[("2 ok @1 - -", "2 ok @1 hit -")], 24),
+    (
+        &[
+            ("2 ok @1 - -", "2 ok @1 hit -"),
+            ("stats u hit 0", "stats u hit 1"),
+        ],
+        24,
+    ),
     (&[("3 found", "4 found")], 4),
     (&[("lane 2", "lane 3")], 9),
     (&[("changes t 4", "changes t 3")], 20),

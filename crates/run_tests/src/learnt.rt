@@ -1,0 +1,204 @@
+//! Lanes whose searches are alike, until the hash answers them: reports byte for byte.
+use crate::setup::{ROOMY, ends, run};
+use crate::statistics::{has_line, stats_line};
+use ahi_cli::Status;
+use std::alloc::Global;
+use std::sync::Wait;
+use std::thread::Threads;
+
+/// What is told by so many answers in a row, which are alike but for their lines.
+type Told = (&'static str, u64);
+
+/// A lane: lines that stand once, one that stands many times, and perhaps a last one.
+#[derive(Clone, Copy)]
+struct Lane {
+    first: &'static str,
+    again: &'static str,
+    times: u64,
+    last: &'static str,
+}
+
+/// What is reported of a lane by a schema: the answers, the changes, and the words that are counted.
+#[derive(Clone, Copy)]
+struct Case {
+    schema: &'static str,
+    lane: Lane,
+    told: &'static [Told],
+    changes: &'static str,
+    counted: &'static [(&'static str, u64)],
+}
+
+/// Three keys are put, and then the middle one is asked for 300 times.
+const MIDDLE: Lane = Lane {
+    first: "put t a 1\nput t b 2\nput t c 3\n",
+    again: "get t b\n",
+    times: 300,
+    last: "",
+};
+
+const MIDDLE_CHANGES: &str = "changes t 3\n1 1 1 put a 1\n2 1 2 put b 2\n3 1 3 put c 3\n";
+
+/// The search for the middle one becomes a hit.
+const HIT: Case = Case {
+    schema: "index t 1\n",
+    lane: MIDDLE,
+    told: &[
+        ("ok @1 cold no", 1),
+        ("ok @2 cold no", 1),
+        ("ok @3 cold no", 1),
+        ("found 2 @3 cold no", 128),
+        ("found 2 @3 cold built", 1),
+        ("found 2 @3 cold no", 2),
+        ("found 2 @3 hit -", 169),
+    ],
+    changes: MIDDLE_CHANGES,
+    counted: &[("hit", 169), ("cold", 134), ("built", 1)],
+};
+
+/// It becomes none where there is no room for a node.
+const NO_ROOM: Case = Case {
+    schema: "nodes 0\nindex t 1\n",
+    lane: MIDDLE,
+    told: &[
+        ("ok @1 cold no", 1),
+        ("ok @2 cold no", 1),
+        ("ok @3 cold no", 1),
+        ("found 2 @3 cold no", 128),
+        ("found 2 @3 cold arena", 172),
+    ],
+    changes: MIDDLE_CHANGES,
+    counted: &[("cold", 303), ("arena", 172)],
+};
+
+/// A seek by two of three fields becomes a hit, and one by the first field alone is too short then.
+const GROUP: Case = Case {
+    schema: "index t 3\n",
+    lane: Lane {
+        first: "put t a,x,1 p\nput t a,x,2 q\nput t a,y,1 r\nput t a,y,2 s\n",
+        again: "seek t ge a,y\n",
+        times: 200,
+        last: "seek t ge a\n",
+    },
+    told: &[
+        ("ok @1 cold no", 1),
+        ("ok @2 cold no", 1),
+        ("ok @3 cold no", 1),
+        ("ok @4 cold no", 1),
+        ("found a,y,1 r @4 cold no", 127),
+        ("found a,y,1 r @4 cold built", 1),
+        ("found a,y,1 r @4 cold no", 2),
+        ("found a,y,1 r @4 hit -", 70),
+        ("found a,x,1 p @4 short no", 1),
+    ],
+    changes: "changes t 4\n1 1 1 put a,x,1 p\n2 1 2 put a,x,2 q\n3 1 3 put a,y,1 r\n4 1 4 put a,y,2 s\n",
+    counted: &[("hit", 70), ("cold", 134), ("short", 1), ("built", 1)],
+};
+
+const CASES: [Case; 3] = [HIT, NO_ROOM, GROUP];
+
+/// Adds a line so many times.
+fn add_times(lane: &mut String, line: &str, times: u64) -> Option<()> {
+    for _ in 0..times {
+        lane.push_str(line).ok()?;
+    }
+    Some(())
+}
+
+fn lane_text(alloc: Global, lane: &Lane) -> Option<String> {
+    let mut text = String::from_str(alloc, lane.first).ok()?;
+    add_times(&mut text, lane.again, lane.times)?;
+    text.push_str(lane.last).ok()?;
+    Some(text)
+}
+
+/// Adds so many answers, of which the first is that of the line after this one.
+fn add_answers(report: &mut String, alloc: Global, before: u64, told: &Told) -> Option<()> {
+    for place in 1..told.1.wrapping_add(1) {
+        let line = before.wrapping_add(place);
+        let answer = format!(in alloc; "{line} {}\n", told.0).ok()?;
+        report.push_str(answer.as_str()).ok()?;
+    }
+    Some(())
+}
+
+/// Adds all answers of a lane.
+fn add_told(report: &mut String, alloc: Global, told: &[Told]) -> Option<()> {
+    let mut lines: u64 = 0;
+    for answers in told.iter() {
+        add_answers(report, alloc, lines, answers)?;
+        lines = lines.wrapping_add(answers.1);
+    }
+    Some(())
+}
+
+fn report_text(alloc: Global, case: &Case) -> Option<String> {
+    let mut report = String::from_str(alloc, "ahi run\nlane 1\n").ok()?;
+    add_told(&mut report, alloc, case.told)?;
+    report.push_str(case.changes).ok()?;
+    report
+        .push_str(stats_line(alloc, case.counted)?.as_str())
+        .ok()?;
+    report.push_str("end\n").ok()?;
+    Some(report)
+}
+
+/// Whether a lane is reported so.
+fn is_reported_so<R: AllocGlobal + Threads + Wait + Sync>(rt: &R, case: &Case) -> Option<bool> {
+    let lane = lane_text(rt.alloc(), &case.lane)?;
+    let report = report_text(rt.alloc(), case)?;
+    let lanes = [lane.as_str()];
+    Some(ends(
+        rt,
+        case.schema,
+        &lanes,
+        ROOMY,
+        Status::Done,
+        report.as_str(),
+    ))
+}
+
+/// The place of the first lane that is reported otherwise.
+fn other_case<R: AllocGlobal + Threads + Wait + Sync>(rt: &R) -> Option<usize> {
+    for (place, case) in CASES.iter().enumerate() {
+        if is_reported_so(rt, case) != Some(true) {
+            return Some(place);
+        }
+    }
+    None
+}
+
+#[test]
+fn searches_that_are_alike_become_hits(rt: HostRuntime) {
+    assert_eq!(rt; other_case(&rt), None);
+}
+
+/// Three keys of which one bit of a fold can't tell one from another: they are one group, and the
+/// hash leads to its first row, which isn't the one that is asked for.
+const ALIKE: Lane = Lane {
+    first: "put t a 1\nput t c 2\nput t e 3\n",
+    again: "get t c\n",
+    times: 300,
+    last: "",
+};
+
+/// What is counted there.
+const ALIKE_COUNTED: [(&str, u64); 4] = [
+    ("cold", 158),
+    ("unequal", 145),
+    ("built", 1),
+    ("same", 24),
+];
+
+/// Whether the report of that lane counts so.
+fn is_counted_so<R: AllocGlobal + Threads + Wait + Sync>(rt: &R) -> Option<bool> {
+    let alloc = rt.alloc();
+    let lane = lane_text(alloc, &ALIKE)?;
+    let line = stats_line(alloc, &ALIKE_COUNTED)?;
+    let (status, sink) = run(rt, "fold_bits 1\nindex t 1\n", &[lane.as_str()], ROOMY)?;
+    Some(status == Status::Done && has_line(sink.written(), line.as_str().trim_end()))
+}
+
+#[test]
+fn a_hash_that_errs_is_told_so(rt: HostRuntime) {
+    assert_eq!(rt; is_counted_so(&rt), Some(true));
+}

@@ -1,0 +1,91 @@
+//! The last lines of a report, and a report without what learning made of it.
+use std::alloc::Global;
+use std::str;
+
+/// The words that are counted, in their order.
+const WORDS: [&str; 18] = [
+    "hit",
+    "off",
+    "cold",
+    "short",
+    "part-busy",
+    "no-entry",
+    "block-busy",
+    "clock",
+    "unequal",
+    "by-clock",
+    "by-busy",
+    "by-moved",
+    "by-last",
+    "built",
+    "same",
+    "arena",
+    "raced",
+    "worn",
+];
+
+/// How often a word was told, which is never where it isn't among these.
+fn count_of(told: &[(&str, u64)], word: &str) -> u64 {
+    for (name, count) in told.iter() {
+        if *name == word {
+            return *count;
+        }
+    }
+    0
+}
+
+/// The line of the index `t`, of which these words were told so often, and no others.
+pub(crate) fn stats_line(alloc: Global, told: &[(&str, u64)]) -> Option<String> {
+    let mut line = String::from_str(alloc, "stats t").ok()?;
+    for word in WORDS.iter() {
+        let part = format!(in alloc; " {word} {}", count_of(told, word)).ok()?;
+        line.push_str(part.as_str()).ok()?;
+    }
+    line.push('\n').ok()?;
+    Some(line)
+}
+
+/// Whether a report has this line.
+pub(crate) fn has_line(report: &[u8], wanted: &str) -> bool {
+    match str::from_utf8(report) {
+        Ok(text) => text.split('\n').any(|line| line == wanted),
+        Err(_) => false,
+    }
+}
+
+fn count_words(line: &str) -> usize {
+    line.split(' ').count()
+}
+
+/// Adds the words of a line but the last two, which are its columns.
+fn add_answer(plain: &mut String, line: &str) -> Option<()> {
+    let kept = count_words(line).saturating_sub(2);
+    for word in line.split(' ').take(kept) {
+        plain.push_str(word).ok()?;
+        plain.push(' ').ok()?;
+    }
+    plain.push('\n').ok()
+}
+
+fn add_line(plain: &mut String, line: &str) -> Option<()> {
+    plain.push_str(line).ok()?;
+    plain.push('\n').ok()
+}
+
+/// A report without the columns of its answers, and without its statistics.
+pub(crate) fn without_columns(alloc: Global, report: &[u8]) -> Option<String> {
+    let text = str::from_utf8(report).ok()?;
+    let mut plain = String::new(alloc);
+    let mut answers = false;
+    for line in text.split('\n') {
+        if line.starts_with("lane ") || line.starts_with("changes ") {
+            answers = line.starts_with("lane ");
+            add_line(&mut plain, line)?;
+        } else if answers {
+            add_answer(&mut plain, line)?;
+        } else if !line.starts_with("stats ") {
+            add_line(&mut plain, line)?;
+        }
+    }
+    Some(plain)
+}
