@@ -2,8 +2,9 @@
 # Measures `ahi run` beside the peer and the limit, and prints a table: docs/BENCH.md says how.
 # Settings: AHI, the program's file (else ./ahi builds it, and the first build proves everything and
 # takes minutes), KINDS="gets seeks puts random descending front mix", LANES="1 2 4 8",
-# LINES=200000 of all lanes together, or several numbers, BLOCKS, how many frames (else as many as a
-# run has by default), SEED=7, ROUNDS=5.
+# LINES=200000 of all lanes together, or several numbers, BLOCKS, how many frames, and NODES, how many
+# entries a partition of the hash has room for (else as many as a run has by default; with none no
+# search is a hit), SEED=7, ROUNDS=5.
 set -euo pipefail
 . "$(dirname "$(readlink -f "${BASH_SOURCE[0]}")")/shared.sh"
 programs=(ahi peer limit)
@@ -33,6 +34,9 @@ generate() {
     files=("$folder/bench.schema")
     if [ -n "${BLOCKS:-}" ]; then
         sed -i "1i blocks $BLOCKS" "$folder/bench.schema"
+    fi
+    if [ -n "${NODES:-}" ]; then
+        sed -i "1i nodes $NODES" "$folder/bench.schema"
     fi
     for ((lane = 1; lane <= $2; lane++)); do
         files+=("$folder/bench-$lane.lane")
