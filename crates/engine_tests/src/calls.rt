@@ -24,14 +24,15 @@ const STEPS: [Step; 14] = [
     (b"a", Order::Get, Reply::Found, 3),
 ];
 
-/// The place of the first step that is told otherwise.
+/// The place of the first step that is told otherwise. Each is by a descent of an index that has
+/// learnt nothing yet.
 fn other_step<R: Wait>(alloc: Global, caller: &mut Caller<'_>, wait: &R) -> Option<usize> {
     for (place, (key, order, reply, point)) in STEPS.iter().enumerate() {
         let told = Told {
             reply: *reply,
             point: Some(*point),
-            how: How::Dash,
-            note: Note::Dash,
+            how: How::Cold,
+            note: Note::No,
         };
         if caller.ask(alloc, key, *order, wait) != Some(told) {
             return Some(place);
