@@ -5,7 +5,7 @@ use Rattle.io_port.specs.Shelf.{Files}
 use Rattle.io_port.specs.declared.shelf.Shelf.{Ghosts}
 use Rattle.map_history.specs.LegalReport.{Line, Run, IsLegalBytes}
 use Rattle.script.specs.Schema.{SchemaText}
-use Rattle.lane_threads.specs.Passes.{EnginePass, known, learnt}
+use Rattle.lane_threads.specs.Passes.{EnginePass, known, lessons_of}
 use Rattle.lane_law.specs.Taught.{IsTaught}
 use Rattle.lane_law.specs.Trail.{IsTrail}
 use Rattle.ahi_cli.specs.declared.stop.Stop.{Stop}
@@ -43,7 +43,7 @@ pub record IsReportBy (pass : EnginePass) (schema : SchemaText) (lanes : List (L
   pub report : IsReportOf schema lanes bytes
   pub sizes : pass.sizes ≡ schema.sizes
   pub trail : IsTrail (run_over schema lanes) report.report (known pass)
-  pub tries : IsTaught (run_over schema lanes) report.report (learnt pass)
+  pub tries : IsTaught (run_over schema lanes) report.report (lessons_of pass)
 
 -- the files spell a schema and lanes, of which the bytes tell so
 pub record TellsFiles (IsTold : SchemaText → List (List Line) → List ℕ → Type 0) (files : Files)

@@ -7,7 +7,7 @@ use Rattle.map_history.specs.declared.columns.How.TheVariants as how
 use Rattle.map_history.specs.declared.columns.Note.{Note}
 use Rattle.map_history.specs.declared.columns.Note.TheVariants as note
 use Rattle.map_history.specs.Statistics.{counts_of}
-use Rattle.column_counts.specs.Places.{how_place, note_place, raised}
+use Rattle.column_counts.specs.Places.{how_place, note_place, raised_at}
 use Rattle.column_counts.specs.Sums.{added}
 
 -- so many numbers, 1 at a place and 0 elsewhere
@@ -25,7 +25,7 @@ add_none : (ns : List ℕ) → ns ≡ added ns (replicate (length ns) 0)
 add_none [] = refl
 add_none (n ∷ ns) = ap₂ (λ (x : ℕ) (xs : List ℕ). x ∷ xs) (omega arith) (add_none ns)
 
-pub raised_long : (place : Option ℕ) (ns : List ℕ) → length (raised place ns) ≡ length ns
+pub raised_long : (place : Option ℕ) (ns : List ℕ) → length (raised_at place ns) ≡ length ns
 raised_long None ns = refl
 raised_long (Some k) ns = length-set ns k (slice_index_or ns k 0 + 1)
 
@@ -40,7 +40,7 @@ add_one [] k = refl
 add_one (n ∷ ns) zero = ap (λ (xs : List ℕ). (n + 1) ∷ xs) (add_none ns)
 add_one (n ∷ ns) (suc k) = ap₂ (λ (x : ℕ) (xs : List ℕ). x ∷ xs) (omega arith) (add_one ns k)
 
-raised_is : (place : Option ℕ) (ns : List ℕ) → raised place ns ≡ added ns (ones (length ns) place)
+raised_is : (place : Option ℕ) (ns : List ℕ) → raised_at place ns ≡ added ns (ones (length ns) place)
 raised_is None ns = add_none ns
 raised_is (Some k) ns = add_one ns k
 
@@ -146,9 +146,9 @@ one_told how.ByLast note.Raced = refl
 one_told how.ByLast note.Worn = refl
 
 -- so numbers that are raised at the places of both words count them
-pub raised_both : (h : How) (n : Note) (ns : List ℕ) → length ns ≡ 18 → raised (note_place n) (raised (how_place h) ns) ≡ added ns (counts_of (record { how = h; note = n } ∷ [])).numbers
+pub raised_both : (h : How) (n : Note) (ns : List ℕ) → length ns ≡ 18 → raised_at (note_place n) (raised_at (how_place h) ns) ≡ added ns (counts_of (record { how = h; note = n } ∷ [])).numbers
 raised_both h n ns long =
-    let first : raised (how_place h) ns ≡ added ns (ones 18 (how_place h)) = raised_is (how_place h) ns ∙ ap (λ (m : ℕ). added ns (ones m (how_place h))) long in
-    let second : raised (note_place n) (raised (how_place h) ns) ≡ added (raised (how_place h) ns) (ones 18 (note_place n)) =
-    raised_is (note_place n) (raised (how_place h) ns) ∙ ap (λ (m : ℕ). added (raised (how_place h) ns) (ones m (note_place n))) (raised_long (how_place h) ns ∙ long) in
+    let first : raised_at (how_place h) ns ≡ added ns (ones 18 (how_place h)) = raised_is (how_place h) ns ∙ ap (λ (m : ℕ). added ns (ones m (how_place h))) long in
+    let second : raised_at (note_place n) (raised_at (how_place h) ns) ≡ added (raised_at (how_place h) ns) (ones 18 (note_place n)) =
+    raised_is (note_place n) (raised_at (how_place h) ns) ∙ ap (λ (m : ℕ). added (raised_at (how_place h) ns) (ones m (note_place n))) (raised_long (how_place h) ns ∙ long) in
     second ∙ (ap (λ (xs : List ℕ). added xs (ones 18 (note_place n))) first ∙ (add_twice ns (ones 18 (how_place h)) (ones 18 (note_place n)) ∙ ap (added ns) (one_told h n)))

@@ -34,6 +34,6 @@ note_place note.Raced = Some 16
 note_place note.Worn = Some 17
 
 -- the numbers, of which the one at a place, if there is one, is raised by one
-abbrev pub raised : Option ℕ → List ℕ → List ℕ
-raised None numbers = numbers
-raised (Some i) numbers = slice_set numbers i (slice_index_or numbers i 0 + 1)
+abbrev pub raised_at : Option ℕ → List ℕ → List ℕ
+raised_at None numbers = numbers
+raised_at (Some i) numbers = slice_set numbers i (slice_index_or numbers i 0 + 1)

@@ -2,7 +2,7 @@
 ghost use Rattle.std.specs.Prelude.{◌≡◌, ◌<◌, [], ◌∷◌, length, replicate};
 ghost use Rattle.std.specs.Prelude.{IfOk, IfSome, OnOk, OnErr};
 ghost use Rattle.map_history.specs.Statistics.{counts_of};
-ghost use Rattle.column_counts.specs.Places.{raised};
+ghost use Rattle.column_counts.specs.Places.{raised_at};
 ghost use Rattle.column_counts.specs.Sums.{sum_of};
 
 use crate::places::{how_place, note_place};
@@ -35,7 +35,7 @@ pub fn count_told(counts: &mut Counts, how: How, note: Note) -> Result<(), NoMem
 /// Raises the number at a place, if there is one.
 fn raise(numbers: &mut [u64; COUNTED], place: Option<usize>) -> Result<(), NoMemory>
     requires { IfSome place (λ i. i < length numbers.old) }
-    ensures { OnOk result (numbers.new ≡ raised place numbers.old) }
+    ensures { OnOk result (numbers.new ≡ raised_at place numbers.old) }
 {
     let Some(place) = place else {
         return Ok(());

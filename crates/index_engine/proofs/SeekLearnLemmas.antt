@@ -43,7 +43,7 @@ use Rattle.leaf_search.proofs.DownLemmas.{taught_leaf, taught_shape}
 use Rattle.leaf_search.specs.Hows.{how_of}
 use Rattle.leaf_search.proofs.FigureLemmas.{figures_bounded}
 use Rattle.leaf_search.proofs.SearchLemmas.{cause_is_down, lesson_tells}
-use Rattle.index_engine.specs.SeekHands.{HoldsLeavesAlone, HoldsLast, HoldsBothLeaves, HoldsPair, blocks_at, blocks_of_pair}
+use Rattle.index_engine.specs.SeekHands.{HoldsLeavesAlone, HoldsLast, HoldsBothLeaves, HoldsLeafPair, blocks_at, blocks_of_pair}
 use Rattle.index_engine.proofs.FrameTraceLemmas.{frames_both}
 use Rattle.index_engine.proofs.HashedLemmas.{part_no_frame}
 use Rattle.index_engine.proofs.KnownLemmas.{one_frame, page_number}
@@ -158,22 +158,22 @@ module _ (q r : TreePass) (l m : Knows) (i : ℕ) (leaf : Leaf) (figures : Figur
 -- a way led to leaves that are held
 pub held_pair : (p q : TreePass) (i : ℕ) (mode : Mode) (tuple : FieldList) (pair : LeafPair)
     → DescendsPair p i mode tuple pair q → HoldsLeavesAlone q (blocks_of_pair pair)
-    → HoldsPair q i mode tuple pair.leaf pair.other
+    → HoldsLeafPair q i mode tuple pair.leaf pair.other
 held_pair p q i mode tuple pair went only = go pair.other refl
   where
-    go : (o : Option ℕ) → pair.other ≡ o → HoldsPair q i mode tuple pair.leaf o
+    go : (o : Option ℕ) → pair.other ≡ o → HoldsLeafPair q i mode tuple pair.leaf o
     go None e = went_last p q i mode tuple pair went only e
     go (Some c) e = went_both p q i mode tuple pair went c only e
 
 -- and they are held still once they were learnt from
 pub learnt_pair : (q r : TreePass) (l m : Knows) (i : ℕ) (pair : LeafPair) (figures : Figures)
     (told : Note) → Teaches q l i pair.leaf.block figures told r m → (mode : Mode)
-    (tuple : FieldList) → HoldsPair q i mode tuple pair.leaf pair.other
-    → HoldsPair r i mode tuple pair.leaf pair.other
+    (tuple : FieldList) → HoldsLeafPair q i mode tuple pair.leaf pair.other
+    → HoldsLeafPair r i mode tuple pair.leaf pair.other
 learnt_pair q r l m i pair figures told taught mode tuple held = go pair.other held
   where
-    go : (o : Option ℕ) → HoldsPair q i mode tuple pair.leaf o
-        → HoldsPair r i mode tuple pair.leaf o
+    go : (o : Option ℕ) → HoldsLeafPair q i mode tuple pair.leaf o
+        → HoldsLeafPair r i mode tuple pair.leaf o
     go None last = learnt_last q r l m i pair.leaf figures told taught mode tuple last
     go (Some c) both = learnt_both q r l m i pair.leaf figures told taught mode tuple c both
 

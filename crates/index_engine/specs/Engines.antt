@@ -17,8 +17,8 @@ abbrev pub known : EnginePass → View
 known pass = view pass.world
 
 -- what the pass has learnt, and tried to teach
-abbrev pub learnt : EnginePass → Knows
-learnt pass = knowledge pass.learn
+abbrev pub lessons_of : EnginePass → Knows
+lessons_of pass = knowledge pass.learn
 
 -- it is a pass of this engine
 abbrev pub IsOf : Engine → EnginePass → Type 0

@@ -16,7 +16,7 @@ use Rattle.leaf_search.specs.Hows.{how_of, note_of_hit}
 use Rattle.leaf_search.specs.Searches.{columns_found}
 use Rattle.leaf_search.specs.Traces.{SearchTrace}
 use Rattle.index_engine.specs.declared.engine.EnginePass.{EnginePass}
-use Rattle.index_engine.specs.Engines.{learnt}
+use Rattle.index_engine.specs.Engines.{lessons_of}
 use Rattle.index_engine.specs.SeekSteps.{FindsPair}
 
 -- the leaf of the key was searched for once, with this mode: one guess was made, and where that led
@@ -25,7 +25,7 @@ pub record SearchedFor (p : EnginePass) (i : ℕ) (mode : Mode) (key : FieldList
     (q : EnginePass) : Type 0 where
   pub searched : Searched
   pub between : TreePass
-  pub trace : SearchTrace p.world (learnt p) i mode key searched between (learnt q)
+  pub trace : SearchTrace p.world (lessons_of p) i mode key searched between (lessons_of q)
   pub told : columns ≡ columns_found searched
 
 -- the guess of a seek hit a row, and these columns tell so
@@ -36,7 +36,7 @@ pub record SoughtByHit (p : EnginePass) (i : ℕ) (mode : Mode) (tuple : FieldLi
   pub place : ℕ
   pub found : Bool
   pub learn : Learn
-  pub guess : GuessHits p.world (learnt p) i mode tuple block place found learn between (learnt q)
+  pub guess : GuessHits p.world (lessons_of p) i mode tuple block place found learn between (lessons_of q)
   pub told : columns ≡ record { how = how.Hit; note = note_of_hit learn }
 
 -- it led nowhere for a cause, then a way was gone down to the leaf with the tuple's position, which
@@ -47,11 +47,11 @@ pub record SoughtByWay (p : EnginePass) (i : ℕ) (mode : Mode) (tuple : FieldLi
   pub read : Knows
   pub cause : Cause
   pub learn : Option Learn
-  pub guess : GuessMisses p.world (learnt p) i mode tuple cause learn between read
+  pub guess : GuessMisses p.world (lessons_of p) i mode tuple cause learn between read
   pub after : TreePass
   pub pair : LeafPair
   pub note : Note
-  pub went : FindsPair between read i mode tuple pair note after (learnt q)
+  pub went : FindsPair between read i mode tuple pair note after (lessons_of q)
   pub told : columns ≡ record { how = how_of cause; note = note }
 
 -- the one or the other

@@ -59,9 +59,9 @@ pub record HoldsBothLeaves (p : TreePass) (i : ℕ) (mode : Mode) (tuple : Field
   pub beside : IsLeafBeside (shape_of_pass p) (side_of mode) leaf.block i frame m next
 
 -- it holds the leaf with the tuple's position, and the one beside it, if there is one
-abbrev pub HoldsPair : TreePass → ℕ → Mode → FieldList → Leaf → Option ℕ → Type 0
-HoldsPair p i mode tuple leaf None = HoldsLast p i mode tuple leaf
-HoldsPair p i mode tuple leaf (Some m) = HoldsBothLeaves p i mode tuple leaf m
+abbrev pub HoldsLeafPair : TreePass → ℕ → Mode → FieldList → Leaf → Option ℕ → Type 0
+HoldsLeafPair p i mode tuple leaf None = HoldsLast p i mode tuple leaf
+HoldsLeafPair p i mode tuple leaf (Some m) = HoldsBothLeaves p i mode tuple leaf m
 
 -- it holds a leaf alone, whose row at the place is shown to be the one that the mode asks for
 pub record HoldsHitAlone (p : TreePass) (i : ℕ) (mode : Mode) (tuple : FieldList)

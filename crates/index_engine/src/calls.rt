@@ -6,7 +6,7 @@ ghost use Rattle.map_history.specs.Operation as asked;
 ghost use Rattle.map_history.specs.Told.{columns_told};
 ghost use Rattle.index_law.specs.Meanings.{lent_row};
 ghost use Rattle.leaf_search.specs.Tries.{TriesAfter};
-ghost use Rattle.index_engine.specs.Engines.{known, learnt, IsOf, IsSame, indexes_of, FitsKey};
+ghost use Rattle.index_engine.specs.Engines.{known, lessons_of, IsOf, IsSame, indexes_of, FitsKey};
 ghost use Rattle.index_engine.specs.Engines.{FitsTuple};
 ghost use Rattle.index_engine.specs.Searched.{SearchedFor, SoughtFor};
 ghost use Rattle.index_engine.specs.SeekTraces.{TellsOfSeek};
@@ -37,7 +37,7 @@ impl Engine {
         ensures own { IsSame pass.old pass.new × IsOf self.now pass.new }
         ensures told { TellsByLeaf (known pass.old) (known pass.new) index key.now.tuple
             (asked.Get key.now.tuple) result out.new }
-        ensures tried { TriesAfter (learnt pass.old) index result.how (learnt pass.new) }
+        ensures tried { TriesAfter (lessons_of pass.old) index result.how (lessons_of pass.new) }
         ensures searched { SearchedFor pass.old index mode.Ge key.now.tuple (columns_told result)
             pass.new }
         ensures kept { result.reply ≢ Reply.Found → out.new ≡ out.old }
@@ -65,7 +65,7 @@ impl Engine {
         ensures own { IsSame pass.old pass.new × IsOf self.now pass.new }
         ensures told { TellsOfSeek (known pass.old) (known pass.new) index mode tuple.now result
             out.new }
-        ensures tried { TriesAfter (learnt pass.old) index result.how (learnt pass.new) }
+        ensures tried { TriesAfter (lessons_of pass.old) index result.how (lessons_of pass.new) }
         ensures searched { SoughtFor pass.old index mode tuple.now (columns_told result) pass.new }
     {
         let (world, learn) = (&mut pass.world, &mut pass.learn);
@@ -108,12 +108,12 @@ impl Engine {
         ensures ok { IfOk result (λ told. TellsOfWrite (known pass.old) (known pass.new) index
             key.now.tuple value.now (asked.Make (map.Put key.now.tuple value.now)) told
             (lent_row None)) }
-        ensures tried { IfOk result (λ told. TriesAfter (learnt pass.old) index told.how
-            (learnt pass.new)) }
+        ensures tried { IfOk result (λ told. TriesAfter (lessons_of pass.old) index told.how
+            (lessons_of pass.new)) }
         ensures searched { IfOk result (λ told. SearchedFor pass.old index mode.Le key.now.tuple
             (columns_told told) pass.new) }
-        ensures err { OnErr result (GivesUp (known pass.old) (known pass.new) (learnt pass.old)
-            (learnt pass.new) index key.now.tuple value.now) }
+        ensures err { OnErr result (GivesUp (known pass.old) (known pass.new) (lessons_of pass.old)
+            (lessons_of pass.new) index key.now.tuple value.now) }
     {
         self.write(pass, index, key, Write::Put, value, wait)
     }
@@ -137,12 +137,12 @@ impl Engine {
         ensures ok { IfOk result (λ told. TellsOfWrite (known pass.old) (known pass.new) index
             key.now.tuple value.now (asked.Make (map.Set key.now.tuple value.now)) told
             (lent_row None)) }
-        ensures tried { IfOk result (λ told. TriesAfter (learnt pass.old) index told.how
-            (learnt pass.new)) }
+        ensures tried { IfOk result (λ told. TriesAfter (lessons_of pass.old) index told.how
+            (lessons_of pass.new)) }
         ensures searched { IfOk result (λ told. SearchedFor pass.old index mode.Ge key.now.tuple
             (columns_told told) pass.new) }
-        ensures err { OnErr result (GivesUp (known pass.old) (known pass.new) (learnt pass.old)
-            (learnt pass.new) index key.now.tuple value.now) }
+        ensures err { OnErr result (GivesUp (known pass.old) (known pass.new) (lessons_of pass.old)
+            (lessons_of pass.new) index key.now.tuple value.now) }
     {
         self.write(pass, index, key, Write::Set, value, wait)
     }
@@ -154,7 +154,7 @@ impl Engine {
         requires key { FitsKey self.now index key.now.tuple }
         ensures own { IsSame pass.old pass.new × IsOf self.now pass.new }
         ensures told { TellsOfDel (known pass.old) (known pass.new) index key.now.tuple result }
-        ensures tried { TriesAfter (learnt pass.old) index result.how (learnt pass.new) }
+        ensures tried { TriesAfter (lessons_of pass.old) index result.how (lessons_of pass.new) }
         ensures searched { SearchedFor pass.old index mode.Ge key.now.tuple (columns_told result)
             pass.new }
     {
@@ -181,12 +181,12 @@ impl Engine {
         ensures ok { IfOk result (λ told. TellsOfWrite (known pass.old) (known pass.new) index
             key.now.tuple value.now (write_asked write key.now.tuple value.now) told
             (lent_row None)) }
-        ensures tried { IfOk result (λ told. TriesAfter (learnt pass.old) index told.how
-            (learnt pass.new)) }
+        ensures tried { IfOk result (λ told. TriesAfter (lessons_of pass.old) index told.how
+            (lessons_of pass.new)) }
         ensures searched { IfOk result (λ told. SearchedFor pass.old index (mode_of_write write) key.now.tuple
             (columns_told told) pass.new) }
-        ensures err { OnErr result (GivesUp (known pass.old) (known pass.new) (learnt pass.old)
-            (learnt pass.new) index key.now.tuple value.now) }
+        ensures err { OnErr result (GivesUp (known pass.old) (known pass.new) (lessons_of pass.old)
+            (lessons_of pass.new) index key.now.tuple value.now) }
     {
         let most = u64::from(pass.sizes.max_changes);
         let (world, learn) = (&mut pass.world, &mut pass.learn);

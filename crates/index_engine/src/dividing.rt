@@ -6,7 +6,7 @@ ghost use Rattle.forest_law.specs.Law.{IsLawful};
 ghost use Rattle.index_law.specs.Rightness.{IsRight};
 ghost use Rattle.forest_law.specs.References.{IsReference};
 ghost use Rattle.search_info.specs.Parts.{lower_part, upper_part, joined_parts};
-ghost use Rattle.index_engine.specs.Engines.{known, learnt, IsOf, IsSame};
+ghost use Rattle.index_engine.specs.Engines.{known, lessons_of, IsOf, IsSame};
 
 use crate::engine::{Engine, EnginePass};
 use key_tuple::NoMemory;
@@ -23,10 +23,10 @@ impl Engine {
         ensures kept { IfOk result (λ _. known pass.new ≡ left_part (known pass.old)) }
         ensures given { IfOk result (λ other. IsOf self.now other × (other.sizes ≡ pass.old.sizes)
             × (known other ≡ right_part (known pass.old))) }
-        ensures taught { IfOk result (λ other. (learnt pass.new ≡ lower_part (learnt pass.old))
-            × (learnt other ≡ upper_part (learnt pass.old))) }
+        ensures taught { IfOk result (λ other. (lessons_of pass.new ≡ lower_part (lessons_of pass.old))
+            × (lessons_of other ≡ upper_part (lessons_of pass.old))) }
         ensures err { OnErr result ((known pass.new ≡ known pass.old)
-            × (learnt pass.new ≡ learnt pass.old)) }
+            × (lessons_of pass.new ≡ lessons_of pass.old)) }
     {
         let world = self
             .space
@@ -49,7 +49,7 @@ impl Engine {
         requires next { (known pass.old).end ≡ (known other).low }
         ensures own { IsSame pass.old pass.new × IsOf self.now pass.new }
         ensures joined { known pass.new ≡ both_parts (known pass.old) (known other) }
-        ensures taught { learnt pass.new ≡ joined_parts (learnt pass.old) (learnt other) }
+        ensures taught { lessons_of pass.new ≡ joined_parts (lessons_of pass.old) (lessons_of other) }
     {
         let EnginePass {
             world,

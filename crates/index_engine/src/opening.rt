@@ -6,7 +6,7 @@ ghost use Rattle.key_tuple.specs.declared.TheConstants.{MAX_FIELDS};
 ghost use Rattle.latch_law.specs.Rule.{first_view};
 ghost use Rattle.search_info.specs.Passes.{knowledge, opening, IsLearnPassOf};
 ghost use Rattle.forest_world.specs.Opening.{forest_terms};
-ghost use Rattle.index_engine.specs.Engines.{known, learnt, IsOf};
+ghost use Rattle.index_engine.specs.Engines.{known, lessons_of, IsOf};
 ghost use Rattle.index_engine.specs.Learners.{nothing_learnt};
 ghost use Rattle.settings.specs.Limits.{first_broken};
 
@@ -34,7 +34,7 @@ impl Engine {
         requires lanes { (0 < lanes) × (lanes ≤ MAX_LANES) }
         ensures ok { IfOk result (λ r. IsOf r.0 r.1 × (r.1.sizes ≡ sizes.now)
             × (known r.1 ≡ first_view (forest_terms sizes.now fields.now lanes))) }
-        ensures untaught { IfOk result (λ r. learnt r.1 ≡ nothing_learnt fields.now lanes) }
+        ensures untaught { IfOk result (λ r. lessons_of r.1 ≡ nothing_learnt fields.now lanes) }
         ensures refused { IfSome (first_broken sizes.now (length fields.now) lanes)
             (λ s. result ≡ Err (EngineError.BadSize s)) }
         ensures cause { IfErr result (λ e. (e ≡ EngineError.NoMemory)

@@ -5,7 +5,7 @@ ghost use Rattle.latch_space.specs.Spaces.{IsPassOf};
 ghost use Rattle.map_history.specs.Columns.{may_stand};
 ghost use Rattle.search_info.specs.Passes.{knowledge, IsLearnPassOf, IsSameLearnPass};
 ghost use Rattle.index_engine.specs.Engines.{indexes_of, FitsTuple};
-ghost use Rattle.index_engine.specs.SeekHands.{HoldsPair};
+ghost use Rattle.index_engine.specs.SeekHands.{HoldsLeafPair};
 ghost use Rattle.index_engine.specs.SeekSteps.{FindsPair};
 
 use crate::engine::Engine;
@@ -42,7 +42,7 @@ impl Engine {
             × IsLearnPassOf self.now.learner learn.new }
         ensures found { FindsPair pass.old (knowledge learn.old) index mode tuple.now result.0
             result.1 pass.new (knowledge learn.new) }
-        ensures held { HoldsPair pass.new index mode tuple.now result.0.leaf result.0.other }
+        ensures held { HoldsLeafPair pass.new index mode tuple.now result.0.leaf result.0.other }
     {
         tuple.is_within_limits();
         let pair = descend_pair(&self.space, pass, index, tuple, mode, wait);

@@ -6,7 +6,7 @@ ghost use Rattle.map_history.specs.Told.{columns_told};
 ghost use Rattle.forest_world.specs.Held.{shape_of_pass};
 ghost use Rattle.tree_neighbours.specs.Pairs.{DescendsPair};
 ghost use Rattle.index_engine.specs.Says.{columns_by};
-ghost use Rattle.index_engine.specs.SeekHands.{HoldsLast, HoldsBothLeaves, HoldsPair};
+ghost use Rattle.index_engine.specs.SeekHands.{HoldsLast, HoldsBothLeaves, HoldsLeafPair};
 ghost use Rattle.index_engine.specs.SeekSteps.{EndsFromLeaf, SeeksFrom, TellsByWay, TriesSeek};
 
 use crate::looking::{page_of, reply_if, take_row};
@@ -24,7 +24,7 @@ impl<R: Wait> SeekCall<'_, R> {
     /// Then it begins again at the root until it is answered.
     pub(crate) fn seek(&self, pass: &mut ForestPass, pair: &LeafPair, out: &mut RowBuf) -> Told
         requires own { IsPassOf self.now.space.now pass.old }
-        requires held { HoldsPair pass.old self.now.index self.now.mode self.now.tuple.now
+        requires held { HoldsLeafPair pass.old self.now.index self.now.mode self.now.tuple.now
             pair.now.leaf pair.now.other }
         ensures own { IsSamePass pass.old pass.new × IsPassOf self.now.space.now pass.new }
         ensures nothing { count pass.new ≡ 0 }
@@ -78,7 +78,7 @@ impl<R: Wait> SeekCall<'_, R> {
     /// seek is to begin again.
     fn look_on(&self, pass: &mut ForestPass, pair: &LeafPair, out: &mut RowBuf) -> Option<Told>
         requires own { IsPassOf self.now.space.now pass.old }
-        requires held { HoldsPair pass.old self.now.index self.now.mode self.now.tuple.now
+        requires held { HoldsLeafPair pass.old self.now.index self.now.mode self.now.tuple.now
             pair.now.leaf pair.now.other }
         ensures own { IsSamePass pass.old pass.new × IsPassOf self.now.space.now pass.new }
         ensures nothing { count pass.new ≡ 0 }
@@ -100,7 +100,7 @@ impl<R: Wait> SeekCall<'_, R> {
         ensures own { IsSamePass pass.old pass.new × IsPassOf self.now.space.now pass.new }
         ensures went { DescendsPair pass.old self.now.index self.now.mode self.now.tuple.now result
             pass.new }
-        ensures held { HoldsPair pass.new self.now.index self.now.mode self.now.tuple.now result.leaf
+        ensures held { HoldsLeafPair pass.new self.now.index self.now.mode self.now.tuple.now result.leaf
             result.other }
     {
         descend_pair(

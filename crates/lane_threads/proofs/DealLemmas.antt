@@ -8,7 +8,7 @@ use Rattle.call_law.specs.Spoken.{View, OwnAnswer}
 use Rattle.list_facts.specs.Parts.{made_below, made_from}
 use Rattle.search_info.specs.Parts.{maker, cut_at, lower_part, upper_part}
 use Rattle.search_info.specs.declared.knows.Knows.{Knows}
-use Rattle.lane_work.specs.Engine.{Engine, EnginePass, known, learnt, IsOf}
+use Rattle.lane_work.specs.Engine.{Engine, EnginePass, known, lessons_of, IsOf}
 use Rattle.lane_threads.specs.Dealt.{said_by, IsSigned, IsLane, AreLanes, IsShare, AreDealt, AreFresh, AddsDealt}
 use Rattle.lane_threads.proofs.ListLemmas.{at_either, within}
 
@@ -59,29 +59,29 @@ by_all n (x ∷ qs) all = let at = all 0 x refl in let least = at.0 in let most 
     ap (λ (s : List OwnAnswer). x ∷ s) (by_all n qs (λ j q e. all (suc j) q e)) ∙ ap (λ (b : Bool). cond b (x ∷ said_by n qs) (said_by n qs)) (sym (eq-eqb x.by n (omega arith)))
 
 -- what a lower number has of the left part, it has of the whole
-share_left : (whole u p : EnginePass) (n : ℕ) → known u ≡ left_part (known whole) → learnt u ≡ lower_part (learnt whole) → u.sizes ≡ whole.sizes → n < (known u).end → IsShare u n p → IsShare whole n p
+share_left : (whole u p : EnginePass) (n : ℕ) → known u ≡ left_part (known whole) → lessons_of u ≡ lower_part (lessons_of whole) → u.sizes ≡ whole.sizes → n < (known u).end → IsShare u n p → IsShare whole n p
 share_left whole u p n left lower sizes under share = record {
   sizes = share.sizes ∙ sizes;
   said = λ signed. share.said (subst IsSigned (sym left) (between_below (known whole).low (known whole).end (middle (known whole)) (known whole).said signed))
       ∙ (ap (λ (v : View). said_by n v.said) left ∙ by_below n (middle (known whole)) (known whole).said (subst (λ (v : View). n < v.end) left under));
   seen = share.seen ∙ ap (λ (v : View). v.seen) left;
   references = share.references ∙ ap (λ (v : View). v.references) left;
-  untaught = λ none. share.untaught (ap (λ (m : Knows). m.tries) lower ∙ ap (made_below maker (cut_at (learnt whole))) none);
+  untaught = λ none. share.untaught (ap (λ (m : Knows). m.tries) lower ∙ ap (made_below maker (cut_at (lessons_of whole))) none);
 }
 
 -- what an upper number has of the right part, it has of the whole
-share_right : (whole w p : EnginePass) (n : ℕ) → known w ≡ right_part (known whole) → learnt w ≡ upper_part (learnt whole) → w.sizes ≡ whole.sizes → (known w).low ≤ n → IsShare w n p → IsShare whole n p
+share_right : (whole w p : EnginePass) (n : ℕ) → known w ≡ right_part (known whole) → lessons_of w ≡ upper_part (lessons_of whole) → w.sizes ≡ whole.sizes → (known w).low ≤ n → IsShare w n p → IsShare whole n p
 share_right whole w p n right upper sizes over share = record {
   sizes = share.sizes ∙ sizes;
   said = λ signed. share.said (subst IsSigned (sym right) (between_from (known whole).low (known whole).end (middle (known whole)) (known whole).said signed))
       ∙ (ap (λ (v : View). said_by n v.said) right ∙ by_from n (middle (known whole)) (known whole).said (subst (λ (v : View). v.low ≤ n) right over));
   seen = share.seen ∙ ap (λ (v : View). v.seen) right;
   references = share.references ∙ ap (λ (v : View). v.references) right;
-  untaught = λ none. share.untaught (ap (λ (m : Knows). m.tries) upper ∙ ap (made_from maker (cut_at (learnt whole))) none);
+  untaught = λ none. share.untaught (ap (λ (m : Knows). m.tries) upper ∙ ap (made_from maker (cut_at (lessons_of whole))) none);
 }
 
 -- where the whole had said and tried nothing, no dealt pass has
-pub fresh_dealt : (engine : Engine) (whole : EnginePass) (passes : List EnginePass) → AreDealt engine whole passes → (known whole).said ≡ [] → (learnt whole).tries ≡ [] → AreFresh passes
+pub fresh_dealt : (engine : Engine) (whole : EnginePass) (passes : List EnginePass) → AreDealt engine whole passes → (known whole).said ≡ [] → (lessons_of whole).tries ≡ [] → AreFresh passes
 fresh_dealt engine whole passes deal none untaught k p e =
     let share = deal.shares k p e in
     let signed : IsSigned (known whole) = λ j q at. absurd (some-ne-none q (sym (ap (λ (qs : List OwnAnswer). get_elem? qs j) (sym none) ∙ at))) in
@@ -102,7 +102,7 @@ added_one engine p old new own one added = record { passes = p ∷ []; added = a
     shares zero q e = let same : (known p).low ≡ (known p).low + 0 = omega arith in subst (λ (n : ℕ). IsShare p n q) same (subst (IsShare p (known p).low) (some-injective p q e) share)
     shares (suc k) q e = absurd (some-ne-none q (sym e))
 
-module _ (engine : Engine) (whole u w : EnginePass) (left : known u ≡ left_part (known whole)) (right : known w ≡ right_part (known whole)) (lower : learnt u ≡ lower_part (learnt whole)) (upper : learnt w ≡ upper_part (learnt whole)) (sizes : u.sizes ≡ whole.sizes) (sizes' : w.sizes ≡ whole.sizes) where
+module _ (engine : Engine) (whole u w : EnginePass) (left : known u ≡ left_part (known whole)) (right : known w ≡ right_part (known whole)) (lower : lessons_of u ≡ lower_part (lessons_of whole)) (upper : lessons_of w ≡ upper_part (lessons_of whole)) (sizes : u.sizes ≡ whole.sizes) (sizes' : w.sizes ≡ whole.sizes) where
   low_same : (known u).low ≡ (known whole).low
   low_same = ap (λ (v : View). v.low) left
 

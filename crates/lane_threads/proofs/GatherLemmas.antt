@@ -10,7 +10,7 @@ use Rattle.index_law.specs.State.{Entries}
 use Rattle.search_info.specs.Parts.{joined_parts}
 use Rattle.search_info.specs.declared.knows.Knows.{Knows}
 use Rattle.search_info.specs.declared.knows.Try.{Try}
-use Rattle.lane_work.specs.Engine.{Engine, EnginePass, known, learnt, IsOf}
+use Rattle.lane_work.specs.Engine.{Engine, EnginePass, known, lessons_of, IsOf}
 use Rattle.lane_threads.specs.Gathered.{Gathers}
 
 longer_none : (xs : List Entries) → longer xs [] ≡ xs
@@ -26,7 +26,7 @@ gathers_one engine p own = record {
   sizes = λ q e. ap (λ (z : EnginePass). z.sizes) (some-injective p q e);
   said = sym (append-nil (known p).said);
   seen = sym (longer_none (known p).seen);
-  tries = sym (append-nil (learnt p).tries);
+  tries = sym (append-nil (lessons_of p).tries);
   references = sym (append-nil (known p).references);
 }
   where
@@ -35,7 +35,7 @@ gathers_one engine p own = record {
     end (suc k) q e long = absurd (some-ne-none q (sym e))
 
 -- one more goes before those that are joined
-pub gathers_more : (engine : Engine) (p p' r : EnginePass) (rs : List EnginePass) (whole : EnginePass) → IsOf engine p' → p'.sizes ≡ p.sizes → known p' ≡ both_parts (known p) (known whole) → learnt p' ≡ joined_parts (learnt p) (learnt whole) → Gathers engine (r ∷ rs) whole → Gathers engine (p ∷ r ∷ rs) p'
+pub gathers_more : (engine : Engine) (p p' r : EnginePass) (rs : List EnginePass) (whole : EnginePass) → IsOf engine p' → p'.sizes ≡ p.sizes → known p' ≡ both_parts (known p) (known whole) → lessons_of p' ≡ joined_parts (lessons_of p) (lessons_of whole) → Gathers engine (r ∷ rs) whole → Gathers engine (p ∷ r ∷ rs) p'
 gathers_more engine p p' r rs whole own sizes joined taught gathers = record {
   own = own;
   low = λ q e. ap (λ (v : View). v.low) joined ∙ ap (λ (z : EnginePass). (known z).low) (some-injective p q e);
@@ -43,7 +43,7 @@ gathers_more engine p p' r rs whole own sizes joined taught gathers = record {
   sizes = λ q e. sizes ∙ ap (λ (z : EnginePass). z.sizes) (some-injective p q e);
   said = ap (λ (v : View). v.said) joined ∙ ap (λ (s : List OwnAnswer). (known p).said ++ s) gathers.said;
   seen = ap (λ (v : View). v.seen) joined ∙ ap (λ (s : List Entries). longer (known p).seen s) gathers.seen;
-  tries = ap (λ (m : Knows). m.tries) taught ∙ ap (λ (ts : List Try). (learnt p).tries ++ ts) gathers.tries;
+  tries = ap (λ (m : Knows). m.tries) taught ∙ ap (λ (ts : List Try). (lessons_of p).tries ++ ts) gathers.tries;
   references = ap (λ (v : View). v.references) joined ∙ ap (λ s. (known p).references ++ s) gathers.references;
 }
   where

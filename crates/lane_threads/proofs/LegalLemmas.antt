@@ -24,7 +24,7 @@ use Rattle.index_law.specs.State.{Entries}
 use Rattle.learning.specs.Opening.{opening_info}
 use Rattle.search_info.specs.History.{Start}
 use Rattle.search_info.specs.declared.knows.Opening.{Opening}
-use Rattle.lane_work.specs.Engine.{EnginePass, known, learnt}
+use Rattle.lane_work.specs.Engine.{EnginePass, known, lessons_of}
 use Rattle.lane_law.proofs.LegalLemmas as proved
 use Rattle.lane_law.proofs.MergedLemmas.{noted_printed, are_entries}
 use Rattle.lane_law.proofs.MergeLemmas.{are_lists}
@@ -134,7 +134,7 @@ module _ (sizes : Sizes) (fields : List ℕ) (names : List (List ℕ)) (lanes : 
   in_lists = are_entries run report ran.fitted.whole (known pass) logs runs ran.noted has_merged
 
   -- the joined pass tried what the report tells
-  taught : IsTaught run report (learnt pass)
+  taught : IsTaught run report (lessons_of pass)
   taught = record {
     low = pass.low ∙ ran.low;
     end = pass.end ∙ ran.end;

@@ -16,7 +16,7 @@ use Rattle.map_history.specs.declared.line.Line.{Line}
 use Rattle.map_history.specs.Lines.{line_texts}
 use Rattle.index_law.specs.Shape.{Shape}
 use Rattle.call_law.specs.Spoken.{Spoken, OwnAnswer, spoken}
-use Rattle.lane_work.specs.Engine.{Engine, EnginePass, known, learnt, IsOf, indexes_of}
+use Rattle.lane_work.specs.Engine.{Engine, EnginePass, known, lessons_of, IsOf, indexes_of}
 use Rattle.report_text.specs.Texts.{answer_line_text}
 use Rattle.lane_law.specs.Merged.{lane_notes, all_notes}
 use Rattle.lane_law.specs.Taught.{told_try, lane_tries, all_tries}
@@ -40,7 +40,7 @@ HaveSizes sizes passes = (k : ℕ) (p : EnginePass) → get_elem? passes k ≡ s
 pub record IsRan (engine : Engine) (sizes : Sizes) (numbered : ℕ × List legal.Line) (done : DoneLane) : Type 0 where
   pub first : EnginePass
   pub fresh : (known first).said ≡ []
-  pub untaught : (learnt first).tries ≡ []
+  pub untaught : (lessons_of first).tries ≡ []
   pub low : (known first).low ≡ numbered.0
   pub works : Works first done.pass numbered.1 done.work.answers done.work.log done.work.counts.items
   pub one : IsLane engine numbered.0 done.pass
@@ -60,7 +60,7 @@ if_some P o x is h = subst (λ (z : Option _). IfSome z P) is h
 
 module _ (engine : Engine) (sizes : Sizes) where
   -- a lane that was ready and is done
-  ran_one : (n : ℕ) (p : EnginePass) (lines : List Line) (doer doer' : LaneDoer) (done : DoneLane) → IsReadyFor engine p lines doer → WorkedOnce doer doer' → doer'.done ≡ Some done → IsLane engine n p → ((known p).said ≡ []) × ((learnt p).tries ≡ []) → p.sizes ≡ sizes
+  ran_one : (n : ℕ) (p : EnginePass) (lines : List Line) (doer doer' : LaneDoer) (done : DoneLane) → IsReadyFor engine p lines doer → WorkedOnce doer doer' → doer'.done ≡ Some done → IsLane engine n p → ((known p).said ≡ []) × ((lessons_of p).tries ≡ []) → p.sizes ≡ sizes
       → IsRan engine sizes (n, line_texts lines) done
   ran_one n p lines doer doer' done ready worked is one fresh same =
       let lane = ready.lane in
@@ -70,7 +70,7 @@ module _ (engine : Engine) (sizes : Sizes) where
       record {
         first = lane.pass;
         fresh = ap (λ (q : EnginePass). (known q).said) pass_is ∙ fresh.0;
-        untaught = ap (λ (q : EnginePass). (learnt q).tries) pass_is ∙ fresh.1;
+        untaught = ap (λ (q : EnginePass). (lessons_of q).tries) pass_is ∙ fresh.1;
         low = low;
         works = subst (λ (ls : List Line). Works lane.pass done.pass (line_texts ls) done.work.answers done.work.log done.work.counts.items) ready.lines_are does.works;
         one = record {
@@ -142,11 +142,11 @@ module _ (engine : Engine) (sizes : Sizes) where
       spoken_before before n = spoken before ++ lane_sayings n numbered.1 ran.works.answers
 
   -- a lane that began with nothing tried has tried what it was answered
-  tried_one : (numbered : ℕ × List legal.Line) (d : DoneLane) (ran : IsRan engine sizes numbered d) → map told_try (learnt d.pass).tries ≡ lane_tries numbered.0 numbered.1 ran.works.answers
+  tried_one : (numbered : ℕ × List legal.Line) (d : DoneLane) (ran : IsRan engine sizes numbered d) → map told_try (lessons_of d.pass).tries ≡ lane_tries numbered.0 numbered.1 ran.works.answers
   tried_one numbered d ran =
       let taught = ran.works.taught in
-      let own : (learnt d.pass).tries ≡ taught.tries = taught.added ∙ ap (λ (ts : List Try). ts ++ taught.tries) ran.untaught in
-      let low : (learnt ran.first).low ≡ numbered.0 = ran.first.low ∙ ran.low in
+      let own : (lessons_of d.pass).tries ≡ taught.tries = taught.added ∙ ap (λ (ts : List Try). ts ++ taught.tries) ran.untaught in
+      let low : (lessons_of ran.first).low ≡ numbered.0 = ran.first.low ∙ ran.low in
       ap (map told_try) own ∙ (taught.told ∙ ap (λ (k : ℕ). lane_tries k numbered.1 ran.works.answers) low)
 
   -- its counts are of as many indexes as the engine has
@@ -181,7 +181,7 @@ module _ (engine : Engine) (sizes : Sizes) where
         counted = (counted_one (n, l) d ran, rest.counted);
         in_order = (ran.works.worked.in_order, rest.in_order);
         says = says_more n l ran.works.answers d.pass lanes rest.answers (map (λ (z : DoneLane). z.pass) done) (said_one (n, l) d ran) rest.says;
-        tried = map-append told_try (learnt d.pass).tries (all_tried (map (λ (z : DoneLane). z.pass) done)) ∙ (λ i. tried_one (n, l) d ran i ++ rest.tried i);
+        tried = map-append told_try (lessons_of d.pass).tries (all_tried (map (λ (z : DoneLane). z.pass) done)) ∙ (λ i. tried_one (n, l) d ran i ++ rest.tried i);
         own = own_more n d.pass (map (λ (z : DoneLane). z.pass) done) ran.one rest.own;
         sizes_are = sizes_more d.pass (map (λ (z : DoneLane). z.pass) done) ran.sizes_are rest.sizes_are;
       }

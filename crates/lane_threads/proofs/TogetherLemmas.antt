@@ -29,7 +29,7 @@ use Rattle.search_info.specs.Passes.{opening}
 use Rattle.search_info.specs.declared.knows.Knows.{Knows}
 use Rattle.search_info.specs.declared.knows.Opening.{Opening}
 use Rattle.lane_law.specs.Taught.{told_try}
-use Rattle.lane_work.specs.Engine.{Engine, EnginePass, known, learnt, nothing_learnt, IsOf, indexes_of}
+use Rattle.lane_work.specs.Engine.{Engine, EnginePass, known, lessons_of, nothing_learnt, IsOf, indexes_of}
 use Rattle.forest_world.specs.Opening.{forest_terms}
 use Rattle.lane_threads.specs.Dealt.{AreLanes, AreDealt, AreFresh}
 use Rattle.lane_threads.specs.Gathered.{Gathers}
@@ -105,7 +105,7 @@ lists_are (d ∷ done) = ap (λ (ls : List (List Counts)). d.work.counts.items �
 
 -- an engine was opened, its pass dealt, the lanes made ready, worked and taken apart
 module _ (engine : Engine) (sizes : Sizes) (fields : List ℕ) (lanes : List (Vec Line Global)) (first : EnginePass)
-    (opened : IsOf engine first × (first.sizes ≡ sizes) × (known first ≡ first_view (forest_terms sizes fields (length lanes)))) (untaught : learnt first ≡ nothing_learnt fields (length lanes)) where
+    (opened : IsOf engine first × (first.sizes ≡ sizes) × (known first ≡ first_view (forest_terms sizes fields (length lanes)))) (untaught : lessons_of first ≡ nothing_learnt fields (length lanes)) where
   -- so these are its terms
   pub terms_are : engine.space.terms ≡ forest_terms sizes fields (length lanes)
   terms_are = sym opened.0.0.1 ∙ ap (λ (v : View). v.terms) opened.2
@@ -113,7 +113,7 @@ module _ (engine : Engine) (sizes : Sizes) (fields : List ℕ) (lanes : List (Ve
   pub first_fresh : (known first).said ≡ []
   first_fresh = ap (λ (v : View). v.said) opened.2
 
-  pub first_untaught : (learnt first).tries ≡ []
+  pub first_untaught : (lessons_of first).tries ≡ []
   first_untaught = ap (λ (m : Knows). m.tries) untaught
 
   -- and its indexes had learnt nothing

@@ -3,7 +3,7 @@ use Rattle.std.specs.Prelude.{ℕ, ◌≡◌, ◌+◌, ◌<◌, ◌≤◌, List,
 use mathlib.Core.Option.{some}
 use lib.ListN.{get_elem?}
 use Rattle.call_law.specs.Spoken.{OwnAnswer, View}
-use Rattle.lane_work.specs.Engine.{Engine, EnginePass, known, learnt, IsOf}
+use Rattle.lane_work.specs.Engine.{Engine, EnginePass, known, lessons_of, IsOf}
 
 -- the answers of the number n
 abbrev pub said_by : ℕ → List OwnAnswer → List OwnAnswer
@@ -32,7 +32,7 @@ pub record IsShare (whole : EnginePass) (n : ℕ) (p : EnginePass) : Type 0 wher
   pub said : IsSigned (known whole) → (known p).said ≡ said_by n (known whole).said
   pub seen : (known p).seen ≡ (known whole).seen
   pub references : (known p).references ≡ (known whole).references
-  pub untaught : (learnt whole).tries ≡ [] → (learnt p).tries ≡ []
+  pub untaught : (lessons_of whole).tries ≡ [] → (lessons_of p).tries ≡ []
 
 -- there is a pass for each number of the whole, in order, and each has its share
 pub record AreDealt (engine : Engine) (whole : EnginePass) (passes : List EnginePass) : Type 0 where
@@ -44,7 +44,7 @@ pub record AreDealt (engine : Engine) (whole : EnginePass) (passes : List Engine
 -- none has said or tried anything
 abbrev pub AreFresh : List EnginePass → Type 0
 AreFresh passes = (k : ℕ) (p : EnginePass) → get_elem? passes k ≡ some p
-    → ((known p).said ≡ []) × ((learnt p).tries ≡ [])
+    → ((known p).said ≡ []) × ((lessons_of p).tries ≡ [])
 
 -- the dealt passes were put behind the others
 pub record AddsDealt (engine : Engine) (whole : EnginePass)

@@ -6,7 +6,7 @@ use Rattle.list_facts.specs.Parts.{longer}
 use Rattle.call_law.specs.Spoken.{OwnAnswer}
 use Rattle.index_law.specs.State.{Entries}
 use Rattle.search_info.specs.declared.knows.Try.{Try}
-use Rattle.lane_work.specs.Engine.{Engine, EnginePass, known, learnt, IsOf}
+use Rattle.lane_work.specs.Engine.{Engine, EnginePass, known, lessons_of, IsOf}
 
 -- each is a pass of the engine
 abbrev pub ArePassesOf : Engine → List EnginePass → Type 0
@@ -23,7 +23,7 @@ all_said passes = flat_map (λ (p : EnginePass). (known p).said) passes
 
 -- what they tried, one behind another
 abbrev pub all_tried : List EnginePass → List Try
-all_tried passes = flat_map (λ (p : EnginePass). (learnt p).tries) passes
+all_tried passes = flat_map (λ (p : EnginePass). (lessons_of p).tries) passes
 
 -- of each index the longest list that any of them has seen
 abbrev pub all_seen : List EnginePass → List Entries
@@ -40,6 +40,6 @@ pub record Gathers (engine : Engine) (passes : List EnginePass) (whole : EngineP
   pub sizes : (p : EnginePass) → get_elem? passes 0 ≡ some p → whole.sizes ≡ p.sizes
   pub said : (known whole).said ≡ all_said passes
   pub seen : (known whole).seen ≡ all_seen passes
-  pub tries : (learnt whole).tries ≡ all_tried passes
+  pub tries : (lessons_of whole).tries ≡ all_tried passes
   pub references : (known whole).references
       ≡ flat_map (λ (p : EnginePass). (known p).references) passes

@@ -17,7 +17,7 @@ use Rattle.forest_law.specs.Law.{IsLawful}
 use Rattle.forest_law.specs.References.{IsReference}
 use Rattle.index_law.specs.Rightness.{IsRight}
 use Rattle.call_law.specs.Spoken.{spoken}
-use Rattle.lane_work.specs.Engine.{EnginePass, known, learnt, nothing_learnt}
+use Rattle.lane_work.specs.Engine.{EnginePass, known, lessons_of, nothing_learnt}
 use Rattle.forest_world.specs.Opening.{forest_terms}
 use Rattle.report_text.specs.Texts.{answer_line_text}
 use Rattle.lane_law.specs.Merged.{all_notes}
@@ -52,8 +52,8 @@ pub record RanTogether (sizes : Sizes) (fields : List ℕ) (lanes : List (List l
   pub counted : AreCounts (length fields) (columns_among lanes answers) counts
   pub in_order : AllZip AreInOrder lanes answers
   pub said : spoken (known pass).said ≡ all_sayings 0 lanes answers
-  pub opening : (learnt pass).opening ≡ (nothing_learnt fields (length lanes)).opening
-  pub tries : map told_try (learnt pass).tries ≡ all_tries 0 lanes answers
+  pub opening : (lessons_of pass).opening ≡ (nothing_learnt fields (length lanes)).opening
+  pub tries : map told_try (lessons_of pass).tries ≡ all_tries 0 lanes answers
   pub low : (known pass).low ≡ 0
   pub end : (known pass).end ≡ length lanes
   pub terms : (known pass).terms ≡ forest_terms sizes fields (length lanes)
@@ -75,7 +75,7 @@ pub record AreReported (run : Run) (report : Report) (pass : EnginePass)
     (changes : List (List ChangeNote)) (entries : List (List ChangeLine)) : Type 0 where
   pub legal : IsLegalReport run report
   pub trail : IsTrail run report (known pass)
-  pub taught : IsTaught run report (learnt pass)
+  pub taught : IsTaught run report (lessons_of pass)
   pub printed : AllZip ArePrinted changes entries
   pub counted : AllByRecursion AreCountedUp changes
 

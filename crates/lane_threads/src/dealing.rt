@@ -1,6 +1,6 @@
 //! Dealing out a pass.
 ghost use Rattle.std.specs.Prelude.{◌≡◌, [], IfOk};
-ghost use Rattle.lane_work.specs.Engine.{known, learnt, IsOf};
+ghost use Rattle.lane_work.specs.Engine.{known, lessons_of, IsOf};
 ghost use Rattle.lane_threads.specs.Dealt.{AreDealt, AreFresh, AddsDealt};
 
 use key_tuple::NoMemory;
@@ -17,7 +17,7 @@ pub(crate) fn deal(
 ) -> Result<Vec<EnginePass>, NoMemory>
     requires own { IsOf engine.now pass }
     ensures ok { IfOk result (λ passes. AreDealt engine.now pass passes.items) }
-    ensures fresh { (known pass).said ≡ [] → (learnt pass).tries ≡ []
+    ensures fresh { (known pass).said ≡ [] → (lessons_of pass).tries ≡ []
         → IfOk result (λ passes. AreFresh passes.items) }
 {
     let mut passes = Vec::new(alloc);

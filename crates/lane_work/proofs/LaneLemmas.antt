@@ -24,7 +24,7 @@ use Rattle.map_history.specs.declared.line.Line.{Line}
 use Rattle.map_history.specs.Lines.{line_text, line_texts}
 use Rattle.index_engine.specs.declared.engine.Engine.{Engine}
 use Rattle.index_engine.specs.declared.engine.EnginePass.{EnginePass}
-use Rattle.index_engine.specs.Engines.{known, learnt, IsOf, IsSame, indexes_of}
+use Rattle.index_engine.specs.Engines.{known, lessons_of, IsOf, IsSame, indexes_of}
 use Rattle.index_engine.specs.Tells.{TellsOnce}
 use Rattle.leaf_search.specs.Tries.{TriesAfter}
 use Rattle.report_text.specs.Texts.{answer_line_text}
@@ -45,7 +45,7 @@ pub works_none : (p : EnginePass) (texts : List (List ℕ)) (log : Log) (counts 
 works_none p texts log counts n empty none indexes zeros = record {
   answers = [];
   worked = worked_none (known p);
-  taught = taught_none (learnt p);
+  taught = taught_none (lessons_of p);
   printed = empty;
   noted = none;
   counted = subst (λ (z : ℕ × List Counts). AreCounts z.0 (λ (i : ℕ). []) z.1) (λ i. (indexes i, sym zeros i)) (none_counted n);
@@ -79,7 +79,7 @@ counted_more indexes lines answers line answer columns counts counts' long has c
 
 -- one line more
 pub works_more : (p q r : EnginePass) (lines : List legal.Line) (texts texts' : List (List ℕ)) (log log' : Log) (counts counts' : List Counts) (line : legal.Line) (told : Told) (row : Pair) (lane : ℕ)
-    → Works p q lines texts log counts → line.op.index < length (known q).seen → line.op.index < (known p).terms.indexes → is_scan line.op.ask ≡ false → TellsOnce (known q) (known r) line.op.index line.op.ask told row → TriesAfter (learnt q) line.op.index told.how (learnt r) → lane ≡ (known p).low + 1
+    → Works p q lines texts log counts → line.op.index < length (known q).seen → line.op.index < (known p).terms.indexes → is_scan line.op.ask ≡ false → TellsOnce (known q) (known r) line.op.index line.op.ask told row → TriesAfter (lessons_of q) line.op.index told.how (lessons_of r) → lane ≡ (known p).low + 1
     → IfSome (answer_of line.op.ask told row) (λ a. texts' ≡ texts ++ answer_text line.line a ∷ []) → log'.noted ≡ log.noted ++ told_notes lane line told
     → ((n : Counts) → slice_get counts line.op.index ≡ Some n → counts' ≡ set counts line.op.index (sum_of n (counts_of (columns_told told ∷ []))))
     → Works p r (lines ++ line ∷ []) texts' log' counts'
@@ -92,7 +92,7 @@ works_more p q r lines texts texts' log log' counts counts' line told row lane w
     record {
       answers = works.answers ++ answered line answer ∷ [];
       worked = worked_more (known p) (known q) (known r) lines works.answers line answer works.worked room (plain_marks line.op.ask answer plain tells.once.form) tells.once;
-      taught = taught_more (learnt p) (learnt q) (learnt r) lines works.answers line answer (columns_told told) as_many columns works.taught tried;
+      taught = taught_more (lessons_of p) (lessons_of q) (lessons_of r) lines works.answers line answer (columns_told told) as_many columns works.taught tried;
       printed = text ∙ (ap (λ xs. xs ++ answer_text line.line answer ∷ []) works.printed ∙ sym (map-append answer_line_text works.answers (answered line answer ∷ [])));
       noted = noted ∙ ((λ i. works.noted i ++ note i) ∙ sym (notes_more (known p).low lines works.answers line answer as_many));
       counted = counted_more (known p).terms.indexes lines works.answers line answer (columns_told told) counts counts' as_many columns works.counted below adds;

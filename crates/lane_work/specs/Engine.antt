@@ -2,5 +2,5 @@
 pub use Rattle.index_engine.specs.declared.engine.Engine.{Engine}
 pub use Rattle.index_engine.specs.declared.engine.EnginePass.{EnginePass}
 pub use Rattle.index_engine.specs.declared.error.EngineError.{EngineError}
-pub use Rattle.index_engine.specs.Engines.{known, learnt, IsOf, IsSame, indexes_of}
+pub use Rattle.index_engine.specs.Engines.{known, lessons_of, IsOf, IsSame, indexes_of}
 pub use Rattle.index_engine.specs.Learners.{nothing_learnt}

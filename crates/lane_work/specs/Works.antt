@@ -11,7 +11,7 @@ use Rattle.change_log.specs.Log.{ChangeNote, Log}
 use Rattle.map_history.specs.LegalReport as legal
 use Rattle.map_history.specs.Report.{AnswerLine}
 use Rattle.index_engine.specs.declared.engine.EnginePass.{EnginePass}
-use Rattle.index_engine.specs.Engines.{known, learnt}
+use Rattle.index_engine.specs.Engines.{known, lessons_of}
 use Rattle.report_text.specs.Texts.{answer_line_text}
 use Rattle.lane_law.specs.Worked.{Worked}
 use Rattle.lane_law.specs.Merged.{lane_notes}
@@ -25,7 +25,7 @@ pub record Works (p q : EnginePass) (lines : List legal.Line) (texts : List (Lis
     (counts : List Counts) : Type 0 where
   pub answers : List AnswerLine
   pub worked : Worked (known p) (known q) lines answers
-  pub taught : Taught (learnt p) (learnt q) lines answers
+  pub taught : Taught (lessons_of p) (lessons_of q) lines answers
   pub printed : texts ≡ map answer_line_text answers
   pub noted : log.noted ≡ lane_notes (known p).low lines answers
   pub counted : AreCounts (known p).terms.indexes (λ i. legal.columns_in i (zip lines answers))

@@ -1,7 +1,7 @@
 //! One line, asked of an engine.
 ghost use Rattle.std.specs.Prelude.{IfOk, OnErr};
 ghost use Rattle.map_history.specs.Lines.{line_text};
-ghost use Rattle.index_engine.specs.Engines.{known, learnt, IsOf, IsSame};
+ghost use Rattle.index_engine.specs.Engines.{known, lessons_of, IsOf, IsSame};
 ghost use Rattle.call_law.specs.Once.{IsQuiet};
 ghost use Rattle.index_engine.specs.Tells.{TellsOnce};
 ghost use Rattle.leaf_search.specs.Tries.{TriesAfter};
@@ -25,8 +25,8 @@ pub(crate) fn work_line<R: Wait>(
     ensures own { IsSame pass.old pass.new × IsOf engine.now pass.new }
     ensures ok { IfOk result (λ told. TellsOnce (known pass.old) (known pass.new)
         (line_text line.now).op.index (line_text line.now).op.ask told row.new) }
-    ensures tried { IfOk result (λ told. TriesAfter (learnt pass.old)
-        (line_text line.now).op.index told.how (learnt pass.new)) }
+    ensures tried { IfOk result (λ told. TriesAfter (lessons_of pass.old)
+        (line_text line.now).op.index told.how (lessons_of pass.new)) }
     ensures err { OnErr result (IsQuiet (known pass.old) (known pass.new)
         (line_text line.now).op.index) }
 {

@@ -6,5 +6,4 @@ pub mod AnswerLemmas
 pub mod WriteLemmas
 pub mod HistoryLemmas
 pub mod SearchLemmas
-pub mod DashLemmas
 pub mod RoomLemmas

@@ -1,7 +1,7 @@
 use Rattle.std.proofs.Common.{ap, ◌∙◌}
 use Rattle.map_history.specs.Report.{Columns}
 use Rattle.search_info.specs.Passes.{knowledge}
-use Rattle.index_engine.specs.Engines.{learnt}
+use Rattle.index_engine.specs.Engines.{lessons_of}
 use Rattle.index_engine.specs.Leaving.{AnswersDel}
 use Rattle.index_engine.proofs.DelLemmas.{search_then_del}
 use Rattle.index_engine.proofs.WayLemmas.{by_search, about_key}
@@ -13,7 +13,7 @@ returns-clause-told g c = let p = c.args.pass.now.world in let p0 = c.find-searc
     let s = c.find-searched.result in let m = knowledge c.find-searched.new.learn in
     let call = c.call.result in let about = c.call.ensures.about in let told = c.del.result in
     search_then_del p p0 q i key s.leaf s.how
-    (by_search p (learnt c.args.pass.now) i key s p0 m c.find-searched.ensures.searched) told
+    (by_search p (lessons_of c.args.pass.now) i key s p0 m c.find-searched.ensures.searched) told
     (ap (λ (z : Columns). z.how) (c.del.ensures.columns ∙ c.call.ensures.found))
     (about_key (λ n k. AnswersDel p0 s.leaf.block n k told q) call.index i call.key.now.tuple key
     about.0 (ap (λ k. k.tuple) about.1) c.del.ensures.told)

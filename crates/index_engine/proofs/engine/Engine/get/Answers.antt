@@ -4,7 +4,7 @@ use Rattle.map_history.specs.Operation as asked
 use Rattle.map_history.specs.Report.{Columns}
 use Rattle.search_info.specs.Passes.{knowledge}
 use Rattle.forest_world.specs.Held.{shape_of_pass}
-use Rattle.index_engine.specs.Engines.{learnt}
+use Rattle.index_engine.specs.Engines.{lessons_of}
 use Rattle.index_engine.specs.Leaving.{AnswersAndLeaves}
 use Rattle.index_engine.specs.Traces.{IsFoundBy}
 use Rattle.index_engine.proofs.TellLemmas.{tells_found}
@@ -23,7 +23,7 @@ returns-clause-told g c = let p = c.args.pass.now.world in let p0 = c.find-searc
     tells_search (view p) (view q) i key s.how (asked.Get key) told out answers.gave.frame
     (ap (λ (z : Columns). z.how) (c.get.ensures.columns ∙ c.call.ensures.found))
     (tells_found (IsFoundBy (shape_of_pass p) i key s.how) p p0 q i key s.leaf
-    (by_search p (learnt c.args.pass.now) i key s p0 m c.find-searched.ensures.searched)
+    (by_search p (lessons_of c.args.pass.now) i key s p0 m c.find-searched.ensures.searched)
     (asked.Get key) told out answers)
 
 pub returns-clause-searched : goal.returns-clause-searched

@@ -15,8 +15,8 @@ use Rattle.leaf_search.specs.Downs.{figures_at}
 use Rattle.leaf_search.specs.Tries.{TriesAfter}
 use Rattle.leaf_search.proofs.SearchLemmas.{hit_stands}
 use Rattle.leaf_search.proofs.TryLemmas.{tries_after, of_tries}
-use Rattle.index_engine.specs.Engines.{learnt}
-use Rattle.index_engine.specs.SeekHands.{HoldsHitAlone, HoldsPair}
+use Rattle.index_engine.specs.Engines.{lessons_of}
+use Rattle.index_engine.specs.SeekHands.{HoldsHitAlone, HoldsLeafPair}
 use Rattle.index_engine.specs.SeekSteps.{AnswersHit, SeeksFrom}
 use Rattle.index_engine.proofs.LearnerLemmas.{has_start}
 use Rattle.index_engine.proofs.SeekHitLemmas.{hit_alone, hit_seeks}
@@ -56,7 +56,7 @@ pub end_on_hit-requires-clause-held : goal.end_on_hit-requires-clause-held
 end_on_hit-requires-clause-held g c = let p = c.args.pass.now.world in
     let engine = c.args.self.now in let q = c.guess.new.pass in let i = c.args.index in
     let mode = c.args.mode in let tuple = c.args.tuple.now in let hit = c.in-Hit in
-    let guessed = subst (λ z. Guesses p (learnt c.args.pass.now) i mode tuple z q
+    let guessed = subst (λ z. Guesses p (lessons_of c.args.pass.now) i mode tuple z q
     (knowledge c.guess.new.learn)) hit.is c.guess.ensures.did in
     let about = c.seek_call.ensures.about in let call = c.seek_call.result in
     about_seek (λ n m t. HoldsHitAlone q n m t hit.block hit.place) i call.index mode call.mode tuple
@@ -69,7 +69,7 @@ pub returns-in-Hit-clause-told : goal.returns-in-Hit-clause-told
 returns-in-Hit-clause-told g c = let p = c.args.pass.now.world in
     let q = c.guess.new.pass in let r = c.end_on_hit.new.pass in let i = c.args.index in
     let mode = c.args.mode in let tuple = c.args.tuple.now in let hit = c.in-Hit in
-    let guessed = subst (λ z. Guesses p (learnt c.args.pass.now) i mode tuple z q
+    let guessed = subst (λ z. Guesses p (lessons_of c.args.pass.now) i mode tuple z q
     (knowledge c.guess.new.learn)) hit.is c.guess.ensures.did in
     let about = c.seek_call.ensures.about in let call = c.seek_call.result in
     let told = c.end_on_hit.result in let out = c.end_on_hit.new.out in
@@ -80,7 +80,7 @@ returns-in-Hit-clause-told g c = let p = c.args.pass.now.world in
 
 pub returns-in-Hit-clause-tried : goal.returns-in-Hit-clause-tried
 returns-in-Hit-clause-tried g c = let p = c.args.pass.now.world in
-    let q = c.guess.new.pass in let i = c.args.index in let l = learnt c.args.pass.now in
+    let q = c.guess.new.pass in let i = c.args.index in let l = lessons_of c.args.pass.now in
     let m = knowledge c.guess.new.learn in let hit = c.in-Hit in
     let guessed = subst (λ z. Guesses p l i c.args.mode c.args.tuple.now z q m) hit.is
     c.guess.ensures.did in
@@ -91,7 +91,7 @@ returns-in-Hit-clause-tried g c = let p = c.args.pass.now.world in
 
 pub find_pair-note-requires-clause-nothing : goal.find_pair-note-requires-clause-nothing
 find_pair-note-requires-clause-nothing g c = let p = c.args.pass.now.world in
-    let guessed = subst (λ z. Guesses p (learnt c.args.pass.now) c.args.index c.args.mode
+    let guessed = subst (λ z. Guesses p (lessons_of c.args.pass.now) c.args.index c.args.mode
     c.args.tuple.now z c.guess.new.pass (knowledge c.guess.new.learn)) c.in-Miss.is
     c.guess.ensures.did in
     guessed.keeps.count ∙ c.args.pass.now.nothing
@@ -109,7 +109,7 @@ pub seek-requires-clause-held : goal.seek-requires-clause-held
 seek-requires-clause-held g c = let r = c.find_pair-note.new.pass in
     let about = c.seek_call-in-Miss.ensures.about in let call = c.seek_call-in-Miss.result in
     let pair = c.find_pair-note.result.0 in
-    about_seek (λ n m t. HoldsPair r n m t pair.leaf pair.other) c.args.index call.index c.args.mode
+    about_seek (λ n m t. HoldsLeafPair r n m t pair.leaf pair.other) c.args.index call.index c.args.mode
     call.mode c.args.tuple.now call.tuple.now (sym about.0) (sym about.1) (sym about.2)
     c.find_pair-note.ensures.held
 
@@ -117,7 +117,7 @@ pub returns-in-Miss-clause-told : goal.returns-in-Miss-clause-told
 returns-in-Miss-clause-told g c =
     let p = c.args.pass.now.world in let q = c.guess.new.pass in
     let r = c.find_pair-note.new.pass in let s = c.seek.new.pass in let i = c.args.index in
-    let mode = c.args.mode in let tuple = c.args.tuple.now in let l = learnt c.args.pass.now in
+    let mode = c.args.mode in let tuple = c.args.tuple.now in let l = lessons_of c.args.pass.now in
     let n = knowledge c.guess.new.learn in let m = knowledge c.find_pair-note.new.learn in
     let guessed = subst (λ z. Guesses p l i mode tuple z q n) c.in-Miss.is c.guess.ensures.did in
     let pair = c.find_pair-note.result.0 in let about = c.seek_call-in-Miss.ensures.about in
@@ -134,7 +134,7 @@ pub returns-in-Miss-clause-tried : goal.returns-in-Miss-clause-tried
 returns-in-Miss-clause-tried g c =
     let p = c.args.pass.now.world in let q = c.guess.new.pass in
     let r = c.find_pair-note.new.pass in let s = c.seek.new.pass in let i = c.args.index in
-    let mode = c.args.mode in let tuple = c.args.tuple.now in let l = learnt c.args.pass.now in
+    let mode = c.args.mode in let tuple = c.args.tuple.now in let l = lessons_of c.args.pass.now in
     let n = knowledge c.guess.new.learn in let m = knowledge c.find_pair-note.new.learn in
     let guessed = subst (λ z. Guesses p l i mode tuple z q n) c.in-Miss.is c.guess.ensures.did in
     let pair = c.find_pair-note.result.0 in let about = c.seek_call-in-Miss.ensures.about in
@@ -148,7 +148,7 @@ pub invariant_of-pass-in-Miss : goal.invariant_of-pass-in-Miss
 invariant_of-pass-in-Miss g c =
     let p = c.args.pass.now.world in let q = c.guess.new.pass in
     let r = c.find_pair-note.new.pass in let s = c.seek.new.pass in let i = c.args.index in
-    let mode = c.args.mode in let tuple = c.args.tuple.now in let l = learnt c.args.pass.now in
+    let mode = c.args.mode in let tuple = c.args.tuple.now in let l = lessons_of c.args.pass.now in
     let n = knowledge c.guess.new.learn in let m = knowledge c.find_pair-note.new.learn in
     let guessed = subst (λ z. Guesses p l i mode tuple z q n) c.in-Miss.is c.guess.ensures.did in
     let pair = c.find_pair-note.result.0 in let about = c.seek_call-in-Miss.ensures.about in
@@ -179,7 +179,7 @@ returns-in-Hit-clause-searched g c = let p = c.args.pass.now.world in
       place = hit.place;
       found = hit.found;
       learn = hit.learn;
-      guess = subst (λ z. Guesses p (learnt c.args.pass.now) c.args.index c.args.mode
+      guess = subst (λ z. Guesses p (lessons_of c.args.pass.now) c.args.index c.args.mode
           c.args.tuple.now z q (knowledge c.guess.new.learn)) hit.is c.guess.ensures.did;
       told = c.end_on_hit.ensures.columns ∙ (λ j. record { how = call.0 j; note = note j });
     })
@@ -194,7 +194,7 @@ returns-in-Miss-clause-searched g c = let p = c.args.pass.now.world in
       read = knowledge c.guess.new.learn;
       cause = miss.cause;
       learn = miss.learn;
-      guess = subst (λ z. Guesses p (learnt c.args.pass.now) c.args.index c.args.mode
+      guess = subst (λ z. Guesses p (lessons_of c.args.pass.now) c.args.index c.args.mode
           c.args.tuple.now z q (knowledge c.guess.new.learn)) miss.is c.guess.ensures.did;
       after = c.find_pair-note.new.pass;
       pair = c.find_pair-note.result.0;

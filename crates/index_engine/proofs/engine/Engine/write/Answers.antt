@@ -4,7 +4,7 @@ use Rattle.search_info.specs.Passes.{knowledge}
 use Rattle.map_history.specs.declared.reply.Told.{Told}
 use Rattle.map_history.specs.Report.{Columns}
 use Rattle.map_history.specs.Told.{columns_told}
-use Rattle.index_engine.specs.Engines.{learnt}
+use Rattle.index_engine.specs.Engines.{lessons_of}
 use Rattle.index_engine.specs.Says.{columns_by}
 use Rattle.leaf_search.specs.Traces.{SearchTrace}
 use Rattle.index_engine.specs.Searched.{SearchedFor}
@@ -20,7 +20,7 @@ returns-clause-ok g c = let p = c.args.pass.now.world in let p0 = c.find-searche
     let m = knowledge c.find-searched.new.learn in let call = c.call.result in
     let about = c.call.ensures.about in
     search_then_write p p0 q i key value s.leaf s.how
-    (by_search p (learnt c.args.pass.now) i key s p0 m c.find-searched.ensures.searched)
+    (by_search p (lessons_of c.args.pass.now) i key s p0 m c.find-searched.ensures.searched)
     (write_asked c.args.write key value) c.write.result
     (IfOk-weaker c.write.result (λ (told : Told). columns_told told ≡ columns_by call.found)
     (λ (told : Told). told.how ≡ s.how)
@@ -34,7 +34,7 @@ pub returns-clause-err : goal.returns-clause-err
 returns-clause-err g c = let p = c.args.pass.now.world in let p0 = c.find-searched.new.pass in
     let q = c.write.new.pass in let i = c.args.index in let key = c.args.key.now.tuple in
     let value = c.args.value.now in let s = c.find-searched.result in
-    let l = learnt c.args.pass.now in let m = knowledge c.find-searched.new.learn in
+    let l = lessons_of c.args.pass.now in let m = knowledge c.find-searched.new.learn in
     let call = c.call.result in let about = c.call.ensures.about in
     let searched = c.find-searched.ensures.searched in
     search_then_gives_up p p0 q i key value s.leaf s.how (by_search p l i key s p0 m searched) l m
@@ -51,7 +51,7 @@ returns-clause-searched g c = let i = c.args.index in let key = c.args.key.now.t
     (λ told same. record {
       searched = s;
       between = c.find-searched.new.pass;
-      trace = subst (λ m. SearchTrace c.args.pass.now.world (learnt c.args.pass.now) i m key s
+      trace = subst (λ m. SearchTrace c.args.pass.now.world (lessons_of c.args.pass.now) i m key s
           c.find-searched.new.pass (knowledge c.find-searched.new.learn)) c.mode.ensures
           c.find-searched.ensures.trace;
       told = same ∙ c.call.ensures.found;
