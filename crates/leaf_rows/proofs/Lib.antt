@@ -3,3 +3,4 @@ pub mod ChangeLemmas
 pub mod FullLemmas
 pub mod SetLemmas
 pub mod RowSpotLemmas
+pub mod SpotLemmas

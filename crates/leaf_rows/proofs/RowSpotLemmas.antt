@@ -1,5 +1,5 @@
 -- Where the key of a row belongs among the rows: before that row.
-use Rattle.std.proofs.Common.{◌≡◌, ℕ, zero, suc, ◌<◌, true, false, not, Option, Some, None, List, [], ◌∷◌, ◌++◌, refl, sym, ap, ◌∙◌, subst, arith, length, take, drop}
+use Rattle.std.proofs.Common.{◌≡◌, ℕ, zero, suc, ◌<◌, true, not, Option, Some, None, List, [], ◌∷◌, ◌++◌, refl, sym, ap, ◌∙◌, subst, arith, length, take, drop}
 use Rattle.std.proofs.lemmas.List.{take-append-drop, length-take-le}
 use Rattle.std.specs.List.{AllByRecursion, slice_get}
 use Rattle.key_tuple.specs.Order.{FieldList}
@@ -10,7 +10,7 @@ use Rattle.list_facts.proofs.Each.{each_get, each_weaker}
 use Rattle.index_page.specs.declared.spot.Spot.{Spot}
 use Rattle.index_page.specs.Page.{PageRows, PlacesDiffer, RowsAscend, IsRowOf, IsPageInOrder}
 use Rattle.index_page.specs.Rows.{Row, first_of_rows, last_of_rows, find_row, IsAt}
-use Rattle.index_page.specs.Search.{AllOut, AllIn, Finds, agreement}
+use Rattle.index_page.specs.Search.{AllOut, Finds, agreement}
 use Rattle.index_page.proofs.CutLemmas.{in_from, not_below-itself, not_below-whole}
 use Rattle.index_page.proofs.RowLemmas.{find_get, find_stands, first_of_rows-drop, get_below, last_of_rows-take}
 
