@@ -73,10 +73,25 @@ taken_as_known p q k below took = let n = part_id (shape_of_pass p) k in
     ∙ set_here (view p).held n (Some (holding (object.Part took.part) (object.Part took.part)))
     (inside (view p).held n None c.lacked)
 
-module _ (p0 p1 : TreePass) (b i k : ℕ) (figures : BlockFigures)
-    (k_is : k ≡ part_for (shape_of_pass p0).parts i) (below : k < (shape_of_pass p0).parts)
-    (known : IsKnown p0) (none : HoldsNoPart (view p0)) (took : TakesPartition p0 k p1)
-    (differs : figures.built ≢ Some figures.advice) (h : HoldsToTeach (view p0) b i figures) where
+-- the partition of the index was taken for a leaf that is to be hashed otherwise
+pub record ReadyToBuild (p0 p1 : TreePass) (b i k : ℕ) (figures : BlockFigures) : Type 0 where
+  pub fitted : IsFittedTree (view p0)
+  pub known : IsKnown p0
+  pub none : HoldsNoPart (view p0)
+  pub k_is : k ≡ part_for (shape_of_pass p0).parts i
+  pub below : k < (shape_of_pass p0).parts
+  pub took : TakesPartition p0 k p1
+  pub teach : HoldsToTeach (view p0) b i figures
+  pub differs : figures.built ≢ Some figures.advice
+
+module _ {p0 p1 : TreePass} {b i k : ℕ} {figures : BlockFigures}
+    (ready : ReadyToBuild p0 p1 b i k figures) where
+  abbrev h : HoldsToTeach (view p0) b i figures
+  h = ready.teach
+
+  abbrev took : TakesPartition p0 k p1
+  took = ready.took
+
   abbrev f : Frame
   f = h.leaf.frame
 
@@ -87,20 +102,20 @@ module _ (p0 p1 : TreePass) (b i k : ℕ) (figures : BlockFigures)
   n = part_id (shape_of_pass p0) k
 
   abbrev holds : HoldsPartToo p0 k p1
-  holds = took_part p0 p1 k below known took
+  holds = took_part p0 p1 k ready.below ready.known took
 
   pub shape1 : shape_of_pass p1 ≡ shape_of_pass p0
   shape1 = tries_shape p0 p1 (n ∷ []) holds.tries
 
   apart : own ≢ n
-  apart e = omega (arith, e, below)
+  apart e = let below = ready.below in omega (arith, e, below)
 
   pub knows1 : KnowsFrame (view p1) b f
   knows1 = frame_still (view p0) (view p1) (n ∷ []) holds.tries.does.adds.numbers
       holds.tries.does.rest b (apart, tt) f h.leaf.knows
 
   pub k1_is : part_for (shape_of_pass p1).parts i ≡ k
-  k1_is = ap (λ (s : Shape). part_for s.parts i) shape1 ∙ sym k_is
+  k1_is = ap (λ (s : Shape). part_for s.parts i) shape1 ∙ sym ready.k_is
 
   pub taken_known : IsKnown p1
   taken_known = holds.tries.does.known
@@ -121,7 +136,7 @@ module _ (p0 p1 : TreePass) (b i k : ℕ) (figures : BlockFigures)
       };
       suits = h.suits;
     };
-    differs = differs;
+    differs = ready.differs;
     part = took.part;
     knows = subst (λ m. KnowsPart (view p1) m took.part) (sym k1_is) took.has.held;
     exact = subst (λ m. IsExactFor (shape_of_pass p1) m b took.part f) (sym k1_is)
@@ -129,9 +144,8 @@ module _ (p0 p1 : TreePass) (b i k : ℕ) (figures : BlockFigures)
         (took.comes.exact b f h.leaf.knows));
   }
 
-  module _ (p2 : TreePass) (answer : Build)
-      (built : BuiltInHand p1 b i figures f h.leaf.is.page took.part answer p2)
-      (fitted : IsFittedTree (view p0)) where
+  module _ {p2 : TreePass} {answer : Build}
+      (built : BuiltInHand p1 b i figures f h.leaf.is.page took.part answer p2) where
     abbrev k1 : ℕ
     k1 = part_for (shape_of_pass p1).parts i
 
@@ -192,7 +206,7 @@ module _ (p0 p1 : TreePass) (b i k : ℕ) (figures : BlockFigures)
         built.beside
 
     tidy : IsTidy (hash_block f)
-    tidy = known_tidy (view p0) fitted b f h.leaf.knows
+    tidy = known_tidy (view p0) ready.fitted b f h.leaf.knows
 
     leaf : HasLeafOf (hash_block (with_figures f figures)) i
     leaf = record {
@@ -216,7 +230,7 @@ module _ (p0 p1 : TreePass) (b i k : ℕ) (figures : BlockFigures)
       frame = built.frame;
       below = subst (λ (s : Shape). b < frames_of s) (sym (shape2 ∙ shape1))
           (known_below p0 b h.leaf.knows.0 (object.Frame f) h.leaf.knows.1
-          (knows_forest p0 fitted).objects);
+          (knows_forest p0 ready.fitted).objects);
       was_in = hashed_in f (λ index e. tidy_index f i index tidy h.leaf.is e);
       is_in = hashed_in g (λ index e. built_index answer how (with_figures f figures) index e);
       tidy = λ t. built_tidy answer how (with_figures f figures) leaf h.suits.advice
@@ -268,7 +282,7 @@ module _ (p0 p1 : TreePass) (b i k : ℕ) (figures : BlockFigures)
           (object.Part built.now)
           (subst (λ m. Holds (view p1) m
           (holding (object.Part took.part) (object.Part took.part))) (sym n1_is)
-          (taken_as_known p0 p1 k below took)) part_shows)
+          (taken_as_known p0 p1 k ready.below took)) part_shows)
 
       does3 : Does p1 p3 (n ∷ own ∷ []) none_added
       does3 = subst (λ m. Does p1 p3 (m ∷ own ∷ []) none_added) n1_is
@@ -314,7 +328,7 @@ module _ (p0 p1 : TreePass) (b i k : ℕ) (figures : BlockFigures)
             (λ j off. (off.0, tt)) holds.tries.does) does3)
             (does_among p3 p4 c (n ∷ []) (n ∷ own ∷ []) (λ j off. (off.0, tt)) gave_does))
             (ap (λ m. get_elem? (view p4).held m) (sym n3_is)
-            ∙ (gave.lacks ∙ sym (none k below)))
+            ∙ (gave.lacks ∙ sym (ready.none k ready.below)))
 
         abbrev references : List (Reference Object)
         references = reference n (object.Part took.part) (object.Part built.now) ∷ []
@@ -334,7 +348,7 @@ module _ (p0 p1 : TreePass) (b i k : ℕ) (figures : BlockFigures)
                 built.beside p3 told built.count in omega (arith, x, y, z));
           };
           builds = record {
-            differs = differs;
+            differs = ready.differs;
             was = took.part;
             now = built.now;
             told = subst (λ (s : Shape). BuildsAnew (record {
@@ -344,6 +358,6 @@ module _ (p0 p1 : TreePass) (b i k : ℕ) (figures : BlockFigures)
               bits = s.fold_bits;
             }) h.leaf.is.page.rows took.part built.now answer) shape1 built.told;
             given = ap (λ m. reference (part_id (shape_of_pass p0) m) (object.Part took.part)
-                (object.Part built.now) ∷ []) k_is;
+                (object.Part built.now) ∷ []) ready.k_is;
           };
         }

@@ -27,7 +27,7 @@ use Rattle.tree_descent.proofs.InnerLemmas.{one_known}
 use Rattle.leaf_search.specs.Downs.{SearchesDown, figures_at}
 use Rattle.leaf_search.specs.Lessons.{Teaches}
 
-module _ (p q : TreePass) (i : ℕ) (mode : Mode) (key : FieldList) (way : Leaf)
+module _ {p q : TreePass} {i : ℕ} {mode : Mode} {key : FieldList} {way : Leaf}
     (went : Descends p i mode key way q) where
   pub went_shape : shape_of_pass q ≡ shape_of_pass p
   went_shape = ap (λ (t : Terms Shape). t.shape) went.silently.does.adds.numbers.terms
@@ -80,8 +80,8 @@ module _ (q r : TreePass) (l m : Knows) (i b : ℕ) (figures : Figures) (told : 
   }
 
 -- the leaf that taught is the one that the way led to
-module _ (p q r : TreePass) (l m : Knows) (i : ℕ) (mode : Mode) (key : FieldList) (way : Leaf)
-    (told : Note) (went : Descends p i mode key way q)
+module _ {p q r : TreePass} {l m : Knows} {i : ℕ} {mode : Mode} {key : FieldList} {way : Leaf}
+    {told : Note} (went : Descends p i mode key way q)
     (taught : Teaches q l i way.block (figures_at way.spot) told r m) where
   pub taught_frame : taught.leaf.frame ≡ went.frame
   taught_frame = one_known (view q) way.block taught.leaf.frame went.frame taught.leaf.knows

@@ -33,8 +33,8 @@ high_fields : (n : ℕ) (o : Option FieldList) → HasFields n o → IsOfFields 
 high_fields n None has = tt
 high_fields n (Some k) has = has
 
-module _ (v : View) (fitted : IsFittedTree v) (i : ℕ) (mode : Mode) (key : FieldList)
-    (block place : ℕ) (found : Bool) (hit : HoldsHit v i mode key block place found)
+module _ {v : View} (fitted : IsFittedTree v) {i : ℕ} {mode : Mode} {key : FieldList}
+    {block place : ℕ} {found : Bool} (hit : HoldsHit v i mode key block place found)
     (whole : length key ≡ fields_for v.terms.shape i) where
   abbrev w : ForestState
   w = fitted.whole

@@ -11,7 +11,7 @@ use Rattle.map_history.specs.declared.columns.Note.{Note}
 use Rattle.search_info.specs.declared.knows.Knows.{Knows}
 use Rattle.search_info.specs.declared.outcome.Learn.{Learn}
 use Rattle.index_page.specs.Page.{IsRowOf, IsPageInOrder}
-use Rattle.index_page.specs.Rows.{Row, find_row}
+use Rattle.index_page.specs.Rows.{find_row}
 use Rattle.index_page.specs.Search.{Finds}
 use Rattle.index_page.specs.declared.spot.Spot.{Spot}
 use Rattle.index_page.proofs.RowLemmas.{each_found}
@@ -45,14 +45,14 @@ module _ (p q : TreePass) (l m : Knows) (i : ℕ) (mode : Mode) (key : FieldList
 
   -- the key has as many fields as those of the index, as before
   pub whole_after : length key ≡ fields_for (shape_of_pass q) i
-  whole_after = hit_whole p q l m i mode key whole fitted block place true hits.learn hits.guess
+  whole_after = hit_whole whole fitted hits.guess
 
   -- its leaf is held
   abbrev pub leaf_there : HoldsPage (view q) block i 0
-  leaf_there = hit_leaf (view q) fitted i mode key block place true hit whole_after
+  leaf_there = hit_leaf fitted hit whole_after
 
   long : length key ≡ hit.is.page.head.fields
-  long = whole_there (view q) fitted i mode key block place true hit whole_after
+  long = whole_there fitted hit whole_after
 
   -- it stands at the place
   pub row_there : find_row place hit.is.page.rows ≡ Some hit.checks.row
@@ -78,8 +78,7 @@ module _ (p q : TreePass) (l m : Knows) (i : ℕ) (mode : Mode) (key : FieldList
       → Searches p l i key (told_hit block spot note) q m
   key_searches spot finds = subst (λ z. Searches p l i key (told_hit block spot z) q m)
       (sym hits.note_is)
-      (searches_hit p q l m i mode key whole fitted block place true hits.learn hits.guess spot
-      finds)
+      (searches_hit whole fitted hits.guess spot finds)
 
 -- which was traced so
 pub key_traces : (p q : TreePass) (l m : Knows) (i : ℕ) (mode : Mode) (key : FieldList)
@@ -95,12 +94,12 @@ key_traces p q l m i mode key block place note hits spot = inl (record {
 })
 
 -- so it is where the guess found the very key
-pub hits_key : (p q : TreePass) (l m : Knows) (i : ℕ) (mode : Mode) (key : FieldList)
-    (block place : ℕ) (note : Note) (learn : Learn) (found : Bool) → found ≡ true
+pub hits_key : {p q : TreePass} {l m : Knows} {i : ℕ} {mode : Mode} {key : FieldList}
+    {block place : ℕ} {note : Note} {learn : Learn} {found : Bool} → found ≡ true
     → (guess : GuessHits p l i mode key block place found learn q m)
     → IsPageInOrder guess.hits.hit.is.page → note ≡ note_of_hit learn
     → HitsKey p l i mode key block place note q m
-hits_key p q l m i mode key block place note learn found is guess order told =
+hits_key {p} {q} {l} {m} {i} {mode} {key} {block} {place} {learn = learn} is guess order told =
     let both = subst (λ b. (g : GuessHits p l i mode key block place b learn q m)
     × IsPageInOrder g.hits.hit.is.page) is (guess, order) in record {
       learn = learn;

@@ -70,9 +70,9 @@ hit_stands (Learnt before after build) = refl
 hit_stands (Raced read found) = refl
 hit_stands Worn = refl
 
-module _ (p q : TreePass) (l m : Knows) (i : ℕ) (mode : Mode) (key : FieldList)
+module _ {p q : TreePass} {l m : Knows} {i : ℕ} {mode : Mode} {key : FieldList}
     (whole : length key ≡ fields_for (shape_of_pass p) i) (fitted : IsFittedTree (view q))
-    (block place : ℕ) (found : Bool) (told : Learn)
+    {block place : ℕ} {found : Bool} {told : Learn}
     (guess : GuessHits p l i mode key block place found told q m) where
   hit_shape : shape_of_pass q ≡ shape_of_pass p
   hit_shape = ap (λ (t : Terms Shape). t.shape) guess.hits.does.adds.numbers.terms
@@ -97,8 +97,7 @@ module _ (p q : TreePass) (l m : Knows) (i : ℕ) (mode : Mode) (key : FieldList
     frame = guess.hits.hit.frame;
     knows = guess.hits.hit.knows;
     is = record {
-      page = hit_page (view q) fitted i mode key block place found guess.hits.hit hit_whole
-          (shape_of_pass p) hit_shape;
+      page = hit_page fitted guess.hits.hit hit_whole (shape_of_pass p) hit_shape;
       finds = finds;
     };
     came = inl (refl, refl);
@@ -140,15 +139,15 @@ cause_is_no_hit cause is = not_down (sym (ap (λ h. (how_word h).search) is) ∙
     not_down : (how_word how.Hit).search ≡ Down → ⊥
     not_down e = absurd cc
 
-module _ (p q r s : TreePass) (l n m : Knows) (i : ℕ) (mode : Mode) (key : FieldList)
-    (whole : length key ≡ fields_for (shape_of_pass p) i) (nothing : GetsNothing p q) (way : Leaf)
-    (told : Note) (went : Descends q i mode key way r)
+module _ {p q r s : TreePass} (l : Knows) {n m : Knows} {i : ℕ} {mode : Mode} {key : FieldList}
+    (whole : length key ≡ fields_for (shape_of_pass p) i) (nothing : GetsNothing p q) {way : Leaf}
+    {told : Note} (went : Descends q i mode key way r)
     (taught : Teaches r n i way.block (figures_at way.spot) told s m) where
   shape_q : shape_of_pass q ≡ shape_of_pass p
   shape_q = ap (λ (t : Terms Shape). t.shape) nothing.silently.does.adds.numbers.terms
 
   pub shape_r : shape_of_pass r ≡ shape_of_pass p
-  shape_r = went_shape q r i mode key way went ∙ shape_q
+  shape_r = went_shape went ∙ shape_q
 
   abbrev own : ℕ
   own = frame_id (shape_of_pass p) way.block
@@ -193,10 +192,10 @@ module _ (p q r s : TreePass) (l n m : Knows) (i : ℕ) (mode : Mode) (key : Fie
       ∙ cut_whole (fields_for (shape_of_pass p) i) mode key whole
 
   frame_is : taught.leaf.frame ≡ went.frame
-  frame_is = taught_frame q r s n m i mode key way told went taught
+  frame_is = taught_frame went taught
 
   page_is : taught.leaf.is.page ≡ went.is.page.is.page
-  page_is = taught_page q r s n m i mode key way told went taught
+  page_is = taught_page went taught
 
   pub low_is : taught.new.low ≡ went.frame.low
   low_is = taught.same.low ∙ ap (λ (z : Frame). z.low) frame_is
@@ -271,22 +270,20 @@ module _ (p q r s : TreePass) (l n m : Knows) (i : ℕ) (mode : Mode) (key : Fie
   }
 
 -- the same, by what the way down tells
-pub searches_down_too : (p q s : TreePass) (l n m : Knows) (i : ℕ) (mode : Mode) (key : FieldList)
-    → length key ≡ fields_for (shape_of_pass p) i → (cause : Cause) (learn : Option Learn)
-    → GuessMisses p l i mode key cause learn q n → (leaf : Leaf) (told : Note)
+pub searches_down_too : {p q s : TreePass} {l n m : Knows} {i : ℕ} {mode : Mode} {key : FieldList}
+    → length key ≡ fields_for (shape_of_pass p) i → {cause : Cause} {learn : Option Learn}
+    → GuessMisses p l i mode key cause learn q n → {leaf : Leaf} {told : Note}
     → SearchesDown q n i mode key leaf told s m → Searches p l i key (record {
       leaf = leaf;
       how = how_of cause;
       note = told;
     }) s m
-searches_down_too p q s l n m i mode key whole cause learn guess leaf told down =
+searches_down_too {p} {s = s} {l} {m = m} {i} {key = key} whole {cause} guess {leaf} {told} down =
     subst (λ b. Searches p l i key (record {
       leaf = record { block = b; spot = leaf.spot };
       how = how_of cause;
       note = told;
     }) s m) (sym down.block_is)
-    (searches_way p q down.between s l n m i mode key whole guess.keeps down.way told down.went
-    down.taught cause guess.info learn guess.learns leaf.spot
-    (subst (λ (z : PageRows). Finds Ge key z.rows leaf.spot)
-    (sym (taught_page q down.between s n m i mode key down.way told down.went down.taught))
-    down.finds))
+    (searches_way l whole guess.keeps down.went down.taught cause guess.info _ guess.learns
+    leaf.spot (subst (λ (z : PageRows). Finds Ge key z.rows leaf.spot)
+    (sym (taught_page down.went down.taught)) down.finds))

@@ -115,7 +115,7 @@ module _ (v : View) (i : ℕ) (below : i < v.terms.shape.indexes) where
       subst (λ (s : Shape). i < s.pages) fitted.fits.shape
       (number_below w fitted.is_lawful i live.0 live.1)
 
-module _ (p : TreePass) (cut : KeyPlace → Bool) (i : ℕ) where
+module _ {p : TreePass} {cut : KeyPlace → Bool} {i : ℕ} where
   -- before the root is taken
   pub looks_for_root : (level : ℕ) → IsKnown p → i < (shape_of_pass p).pages
       → LooksFor p cut i level i p
@@ -135,7 +135,7 @@ module _ (p : TreePass) (cut : KeyPlace → Bool) (i : ℕ) where
     count = refl;
   }
 
-  module _ (level n : ℕ) (q : TreePass) (looks : LooksFor p cut i level n q) where
+  module _ {level n : ℕ} {q : TreePass} (looks : LooksFor p cut i level n q) where
     -- what was lacked is lacked
     looks_lacks : (k : ℕ) → get_elem? (view p).held k ≡ some None
         → get_elem? (view q).held k ≡ some None
@@ -156,14 +156,14 @@ module _ (p : TreePass) (cut : KeyPlace → Bool) (i : ℕ) where
     looks_tables = tables_lacked (view p) (view q) looks_shape (λ k table. looks_lacks k)
 
     -- the page was no page of its level: the way was in vain
-    pub ends_in_vain : (r : TreePass) → FindsNoPage q n i level r → GetsNothing p r
-    ends_in_vain r found = record {
+    pub ends_in_vain : {r : TreePass} → FindsNoPage q n i level r → GetsNothing p r
+    ends_in_vain {r} found = record {
       silently = silently_both p q r [] looks.silently found.got.silently;
       count = found.got.count ∙ looks.count;
     }
 
     -- the page is taken: the way goes down to it
-    module _ (b : ℕ) (r : TreePass) (took : PagesIn q n b r) (fitted : IsFittedTree (view r))
+    module _ {b : ℕ} {r : TreePass} (took : PagesIn q n b r) (fitted : IsFittedTree (view r))
         (is : HasTreePage took.frame i level) where
       abbrev k : ℕ
       k = frame_id (shape_of_pass p) b
@@ -215,7 +215,7 @@ module _ (p : TreePass) (cut : KeyPlace → Bool) (i : ℕ) where
         count = (let a = took.count in let b = looks.count in omega (arith, a, b));
       }
 
-  module _ (level b : ℕ) (q : TreePass) (way : GoesDown p cut i level b q) where
+  module _ {level b : ℕ} {q : TreePass} (way : GoesDown p cut i level b q) where
     pub way_shape : shape_of_pass q ≡ shape_of_pass p
     way_shape = ap (λ (t : Terms Shape). t.shape) way.silently.does.adds.numbers.terms
 
@@ -233,7 +233,7 @@ module _ (p : TreePass) (cut : KeyPlace → Bool) (i : ℕ) where
     }
 
     -- the page is given back as it was taken
-    module _ (r : TreePass) (gave : GivesFrame q b r) where
+    module _ {r : TreePass} (gave : GivesFrame q b r) where
       abbrev l : ℕ
       l = frame_id (shape_of_pass p) b
 
@@ -273,11 +273,11 @@ module _ (p : TreePass) (cut : KeyPlace → Bool) (i : ℕ) where
       turns_back = record { silently = gives_way; count = gives_count }
 
   -- a level that isn't that of the leaves is above another
-  pub way_above : (level b : ℕ) (q : TreePass) → GoesDown p cut i level b q → 0 < level
+  pub way_above : {level b : ℕ} {q : TreePass} → GoesDown p cut i level b q → 0 < level
       → GoesDown p cut i (suc (level - 1)) b q
-  way_above level b q way above = subst (λ l. GoesDown p cut i l b q) (omega (arith, above)) way
+  way_above {b = b} {q} way above = subst (λ l. GoesDown p cut i l b q) (omega (arith, above)) way
 
-  module _ (level b : ℕ) (q : TreePass) (way : GoesDown p cut i (suc level) b q) (n : ℕ)
+  module _ {level b : ℕ} {q : TreePass} (way : GoesDown p cut i (suc level) b q) {n : ℕ}
       (picks : PicksChild cut way.page.is.page.rows n) where
     abbrev step : Reference Object
     step = reference (frame_id (shape_of_pass p) b) way.knows.0 (object.Frame way.frame)
@@ -304,20 +304,19 @@ module _ (p : TreePass) (cut : KeyPlace → Bool) (i : ℕ) where
     }
 
     -- it is left, and the way looks for the picked child
-    pub leaves_page : (r : TreePass) → GivesFrame q b r → LooksFor p cut i level n r
+    pub leaves_page : {r : TreePass} → GivesFrame q b r → LooksFor p cut i level n r
     unfolding gives_way
-    leaves_page r gave = record {
-      silently = gives_way (suc level) b q way r gave;
+    leaves_page gave = record {
+      silently = gives_way way gave;
       leads = leads_on;
       below = way.page.below (omega arith) n (picked_points cut way.page.is.page.rows n picks);
-      count = gives_count (suc level) b q way r gave;
+      count = gives_count way gave;
     }
 
   -- the page that was found is that of its number, and the way goes down to it
-  pub finds_way : (level n b : ℕ) (q r : TreePass) → LooksFor p cut i level n q
+  pub finds_way : {level n b : ℕ} {q r : TreePass} → LooksFor p cut i level n q
       → IsFittedTree (view r) → FindsPage q n i level b r → GoesDown p cut i level b r
-  finds_way level n b q r looks fitted found =
-      goes_down level n q looks b r found.paged fitted found.is
+  finds_way looks fitted found = goes_down looks found.paged fitted found.is
 
 module _ (p q : TreePass) (i b : ℕ) (below : i < (shape_of_pass p).indexes)
     (took : PagesIn p i b q) (fitted : IsFittedTree (view q)) where
@@ -339,8 +338,7 @@ module _ (p q : TreePass) (i b : ℕ) (below : i < (shape_of_pass p).indexes)
       → took.frame.page ≡ Some rows → (cut : KeyPlace → Bool)
       → GoesDown p cut i rows.head.level b q
   begins_down known before rows paged cut = let root = root_taken in
-      goes_down p cut i rows.head.level i p
-      (looks_for_root p cut i rows.head.level known (root_below (view p) i below before)) b q took
+      goes_down (looks_for_root rows.head.level known (root_below (view p) i below before)) took
       fitted
       (record {
         page = rows;

@@ -1,130 +1,72 @@
-use Rattle.std.proofs.Common.{◌≡◌, ◌<◌, sym, ap, ◌∙◌}
+use Rattle.std.proofs.Common.{◌≡◌, sym, ap, ◌∙◌, rules}
 use Rattle.latch_law.specs.declared.knows.Terms.{Terms}
+use Rattle.latch_space.specs.Passes.{view}
 use Rattle.hash_law.specs.Blocks.{part_for}
 use Rattle.index_law.specs.Shape.{Shape}
 use Rattle.forest_world.specs.Held.{shape_of_pass}
 use Rattle.buffer_pool.proofs.PartLemmas.{part_below, took_free}
-use Rattle.leaf_search.proofs.BuiltLemmas.{taken_known, taken_room, to_build, built_whole, built_follows, built_part, ends_build}
+use Rattle.leaf_search.specs.Builds.{HoldsToTeach}
+use Rattle.leaf_search.proofs.BuiltLemmas.{ReadyToBuild, taken_known, taken_room, to_build, built_whole, built_follows, built_part, ends_build}
+use Rattle.leaf_search.proofs.building.build_leaf.Given as given
 use Rattle.leaf_search.proofs.building.build_leaf.Goals as goal
+use Rattle.leaf_search.proofs.building.build_leaf.Goals.{After-hold_part}
 
-pub build_in_hand-answer-requires-clause-build : goal.build_in_hand-answer-requires-clause-build
-build_in_hand-answer-requires-clause-build g c =
-    let p = c.args.pass.now in let p1 = c.hold_part.new.pass in let k = c.part_for-part.result in
+-- the partition of the index was taken, and the leaf is as it was
+ready : (g : given.Over) (c : After-hold_part g)
+    → HoldsToTeach (view c.args.pass.now) c.args.block c.args.index c.args.figures.now
+    → ReadyToBuild c.args.pass.now c.hold_part.new.pass c.args.block c.args.index
+    c.part_for-part.result c.args.figures.now
+ready g c teach =
+    let p = c.args.pass.now in let k = c.part_for-part.result in
     let same : c.args.space.now.terms.shape ≡ shape_of_pass p =
     ap (λ (t : Terms Shape). t.shape) (sym c.requires.own.1.1) in
-    let is : k ≡ part_for (shape_of_pass p).parts c.args.index = c.part_for-part.ensures
-    ∙ ap (λ (s : Shape). part_for s.parts c.args.index) (c.shape.ensures ∙ same) in
-    let below : k < (shape_of_pass p).parts = part_below p c.shape.result.now
-    c.args.space.now.terms.shape k c.args.index c.fits.ensures c.shape.ensures (sym same)
-    c.part_for-part.ensures in
-    let took = took_free p p1 k c.hold_part.result (c.requires.parts k below) c.hold_part.ensures.took
-    c.hold_part.ensures.held in
-    to_build p p1 c.args.block c.args.index k c.args.figures.now is below c.requires.known c.requires.parts
-    took c.requires.differs c.requires.teach
+    let below = part_below p c.shape.result.now c.args.space.now.terms.shape k c.args.index
+    c.fits.ensures c.shape.ensures (sym same) c.part_for-part.ensures in
+    record {
+      fitted = c.fits.ensures;
+      known = c.requires.known;
+      none = c.requires.parts;
+      k_is = c.part_for-part.ensures
+          ∙ ap (λ (s : Shape). part_for s.parts c.args.index) (c.shape.ensures ∙ same);
+      below = below;
+      took = took_free p c.hold_part.new.pass k c.hold_part.result (c.requires.parts k below)
+          c.hold_part.ensures.took c.hold_part.ensures.held;
+      teach = teach;
+      differs = c.requires.differs;
+    }
 
-pub build_in_hand-answer-requires-clause-known : goal.build_in_hand-answer-requires-clause-known
-build_in_hand-answer-requires-clause-known g c =
-    let p = c.args.pass.now in let p1 = c.hold_part.new.pass in let k = c.part_for-part.result in
-    let same : c.args.space.now.terms.shape ≡ shape_of_pass p =
-    ap (λ (t : Terms Shape). t.shape) (sym c.requires.own.1.1) in
-    let is : k ≡ part_for (shape_of_pass p).parts c.args.index = c.part_for-part.ensures
-    ∙ ap (λ (s : Shape). part_for s.parts c.args.index) (c.shape.ensures ∙ same) in
-    let below : k < (shape_of_pass p).parts = part_below p c.shape.result.now
-    c.args.space.now.terms.shape k c.args.index c.fits.ensures c.shape.ensures (sym same)
-    c.part_for-part.ensures in
-    let took = took_free p p1 k c.hold_part.result (c.requires.parts k below) c.hold_part.ensures.took
-    c.hold_part.ensures.held in
-    taken_known p p1 c.args.block c.args.index k c.args.figures.now is below c.requires.known c.requires.parts
-    took c.requires.differs c.requires.teach
+pub build_in_hand-answer-requires : goal.build_in_hand-answer-requires
+build_in_hand-answer-requires g c =
+    let at = goal.at.build_in_hand-answer-requires g c in
+    let ready = ready g at.After-hold_part c.requires.teach in
+    record {
+      own = search rules;
+      build = to_build ready;
+      known = taken_known ready;
+      room = taken_room ready c.requires.room;
+    }
 
-pub build_in_hand-answer-requires-clause-room : goal.build_in_hand-answer-requires-clause-room
-build_in_hand-answer-requires-clause-room g c =
-    let p = c.args.pass.now in let p1 = c.hold_part.new.pass in let k = c.part_for-part.result in
-    let same : c.args.space.now.terms.shape ≡ shape_of_pass p =
-    ap (λ (t : Terms Shape). t.shape) (sym c.requires.own.1.1) in
-    let is : k ≡ part_for (shape_of_pass p).parts c.args.index = c.part_for-part.ensures
-    ∙ ap (λ (s : Shape). part_for s.parts c.args.index) (c.shape.ensures ∙ same) in
-    let below : k < (shape_of_pass p).parts = part_below p c.shape.result.now
-    c.args.space.now.terms.shape k c.args.index c.fits.ensures c.shape.ensures (sym same)
-    c.part_for-part.ensures in
-    let took = took_free p p1 k c.hold_part.result (c.requires.parts k below) c.hold_part.ensures.took
-    c.hold_part.ensures.held in
-    taken_room p p1 c.args.block c.args.index k c.args.figures.now is below c.requires.known c.requires.parts
-    took c.requires.differs c.requires.teach c.requires.room
-
-pub settle-requires-clause-whole : goal.settle-requires-clause-whole
-settle-requires-clause-whole g c =
-    let p = c.args.pass.now in let p1 = c.hold_part.new.pass in let k = c.part_for-part.result in
-    let same : c.args.space.now.terms.shape ≡ shape_of_pass p =
-    ap (λ (t : Terms Shape). t.shape) (sym c.requires.own.1.1) in
-    let is : k ≡ part_for (shape_of_pass p).parts c.args.index = c.part_for-part.ensures
-    ∙ ap (λ (s : Shape). part_for s.parts c.args.index) (c.shape.ensures ∙ same) in
-    let below : k < (shape_of_pass p).parts = part_below p c.shape.result.now
-    c.args.space.now.terms.shape k c.args.index c.fits.ensures c.shape.ensures (sym same)
-    c.part_for-part.ensures in
-    let took = took_free p p1 k c.hold_part.result (c.requires.parts k below) c.hold_part.ensures.took
-    c.hold_part.ensures.held in
-    built_whole p p1 c.args.block c.args.index k c.args.figures.now is below c.requires.known c.requires.parts
-    took c.requires.differs c.requires.teach
-    c.build_in_hand-answer.new.pass c.build_in_hand-answer.result
-    (c.build_in_hand-answer.ensures.built (to_build p p1 c.args.block c.args.index k c.args.figures.now is below c.requires.known c.requires.parts
-    took c.requires.differs c.requires.teach))
-    c.fits.ensures
-
-pub settle-requires-clause-rule : goal.settle-requires-clause-rule
-settle-requires-clause-rule g c =
-    let p = c.args.pass.now in let p1 = c.hold_part.new.pass in let k = c.part_for-part.result in
-    let same : c.args.space.now.terms.shape ≡ shape_of_pass p =
-    ap (λ (t : Terms Shape). t.shape) (sym c.requires.own.1.1) in
-    let is : k ≡ part_for (shape_of_pass p).parts c.args.index = c.part_for-part.ensures
-    ∙ ap (λ (s : Shape). part_for s.parts c.args.index) (c.shape.ensures ∙ same) in
-    let below : k < (shape_of_pass p).parts = part_below p c.shape.result.now
-    c.args.space.now.terms.shape k c.args.index c.fits.ensures c.shape.ensures (sym same)
-    c.part_for-part.ensures in
-    let took = took_free p p1 k c.hold_part.result (c.requires.parts k below) c.hold_part.ensures.took
-    c.hold_part.ensures.held in
-    built_follows p p1 c.args.block c.args.index k c.args.figures.now is below c.requires.known c.requires.parts
-    took c.requires.differs c.requires.teach
-    c.build_in_hand-answer.new.pass c.build_in_hand-answer.result
-    (c.build_in_hand-answer.ensures.built (to_build p p1 c.args.block c.args.index k c.args.figures.now is below c.requires.known c.requires.parts
-    took c.requires.differs c.requires.teach))
-    c.fits.ensures c.upkeep_keeps_the_hash.ensures
+pub settle-requires : goal.settle-requires
+settle-requires g c =
+    let ready = ready g (goal.at.settle-requires g c).After-hold_part c.requires.teach in
+    let built = c.build_in_hand-answer.ensures.built (to_build ready) in
+    record {
+      own = search rules;
+      whole = built_whole ready built;
+      rule = built_follows ready built c.upkeep_keeps_the_hash.ensures;
+    }
 
 pub give_part_back-requires-clause-held : goal.give_part_back-requires-clause-held
 give_part_back-requires-clause-held g c =
-    let p = c.args.pass.now in let p1 = c.hold_part.new.pass in let k = c.part_for-part.result in
-    let same : c.args.space.now.terms.shape ≡ shape_of_pass p =
-    ap (λ (t : Terms Shape). t.shape) (sym c.requires.own.1.1) in
-    let is : k ≡ part_for (shape_of_pass p).parts c.args.index = c.part_for-part.ensures
-    ∙ ap (λ (s : Shape). part_for s.parts c.args.index) (c.shape.ensures ∙ same) in
-    let below : k < (shape_of_pass p).parts = part_below p c.shape.result.now
-    c.args.space.now.terms.shape k c.args.index c.fits.ensures c.shape.ensures (sym same)
-    c.part_for-part.ensures in
-    let took = took_free p p1 k c.hold_part.result (c.requires.parts k below) c.hold_part.ensures.took
-    c.hold_part.ensures.held in
-    built_part p p1 c.args.block c.args.index k c.args.figures.now is below c.requires.known c.requires.parts
-    took c.requires.differs c.requires.teach
-    c.build_in_hand-answer.new.pass c.build_in_hand-answer.result
-    (c.build_in_hand-answer.ensures.built (to_build p p1 c.args.block c.args.index k c.args.figures.now is below c.requires.known c.requires.parts
-    took c.requires.differs c.requires.teach))
-    c.fits.ensures c.settle.new.pass c.settle.ensures.did
+    let at = goal.at.give_part_back-requires-clause-held g c in
+    let ready = ready g at.After-hold_part c.requires.teach in
+    let built = c.build_in_hand-answer.ensures.built (to_build ready) in
+    built_part ready built c.settle.new.pass c.settle.ensures.did
 
 pub returns-clause-built : goal.returns-clause-built
-returns-clause-built g c = λ h.
-    (let p = c.args.pass.now in let p1 = c.hold_part.new.pass in let k = c.part_for-part.result in
-    let same : c.args.space.now.terms.shape ≡ shape_of_pass p =
-    ap (λ (t : Terms Shape). t.shape) (sym c.requires.own.1.1) in
-    let is : k ≡ part_for (shape_of_pass p).parts c.args.index = c.part_for-part.ensures
-    ∙ ap (λ (s : Shape). part_for s.parts c.args.index) (c.shape.ensures ∙ same) in
-    let below : k < (shape_of_pass p).parts = part_below p c.shape.result.now
-    c.args.space.now.terms.shape k c.args.index c.fits.ensures c.shape.ensures (sym same)
-    c.part_for-part.ensures in
-    let took = took_free p p1 k c.hold_part.result (c.requires.parts k below) c.hold_part.ensures.took
-    c.hold_part.ensures.held in
-    ends_build p p1 c.args.block c.args.index k c.args.figures.now is below c.requires.known c.requires.parts
-    took c.requires.differs h
-    c.build_in_hand-answer.new.pass c.build_in_hand-answer.result
-    (c.build_in_hand-answer.ensures.built (to_build p p1 c.args.block c.args.index k c.args.figures.now is below c.requires.known c.requires.parts
-    took c.requires.differs h))
-    c.fits.ensures c.settle.new.pass c.settle.ensures.did
-    c.give_part_back.new.pass c.give_part_back.ensures.gave)
+unfolding ready
+returns-clause-built g c teach =
+    let ready = ready g (goal.at.returns-clause-built g c).After-hold_part teach in
+    let built = c.build_in_hand-answer.ensures.built (to_build ready) in
+    ends_build ready built c.settle.new.pass c.settle.ensures.did c.give_part_back.new.pass
+    c.give_part_back.ensures.gave

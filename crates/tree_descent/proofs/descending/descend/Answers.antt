@@ -33,14 +33,7 @@ try_down-requires-clause-room g c = let same = c.loop.invariant.vain.count in
     let room = c.requires.room in omega (arith, same, room)
 
 pub spot_on-spot-requires-clause-held : goal.spot_on-spot-requires-clause-held
-spot_on-spot-requires-clause-held g c =
-    let q = c.loop.pass in
-    let i = c.args.index in
-    let tuple = g.T.Fields.fields_of c.args.tuple.now in (
-      0,
-      way_page q (cut_in (shape_of_pass q) i c.args.mode tuple) i 0 c.in-Some-try_down.block
-          c.try_down.new.pass c.in-Some-try_down.ensures.tried.way,
-    )
+spot_on-spot-requires-clause-held g c = (0, way_page c.in-Some-try_down.ensures.tried.way)
 
 pub returns-in-Some-try_down-clause-went : goal.returns-in-Some-try_down-clause-went
 returns-in-Some-try_down-clause-went g c =
@@ -49,10 +42,8 @@ returns-in-Some-try_down-clause-went g c =
     let tuple = g.T.Fields.fields_of c.args.tuple.now in
     let down = c.in-Some-try_down.ensures.tried in
     descends c.args.pass.now q c.loop.invariant.vain c.try_down.new.pass i c.args.mode tuple
-    c.in-Some-try_down.block down c.spot_on-spot.result
-    (c.spot_on-spot.ensures 0
-    (way_page q (cut_in (shape_of_pass q) i c.args.mode tuple) i 0 c.in-Some-try_down.block
-    c.try_down.new.pass down.way))
+    c.in-Some-try_down.block down c.spot_on-spot.result (c.spot_on-spot.ensures 0
+    (way_page {cut = cut_in (shape_of_pass q) i c.args.mode tuple} down.way))
 
 pub loop-preserved : goal.loop-preserved
 loop-preserved g c = record {

@@ -1,6 +1,5 @@
 use Rattle.std.proofs.Common.{suc, subst}
 use Rattle.index_law.specs.Shape.{Shape}
-use Rattle.forest_world.specs.Held.{shape_of_pass}
 use Rattle.tree_descent.specs.Leaves.{cut_in}
 use Rattle.tree_descent.specs.Paths.{PicksChild}
 use Rattle.tree_descent.proofs.PageLemmas.{may_give_back}
@@ -14,15 +13,9 @@ give_back-requires-clause-held g c = let held = c.requires.held.1 in
 
 pub returns-clause-left : goal.returns-clause-left
 returns-clause-left g c = λ p level way.
-    (let i = c.args.index in
-    let b = c.args.block in
-    let q = c.args.pass.now in
-    let n = c.picked_child-child.result in
-    let tuple = g.T.Fields.fields_of c.args.tuple.now in
-    let cut = cut_in (shape_of_pass p) i c.args.mode tuple in
-    leaves_page p cut i level b q way n
+    (let tuple = g.T.Fields.fields_of c.args.tuple.now in
+    leaves_page way
     (subst
-    (λ (s : Shape). PicksChild (cut_in s i c.args.mode tuple) way.page.is.page.rows n)
-    (way_shape p cut i (suc level) b q way)
-    (c.picked_child-child.ensures level (way_page p cut i (suc level) b q way)))
-    c.give_back.new.pass c.give_back.ensures.gave)
+    (λ (s : Shape). PicksChild (cut_in s c.args.index c.args.mode tuple) way.page.is.page.rows
+    c.picked_child-child.result) (way_shape way)
+    (c.picked_child-child.ensures level (way_page way))) c.give_back.ensures.gave)
