@@ -19,6 +19,7 @@ use Rattle.forest_law.specs.Numbers.{frame_id}
 use Rattle.forest_law.specs.State.{fields_for, page_within}
 use Rattle.forest_world.specs.Held.{TreePass, shape_of_pass}
 use Rattle.call_law.specs.Hands.{HoldsNoTable}
+use Rattle.call_law.specs.Spoken.{View}
 use Rattle.call_law.proofs.TableLemmas.{table_no_frame, tables_lacked}
 use Rattle.tree_descent.specs.declared.descending.Leaf.{Leaf}
 use Rattle.tree_descent.specs.Descents.{Descends}
@@ -79,6 +80,12 @@ module _ (q r : TreePass) (l m : Knows) (i b : ℕ) (figures : Figures) (told : 
         taught.leaf.order);
   }
 
+-- a block that is held has one page
+pub held_page : (v : View) (b i : ℕ) (h k : HoldsPage v b i 0) → h.is.page ≡ k.is.page
+held_page v b i h k = same_some h.is.page k.is.page
+    (sym h.is.paged
+    ∙ (ap (λ (z : Frame). z.page) (one_known v b h.frame k.frame h.knows k.knows) ∙ k.is.paged))
+
 -- the leaf that taught is the one that the way led to
 module _ {p q r : TreePass} {l m : Knows} {i : ℕ} {mode : Mode} {key : FieldList} {way : Leaf}
     {told : Note} (went : Descends p i mode key way q)
@@ -105,6 +112,9 @@ module _ {p q r : TreePass} {l m : Knows} {i : ℕ} {mode : Mode} {key : FieldLi
     finds = subst (λ (z : PageRows). Finds Ge key z.rows leaf.spot) taught_page finds;
   }
 
-  pub way_finds : mode ≡ Ge → Finds Ge key taught.leaf.is.page.rows way.spot
-  way_finds is = subst (λ (z : PageRows). Finds Ge key z.rows way.spot) (sym taught_page)
-      (subst (λ z. Finds z key went.is.page.is.page.rows way.spot) is went.is.finds)
+  -- the spot of the way is one on it still
+  pub way_finds : (h : HoldsPage (view r) way.block i 0) → Finds mode key h.is.page.rows way.spot
+  way_finds h = subst (λ (z : PageRows). Finds mode key z.rows way.spot)
+      (sym (held_page (view r) way.block i h
+      (taught_leaf q r l m i way.block (figures_at way.spot) told taught) ∙ taught_page))
+      went.is.finds

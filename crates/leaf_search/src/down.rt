@@ -4,7 +4,7 @@ ghost use Rattle.latch_space.specs.declared.TheConstants.{MAX_HELD};
 ghost use Rattle.latch_space.specs.Has.{IsKnown};
 ghost use Rattle.latch_space.specs.Passes.{view, count, IsSamePass};
 ghost use Rattle.latch_space.specs.Spaces.{IsPassOf};
-ghost use Rattle.key_tuple.specs.declared.mode.Mode.TheVariants as mode;
+ghost use Rattle.key_tuple.specs.declared.mode.Mode.TheVariants.{Ge};
 ghost use Rattle.search_info.specs.Passes.{knowledge, HasUnique, IsLearnPassOf, IsSameLearnPass};
 ghost use Rattle.index_page.specs.Page.{PageRows, IsPageInOrder};
 ghost use Rattle.index_page.specs.Search.{Finds};
@@ -19,7 +19,7 @@ use crate::lesson::learn_leaf;
 use buffer_pool::frame;
 use forest_world::{ForestPass, ForestSpace, Frame};
 use index_page::Spot;
-use key_tuple::{Key, Mode};
+use key_tuple::{Fields, Key, Mode};
 use learning::Figures;
 use map_history::Note;
 use search_info::{LearnPass, Learner};
@@ -62,15 +62,42 @@ pub(crate) fn search_down<R: Wait>(
     let note = learn_leaf(
         space, pass, learner, learn, index, way.block, &figures, wait,
     );
-    let spot = match mode {
-        Mode::Ge => way.spot,
-        _ => key_spot(space, pass, way.block, index, key),
-    };
+    let spot = own_spot(space, pass, way.block, index, key, mode, &way.spot);
     let leaf = Leaf {
         block: way.block,
         spot,
     };
     (leaf, note)
+}
+
+/// The key's own spot, by the one that a search with the mode told. No row is looked at again,
+/// unless the mode asks for a row beside the key, or the row is there.
+fn own_spot(
+    space: &ForestSpace,
+    pass: &ForestPass,
+    block: u32,
+    index: u32,
+    key: &Key,
+    mode: Mode,
+    spot: &Spot,
+) -> Spot
+    requires own { IsForest space.now × IsPassOf space.now pass.now }
+    requires fields { length key.now.tuple ≡ fields_for (shape_of_pass pass.now) index }
+    requires leaf { HoldsPage (view pass.now) block index 0 }
+    requires known { IsKnown pass.now }
+    requires finds { (h : HoldsPage (view pass.now) block index 0)
+        → Finds mode key.now.tuple h.is.page.rows spot.now }
+    ensures { (h : HoldsPage (view pass.now) block index 0)
+        → Finds Ge key.now.tuple h.is.page.rows result }
+{
+    match mode {
+        Mode::Ge => *spot,
+        Mode::Le if spot.low.fields != key.count() => {
+            leaf_is_in_order(space, pass, block, index);
+            *spot
+        }
+        _ => key_spot(space, pass, block, index, key),
+    }
 }
 
 /// The spot of a key on the leaf in the block's frame.
@@ -80,7 +107,7 @@ pub fn key_spot(space: &ForestSpace, pass: &ForestPass, block: u32, index: u32, 
     requires leaf { HoldsPage (view pass.now) block index 0 }
     requires known { IsKnown pass.now }
     ensures { (h : HoldsPage (view pass.now) block index 0)
-        → Finds mode.Ge key.now.tuple h.is.page.rows result }
+        → Finds Ge key.now.tuple h.is.page.rows result }
 {
     let _ = index;
     spot_in(frame(space, pass, block), key)
@@ -114,7 +141,7 @@ fn spot_in(frame: &Frame, key: &Key) -> Spot
     requires fields { (page : PageRows) → frame.now.page ≡ Some page
         → length key.now.tuple ≡ page.head.fields }
     ensures { (page : PageRows) → frame.now.page ≡ Some page
-        → Finds mode.Ge key.now.tuple page.rows result }
+        → Finds Ge key.now.tuple page.rows result }
 {
     match &frame.page {
         Some(page) => page.search(key, Mode::Ge),

@@ -27,8 +27,8 @@ learn_leaf-note-requires g c =
       room = went_room went c.requires.room;
     }
 
-pub key_spot-spot-requires : goal.key_spot-spot-requires
-key_spot-spot-requires g c =
+pub own_spot-spot-requires : goal.own_spot-spot-requires
+own_spot-spot-requires g c =
     let taught = c.learn_leaf-note.ensures.taught in
     let went = c.descend-way.ensures.went in
     let before = sym (taught_shape _ _ _ _ _ _ _ _ taught ∙ went_shape went) in
@@ -37,18 +37,12 @@ key_spot-spot-requires g c =
       fields = c.requires.fields ∙ ap (λ (s : Shape). fields_for s c.args.index) before;
       leaf = taught_leaf _ _ _ _ _ _ _ _ taught;
       known = taught.becomes.does.known;
+      finds = way_finds went taught;
     }
 
-pub returns-in-Ge-clause-went : goal.returns-in-Ge-clause-went
-returns-in-Ge-clause-went g c =
-    let went = c.descend-way.ensures.went in let taught = c.learn_leaf-note.ensures.taught in
-    let way = c.descend-way.result in
-    searches_down went taught (record { block = way.block; spot = way.spot }) refl
-    (way_finds went taught c.in-Ge.is)
-
-pub returns-in_default-clause-went : goal.returns-in_default-clause-went
-returns-in_default-clause-went g c =
+pub returns-clause-went : goal.returns-clause-went
+returns-clause-went g c =
     let taught = c.learn_leaf-note.ensures.taught in
     searches_down c.descend-way.ensures.went taught
-    (record { block = c.descend-way.result.block; spot = c.key_spot-spot.result }) refl
-    (c.key_spot-spot.ensures (taught_leaf _ _ _ _ _ _ _ _ taught))
+    (record { block = c.descend-way.result.block; spot = c.own_spot-spot.result }) refl
+    (c.own_spot-spot.ensures (taught_leaf _ _ _ _ _ _ _ _ taught))
