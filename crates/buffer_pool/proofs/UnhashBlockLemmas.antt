@@ -19,11 +19,12 @@ use Rattle.call_law.specs.Hands.{HoldsNoPart, KnowsFrame}
 use Rattle.call_law.specs.Trace.{Added}
 use Rattle.call_law.proofs.TraceLemmas.{both_added}
 use Rattle.buffer_pool.specs.Calls.{Does}
-use Rattle.buffer_pool.specs.Parts.{part_ids, HoldsPartToo, HoldsPartIf, GivesPartBack, GivesPartIf, IsOfPart, UnhashesBlock}
+use Rattle.buffer_pool.specs.Parts.{part_ids, HoldsPartToo, GivesPartBack, GivesPartIf, IsOfPart, UnhashesBlock}
 use Rattle.buffer_pool.specs.Tries.{tries_alone}
 use Rattle.buffer_pool.proofs.AddedLemmas.{none_added}
 use Rattle.buffer_pool.proofs.CallLemmas.{does_both, does_among, does_again}
 use Rattle.buffer_pool.proofs.FrameLemmas.{one_held}
+use Rattle.buffer_pool.proofs.UnhashLemmas.{HeldFor}
 use Rattle.buffer_pool.proofs.VictimLemmas.{tries_shape}
 
 -- the block's frame, known as f, is known to be unhashed then
@@ -119,15 +120,15 @@ module _ (p m r q : TreePass) (b : ℕ) (f : Frame) (knows : KnowsFrame (view p)
   }
 
 -- with a partition or without one
-pub unhashes_block : (p m r q : TreePass) (b : ℕ) (f : Frame) → KnowsFrame (view p) b f
-    → (o : Option ℕ) → ((k : ℕ) → o ≡ Some k → k < (shape_of_pass p).parts)
-    → HoldsNoPart (view p) → HoldsPartIf p o m → Unhashed m r b f
+pub unhashes_block : {p m r q : TreePass} {b : ℕ} {f : Frame} → KnowsFrame (view p) b f
+    → HoldsNoPart (view p) → {o : Option ℕ} → HeldFor p m b f o → Unhashed m r b f
     → Does m r (part_ids (shape_of_pass m) o ++ frame_id (shape_of_pass m) b ∷ []) none_added
     → count r ≡ count m → GivesPartIf r o q → UnhashesBlock p b q
-unhashes_block p m r q b f knows None below lacks same one does counts gave =
+unhashes_block {p} {m} {r} {q} {b} {f} knows lacks {o = None} held one does counts gave =
     subst (λ (z : TreePass). UnhashesBlock p b z) (sym gave)
-    (took_none p r b f knows (subst (λ (z : TreePass). Unhashed z r b f) same one)
-    (subst (λ (z : TreePass). Does z r (frame_id (shape_of_pass z) b ∷ []) none_added) same does)
-    (subst (λ (z : TreePass). count r ≡ count z) same counts))
-unhashes_block p m r q b f knows (Some k) below lacks holds one does counts gave =
-    took_one p m r q b f knows k (below k refl) lacks holds one does counts gave
+    (took_none p r b f knows (subst (λ (z : TreePass). Unhashed z r b f) held.holds one)
+    (subst (λ (z : TreePass). Does z r (frame_id (shape_of_pass z) b ∷ []) none_added) held.holds
+    does)
+    (subst (λ (z : TreePass). count r ≡ count z) held.holds counts))
+unhashes_block {p} {m} {r} {q} {b} {f} knows lacks {o = Some k} held one does counts gave =
+    took_one p m r q b f knows k (held.below k refl) lacks held.holds one does counts gave

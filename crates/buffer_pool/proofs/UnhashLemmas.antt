@@ -38,6 +38,7 @@ use Rattle.buffer_pool.specs.Tries.{Tries}
 use Rattle.buffer_pool.proofs.AddedLemmas.{frame_still}
 use Rattle.buffer_pool.proofs.CallLemmas.{frame_has}
 use Rattle.buffer_pool.proofs.FrameLemmas.{one_held, one_shown}
+use Rattle.buffer_pool.proofs.HashRestLemmas.{known_tidy}
 use Rattle.buffer_pool.proofs.KeepLemmas.{out_kept}
 use Rattle.buffer_pool.proofs.PartLemmas.{part_has, part_kept, hold_tries}
 use Rattle.buffer_pool.proofs.VictimLemmas.{tries_shape}
@@ -74,19 +75,24 @@ pub record HeldFor (p q : TreePass) (b : ℕ) (f : Frame) (o : Option ℕ) : Typ
   pub is : o ≡ part_of_index (shape_of_pass p) f.hashed
   pub below : (k : ℕ) → o ≡ Some k → k < (shape_of_pass p).parts
   pub shape : shape_of_pass q ≡ shape_of_pass p
+  pub holds : HoldsPartIf p o q
+  pub fitted : IsFittedTree (view q)
+  pub tidy : IsTidy (hash_block f)
 
-pub held_for : (p q : TreePass) (b : ℕ) (f : Frame) → IsKnown p → IsFittedTree (view p)
-    → KnowsFrame (view p) b f → (frame : Frame)
-    → ((x y : Frame) → HasFrame p b x y → frame ≡ y) → (o : Option ℕ)
-    → o ≡ part_of_index (shape_of_pass p) frame.hashed → HoldsPartIf p o q → HeldFor p q b f o
-held_for p q b f known fitted knows frame read o named holds = record {
+pub held_for : {p q : TreePass} {b : ℕ} {f : Frame} → IsKnown p → IsFittedTree (view p)
+    → KnowsFrame (view p) b f → {frame : Frame}
+    → ((x y : Frame) → HasFrame p b x y → frame ≡ y) → {o : Option ℕ}
+    → o ≡ part_of_index (shape_of_pass p) frame.hashed → HoldsPartIf p o q
+    → IsFittedTree (view q) → HeldFor p q b f o
+held_for {p} {q} {b} {f} known fitted knows read {o} named holds after = record {
   known = tries.does.known;
-  knows = frame_still (view p) (view q) (part_ids (shape_of_pass p) o) tries.does.adds.numbers
-      tries.does.rest b
-      (apart o below) f knows;
+  knows = still;
   is = is;
   below = below;
   shape = tries_shape p q (part_ids (shape_of_pass p) o) tries;
+  holds = holds;
+  fitted = after;
+  tidy = known_tidy (view q) after b f still;
 }
   where
     tries : Tries p q (part_ids (shape_of_pass p) o)
@@ -111,6 +117,10 @@ held_for p q b f known fitted knows frame read o named holds = record {
         (part_ids (shape_of_pass p) h)
     apart None low = tt
     apart (Some k) low = ((λ e. (let less = low k refl in omega (arith, e, less))), tt)
+
+    still : KnowsFrame (view q) b f
+    still = frame_still (view p) (view q) (part_ids (shape_of_pass p) o)
+        tries.does.adds.numbers tries.does.rest b (apart o below) f knows
 
 -- the frame is out of its place
 module _ (p q : TreePass) (b : ℕ) (frame f : Frame) (known : IsKnown p)
@@ -144,55 +154,60 @@ module _ (p q : TreePass) (b : ℕ) (frame f : Frame) (known : IsKnown p)
       ∙ lacks))) in
       (r.0, r.0, taken_part k below' r.0 r.1)
 
-  -- the partition of the index that the frame is hashed for is held
-  module _ (fitted : IsFittedTree (view p)) (p0 : TreePass)
-      (shape : shape_of_pass p ≡ shape_of_pass p0) (o : Option ℕ)
-      (is : o ≡ part_of_index (shape_of_pass p0) f.hashed) (holds : HoldsPartIf p0 o p) where
-    held_so : (index : ℕ) → f.hashed ≡ Some index
-        → HoldsPartToo p0 (part_for (shape_of_pass p0).parts index) p
-    held_so index e = subst (λ z. HoldsPartIf p0 z p)
-        (is ∙ ap (part_of_index (shape_of_pass p0)) e) holds
+-- the partition of the index that the frame is hashed for is held
+module _ {p0 p q : TreePass} {b : ℕ} {frame f : Frame} {o : Option ℕ}
+    (held : HeldFor p0 p b f o) (out : TakesOut p b frame q) where
+  pub frame_is : frame ≡ f
+  frame_is = taken_is p q b frame f held.known held.knows out
 
-    abbrev k : ℕ → ℕ
-    k index = part_for (shape_of_pass p0).parts index
+  shape : shape_of_pass q ≡ shape_of_pass p
+  shape = taken_shape p q b frame f held.known held.knows out
 
-    k_below : (index : ℕ) → k index < (shape_of_pass p).parts
-    k_below index = subst (λ (s : Shape). k index < s.parts) (sym shape)
-        (mod_below index (shape_of_pass p0).parts
-        (subst (λ (s : Shape). 0 < s.parts) shape (knows_forest p fitted).hash.parts))
+  held_so : (index : ℕ) → f.hashed ≡ Some index
+      → HoldsPartToo p0 (part_for (shape_of_pass p0).parts index) p
+  held_so index e = subst (λ z. HoldsPartIf p0 z p)
+      (held.is ∙ ap (part_of_index (shape_of_pass p0)) e) held.holds
 
-    found : (index : ℕ) → (e : f.hashed ≡ Some index)
-        → HasPart q (k index) (held_so index e).part (held_so index e).part
-    found index e = taken_part (k index) (k_below index) (held_so index e).part
-        (held_so index e).knows
+  abbrev k : ℕ → ℕ
+  k index = part_for (shape_of_pass p0).parts index
 
-    not_lacked : (index : ℕ) → f.hashed ≡ Some index → LacksPart q (k index) → ⊥
-    not_lacked index e lacks = let has = found index e in
-        none_is_not (holding has.held.0 (object.Part (held_so index e).part))
-        (sym lacks ∙ has.held.1)
+  k_below : (index : ℕ) → k index < (shape_of_pass p).parts
+  k_below index = subst (λ (s : Shape). k index < s.parts) (sym held.shape)
+      (mod_below index (shape_of_pass p0).parts
+      (subst (λ (s : Shape). 0 < s.parts) held.shape (knows_forest p held.fitted).hash.parts))
 
-    shapes : shape_of_pass p0 ≡ shape_of_pass q
-    shapes = sym (taken_shape ∙ shape)
+  found : (index : ℕ) → (e : f.hashed ≡ Some index)
+      → HasPart q (k index) (held_so index e).part (held_so index e).part
+  found index e = taken_part p q b frame f held.known held.knows out (k index)
+      (k_below index) (held_so index e).part (held_so index e).knows
 
-    -- and exact of the frame
-    pub exact_here : IsExactWhereHashed q b frame
-    exact_here index e' = let e = ap (λ (z : Frame). z.hashed) (sym taken_is) ∙ e' in
-        let held = held_so index e in
-        subst (λ (s : Shape). IsExactIn q (part_for s.parts index) b frame) shapes
-        (subst (IsExactIn q (k index) b) (sym taken_is) (record {
-          held = λ x y has. subst (λ z. IsExactFor (shape_of_pass q) (k index) b z f)
-              (same_part held.part y
-              (one_shown q (part_id (shape_of_pass q) (k index)) (object.Part held.part)
-              (object.Part y) (found index e).value has.value))
-              (subst (λ (s : Shape). IsExactFor s (k index) b held.part f) (sym taken_shape)
-              (held.exact b f knows));
-          free = λ lacks. absurd (not_lacked index e lacks);
-        }))
+  not_lacked : (index : ℕ) → f.hashed ≡ Some index → LacksPart q (k index) → ⊥
+  not_lacked index e lacks = let has = found index e in
+      none_is_not (holding has.held.0 (object.Part (held_so index e).part))
+      (sym lacks ∙ has.held.1)
 
-    pub room_here : HasRoomWhereHashed q frame
-    room_here index e' lacks = absurd (not_lacked index
-        (ap (λ (z : Frame). z.hashed) (sym taken_is) ∙ e')
-        (subst (λ (s : Shape). LacksPart q (part_for s.parts index)) (sym shapes) lacks))
+  shapes : shape_of_pass p0 ≡ shape_of_pass q
+  shapes = sym (shape ∙ held.shape)
+
+  -- and exact of the frame
+  pub exact_here : IsExactWhereHashed q b frame
+  exact_here index e' = let e = ap (λ (z : Frame). z.hashed) (sym frame_is) ∙ e' in
+      let so = held_so index e in
+      subst (λ (s : Shape). IsExactIn q (part_for s.parts index) b frame) shapes
+      (subst (IsExactIn q (k index) b) (sym frame_is) (record {
+        held = λ x y has. subst (λ z. IsExactFor (shape_of_pass q) (k index) b z f)
+            (same_part so.part y
+            (one_shown q (part_id (shape_of_pass q) (k index)) (object.Part so.part)
+            (object.Part y) (found index e).value has.value))
+            (subst (λ (s : Shape). IsExactFor s (k index) b so.part f) (sym shape)
+            (so.exact b f held.knows));
+        free = λ lacks. absurd (not_lacked index e lacks);
+      }))
+
+  pub room_here : HasRoomWhereHashed q frame
+  room_here index e' lacks = absurd (not_lacked index
+      (ap (λ (z : Frame). z.hashed) (sym frame_is) ∙ e')
+      (subst (λ (s : Shape). LacksPart q (part_for s.parts index)) (sym shapes) lacks))
 
 -- partition k is in hand without the nodes of the block, which was hashed there
 pub record HasKept (q : TreePass) (k b : ℕ) (f : Frame) : Type 0 where
@@ -231,22 +246,20 @@ built_of f tidy index e = pick f.figures.built (sym tidy.both ∙ ap is_some e)
     pick (Some params) e = (params, refl)
 
 -- after the nodes left their partition, or where there were none
-module _ (p q2 q : TreePass) (b : ℕ) (frame f : Frame) (known : IsKnown p)
-    (knows : KnowsFrame (view p) b f) (out : TakesOut p b frame q2)
-    (fitted : IsFittedTree (view p)) (p0 : TreePass)
-    (shape : shape_of_pass p ≡ shape_of_pass p0) (tidy : IsTidy (hash_block f))
+module _ {p0 p q2 q : TreePass} {b : ℕ} {frame f : Frame} {o : Option ℕ}
+    (held : HeldFor p0 p b f o) (out : TakesOut p b frame q2)
     (rests : frame.hashed ≡ None → q ≡ q2)
     (drops : (how : Hashing) → hashing_in q2 b frame ≡ Some how
     → KeepsUpInHand q2 (part_for (shape_of_pass q2).parts how.index) b (unhashed frame) q) where
   is : frame ≡ f
-  is = taken_is p q2 b frame f known knows out
+  is = frame_is held out
 
   stayed : f.hashed ≡ None → DroppedOut p q b f None
   stayed e = subst (λ (z : TreePass). DroppedOut p z b f None)
       (sym (rests (ap (λ (z : Frame). z.hashed) is ∙ e))) (record {
         view = out.view;
         count = out.count;
-        out = taken_out p q2 b frame f known knows out;
+        out = taken_out p q2 b frame f held.known held.knows out;
         others = λ j differs apart. (out.hand.others j differs).1;
         part = e;
       })
@@ -260,19 +273,20 @@ module _ (p q2 q : TreePass) (b : ℕ) (frame f : Frame) (known : IsKnown p)
     r = holds.part
 
     below : k < (shape_of_pass p).parts
-    below = subst (λ (s : Shape). k < s.parts) (sym shape)
+    below = subst (λ (s : Shape). k < s.parts) (sym held.shape)
         (subst (λ m. m < (shape_of_pass p0).parts) (sym k_is)
         (mod_below index (shape_of_pass p0).parts
-        (subst (λ (s : Shape). 0 < s.parts) shape (knows_forest p fitted).hash.parts)))
+        (subst (λ (s : Shape). 0 < s.parts) held.shape
+        (knows_forest p held.fitted).hash.parts)))
 
     has2 : HasPart q2 k r r
-    has2 = taken_part p q2 b frame f known knows out k below r holds.knows
+    has2 = taken_part p q2 b frame f held.known held.knows out k below r holds.knows
 
     part2 : part_for (shape_of_pass q2).parts index ≡ k
-    part2 = ap (λ (s : Shape). part_for s.parts index) (shape2 ∙ shape) ∙ sym k_is
+    part2 = ap (λ (s : Shape). part_for s.parts index) (shape2 ∙ held.shape) ∙ sym k_is
 
     kept : KeepsUpInHand q2 k b (unhashed f) q
-    kept = let built = built_of f tidy index e in
+    kept = let built = built_of f held.tidy index e in
         subst (λ z. KeepsUpInHand q2 k b (unhashed z) q) is
         (subst (λ m. KeepsUpInHand q2 m b (unhashed frame) q) part2
         (drops (record {
@@ -313,7 +327,7 @@ module _ (p q2 q : TreePass) (b : ℕ) (frame f : Frame) (known : IsKnown p)
       view = found_so.0 ∙ out.view;
       count = found_so.1 ∙ out.count;
       out = out_kept q2 q (part_id (shape_of_pass q2) k) kept.terms kept.beside b f apart2
-          (taken_out p q2 b frame f known knows out);
+          (taken_out p q2 b frame f held.known held.knows out);
       others = λ j differs apart.
           (kept.beside j (λ a. apart.0
           (a ∙ ap (λ (s : Shape). part_id s k) shape2))).1
@@ -343,6 +357,5 @@ module _ (p q2 q : TreePass) (b : ℕ) (frame f : Frame) (known : IsKnown p)
   by (Some index) (Some k) e same holds = left index e k
       (same_some k (part_for (shape_of_pass p0).parts index) same) holds
 
-  pub dropped_out : (o : Option ℕ) → o ≡ part_of_index (shape_of_pass p0) f.hashed
-      → HoldsPartIf p0 o p → DroppedOut p q b f o
-  dropped_out o same holds = by f.hashed o refl same holds
+  pub dropped_out : DroppedOut p q b f o
+  dropped_out = by f.hashed o refl held.is held.holds

@@ -31,7 +31,7 @@ use Rattle.forest_world.specs.HashHands.{IsHashedIn, HandKeepsHash, HandsKeepThe
 use Rattle.forest_world.proofs.HandLemmas.{hands_make_steps, rests_itself}
 use Rattle.hash_maintain.specs.Leaves.{unhashed}
 use Rattle.hash_maintain.specs.Hands.{UpkeepKeepsTheHash}
-use Rattle.call_law.specs.Hands.{KnowsFrame}
+use Rattle.hash_maintain.proofs.PassLemmas.{knows_forest}
 use Rattle.buffer_pool.specs.Calls.{Does}
 use Rattle.buffer_pool.specs.Forests.{TreeView}
 use Rattle.buffer_pool.specs.Frames.{PutsBack}
@@ -41,15 +41,21 @@ use Rattle.buffer_pool.proofs.FrameLemmas.{one_held}
 use Rattle.buffer_pool.proofs.HashRestLemmas.{frame_rests}
 use Rattle.buffer_pool.proofs.KeepLemmas.{learnt_same}
 use Rattle.buffer_pool.proofs.PartLemmas.{part_kept}
-use Rattle.buffer_pool.proofs.UnhashLemmas.{DroppedOut}
+use Rattle.buffer_pool.proofs.SpaceLemmas.{known_below}
+use Rattle.buffer_pool.proofs.UnhashLemmas.{HeldFor, DroppedOut}
 
 none_is : {A : Type 0} (x : A) → None ≡ Some x → ⊥
 none_is x e = absurd cc
 
+-- a partition has one number in passes of one shape
+not_part : (p q : TreePass) (j k : ℕ) → shape_of_pass q ≡ shape_of_pass p
+    → j ≢ part_id (shape_of_pass q) k → j ≢ part_id (shape_of_pass p) k
+not_part p q j k same differs e = differs (e ∙ ap (λ (s : Shape). part_id s k) (sym same))
+
 -- the frame comes back, and that is made known
-module _ (p q : TreePass) (b : ℕ) (f : Frame) (known : IsKnown p) (knows : KnowsFrame (view p) b f)
-    (p1 : TreePass) (back : PutsBack p1 b (unhashed f) q) where
-  module _ (o : Option ℕ) (d : DroppedOut p p1 b f o) where
+module _ {p q : TreePass} {b : ℕ} {f : Frame} (known : IsKnown p) {p1 : TreePass}
+    (back : PutsBack p1 b (unhashed f) q) where
+  module _ {o : Option ℕ} (d : DroppedOut p p1 b f o) where
     same_view : view q ≡ view p
     same_view = back.view ∙ d.view
 
@@ -79,21 +85,17 @@ module _ (p q : TreePass) (b : ℕ) (f : Frame) (known : IsKnown p) (knows : Kno
       back.hand.others (λ e. (let below = d.part.below in omega (arith, e, below))) d.part.known
       d.part.now d.part.has
 
-  not_part : (j k : ℕ) → shape_of_pass q ≡ shape_of_pass p → j ≢ part_id (shape_of_pass q) k
-      → j ≢ part_id (shape_of_pass p) k
-  not_part j k same differs e = differs (e ∙ ap (λ (s : Shape). part_id s k) (sym same))
-
   -- the hash is kept
   keeps : HandsKeepTheHash → UpkeepKeepsTheHash → IsTidy (hash_block f)
       → b < frames_of (shape_of_pass p) → (o : Option ℕ) → DroppedOut p p1 b f o
       → HandKeepsHash q
   keeps law upkeep tidy below None d = law.rests q (frame_rests q b f (unhashed f)
-      (has_frame None d)
+      (has_frame d)
       (record {
         tidy = upkeep.tidy (Dropped 0 0) f;
         asks = λ k. unhashed_asks (shape_of_pass q) k b f (unhashed f) d.part refl;
       })
-      (λ j h apart holds. known_else None d j h (not_frame None d j apart.1.0) tt holds))
+      (λ j h apart holds. known_else d j h (not_frame d j apart.1.0) tt holds))
   keeps law upkeep tidy below (Some k) d = let shape = ap (λ (t : Terms Shape). t.shape)
       back.hand.terms in
       upkeep.keeps q k b (record {
@@ -102,8 +104,8 @@ module _ (p q : TreePass) (b : ℕ) (f : Frame) (known : IsKnown p) (knows : Kno
         old = f;
         new = unhashed f;
         part = kept_part k d;
-        frame = has_frame (Some k) d;
-        below = subst (λ (s : Shape). b < frames_of s) (sym (same_shape (Some k) d)) below;
+        frame = has_frame d;
+        below = subst (λ (s : Shape). b < frames_of s) (sym (same_shape d)) below;
         was_in = subst (λ (s : Shape). IsHashedIn s k f) (sym shape) d.part.hashed;
         is_in = λ index e. absurd (none_is index e);
         tidy = upkeep.tidy (Dropped 0 0) f;
@@ -111,16 +113,16 @@ module _ (p q : TreePass) (b : ℕ) (f : Frame) (known : IsKnown p) (knows : Kno
             d.part.exact;
         others = d.part.others;
         shape = d.part.shape;
-        beyond = λ j h apart holds. known_else (Some k) d j h
-            (not_frame (Some k) d j apart.1.0)
-            (not_part j k (same_shape (Some k) d) apart.0, tt) holds;
+        beyond = λ j h apart holds. known_else d j h
+            (not_frame d j apart.1.0)
+            (not_part p q j k (same_shape d) apart.0, tt) holds;
       })
 
   -- and all is at rest
   frame_at_rest : (o : Option ℕ) (d : DroppedOut p p1 b f o) (j : ℕ) (h : Holding Object)
       → j ≡ frame_id (shape_of_pass q) b → Holds (view q) j h
       → (x : Object) × Shows q j x × Rests h.known x
-  frame_at_rest o d j h e holds = let has = has_frame o d in (
+  frame_at_rest o d j h e holds = let has = has_frame d in (
     object.Frame (unhashed f),
     ap (get_elem? (values q)) e ∙ has.value,
     subst (λ (g : Holding Object). Rests g.known (object.Frame (unhashed f)))
@@ -144,7 +146,7 @@ module _ (p q : TreePass) (b : ℕ) (f : Frame) (known : IsKnown p) (knows : Kno
   all_rest None d j h apart holds = elim (cases_eq j (frame_id (shape_of_pass q) b)) [
     | inl e ↦ frame_at_rest None d j h e holds
     | inr ne ↦
-        (h.known, known_else None d j h (not_frame None d j ne) tt holds, rests_itself h.known)
+        (h.known, known_else d j h (not_frame d j ne) tt holds, rests_itself h.known)
   ]
   all_rest (Some k) d j h apart holds = elim (cases_eq j (frame_id (shape_of_pass q) b)) [
     | inl e ↦ frame_at_rest (Some k) d j h e holds
@@ -152,79 +154,17 @@ module _ (p q : TreePass) (b : ℕ) (f : Frame) (known : IsKnown p) (knows : Kno
       | inl e ↦ part_at_rest k d j h e holds
       | inr not ↦ (
         h.known,
-        known_else (Some k) d j h (not_frame (Some k) d j ne)
-            (not_part j k (same_shape (Some k) d) not, tt) holds,
+        known_else d j h (not_frame d j ne)
+            (not_part p q j k (same_shape d) not, tt) holds,
         rests_itself h.known,
       )
     ]
   ]
 
-  module _ (o : Option ℕ) (d : DroppedOut p p1 b f o) where
-    steps : StepsInHand q [] []
-    steps = hands_make_steps q [] [] (record { each = tt; tops = tt; others = all_rest o d })
-
-    pub unhash_whole : (k : ℕ) (h : Holding Object) → Holds (view q) k h
-        → (x : Object) × Shows q k x
-    unhash_whole = steps.whole
-
-    pub unhash_follows : HandsKeepTheHash → UpkeepKeepsTheHash → IsTidy (hash_block f)
-        → b < frames_of (shape_of_pass p)
-        → Follows (shape_of_pass q) (known_values q) (values q) None
-    unhash_follows law upkeep tidy below = row_changes_follow.rest (shape_of_pass q)
-        (known_values q) (values q) steps.make (keeps law upkeep tidy below o d)
-
-    module _ (r : TreePass) (told : DidSettle q r) where
-      held_now : (view r).held ≡ learnt (values q) (view q).held
-      held_now = ap (λ (v : TreeView). v.held) told.view
-
-      pub settled_known : IsKnown r
-      settled_known = learnt_known q r unhash_whole held_now told.learnt.values
-
-      settled_view : view r ≡ settling (view p) (values q)
-      settled_view = told.view ∙ ap (λ (v : TreeView). settling v (values q)) same_view'
-        where
-          same_view' : view q ≡ view p
-          same_view' = same_view o d
-
-      abbrev ks : List ℕ
-      ks = part_ids (shape_of_pass p) o ++ frame_id (shape_of_pass p) b ∷ []
-
-      pub settled_does : Does p r ks none_added
-      settled_does = record {
-        adds = held_adds (view p) (view r) (learnt (values q) (view p).held) settled_view;
-        spares = none_spares (shape_of_pass p);
-        rest = λ j apart. ap (λ hs. get_elem? hs j) held_now
-            ∙ (learnt_same (values q) (view q).held j
-            (λ h holds. known_else o d j h
-            (each_right (λ (k : ℕ). j ≢ k) (part_ids (shape_of_pass p) o)
-            (frame_id (shape_of_pass p) b ∷ []) apart).0
-            (each_left (λ (k : ℕ). j ≢ k) (part_ids (shape_of_pass p) o)
-            (frame_id (shape_of_pass p) b ∷ []) apart) holds)
-            (λ lacked. sym (ap (λ hs. get_elem? hs j) held_now) ∙ told.learnt.lacks j lacked)
-            ∙ ap (λ (v : TreeView). get_elem? v.held j) (same_view o d));
-        known = settled_known;
-      }
-
-      -- the frame is known so
-      pub settled_frame : (t : Object)
-          → Holds (view p) (frame_id (shape_of_pass p) b) (holding t (object.Frame f))
-          → Holds (view r) (frame_id (shape_of_pass p) b) (holding t (object.Frame (unhashed f)))
-      settled_frame t held = ap (λ hs. get_elem? hs (frame_id (shape_of_pass p) b)) held_now
-          ∙ learnt_some (values q) (view q).held (frame_id (shape_of_pass p) b)
-          (holding t (object.Frame f)) (object.Frame (unhashed f))
-          (ap (λ (v : TreeView). get_elem? v.held (frame_id (shape_of_pass p) b)) (same_view o d)
-          ∙ held)
-          (subst (λ (s : Shape). Shows q (frame_id s b) (object.Frame (unhashed f)))
-          (same_shape o d) (has_frame o d).value)
-
-      pub settled_count : count r ≡ count p
-      settled_count = told.learnt.count ∙ (back.count ∙ d.count)
-
-  -- and the partition is held, if there is one
-  pub settled_part : (o : Option ℕ) → DroppedOut p p1 b f o → (r : TreePass) → DidSettle q r
+  part_settled : (o : Option ℕ) → DroppedOut p p1 b f o → (r : TreePass) → DidSettle q r
       → KnowsPartIf (view r) o
-  settled_part None d r told = tt
-  settled_part (Some k) d r told =
+  part_settled None d r told = tt
+  part_settled (Some k) d r told =
       let now : shape_of_pass q ≡ shape_of_pass r =
       ap (λ (v : TreeView). v.terms.shape) (sym told.view) in
       let before : shape_of_pass p1 ≡ shape_of_pass q =
@@ -241,3 +181,83 @@ module _ (p q : TreePass) (b : ℕ) (f : Frame) (known : IsKnown p) (knows : Kno
               (object.Part d.part.now))) now was.1,
         ),
       )
+
+-- the frame is back in its place, unhashed, and the partition is in hand without its nodes
+pub record UnhashedInHand (p0 p q : TreePass) (b : ℕ) (f : Frame) (o : Option ℕ) : Type 0 where
+  pub held : HeldFor p0 p b f o
+  pub between : TreePass
+  pub dropped : DroppedOut p between b f o
+  pub back : PutsBack between b (unhashed f) q
+
+module _ {p0 p q : TreePass} {b : ℕ} {f : Frame} {o : Option ℕ}
+    (done : UnhashedInHand p0 p q b f o) where
+  abbrev known : IsKnown p
+  known = done.held.known
+
+  abbrev d : DroppedOut p done.between b f o
+  d = done.dropped
+
+  steps : StepsInHand q [] []
+  steps = hands_make_steps q [] []
+      (record { each = tt; tops = tt; others = all_rest known done.back o d })
+
+  pub unhash_whole : (k : ℕ) (h : Holding Object) → Holds (view q) k h
+      → (x : Object) × Shows q k x
+  unhash_whole = steps.whole
+
+  pub unhash_follows : HandsKeepTheHash → UpkeepKeepsTheHash
+      → Follows (shape_of_pass q) (known_values q) (values q) None
+  unhash_follows law upkeep = let held = done.held in
+      let below = known_below p b held.knows.0 (object.Frame f) held.knows.1
+      (knows_forest p held.fitted).objects in
+      row_changes_follow.rest (shape_of_pass q) (known_values q) (values q) steps.make
+      (keeps known done.back law upkeep held.tidy below o d)
+
+  module _ {r : TreePass} (told : DidSettle q r) where
+    held_now : (view r).held ≡ learnt (values q) (view q).held
+    held_now = ap (λ (v : TreeView). v.held) told.view
+
+    pub settled_known : IsKnown r
+    settled_known = learnt_known q r unhash_whole held_now told.learnt.values
+
+    settled_view : view r ≡ settling (view p) (values q)
+    settled_view = told.view
+        ∙ ap (λ (v : TreeView). settling v (values q)) (same_view known done.back d)
+
+    abbrev ks : List ℕ
+    ks = part_ids (shape_of_pass p) o ++ frame_id (shape_of_pass p) b ∷ []
+
+    pub settled_does : Does p r ks none_added
+    settled_does = record {
+      adds = held_adds (view p) (view r) (learnt (values q) (view p).held) settled_view;
+      spares = none_spares (shape_of_pass p);
+      rest = λ j apart. ap (λ hs. get_elem? hs j) held_now
+          ∙ (learnt_same (values q) (view q).held j
+          (λ h holds. known_else known done.back d j h
+          (each_right (λ (k : ℕ). j ≢ k) (part_ids (shape_of_pass p) o)
+          (frame_id (shape_of_pass p) b ∷ []) apart).0
+          (each_left (λ (k : ℕ). j ≢ k) (part_ids (shape_of_pass p) o)
+          (frame_id (shape_of_pass p) b ∷ []) apart) holds)
+          (λ lacked. sym (ap (λ hs. get_elem? hs j) held_now) ∙ told.learnt.lacks j lacked)
+          ∙ ap (λ (v : TreeView). get_elem? v.held j) (same_view known done.back d));
+      known = settled_known;
+    }
+
+    -- the frame is known so
+    pub settled_frame : (t : Object)
+        → Holds (view p) (frame_id (shape_of_pass p) b) (holding t (object.Frame f))
+        → Holds (view r) (frame_id (shape_of_pass p) b) (holding t (object.Frame (unhashed f)))
+    settled_frame t held = ap (λ hs. get_elem? hs (frame_id (shape_of_pass p) b)) held_now
+        ∙ learnt_some (values q) (view q).held (frame_id (shape_of_pass p) b)
+        (holding t (object.Frame f)) (object.Frame (unhashed f))
+        (ap (λ (v : TreeView). get_elem? v.held (frame_id (shape_of_pass p) b))
+        (same_view known done.back d) ∙ held)
+        (subst (λ (s : Shape). Shows q (frame_id s b) (object.Frame (unhashed f)))
+        (same_shape known done.back d) (has_frame known done.back d).value)
+
+    pub settled_count : count r ≡ count p
+    settled_count = told.learnt.count ∙ (done.back.count ∙ d.count)
+
+    -- and the partition is held, if there is one
+    pub settled_part : KnowsPartIf (view r) o
+    settled_part = part_settled known done.back o d r told
