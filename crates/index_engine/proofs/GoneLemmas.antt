@@ -1,32 +1,26 @@
 -- A row that is to go, and stays where the list is full.
-use Rattle.std.proofs.Common.{◌≡◌, ℕ, sym, ap, subst, ◌∙◌, Option}
+use Rattle.std.proofs.Common.{◌≡◌, ℕ, sym, subst, ◌∙◌}
 use Rattle.key_tuple.specs.Order.{FieldList}
-use Rattle.latch_law.specs.declared.knows.Terms.{Terms}
 use Rattle.latch_space.specs.Has.{SameHands}
 use Rattle.latch_space.specs.Passes.{view, count}
 use Rattle.map_history.specs.declared.reply.Told.{Told}
 use Rattle.map_history.specs.Map.{Pair, Del}
 use Rattle.map_history.specs.Operation.{Ask}
 use Rattle.hash_law.specs.Blocks.{IsTidy}
-use Rattle.index_law.specs.Shape.{Shape}
 use Rattle.forest_law.specs.declared.objects.Frame.{Frame}
-use Rattle.forest_law.specs.Steps.{FrameRests}
-use Rattle.forest_world.specs.Held.{TreePass, shape_of_pass, HasFrame}
+use Rattle.forest_world.specs.Held.{TreePass, shape_of_pass}
 use Rattle.hash_maintain.specs.Leaves.{kept_frame, without_row}
 use Rattle.call_law.specs.Spoken.{View}
 use Rattle.leaf_rows.specs.Changing.{frame_without}
-use Rattle.index_engine.specs.Changes.{HasOldRow, HoldsOldRow}
+use Rattle.index_engine.specs.Changes.{HoldsOldRow}
 use Rattle.index_engine.specs.Commits.{MakesChange}
-use Rattle.index_engine.specs.Hashed.{HoldsAtRest, HoldsRowCame, KeepsHashed, RowIsKept, Settles}
-use Rattle.index_engine.specs.Holds.{IsLeafOf, HoldsLeaf, KeepsNumber, KeepsParts}
-use Rattle.index_engine.specs.Says.{SaysOnce, OnlyLooks, AnswersHolding}
+use Rattle.index_engine.specs.Hashed.{HoldsRowBack, KeepsHashed}
+use Rattle.index_engine.specs.Holds.{KeepsNumber, KeepsParts}
+use Rattle.index_engine.specs.Says.{SaysOnce, AnswersHolding}
 use Rattle.index_engine.proofs.HashedLemmas.{hash_again, part_block, tidy_without, without_block}
 use Rattle.index_engine.proofs.HoldLemmas.{frame_again}
-use Rattle.index_engine.proofs.KnownLemmas.{number_stays}
-use Rattle.index_engine.proofs.RehashLemmas.{del_kept, has_row, keeps_rehashed, leaf_rehashed, old_rehashed, rests_rehashed, stands_kept, twice_as}
+use Rattle.index_engine.proofs.RehashLemmas.{del_kept, has_row, kept_as, stands_kept}
 use Rattle.index_engine.proofs.RowLemmas.{del_makes}
-use Rattle.index_engine.proofs.SettleLemmas.{parts_both, parts_same}
-use Rattle.index_engine.proofs.TellLemmas.{looks_both, looks_same}
 
 -- an answer of a pass is one of it before its hand changed
 pub answers_earlier : (p p1 q : TreePass) (b i : ℕ) (ask : Ask) (told : Told) (row : Pair)
@@ -45,7 +39,7 @@ answers_earlier p p1 q b i ask told row same counted answers = record {
 
 module _ (p : TreePass) (b i place : ℕ) (key : FieldList) (next : Frame)
     (held : HoldsOldRow p b i place key next) where
-  abbrev pub f : Frame
+  abbrev f : Frame
   f = held.known
 
   abbrev pub now : Frame
@@ -71,69 +65,13 @@ module _ (p : TreePass) (b i place : ℕ) (key : FieldList) (next : Frame)
 
   -- where the list is full the row comes back to the partition
   module _ (q : TreePass) (same : SameHands p q) (terms : (view q).terms ≡ (view p).terms) where
-    pub came_again : HoldsRowCame q b place
+    pub came_again : HoldsRowBack q b place
     came_again = record {
       index = held.index;
       known = f;
       now = now;
       has = frame_again p q b f now same terms held.holds.has;
       row = has_row now place key (stands_kept held.answer f place key held.row.has);
+      same = kept_as held.answer f;
       hash = hash_again p q same terms held.index b f now (without_row place now) held.hash;
     }
-
-    module _ (r : TreePass)
-        (keeps : (o : Option ℕ) (x y : Frame) → HasFrame q b x y
-        → KeepsHashed q o b x y (without_row place y) → RowIsKept q o b x y (λ h. h) r) where
-      abbrev pub kept : RowIsKept q held.index b f now (λ h. h) r
-      kept = keeps held.index f now (frame_again p q b f now same terms held.holds.has)
-          (hash_again p q same terms held.index b f now (without_row place now) held.hash)
-
-      abbrev pub last : Frame
-      last = kept_frame kept.answer now
-
-      pub again_at_rest : HoldsAtRest r b
-      again_at_rest = record {
-        index = held.index;
-        known = f;
-        now = last;
-        has = kept.has;
-        rests = subst (FrameRests f) (twice_as held.answer kept.answer f) (rests_rehashed last f);
-        hash = kept.hash;
-      }
-
-      module _ (s : TreePass) (settled : Settles r i b s) where
-        pub last_terms : (view s).terms ≡ (view p).terms
-        last_terms = settled.looks.quiet.adds.numbers.terms
-            ∙ (ap (λ (v : View). v.terms) kept.view ∙ terms)
-
-        pub last_leaf : HoldsLeaf s b i key last last
-        last_leaf = record {
-          has = settled.frame f last kept.has;
-          leaf = subst (λ (t : Terms Shape). IsLeafOf t.shape i key last) (sym last_terms)
-              (subst (IsLeafOf (shape_of_pass p) i key) (twice_as held.answer kept.answer f)
-              (leaf_rehashed (shape_of_pass p) i key last f held.holds.leaf));
-        }
-
-        pub last_row : HasOldRow last key place
-        last_row = subst (λ z. HasOldRow z key place) (twice_as held.answer kept.answer f)
-            (old_rehashed last f key place held.row)
-
-        pub last_looks : OnlyLooks (view p) (view q) i → OnlyLooks (view p) (view s) i
-        last_looks looks = looks_both (view p) (view r) (view s) i
-            (looks_same (view p) (view q) (view r) i looks kept.view) settled.looks
-
-        pub last_seen : (view s).seen ≡ (view q).seen
-        last_seen = settled.seen ∙ ap (λ (v : View). v.seen) kept.view
-
-        pub last_parts : KeepsParts (view p) (view s)
-        last_parts = parts_both (view p) (view r) (view s)
-            (ap (λ (v : View). v.terms) kept.view ∙ terms)
-            (parts_same (view p) (view r) (ap (λ (v : View). v.held) kept.view ∙ same.held)
-            (ap (λ (v : View). v.terms) kept.view ∙ terms)) settled.stays.parts
-
-        pub last_count : count s ≡ count p
-        last_count = settled.stays.count ∙ (kept.count ∙ same.count)
-
-        pub last_number : KeepsNumber (view p) b last
-        last_number = subst (KeepsNumber (view p) b) (twice_as held.answer kept.answer f)
-            (keeps_rehashed (view p) b last f (number_stays (view p) b f held.holds.has.held))

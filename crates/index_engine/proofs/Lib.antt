@@ -9,6 +9,8 @@ pub mod PutLemmas
 pub mod BothLemmas
 pub mod HeldLemmas
 pub mod GoneLemmas
+pub mod MadeLemmas
+pub mod BackLemmas
 pub mod SetRowLemmas
 pub mod SeenLemmas
 pub mod RightLemmas
@@ -19,6 +21,7 @@ pub mod FollowLemmas
 pub mod CommitLemmas
 pub mod ChangeLemmas
 pub mod SettingLemmas
+pub mod GrowLemmas
 pub mod RowLemmas
 pub mod FrameTraceLemmas
 pub mod TellLemmas

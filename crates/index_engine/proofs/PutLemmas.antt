@@ -1,9 +1,7 @@
 -- A row that was put in and kept up with, and one that was taken out again.
 use Rattle.std.proofs.Common.{◌≡◌, ℕ, List, sym, ap, subst, ◌∙◌, refl, IsSome}
 use Rattle.key_tuple.specs.Order.{FieldList}
-use Rattle.latch_law.specs.declared.knows.Terms.{Terms}
 use Rattle.latch_space.specs.Passes.{view, count}
-use Rattle.index_law.specs.Shape.{Shape}
 use Rattle.index_page.specs.declared.spot.Spot.{Spot}
 use Rattle.hash_law.specs.Blocks.{IsTidy}
 use Rattle.forest_law.specs.declared.objects.Frame.{Frame}
@@ -15,13 +13,13 @@ use Rattle.call_law.specs.Hands.{KnowsFrame}
 use Rattle.call_law.specs.Spoken.{View}
 use Rattle.leaf_rows.specs.Changing.{PutsRow, hashed_as}
 use Rattle.leaf_rows.proofs.ChangeLemmas.{taken_back}
-use Rattle.index_engine.specs.Changes.{HoldsInserted, HoldsNewRow, HoldsNewRowAt, HoldsPutRow, HoldsToPut, IsTakenOut, KnowsSame, TookBack}
-use Rattle.index_engine.specs.Hashed.{HoldsRowCame, HoldsRowToGo, HoldsAtRest, KeepsHashed, RowIsKept, Settles}
+use Rattle.index_engine.specs.Changes.{HoldsInserted, HoldsNewRow, HoldsNewRowAt, HoldsPutRow, HoldsToPut, KnowsSame, TookBack}
+use Rattle.index_engine.specs.Hashed.{HoldsRowCame, HoldsRowToGo, HoldsAtRest, IsBack, KeepsHashed, RowIsKept, Settles}
 use Rattle.index_engine.specs.Holds.{IsLeafOf}
 use Rattle.index_engine.specs.Says.{OnlyLooks}
 use Rattle.index_engine.proofs.HashedLemmas.{hash_moves, part_block, tidy_rows, tidy_without, without_is}
 use Rattle.index_engine.proofs.KnownLemmas.{one_frame}
-use Rattle.index_engine.proofs.RehashLemmas.{leaf_rehashed, puts_kept, rests_rehashed}
+use Rattle.index_engine.proofs.RehashLemmas.{puts_kept, rests_rehashed}
 use Rattle.index_engine.proofs.SettleLemmas.{stays_both, parts_same}
 
 -- a row that was put in is there
@@ -156,24 +154,18 @@ module _ (p : TreePass) (b place : ℕ) (held : HoldsNewRowAt p b place) where
             (tidy_without place now (kept.hash.tidy t)));
       }
 
-      pub taken_out : (i : ℕ) (p3 : TreePass) → Settles p2 i b p3 → IsTakenOut p i b place p3
+      -- and then it is what it was, but for how it is hashed
+      pub taken_out : (i : ℕ) (p3 : TreePass) → Settles p2 i b p3 → IsBack p i b p3
       unfolding at_rest
       taken_out i p3 settled =
           let same_view = same.view ∙ kept.view in record {
             leaf = leaf;
             looks = subst (λ (v : View). OnlyLooks v (view p3) i) same_view settled.looks;
             seen = settled.seen ∙ ap (λ (v : View). v.seen) same_view;
-            holds = λ j key value f g holds puts. (let one = one_frame (view p) b held.known f
-                held.has.held holds.has.held in (
-                  record {
-                    has = settled.frame held.known leaf at_rest.has;
-                    leaf = subst (λ (t : Terms Shape). IsLeafOf t.shape j key leaf)
-                        (sym (settled.looks.quiet.adds.numbers.terms ∙ ap (λ (v : View). v.terms) same_view))
-                        (leaf_rehashed (shape_of_pass p) j key now held.known
-                        (subst (λ z. IsLeafOf (shape_of_pass p) j key z) (sym one) holds.leaf));
-                  },
-                  ap (hashed_as now) (sym one),
-                ));
+            frame = λ f g has. (
+              settled.frame held.known leaf at_rest.has,
+              ap (hashed_as now) (one_frame (view p) b f held.known has.held held.has.held),
+            );
             stays = stays_both p p2 p3 (ap (λ (v : View). v.terms) same_view)
                 (parts_same (view p) (view p2) (ap (λ (v : View). v.held) same_view)
                 (ap (λ (v : View). v.terms) same_view)) (same.count ∙ kept.count) settled.stays;

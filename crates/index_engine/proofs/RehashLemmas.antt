@@ -1,5 +1,5 @@
 -- A leaf that is hashed otherwise is the same leaf.
-use Rattle.std.proofs.Common.{◌≡◌, ◌==◌, ℕ, List, length, sym, ap, subst, refl, arith, IsSome}
+use Rattle.std.proofs.Common.{◌≡◌, ◌==◌, ℕ, List, length, sym, ap, subst, ◌∙◌, refl, arith, IsSome}
 use Rattle.key_tuple.specs.Order.{FieldList}
 use Rattle.index_law.specs.Shape.{Shape}
 use Rattle.map_history.specs.Map.{MapChange}
@@ -10,8 +10,10 @@ use Rattle.forest_law.specs.Steps.{FrameRests}
 use Rattle.hash_maintain.specs.Leaves.{kept_frame, unhashed, HasRowInFrame}
 use Rattle.buffer_pool.specs.Pages.{HasNumber}
 use Rattle.leaf_rows.specs.Changing.{PutsRow, HasRowOf, frame_without, hashed_as}
-use Rattle.leaf_rows.specs.Setting.{frame_with}
+use Rattle.leaf_rows.specs.declared.setting.GrownRow.{GrownRow}
+use Rattle.leaf_rows.specs.Setting.{frame_with, IsLongerValue, SetsValue, MovesRowTo, PageBefore, frame_before}
 use Rattle.index_engine.specs.Changes.{HasOldRow}
+use Rattle.index_engine.specs.Lengthening.{HasGrown}
 use Rattle.index_engine.specs.Commits.{MakesChange}
 use Rattle.call_law.specs.Spoken.{View}
 use Rattle.index_engine.specs.Holds.{IsLeafOf, KeepsNumber}
@@ -152,10 +154,88 @@ pub keeps_rehashed : (v : View) (b : ℕ) (m f : Frame) → KeepsNumber v b f
     → KeepsNumber v b (hashed_as m f)
 keeps_rehashed v b m f keeps g n knows has = number_rehashed m f n (keeps g n knows has)
 
--- nor does it matter that it was kept up with twice
-pub twice_as : (a c : Upkeep) (f : Frame)
-    → hashed_as (kept_frame c (kept_frame a f)) f ≡ kept_frame c (kept_frame a f)
-twice_as Kept Kept f = refl
-twice_as Kept (Dropped need spare) f = refl
-twice_as (Dropped need spare) Kept f = refl
-twice_as (Dropped need spare) (Dropped more left) f = refl
+-- upkeep leaves the page
+pub kept_paged : (a : Upkeep) (f : Frame) → (kept_frame a f).page ≡ f.page
+kept_paged Kept f = refl
+kept_paged (Dropped need spare) f = refl
+
+-- and a frame that is what it was known to be, but for how it is hashed
+pub kept_again : (a : Upkeep) (f g : Frame) → hashed_as g f ≡ g
+    → hashed_as (kept_frame a g) f ≡ kept_frame a g
+kept_again Kept f g same = same
+kept_again (Dropped need spare) f g same = ap unhashed same
+
+-- a value that was set was so, however the leaf is hashed before and after
+pub sets_rehashed : (m n f g : Frame) (key : FieldList) (value : List ℕ)
+    → SetsValue (hashed_as m f) g key value → SetsValue (hashed_as n f) g key value
+sets_rehashed m n f g key value sets = record {
+  page = sets.page;
+  new = sets.new;
+  before = sets.before;
+  had = sets.had;
+  kept = sets.kept;
+  head = sets.head;
+  level = sets.level;
+  has = sets.has;
+  sets = sets.sets;
+  places = sets.places;
+}
+
+pub sets_kept : (a : Upkeep) (f g : Frame) (key : FieldList) (value : List ℕ)
+    → SetsValue f g key value → SetsValue f (kept_frame a g) key value
+sets_kept Kept f g key value sets = sets
+sets_kept (Dropped need spare) f g key value sets = record {
+  page = sets.page;
+  new = sets.new;
+  before = sets.before;
+  had = sets.had;
+  kept = ap unhashed sets.kept;
+  head = sets.head;
+  level = sets.level;
+  has = sets.has;
+  sets = sets.sets;
+  places = sets.places;
+}
+
+-- a row moves from page to page, whatever else the frames are
+pub moves_paged : (f g x y : Frame) (place other : ℕ) → x.page ≡ f.page → y.page ≡ g.page
+    → MovesRowTo f g place other → MovesRowTo x y place other
+moves_paged f g x y place other before after moves = record {
+  page = moves.page;
+  new = moves.new;
+  had = before ∙ moves.had;
+  has = after ∙ moves.has;
+  stood = moves.stood;
+  stands = moves.stands;
+  rest = moves.rest;
+}
+
+-- a value that is longer is so however the leaf is hashed
+pub longer_kept : (a : Upkeep) (f : Frame) (place : ℕ) (value : List ℕ)
+    → IsLongerValue f place value → IsLongerValue (kept_frame a f) place value
+longer_kept Kept f place value longer = longer
+longer_kept (Dropped need spare) f place value longer = λ key has. longer key
+    (record { page = has.page; paged = has.paged; level = has.level; has = has.has })
+
+-- what a leaf was is kept, however it is hashed then
+before_as : (a : Upkeep) (before : PageBefore) (g : Frame)
+    → frame_before before (kept_frame a g)
+    ≡ hashed_as (kept_frame a g) (frame_before before g)
+before_as Kept before g = refl
+before_as (Dropped need spare) before g = refl
+
+pub before_kept : (a : Upkeep) (before : PageBefore) (m f g : Frame)
+    → frame_before before g ≡ hashed_as m f
+    → frame_before before (kept_frame a g) ≡ hashed_as (kept_frame a g) f
+before_kept a before m f g was = before_as a before g ∙ ap (hashed_as (kept_frame a g)) was
+
+-- so a row that grew on a leaf that was kept up with, and was kept up with, grew on the leaf
+pub has_grown : (a c : Upkeep) (f g : Frame) (place : ℕ) (grown : GrownRow)
+    → MovesRowTo (kept_frame a f) g place grown.place → IsSome grown.before.page
+    → frame_before grown.before g ≡ kept_frame a f → HasGrown f (kept_frame c g) place grown
+has_grown a c f g place grown moves paged was = record {
+  moves = moves_paged (kept_frame a f) g f (kept_frame c g) place grown.place
+      (sym (kept_paged a f)) (kept_paged c g) moves;
+  paged = paged;
+  was = before_kept c grown.before (kept_frame a f) f g (was ∙ sym (kept_as a f));
+}

@@ -1,21 +1,20 @@
 -- A leaf whose row gets another value is held still, and is what it became.
-use Rattle.std.proofs.Common.{◌≡◌, ◌⊎◌, inl, inr, ℕ, ◌+◌, ◌<◌, ◌==◌, List, [], length, option_and_then, sym, ap, subst, ◌∙◌, refl, Result, Ok, Err, Option, Some, None, IfOk, IfErr, OnErr, IsSome}
+use Rattle.std.proofs.Common.{◌≡◌, ◌⊎◌, ℕ, ◌==◌, List, [], length, option_and_then, sym, ap, subst, ◌∙◌, Result, Ok, Err, Option, Some, None, IfOk, IfErr, OnErr, IsSome}
 use Rattle.key_tuple.specs.Order.{FieldList}
-use Rattle.list_facts.proofs.Places.{same_some}
 use Rattle.index_page.specs.declared.error.PageError.{PageError}
 use Rattle.index_page.specs.declared.error.PageError.TheVariants as refused
-use Rattle.index_page.specs.declared.TheConstants.{PAGE_ROOM}
-use Rattle.index_page.specs.Loads.{charge_of, load_of}
 use Rattle.index_page.specs.Page.{PageRows}
 use Rattle.index_page.specs.Rows.{Bytes, Child, Row, RowBody, find_row}
 use Rattle.forest_law.specs.declared.objects.Frame.{Frame}
 use Rattle.forest_law.specs.HashSteps.{KeepsHashing}
 use Rattle.forest_world.specs.Held.{TreePass, HasFrame}
 use Rattle.buffer_pool.specs.Frames.{TakesOut, PutsBack}
+use Rattle.leaf_rows.specs.declared.setting.GrownRow.{GrownRow}
 use Rattle.leaf_rows.specs.Changing.{HasRowOf, HasSomeRow}
-use Rattle.leaf_rows.specs.Setting.{frame_with, IsNoLonger, IsLongerValue, SetsValue, value_refusal, PageBefore, frame_before}
-use Rattle.index_engine.specs.Changes.{HoldsRefusing, HoldsRowAsLong, RowIsSet, HoldsRowToGrow, HoldsGrownRow, HoldsSomePage, LeafIsBack}
-use Rattle.index_engine.proofs.ChangeLemmas.{taken_is, swapped_has, swapped_leaf}
+use Rattle.leaf_rows.specs.Setting.{frame_with, IsNoLonger, IsLongerValue, SetsValue, MovesRowTo, value_refusal, PageBefore, frame_before}
+use Rattle.index_engine.specs.Changes.{HoldsRowAsLong, RowIsSet}
+use Rattle.index_engine.specs.Lengthening.{HoldsRowToGrow, GrowsRow, StaysUngrown, HoldsSomePage, IsRestored}
+use Rattle.index_engine.proofs.ChangeLemmas.{taken_is, swapped_has}
 
 -- the value of a row, if it has one
 abbrev value_in : RowBody → List ℕ
@@ -51,15 +50,15 @@ module _ (p p1 : TreePass) (b : ℕ) (frame : Frame) (out : TakesOut p b frame p
       (sym (taken_is p p1 b frame out held.known held.now held.has)) held.no_longer
 
   -- or it is longer
-  pub stands_to_grow : (i place : ℕ) (key : FieldList) (value : List ℕ)
-      → HoldsRowToGrow p b i place key value → HasSomeRow frame place
-  stands_to_grow i place key value held = subst (λ z. HasSomeRow z place)
-      (sym (taken_is p p1 b frame out held.known held.known held.holds.has)) (key, held.row.has)
+  pub stands_to_grow : (place : ℕ) (value : List ℕ) → HoldsRowToGrow p b place value
+      → HasSomeRow frame place
+  stands_to_grow place value held = subst (λ z. HasSomeRow z place)
+      (sym (taken_is p p1 b frame out held.known held.now held.has)) held.stands
 
-  pub longer_then : (i place : ℕ) (key : FieldList) (value : List ℕ)
-      → HoldsRowToGrow p b i place key value → IsLongerValue frame place value
-  longer_then i place key value held = subst (λ z. IsLongerValue z place value)
-      (sym (taken_is p p1 b frame out held.known held.known held.holds.has)) held.longer
+  pub longer_then : (place : ℕ) (value : List ℕ) → HoldsRowToGrow p b place value
+      → IsLongerValue frame place value
+  longer_then place value held = subst (λ z. IsLongerValue z place value)
+      (sym (taken_is p p1 b frame out held.known held.now held.has)) held.longer
 
   pub paged_then : HoldsSomePage p b → IsSome frame.page
   paged_then held = subst (λ (z : Frame). IsSome z.page)
@@ -78,61 +77,43 @@ module _ (p p1 p2 : TreePass) (b : ℕ) (frame now : Frame) (out : TakesOut p b 
       (taken_is p p1 b frame out f g held) (is key) in
       subst (HasFrame p2 b f) (at has) (swapped_has p p1 p2 b frame now out back f g held)
 
-  module _ (i place : ℕ) (key : FieldList) (value : List ℕ)
-      (held : HoldsRowToGrow p b i place key value) where
-    taken : frame ≡ held.known
-    taken = taken_is p p1 b frame out held.known held.known held.holds.has
-
-    row_then : HasRowOf frame place key
-    row_then = subst (λ (z : Frame). HasRowOf z place key) (sym taken) held.row.has
-
+  module _ (place : ℕ) (value : List ℕ) where
     -- it got a longer one
-    pub lengthened_ok : (result : Result PageBefore PageError)
-        → IfOk result (λ before. (k : FieldList) → HasRowOf frame place k
+    pub lengthened_ok : (result : Result GrownRow PageError)
+        → IfOk result (λ grown. (k : FieldList) → HasRowOf frame place k
         → SetsValue frame now k value)
-        → IfOk result (λ before. frame_before before now ≡ frame)
-        → IfOk result (λ before. IsSome before.page) → KeepsHashing frame now
-        → IfOk result (λ before. HoldsGrownRow p2 b i key value before)
-    lengthened_ok (Ok before) sets was paged hash = record {
-      known = held.known;
-      made = now;
-      holds = swapped_leaf p p1 p2 b frame now out back i key held.known held.known now refl
-          held.holds;
-      sets = subst (λ (z : Frame). SetsValue z now key value) taken (sets key row_then);
-      paged = paged;
-      was = was ∙ taken;
-      hash = subst (λ (z : Frame). KeepsHashing z now) taken hash;
-    }
-    lengthened_ok (Err e) sets was paged hash = tt
+        → IfOk result (λ grown. MovesRowTo frame now place grown.place)
+        → IfOk result (λ grown. frame_before grown.before now ≡ frame)
+        → IfOk result (λ grown. IsSome grown.before.page) → KeepsHashing frame now
+        → IfOk result (λ grown. GrowsRow p p2 b place value grown)
+    lengthened_ok (Ok grown) sets moves was paged hash = λ key f g row has.
+        (let taken = taken_is p p1 b frame out f g has in record {
+          made = now;
+          has = swapped_has p p1 p2 b frame now out back f g has;
+          sets = subst (λ (z : Frame). SetsValue z now key value) taken
+              (sets key (subst (λ (z : Frame). HasRowOf z place key) (sym taken) row));
+          moves = subst (λ (z : Frame). MovesRowTo z now place grown.place) taken moves;
+          paged = paged;
+          was = was ∙ taken;
+          hash = subst (λ (z : Frame). KeepsHashing z now) taken hash;
+        })
+    lengthened_ok (Err e) sets moves was paged hash = tt
 
-    -- where there is no room for that, the load and the charge are more than the room
-    too_long : (page : PageRows) (e : PageError) → held.known.page ≡ Some page
-        → value_refusal frame place value ≡ Some e
-        → PAGE_ROOM < load_of page.rows + charge_of key (Bytes value)
-    too_long page e paged refusal = let at = held.row.lacks value e
-        (subst (λ (z : Frame). value_refusal z place value ≡ Some e) taken refusal) in
-        subst (λ (r : PageRows). PAGE_ROOM < load_of r.rows + charge_of key (Bytes value))
-        (same_some at.page page (sym at.paged ∙ paged)) at.more
-
-    pub lengthened_err : (result : Result PageBefore PageError)
+    pub lengthened_err : (result : Result GrownRow PageError)
         → IfErr result (λ e. (e ≡ refused.NoMemory) ⊎ (value_refusal frame place value ≡ Some e))
-        → OnErr result (now ≡ frame) → IfErr result (λ e. HoldsRefusing p2 b i key value e)
-    lengthened_err (Ok before) why same = tt
-    lengthened_err (Err e) why same =
-        let still = swapped_leaf p p1 p2 b frame now out back i key held.known held.known
-        held.known (same ∙ taken) held.holds in record {
-          frame = held.known;
-          holds = still;
-          why = elim why [
-            | inl memory ↦ inl memory
-            | inr refusal ↦ inr (too_long still.leaf.page.is.page e still.leaf.page.is.paged
-                refusal)
-          ];
-        }
+        → OnErr result (now ≡ frame)
+        → IfErr result (λ e. StaysUngrown p p2 b place value e)
+    lengthened_err (Ok grown) why same = tt
+    lengthened_err (Err e) why same = λ f g has.
+        (let taken = taken_is p p1 b frame out f g has in (
+          subst (HasFrame p2 b f) (same ∙ taken) (swapped_has p p1 p2 b frame now out back f g has),
+          subst (λ (z : Frame). (e ≡ refused.NoMemory) ⊎ (value_refusal z place value ≡ Some e))
+              taken why,
+        ))
 
   -- the leaf is what it was before
-  pub leaf_is_back : (before : PageBefore) → now ≡ frame_before before frame
-      → LeafIsBack p p2 b before
-  leaf_is_back before is i key f g holds was =
-      swapped_leaf p p1 p2 b frame now out back i key f g f
-      (is ∙ (ap (frame_before before) (taken_is p p1 b frame out f g holds.has) ∙ was)) holds
+  pub is_restored : (before : PageBefore) → now ≡ frame_before before frame
+      → IsRestored p p2 b before
+  is_restored before is f g has = subst (HasFrame p2 b f)
+      (is ∙ ap (frame_before before) (taken_is p p1 b frame out f g has))
+      (swapped_has p p1 p2 b frame now out back f g has)

@@ -1,7 +1,7 @@
 -- Changes of the leaf that a pass holds.
-use Rattle.std.specs.Prelude.{ℕ, ◌≡◌, ◌⊎◌, ◌+◌, ◌<◌, ◌≤◌, ◌==◌, Option, Some, None, IsSome, List, length}
+use Rattle.std.specs.Prelude.{ℕ, ◌≡◌, ◌⊎◌, ◌+◌, ◌<◌, ◌≤◌, ◌==◌, Option, Some, None, List, length}
 use Rattle.key_tuple.specs.Order.{FieldList}
-use Rattle.latch_space.specs.Has.{SameBut, IsKnown, IsKnownBut}
+use Rattle.latch_space.specs.Has.{SameBut, IsKnown}
 use Rattle.latch_space.specs.Passes.{view, count}
 use Rattle.index_page.specs.declared.error.PageError.{PageError}
 use Rattle.index_page.specs.declared.error.PageError.TheVariants as refused
@@ -18,7 +18,7 @@ use Rattle.forest_world.specs.Held.{TreePass, shape_of_pass, HasFrame}
 use Rattle.hash_maintain.specs.Leaves.{kept_frame, without_row}
 use Rattle.leaf_rows.specs.Changing.{LacksRow, PutsRow, WasPut, HasRowOf, HasSomeRow, TakesRowOut, frame_without, hashed_as}
 use Rattle.leaf_rows.specs.Finding.{HasRow, HasSpot}
-use Rattle.leaf_rows.specs.Setting.{frame_with, IsNoLonger, IsLongerValue, SetsValue, PageBefore, frame_before, value_refusal, LacksRoomFor}
+use Rattle.leaf_rows.specs.Setting.{frame_with, IsNoLonger, SetsValue, value_refusal, LacksRoomFor}
 use Rattle.index_engine.specs.Hashed.{KeepsHashed}
 use Rattle.index_engine.specs.Holds.{HoldsLeaf, KeepsNumber, StaysKnown}
 use Rattle.index_engine.specs.Says.{OnlyLooks}
@@ -165,37 +165,6 @@ RowIsSet p q b place value = (f g : Frame) (key : FieldList) → (has : HasRowOf
     → HasFrame p b f g
     → HasFrame q b f (frame_with place value (length value == length has.has.value) g)
 
--- the pass holds the leaf, on which the key's row stands at the place, and the value is longer
-pub record HoldsRowToGrow (p : TreePass) (b i place : ℕ) (key : FieldList)
-    (value : List ℕ) : Type 0 where
-  pub known : Frame
-  pub holds : HoldsLeaf p b i key known known
-  pub row : HasOldRow known key place
-  pub longer : IsLongerValue known place value
-
--- the pass holds the leaf, of which the key's row got the value, and which was this before
-pub record HoldsGrownRow (p : TreePass) (b i : ℕ) (key : FieldList) (value : List ℕ)
-    (before : PageBefore) : Type 0 where
-  pub known : Frame
-  pub made : Frame
-  pub holds : HoldsLeaf p b i key known made
-  pub sets : SetsValue known made key value
-  pub paged : IsSome before.page
-  pub was : frame_before before made ≡ known
-  pub hash : KeepsHashing known made
-
--- the pass holds the block's frame, which has a page
-pub record HoldsSomePage (p : TreePass) (b : ℕ) : Type 0 where
-  pub known : Frame
-  pub now : Frame
-  pub has : HasFrame p b known now
-  pub paged : IsSome now.page
-
--- where the leaf was this before, it is so again, and what it is known to be
-abbrev pub LeafIsBack : TreePass → TreePass → ℕ → PageBefore → Type 0
-LeafIsBack p q b before = (i : ℕ) (key : FieldList) (f g : Frame) → HoldsLeaf p b i key f g
-    → frame_before before g ≡ f → HoldsLeaf q b i key f f
-
 -- nothing was answered, since the row wasn't taken, and what was held is held as it is known to be,
 -- the leaf with its number
 pub record RefusesHolding (p q : TreePass) (b i : ℕ) (key : FieldList) (value : List ℕ)
@@ -228,27 +197,3 @@ pub record HoldsNewRowAt (p : TreePass) (b place : ℕ) : Type 0 where
   pub has : HasFrame p b known now
   pub puts : PutsRow known now place key value
   pub hash : KeepsHashed p index b known now now
-
--- the row is out again, and what was known of the leaf is so again, but for how it is hashed;
--- nothing was said
-pub record IsTakenOut (p : TreePass) (i b place : ℕ) (q : TreePass) : Type 0 where
-  pub leaf : Frame
-  pub looks : OnlyLooks (view p) (view q) i
-  pub seen : (view q).seen ≡ (view p).seen
-  pub holds : (j : ℕ) (key : FieldList) (value : List ℕ) (f g : Frame) → HoldsLeaf p b j key f g
-      → PutsRow f g place key value
-      → HoldsLeaf q b j key leaf leaf × (hashed_as leaf f ≡ leaf)
-  pub stays : StaysKnown p q
-
--- the value is longer than that of the row at the place of the block's frame
-abbrev pub IsLongerIn : TreePass → (b place : ℕ) → List ℕ → Type 0
-IsLongerIn p b place value = (f g : Frame) → HasFrame p b f g → IsLongerValue f place value
-
--- the block's frame is in hand, the hash is kept, and all else in hand is what it is known to be
-pub record HoldsKeptAlone (p : TreePass) (b : ℕ) : Type 0 where
-  pub index : Option ℕ
-  pub known : Frame
-  pub made : Frame
-  pub has : HasFrame p b known made
-  pub hash : KeepsHashed p index b known made made
-  pub rest : IsKnownBut p (frame_id (shape_of_pass p) b)

@@ -15,12 +15,13 @@ use Rattle.forest_law.specs.Numbers.{frame_id}
 use Rattle.forest_law.specs.Outside.{HasNoOutside}
 use Rattle.forest_law.specs.Steps.{FrameRests}
 use Rattle.forest_world.specs.Held.{TreePass, shape_of_pass, HasFrame, HasPart, IsKnownBeyond}
-use Rattle.hash_maintain.specs.Leaves.{kept_frame, without_row, unhashed, HasRowInFrame}
+use Rattle.hash_maintain.specs.Leaves.{kept_frame, without_row, HasRowInFrame}
 use Rattle.hash_maintain.specs.Parting.{LacksPart, GivesPart}
 use Rattle.call_law.specs.Hands.{HoldsNoPart}
 use Rattle.buffer_pool.specs.Forests.{IsFittedTree}
 use Rattle.buffer_pool.specs.Frames.{GivesFrame}
 use Rattle.buffer_pool.specs.Parts.{part_of_index, part_ids, HoldsPartIf, KnowsPartIf}
+use Rattle.leaf_rows.specs.Changing.{hashed_as}
 use Rattle.tree_descent.specs.declared.descending.Leaf.{Leaf}
 use Rattle.index_engine.specs.Holds.{HoldsFresh, HoldsFreshAlone, StaysKnown}
 use Rattle.index_engine.specs.Says.{OnlyLooks}
@@ -100,26 +101,16 @@ abbrev pub KeepsRowToGo : TreePass → (b place : ℕ) → TreePass → Type 0
 KeepsRowToGo p b place q = (o : Option ℕ) (f g : Frame) → HasFrame p b f g
     → KeepsHashed p o b f g g → RowIsKept p o b f g (without_row place) q
 
--- the block's frame is in hand, and the partition is exact of it
-pub record HoldsKept (p : TreePass) (b : ℕ) : Type 0 where
+-- the block's frame in hand has a row at the place, and the partition is exact of it without that
+-- row; but for how it is hashed the frame is what it is known to be
+pub record HoldsRowBack (p : TreePass) (b place : ℕ) : Type 0 where
   pub index : Option ℕ
   pub known : Frame
   pub now : Frame
   pub has : HasFrame p b known now
-  pub hash : KeepsHashed p index b known now now
-
--- the block was dropped: its frame f, which was g, isn't hashed
-pub record IsDropped (p : TreePass) (o : Option ℕ) (b : ℕ) (f g : Frame) (q : TreePass) : Type 0
-  where
-    pub has : HasFrame q b f (unhashed g)
-    pub hash : KeepsHashed q o b f (unhashed g) (unhashed g)
-    pub view : view q ≡ view p
-    pub count : count q ≡ count p
-
--- so it is of the frame that was there
-abbrev pub DropsBlock : TreePass → ℕ → TreePass → Type 0
-DropsBlock p b q = (o : Option ℕ) (f g : Frame) → HasFrame p b f g → KeepsHashed p o b f g g
-    → IsDropped p o b f g q
+  pub row : HasRowInFrame now place
+  pub same : hashed_as now known ≡ now
+  pub hash : KeepsHashed p index b known now (without_row place now)
 
 -- the block's frame in hand is at rest, and the hash is kept
 pub record HoldsAtRest (p : TreePass) (b : ℕ) : Type 0 where
@@ -137,6 +128,16 @@ pub record Settles (p : TreePass) (i b : ℕ) (q : TreePass) : Type 0 where
   pub frame : (f g : Frame) → HasFrame p b f g → HasFrame q b g g
   pub part : (o : Option ℕ) (f g : Frame) → HasFrame p b f g → KeepsHashed p o b f g g
       → HoldsPartOf q o b g
+  pub stays : StaysKnown p q
+
+-- what is in hand is known to be so, the block's frame as what it was known to be, but for how it is
+-- hashed; nothing was said
+pub record IsBack (p : TreePass) (i b : ℕ) (q : TreePass) : Type 0 where
+  pub leaf : Frame
+  pub looks : OnlyLooks (view p) (view q) i
+  pub seen : (view q).seen ≡ (view p).seen
+  pub frame : (f g : Frame) → HasFrame p b f g
+      → HasFrame q b leaf leaf × (hashed_as leaf f ≡ leaf)
   pub stays : StaysKnown p q
 
 -- the pass holds the leaf as it is known to be, the key belongs at the spot, and the partition of

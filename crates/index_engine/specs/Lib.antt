@@ -9,6 +9,7 @@ pub mod Hashed
 pub mod Says
 pub mod Commits
 pub mod Changes
+pub mod Lengthening
 pub mod Writes
 pub mod SeekTraces
 pub mod Seeks

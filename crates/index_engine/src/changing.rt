@@ -6,8 +6,8 @@ ghost use Rattle.latch_space.specs.Spaces.{IsPassOf};
 ghost use Rattle.index_engine.specs.Changes.{HasSpotIn, FindsRow, HoldsLacking, HoldsInserted};
 ghost use Rattle.index_engine.specs.Changes.{HoldsRefusing, KnowsSame, HoldsPutRow, TookBack};
 ghost use Rattle.index_engine.specs.Changes.{HoldsRowAt, TookOut, HoldsRowAsLong, RowIsSet};
-ghost use Rattle.index_engine.specs.Changes.{HoldsRowToGrow, HoldsGrownRow, HoldsSomePage};
-ghost use Rattle.index_engine.specs.Changes.{LeafIsBack};
+ghost use Rattle.index_engine.specs.Lengthening.{HoldsRowToGrow, GrowsRow, StaysUngrown};
+ghost use Rattle.index_engine.specs.Lengthening.{HoldsSomePage, IsRestored};
 
 use crate::tree_call::TreeCall;
 use buffer_pool::{frame_back, frame_out};
@@ -15,7 +15,8 @@ use forest_world::{ForestPass, Frame};
 use index_page::{PageError, Place, Spot};
 use key_tuple::{Key, Value};
 use leaf_rows::{
-    LeafBefore, delete_row, find_key, grow_value, put_back, put_row, rewrite_row, take_back,
+    GrownRow, LeafBefore, delete_row, find_key, grow_value, put_back, put_row, rewrite_row,
+    take_back,
 };
 use tree_descent::Leaf;
 
@@ -83,24 +84,21 @@ impl<R> TreeCall<'_, R> {
         frame_back(self.space, pass, block, frame);
     }
 
-    /// Gives the key's row at the place a longer value, and tells what the leaf was. After an error
-    /// it is as before.
+    /// Gives the row at the place a longer value, and tells where it stands then and what the leaf
+    /// was. After an error it is as before.
     pub(crate) fn lengthen(
         &self,
         pass: &mut ForestPass,
         block: u32,
         place: Place,
         value: &Value,
-    ) -> Result<LeafBefore, PageError>
+    ) -> Result<GrownRow, PageError>
         requires own { IsPassOf self.now.space.now pass.old }
-        requires held { HoldsRowToGrow pass.old block self.now.index place self.now.key.now.tuple
-            value.now }
+        requires held { HoldsRowToGrow pass.old block place value.now }
         ensures own { IsSamePass pass.old pass.new × IsPassOf self.now.space.now pass.new }
         ensures same { KnowsSame pass.old pass.new block }
-        ensures ok { IfOk result (λ before. HoldsGrownRow pass.new block self.now.index
-            self.now.key.now.tuple value.now before) }
-        ensures err { IfErr result (λ e. HoldsRefusing pass.new block self.now.index
-            self.now.key.now.tuple value.now e) }
+        ensures ok { IfOk result (λ grown. GrowsRow pass.old pass.new block place value.now grown) }
+        ensures err { IfErr result (λ e. StaysUngrown pass.old pass.new block place value.now e) }
     {
         let mut frame = frame_out(self.space, pass, block);
         let result = grow_value(self.alloc, &mut frame, place, value);
@@ -108,14 +106,14 @@ impl<R> TreeCall<'_, R> {
         result
     }
 
-    /// Makes the leaf what it was before `lengthen`.
+    /// Makes the leaf what it was before `lengthen`. How it is hashed stays.
     pub(crate) fn restore(&self, pass: &mut ForestPass, block: u32, before: LeafBefore)
         requires own { IsPassOf self.now.space.now pass.old }
         requires held { HoldsSomePage pass.old block }
         requires before { IsSome before.page }
         ensures own { IsSamePass pass.old pass.new × IsPassOf self.now.space.now pass.new }
         ensures same { KnowsSame pass.old pass.new block }
-        ensures back { LeafIsBack pass.old pass.new block before }
+        ensures back { IsRestored pass.old pass.new block before }
     {
         let mut frame = frame_out(self.space, pass, block);
         put_back(&mut frame, before);

@@ -106,8 +106,7 @@ impl<R: Wait> TreeCall<'_, R> {
                 made(self.found, point)
             }
             Err(LogFull(count)) => {
-                self.row_came(pass, block, place);
-                self.settle(pass, block);
+                self.come_back(pass, block, place);
                 self.say_of_del(pass, Reply::LogFull(count))
             }
         }

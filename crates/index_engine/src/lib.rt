@@ -15,6 +15,7 @@ mod getting;
 mod growing;
 mod hitting;
 mod holding;
+mod lengthening;
 mod looking;
 mod opening;
 mod pairing;

@@ -8,8 +8,8 @@ ghost use Rattle.map_history.specs.Told.{columns_told};
 ghost use Rattle.index_law.specs.Meanings.{lent_row};
 ghost use Rattle.latch_space.specs.Has.{IsKnown};
 ghost use Rattle.index_engine.specs.Changes.{HoldsNewRow, HoldsNewRowAt, HoldsRefusing, HoldsToPut};
-ghost use Rattle.index_engine.specs.Changes.{IsTakenOut, KnowsAsMuch, RefusesHolding};
-ghost use Rattle.index_engine.specs.Hashed.{HoldsHashed};
+ghost use Rattle.index_engine.specs.Changes.{KnowsAsMuch, RefusesHolding};
+ghost use Rattle.index_engine.specs.Hashed.{HoldsHashed, IsBack};
 ghost use Rattle.index_engine.specs.Says.{columns_by, AnswersHolding};
 
 use crate::changing::find_row;
@@ -111,7 +111,7 @@ impl<R: Wait> TreeCall<'_, R> {
         requires own { IsPassOf self.now.space.now pass.old }
         requires held { HoldsNewRowAt pass.old block place }
         ensures own { IsSamePass pass.old pass.new × IsPassOf self.now.space.now pass.new }
-        ensures back { IsTakenOut pass.old self.now.index block place pass.new }
+        ensures back { IsBack pass.old self.now.index block pass.new }
     {
         self.row_goes(pass, block, place);
         self.take_back(pass, block, place);

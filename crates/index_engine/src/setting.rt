@@ -7,8 +7,7 @@ ghost use Rattle.map_history.specs.Map as map;
 ghost use Rattle.map_history.specs.Operation.{Make};
 ghost use Rattle.map_history.specs.Told.{columns_told};
 ghost use Rattle.index_law.specs.Meanings.{lent_row};
-ghost use Rattle.index_engine.specs.Changes.{HoldsRowOf, HoldsRowToSet, HoldsGrownRow};
-ghost use Rattle.index_engine.specs.Changes.{HoldsKeptAlone, IsLongerIn, RefusesHolding};
+ghost use Rattle.index_engine.specs.Changes.{HoldsRowOf, HoldsRowToSet, RefusesHolding};
 ghost use Rattle.index_engine.specs.Hashed.{HoldsHashed};
 ghost use Rattle.index_engine.specs.Says.{columns_by, CanSay, SaysOnce, AnswersHolding};
 
@@ -16,13 +15,12 @@ use crate::changing::find_row;
 use crate::committing::Becomes;
 use crate::saying::made;
 use crate::tree_call::TreeCall;
-use forest_law::blocks_ask_the_same;
 use forest_world::ForestPass;
 use index_law::ChangeRef;
 use index_page::{PageError, Place};
 use key_tuple::Value;
 use latch_space::LogFull;
-use leaf_rows::{LeafBefore, value_len};
+use leaf_rows::value_len;
 use map_history::{OpRef, Reply, Told};
 use std::marker::Brand;
 use std::sync::Wait;
@@ -85,34 +83,6 @@ impl<R: Wait> TreeCall<'_, R> {
         self.grow_row(pass, block, place, value)
     }
 
-    /// Drops the block, since its rows may come to other places, and gives the row at the place the
-    /// longer value.
-    fn grow_row(
-        &self,
-        pass: &mut ForestPass,
-        block: u32,
-        place: Place,
-        value: &Value,
-    ) -> Result<Told, PageError>
-        requires own { IsPassOf self.now.space.now pass.old }
-        requires held { HoldsRowOf pass.old block self.now.index place self.now.key.now.tuple }
-        requires longer { IsLongerIn pass.old block place value.now }
-        ensures own { IsSamePass pass.old pass.new × IsPassOf self.now.space.now pass.new }
-        ensures ok { IfOk result (λ told. AnswersHolding pass.old pass.new block self.now.index
-            (Make (map.Set self.now.key.now.tuple value.now)) told (lent_row None)) }
-        ensures columns { IfOk result (λ told. columns_told told ≡ columns_by self.now.found) }
-        ensures err { IfErr result (λ e. RefusesHolding pass.old pass.new block self.now.index
-            self.now.key.now.tuple value.now e) }
-    {
-        blocks_ask_the_same();
-        self.drop_block(pass, block);
-        self.settle(pass, block);
-        match self.lengthen(pass, block, place, value) {
-            Ok(before) => Ok(self.commit_set(pass, block, before, value)),
-            Err(refusal) => Err(refusal),
-        }
-    }
-
     /// Commits that the row at the place gets a value that is no longer, and writes it then. Nobody
     /// else can look at the leaf in between. At a full list the row stays as it is.
     fn set_in_place<X: Becomes>(
@@ -140,39 +110,11 @@ impl<R: Wait> TreeCall<'_, R> {
             Err(LogFull(count)) => self.say_of_set(pass, value, Reply::LogFull(count)),
         }
     }
-
-    /// Commits the longer value that the row got, or makes the leaf what it was where the list is
-    /// full.
-    fn commit_set(
-        &self,
-        pass: &mut ForestPass,
-        block: u32,
-        before: LeafBefore,
-        value: &Value,
-    ) -> Told
-        requires own { IsPassOf self.now.space.now pass.old }
-        requires held { HoldsGrownRow pass.old block self.now.index self.now.key.now.tuple
-            value.now before }
-        requires hash { HoldsKeptAlone pass.old block }
-        ensures own { IsSamePass pass.old pass.new × IsPassOf self.now.space.now pass.new }
-        ensures did { AnswersHolding pass.old pass.new block self.now.index
-            (Make (map.Set self.now.key.now.tuple value.now)) result (lent_row None) }
-        ensures columns { columns_told result ≡ columns_by self.now.found }
-    {
-        let key = self.key;
-        match self.commit(pass, ChangeRef::Set { key, value }) {
-            Ok(point) => made(self.found, point),
-            Err(LogFull(count)) => {
-                self.restore(pass, block, before);
-                self.say_of_set(pass, value, Reply::LogFull(count))
-            }
-        }
-    }
 }
 
 impl<R> TreeCall<'_, R> {
     /// Answers the set without a change.
-    fn say_of_set(&self, pass: &mut ForestPass, value: &Value, reply: Reply) -> Told
+    pub(crate) fn say_of_set(&self, pass: &mut ForestPass, value: &Value, reply: Reply) -> Told
         requires own { IsPassOf self.now.space.now pass.old }
         requires held { CanSay pass.old self.now.index self.now.key.now.tuple
             (Make (map.Set self.now.key.now.tuple value.now)) reply (lent_row None) }

@@ -2,9 +2,9 @@
 ghost use Rattle.std.specs.Prelude.{◌≡◌};
 ghost use Rattle.latch_space.specs.Passes.{view, count, IsSamePass};
 ghost use Rattle.latch_space.specs.Spaces.{IsPassOf};
-ghost use Rattle.index_engine.specs.Hashed.{DropsBlock, GivesBoth, GivesPartOf, HoldsAtRest, HoldsLeafAndPart};
-ghost use Rattle.index_engine.specs.Hashed.{HoldsHashed, HoldsKept, HoldsRowCame, HoldsRowToGo};
-ghost use Rattle.index_engine.specs.Hashed.{HoldsToChange};
+ghost use Rattle.index_engine.specs.Hashed.{GivesBoth, GivesPartOf, HoldsAtRest, HoldsLeafAndPart};
+ghost use Rattle.index_engine.specs.Hashed.{HoldsHashed, HoldsRowBack, HoldsRowCame, HoldsRowToGo};
+ghost use Rattle.index_engine.specs.Hashed.{HoldsToChange, IsBack};
 ghost use Rattle.index_engine.specs.Hashed.{KeepsRowThatCame, KeepsRowToGo, Settles};
 ghost use Rattle.index_engine.specs.Holds.{HoldsFreshAlone};
 
@@ -12,9 +12,7 @@ use crate::tree_call::TreeCall;
 use buffer_pool::{frame_back, frame_out, give_back, hold_part_for};
 use forest_law::blocks_ask_the_same;
 use forest_world::ForestPass;
-use hash_maintain::{
-    delete_in_frame, drop_frame, give_part_back, insert_in_frame, upkeep_keeps_the_hash,
-};
+use hash_maintain::{delete_in_frame, give_part_back, insert_in_frame, upkeep_keeps_the_hash};
 use index_page::Place;
 use std::sync::Wait;
 use tree_descent::Leaf;
@@ -66,19 +64,16 @@ impl<R: Wait> TreeCall<'_, R> {
         frame_back(self.space, pass, block, frame);
     }
 
-    /// Takes the leaf's nodes out of the partition: it isn't hashed then.
-    pub(crate) fn drop_block(&self, pass: &mut ForestPass, block: u32)
+    /// Keeps up with the row at the place, which is back on the leaf, and makes known what is in
+    /// hand.
+    pub(crate) fn come_back(&self, pass: &mut ForestPass, block: u32, place: Place)
         requires own { IsPassOf self.now.space.now pass.old }
-        requires held { HoldsKept pass.old block }
+        requires held { HoldsRowBack pass.old block place }
         ensures own { IsSamePass pass.old pass.new × IsPassOf self.now.space.now pass.new }
-        ensures dropped { DropsBlock pass.old block pass.new }
+        ensures back { IsBack pass.old self.now.index block pass.new }
     {
-        pass.fits();
-        blocks_ask_the_same();
-        upkeep_keeps_the_hash();
-        let mut frame = frame_out(self.space, pass, block);
-        drop_frame(self.space, pass, &mut frame, block, self.wait);
-        frame_back(self.space, pass, block, frame);
+        self.row_came(pass, block, place);
+        self.settle(pass, block);
     }
 }
 

@@ -12,13 +12,13 @@ use Rattle.index_page.specs.Page.{PageRows, PlacesDiffer, FitsLevel, IsPageInOrd
 use Rattle.index_page.specs.Rows.{RowBody, Row, Bytes, Child, placed_row, find_row}
 use Rattle.index_page.proofs.RowLemmas.{find_stands, find_among, each_found}
 use Rattle.index_page.proofs.SetLemmas.{differ_put}
-use Rattle.index_page.proofs.WithoutLemmas.{AreElsewhere, differ_elsewhere}
+use Rattle.index_page.proofs.WithoutLemmas.{AreElsewhere, differ_elsewhere, deleted_is}
 use Rattle.clock_law.specs.ModifyClock.{last_clock, raised, ClockRises}
 use Rattle.clock_law.proofs.LaterLemmas.{changes}
 use Rattle.forest_law.specs.declared.objects.Frame.{Frame}
 use Rattle.leaf_rows.specs.Changing.{HasRowOf, HasSomeRow}
 use Rattle.leaf_rows.specs.Laws.{ValuesAreSet}
-use Rattle.leaf_rows.specs.Setting.{rows_with, page_with, clock_with, frame_with, IsNoLonger, IsLongerValue, SetsValue, SetsSomewhere, frame_before}
+use Rattle.leaf_rows.specs.Setting.{rows_with, page_with, clock_with, frame_with, IsNoLonger, IsLongerValue, SetsValue, MovesRowTo, frame_before}
 use Rattle.leaf_rows.proofs.ValueLemmas.{leaf_values, has_bytes, pairs_ascend}
 
 module _ (place : ℕ) (value : List ℕ) where
@@ -54,6 +54,16 @@ module _ (place : ℕ) (value : List ℕ) where
       let is = sets.is ∙ ap (λ p. sets.left ++ placed_row p sets.row.key (Bytes value)
       ∷ sets.right) (sym sets.place_is) ∙ sym rows in
       λ i. record { head = sets.head i; rows = is i }
+
+-- the row that is set stood at the place
+row_there : (page new : PageRows) (place other : ℕ) (value : List ℕ) → IsPageInOrder page
+    → (sets : Sets page new place other value) → find_row place page.rows ≡ Some sets.row
+row_there page new place other value order sets =
+    let found = find_among sets.left sets.row sets.right
+    (subst PlacesDiffer sets.was order.places) in
+    let at = subst (λ (rows : List Row). find_row sets.row.place rows ≡ Some sets.row)
+    (sym sets.was) found in
+    subst (λ p. find_row p page.rows ≡ Some sets.row) sets.place_is at
 
 -- a leaf of which the key's row got a value, and the clock is as it asks
 module _ (f : Frame) (place : ℕ) (key : FieldList) (value : List ℕ) (has : HasRowOf f place key)
@@ -101,11 +111,7 @@ module _ (f : Frame) (place : ℕ) (key : FieldList) (value : List ℕ) (has : H
       → (length value ≢ length has.has.value → ClockRises f.clock clock)
       → SetsValue f (record f { page = Some new; clock = clock }) key value
   set_sets new clock other sets differ stays rises =
-      let found = find_among sets.left sets.row sets.right
-      (subst PlacesDiffer sets.was order.places) in
-      let at = subst (λ (rows : List Row). find_row sets.row.place rows ≡ Some sets.row)
-      (sym sets.was) found in
-      let there = subst (λ p. find_row p has.page.rows ≡ Some sets.row) sets.place_is at in
+      let there = row_there has.page new place other value order sets in
       let same : sets.row ≡ has.has.row = same_some _ _ (sym there ∙ has.has.there) in
       let s : StandsAt has.page.rows place has.has.row = record {
         left = sets.left;
@@ -174,10 +180,7 @@ written_is page new place value result order some level less ok sets =
         → IfOk r (λ other. Sets page new place other value) → new ≡ page_with place value page
     of row before there is (Err e) fine set = absurd cc
     of row before there is (Ok other) fine set =
-        let found = find_among set.left set.row set.right (subst PlacesDiffer set.was order.places) in
-        let at = subst (λ (rows : List Row). find_row set.row.place rows ≡ Some set.row)
-        (sym set.was) found in
-        let here = subst (λ p. find_row p page.rows ≡ Some set.row) set.place_is at in
+        let here = row_there page new place other value order set in
         let same : set.row ≡ row = same_some _ _ (sym here ∙ there) in
         let stays = set.in_place before (ap (λ (x : Row). x.body) same ∙ is)
         (less row before there is) in
@@ -226,17 +229,50 @@ module _ (f : Frame) (place : ℕ) (value : List ℕ) (page : PageRows) (paged :
 module _ (f : Frame) (page new : PageRows) (place : ℕ) (value : List ℕ)
     (paged : f.page ≡ Some page) where
   -- a longer value was set, and the clock is one higher
-  pub grown_sets : IsPageInOrder page → IsPageInOrder new → SetsSomewhere page new place value
-      → f.clock ≤ last_clock → IsLongerValue f place value → (key : FieldList)
-      → HasRowOf f place key
+  pub grown_sets : IsPageInOrder page → IsPageInOrder new → (other : ℕ)
+      → Sets page new place other value → f.clock ≤ last_clock → IsLongerValue f place value
+      → (key : FieldList) → HasRowOf f place key
       → SetsValue f (record f { page = Some new; clock = raised f.clock }) key value
-  grown_sets order after sets within longer key has =
+  grown_sets order after other sets within longer key has =
       let same : page ≡ has.page = same_some page has.page (sym paged ∙ has.paged) in
-      let set = subst (λ (p : PageRows). Sets p new place sets.0 value) same sets.1 in
+      let set = subst (λ (p : PageRows). Sets p new place other value) same sets in
       let more = longer key has in
-      set_sets f place key value has (subst IsPageInOrder same order) new (raised f.clock) sets.0
+      set_sets f place key value has (subst IsPageInOrder same order) new (raised f.clock) other
       set after.places (λ e. absurd (omega (arith, e, more)))
       (λ _. changes.one_step f.clock within)
+
+  -- and no other row moved
+  pub grown_moves : IsPageInOrder page → IsPageInOrder new → (other : ℕ)
+      → Sets page new place other value
+      → MovesRowTo f (record f { page = Some new; clock = raised f.clock }) place other
+  grown_moves order after other sets = record {
+    page = page;
+    new = new;
+    had = paged;
+    has = refl;
+    stood = subst (λ o. IsSome o) (sym (row_there page new place other value order sets)) refl;
+    stands = subst (λ o. IsSome o) (sym sets.stands) refl;
+    rest = sym (deleted_is new without other after.places (record {
+      left = sets.left;
+      row = placed_row other sets.row.key (Bytes value);
+      right = sets.right;
+      was = sets.is;
+      place_is = refl;
+      is = refl;
+      head = sym sets.head;
+    })) ∙ deleted_is page without place order.places (record {
+      left = sets.left;
+      row = sets.row;
+      right = sets.right;
+      was = sets.was;
+      place_is = sets.place_is;
+      is = refl;
+      head = refl;
+    });
+  }
+    where
+      without : PageRows
+      without = record page { rows = sets.left ++ sets.right }
 
   -- with the page and the clock that there were the frame is what it was
   pub before_is : (kept : Option PageRows) → kept ≡ Some page

@@ -1,15 +1,15 @@
 -- A leaf in a frame, of which a row gets another value.
-use Rattle.std.specs.Prelude.{ℕ, ◌≡◌, ◌<◌, ◌≤◌, ◌+◌, ◌==◌, Bool, if◌then◌else◌, Option, Some, option_and_then, List, length, map}
+use Rattle.std.specs.Prelude.{ℕ, ◌≡◌, ◌<◌, ◌≤◌, ◌+◌, ◌==◌, Bool, if◌then◌else◌, Option, Some, IsSome, option_and_then, List, length, map}
 use Rattle.std.specs.Option.{option_map}
 use Rattle.key_tuple.specs.Order.{FieldList}
 use Rattle.map_history.specs.Map.{Set, value_at}
 use Rattle.index_page.specs.declared.error.PageError.{PageError}
 use Rattle.index_page.specs.declared.TheConstants.{PAGE_ROOM}
-use Rattle.index_page.specs.Changes.{Sets}
+use Rattle.index_page.specs.Changes.{page_without}
 use Rattle.index_page.specs.Loads.{charge_of, load_of}
 use Rattle.index_page.specs.Page.{PageRows, PlacesDiffer}
 use Rattle.index_page.specs.Refusals.{set_refusal}
-use Rattle.index_page.specs.Rows.{Bytes, Row, placed_row}
+use Rattle.index_page.specs.Rows.{Bytes, Row, placed_row, find_row}
 use Rattle.tree_law.specs.Pages.{row_pairs}
 use Rattle.clock_law.specs.ModifyClock.{raised}
 use Rattle.forest_law.specs.declared.objects.Frame.{Frame}
@@ -44,9 +44,16 @@ abbrev pub IsLongerValue : Frame → ℕ → List ℕ → Type 0
 IsLongerValue f place value = (key : FieldList) (has : HasRowOf f place key)
     → length has.has.value < length value
 
--- the row at the place has this value, and stands at some place
-abbrev pub SetsSomewhere : PageRows → PageRows → ℕ → List ℕ → Type 0
-SetsSomewhere old new place value = (other : ℕ) × Sets old new place other value
+-- a row of the frame's leaf stood at the place and stands at the other now, and without it the leaf
+-- is what it was without it
+pub record MovesRowTo (f g : Frame) (place other : ℕ) : Type 0 where
+  pub page : PageRows
+  pub new : PageRows
+  pub had : f.page ≡ Some page
+  pub has : g.page ≡ Some new
+  pub stood : IsSome (find_row place page.rows)
+  pub stands : IsSome (find_row other new.rows)
+  pub rest : page_without other new ≡ page_without place page
 
 -- the key's row got this value, and all else in the frame is as before, but for its clock and perhaps
 -- how it is hashed: as a map the leaf is what a set makes of it

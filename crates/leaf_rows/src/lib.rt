@@ -10,4 +10,4 @@ mod setting;
 pub use changing::{delete_row, put_row, take_back};
 pub use finding::find_key;
 pub use laws::{refusals_are_full, refused_values_lack_room, rows_are_taken_out, values_are_set};
-pub use setting::{LeafBefore, grow_value, put_back, rewrite_row, value_len};
+pub use setting::{GrownRow, LeafBefore, grow_value, put_back, rewrite_row, value_len};

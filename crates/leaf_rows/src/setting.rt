@@ -4,12 +4,13 @@ ghost use Rattle.std.specs.Prelude.{IfOk, IfErr, OnOk, OnErr, IfSome, IsSome};
 ghost use Rattle.key_tuple.specs.Order.{FieldList};
 ghost use Rattle.forest_law.specs.HashSteps.{KeepsHashing};
 ghost use Rattle.index_page.specs.declared.error.PageError.TheVariants as error;
+ghost use Rattle.index_page.specs.Changes.{Sets};
 ghost use Rattle.index_page.specs.Page.{IsPageInOrder};
 ghost use Rattle.index_page.specs.Refusals.{set_refusal};
 ghost use Rattle.index_page.specs.Rows.{Bytes, Row, find_row};
 ghost use Rattle.leaf_rows.specs.Changing.{HasSomeRow, HasRowOf};
 ghost use Rattle.leaf_rows.specs.Setting.{page_with, frame_with, IsNoLonger, IsLongerValue, SetsValue};
-ghost use Rattle.leaf_rows.specs.Setting.{SetsSomewhere, value_refusal, frame_before};
+ghost use Rattle.leaf_rows.specs.Setting.{MovesRowTo, value_refusal, frame_before};
 
 use crate::changing::has_clock;
 use forest_law::Frame;
@@ -75,20 +76,30 @@ impl Model for LeafBefore {
     ghost view = { λ b. record { page = b.copy; clock = b.clock } };
 }
 
-/// Gives the row at a place another value, the clock goes one up, and tells what the leaf was. A
-/// value for which there is no room is refused. After an error the frame is as before.
+/// A row that grew: where it stands now, and what its leaf was before.
+#[derive(Drop)]
+pub struct GrownRow {
+    /// Where the row stands now.
+    pub place: Place,
+    /// The leaf before.
+    pub before: LeafBefore,
+}
+
+/// Gives the row at a place another value, and the clock goes one up. No other row moves. A value
+/// for which there is no room is refused. After an error the frame is as before.
 pub fn grow_value(
     alloc: Global,
     frame: &mut Frame,
     place: Place,
     value: &Value,
-) -> Result<LeafBefore, PageError>
+) -> Result<GrownRow, PageError>
     requires there { HasSomeRow frame.old place }
     requires longer { IsLongerValue frame.old place value.now }
     ensures ok { IfOk result (λ _. (key : FieldList) → HasRowOf frame.old place key →
         SetsValue frame.old frame.new key value.now) }
-    ensures before { IfOk result (λ before. frame_before before frame.new ≡ frame.old) }
-    ensures some { IfOk result (λ before. IsSome before.page) }
+    ensures moves { IfOk result (λ grown. MovesRowTo frame.old frame.new place grown.place) }
+    ensures before { IfOk result (λ grown. frame_before grown.before frame.new ≡ frame.old) }
+    ensures some { IfOk result (λ grown. IsSome grown.before.page) }
     ensures refused { IfSome (value_refusal frame.old place value.now) (λ e. result ≡ Err e) }
     ensures cause { IfErr result (λ e. (e ≡ error.NoMemory)
         ⊎ (value_refusal frame.old place value.now ≡ Some e)) }
@@ -99,11 +110,14 @@ pub fn grow_value(
         Some(page) => page,
         None => unreachable!(),
     };
-    let copy = rewrite_kept(alloc, page, place, value)?;
+    let (other, copy) = rewrite_kept(alloc, page, place, value)?;
     has_clock(frame);
     let clock = frame.clock;
     frame.raise_clock();
-    Ok(LeafBefore { copy, clock })
+    Ok(GrownRow {
+        place: other,
+        before: LeafBefore { copy, clock },
+    })
 }
 
 /// The same of the page, which is kept as it was. The refusal comes before any memory is asked for.
@@ -112,11 +126,11 @@ fn rewrite_kept(
     page: &mut Page,
     place: Place,
     value: &Value,
-) -> Result<PageCopy, PageError>
+) -> Result<(Place, PageCopy), PageError>
     requires there { IsSome (find_row place page.old.rows) }
     requires level { page.old.head.level ≡ 0 }
-    ensures ok { OnOk result (SetsSomewhere page.old page.new place value.now) }
-    ensures kept { IfOk result (λ copy. copy ≡ Some page.old) }
+    ensures ok { IfOk result (λ made. Sets page.old page.new place made.0 value.now) }
+    ensures kept { IfOk result (λ made. made.1 ≡ Some page.old) }
     ensures old_order { IsPageInOrder page.old }
     ensures new_order { OnOk result (IsPageInOrder page.new) }
     ensures refused { IfSome (set_refusal page.old place value.now) (λ e. result ≡ Err e) }
@@ -130,9 +144,9 @@ fn rewrite_kept(
     }
     let mut copy = PageCopy::new(alloc)?;
     page.save(&mut copy)?;
-    page.set(place, value)?;
+    let other = page.set(place, value)?;
     page.is_in_order();
-    Ok(copy)
+    Ok((other, copy))
 }
 
 /// Makes the leaf what it was before, with its clock. It takes no memory.

@@ -144,7 +144,7 @@ fn grow(alloc: Global, frame: &mut Frame, key: &Key, longer: &Value) -> Option<L
         return None;
     }
     match grow_value(alloc, frame, place, longer) {
-        Ok(before) => Some(before),
+        Ok(grown) => Some(grown.before),
         Err(_) => None,
     }
 }

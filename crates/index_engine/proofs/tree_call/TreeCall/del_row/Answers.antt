@@ -7,16 +7,17 @@ use Rattle.forest_world.specs.Held.{shape_of_pass, HasFrame}
 use Rattle.hash_maintain.specs.Leaves.{kept_frame}
 use Rattle.latch_space.specs.Has.{IsKnownBut}
 use Rattle.forest_law.specs.Numbers.{frame_id}
+use Rattle.index_engine.specs.Changes.{HasOldRow}
 use Rattle.index_engine.specs.Commits.{CanWriteAhead}
 use Rattle.index_engine.specs.Holds.{KeepsParts}
+use Rattle.index_engine.proofs.BackLemmas.{back_as, back_leaf, back_full, back_most, back_answers}
 use Rattle.index_engine.proofs.CallLemmas.{can_refuse}
-use Rattle.index_engine.proofs.GoneLemmas.{hash_next, makes_next, came_again, again_at_rest, last, last_terms, last_leaf, last_row, last_looks, last_seen, last_parts, last_count, last_number}
-use Rattle.index_engine.proofs.HoldLemmas.{frame_again}
-use Rattle.index_engine.proofs.KnownLemmas.{number_made, leaf_inside, made_inside}
-use Rattle.index_engine.proofs.RehashLemmas.{stands_kept}
+use Rattle.index_engine.proofs.GoneLemmas.{hash_next, makes_next, came_again}
+use Rattle.index_engine.proofs.KnownLemmas.{number_made, made_inside}
+use Rattle.index_engine.proofs.RehashLemmas.{old_rehashed, stands_kept}
 use Rattle.index_engine.proofs.RowLemmas.{has_key}
-use Rattle.index_engine.proofs.SettleLemmas.{full_still, keeps_parts, known_after, stays_both, stays_same}
-use Rattle.index_engine.proofs.TellLemmas.{says_made, says_same, looks_then_says}
+use Rattle.index_engine.proofs.SettleLemmas.{keeps_parts, known_after}
+use Rattle.index_engine.proofs.TellLemmas.{says_made, says_same}
 use Rattle.index_engine.proofs.tree_call.TreeCall.del_row.Goals as goal
 
 pub write_ahead-requires-clause-held : goal.write_ahead-requires-clause-held
@@ -47,38 +48,27 @@ delete-requires-clause-held g c = let held = c.requires.held in let p = c.args.p
       stands = (key, stands_kept held.answer held.known c.args.place key held.row.has);
     }
 
-pub row_came-requires-clause-held : goal.row_came-requires-clause-held
-row_came-requires-clause-held g c = let held = c.requires.held in let call = c.args.self.now in
+pub come_back-requires-clause-held : goal.come_back-requires-clause-held
+come_back-requires-clause-held g c = let held = c.requires.held in let call = c.args.self.now in
     let full = c.in-Err.ensures.did in
     came_again c.args.pass.now c.args.block call.index c.args.place call.key.now.tuple
     g.X.Becomes.leaf held c.write_ahead.new.pass full.same full.looks.quiet.adds.numbers.terms
 
-pub settle-requires-clause-held : goal.settle-requires-clause-held
-settle-requires-clause-held g c = let held = c.requires.held in let call = c.args.self.now in
-    let full = c.in-Err.ensures.did in
-    again_at_rest c.args.pass.now c.args.block call.index c.args.place call.key.now.tuple
-    g.X.Becomes.leaf held c.write_ahead.new.pass full.same full.looks.quiet.adds.numbers.terms
-    c.row_came.new.pass c.row_came.ensures.kept
-
 pub say_of_del-requires-clause-held : goal.say_of_del-requires-clause-held
 say_of_del-requires-clause-held g c = let held = c.requires.held in let call = c.args.self.now in
-    let full = c.in-Err.ensures.did in let p = c.args.pass.now in let q = c.write_ahead.new.pass in
-    let r = c.row_came.new.pass in let s = c.settle.new.pass in
     let i = call.index in let key = call.key.now.tuple in let b = c.args.block in
-    let place = c.args.place in let next = g.X.Becomes.leaf in
-    let terms = full.looks.quiet.adds.numbers.terms in
-    let keeps = c.row_came.ensures.kept in let settled = c.settle.ensures.did in
-    let leaf = last p b i place key next held q full.same terms r keeps in
-    let holds = last_leaf p b i place key next held q full.same terms r keeps s settled in
-    let then = last_terms p b i place key next held q full.same terms r keeps s settled in
-    let has = has_key (shape_of_pass s) i key leaf holds.leaf place
-    (last_row p b i place key next held q full.same terms r keeps s settled) in
-    can_refuse s b i key leaf holds (map.Del key) c.in-Err.field-0.0 (lent_row None)
-    refl (ap is_some has.1)
-    (full_still (view q) (view s) i
-    (last_seen p b i place key next held q full.same terms r keeps s settled)
-    (then ∙ sym terms) full.full)
-    (full.number ∙ ap (λ t. t.max_changes) (sym then))
+    let place = c.args.place in let n = c.in-Err.field-0.0 in let full = c.in-Err.ensures.did in
+    let p = c.args.pass.now in let q = c.write_ahead.new.pass in let r = c.come_back.new.pass in
+    let out = c.come_back.ensures.back in let f = held.known in
+    let now = kept_frame held.answer f in
+    let leaf = back_leaf p q r i b n key f now held.holds full out in
+    let row = subst (λ z. HasOldRow z key place)
+    (back_as p q r i b n key f now held.holds full out)
+    (old_rehashed out.leaf f key place held.row) in
+    let has = has_key (shape_of_pass r) i key out.leaf leaf.leaf place row in
+    can_refuse r b i key out.leaf leaf (map.Del key) n (lent_row None) refl (ap is_some has.1)
+    (back_full p q r i b n key f now held.holds full out)
+    (back_most p q r i b n key f now held.holds full out)
 
 pub returns-in-Ok-clause-did : goal.returns-in-Ok-clause-did
 returns-in-Ok-clause-did g c = let held = c.requires.held in let call = c.args.self.now in
@@ -115,29 +105,8 @@ returns-in-Ok-clause-did g c = let held = c.requires.held in let call = c.args.s
 
 pub returns-in-Err-clause-did : goal.returns-in-Err-clause-did
 returns-in-Err-clause-did g c = let held = c.requires.held in let call = c.args.self.now in
-    let full = c.in-Err.ensures.did in let p = c.args.pass.now in let q = c.write_ahead.new.pass in
-    let r = c.row_came.new.pass in let s = c.settle.new.pass in let t = c.say_of_del.new.pass in
-    let i = call.index in let key = call.key.now.tuple in let b = c.args.block in
-    let place = c.args.place in let next = g.X.Becomes.leaf in
-    let terms = full.looks.quiet.adds.numbers.terms in
-    let keeps = c.row_came.ensures.kept in let settled = c.settle.ensures.did in
-    let leaf = last p b i place key next held q full.same terms r keeps in
-    let holds = last_leaf p b i place key next held q full.same terms r keeps s settled in
-    let said = c.say_of_del.ensures.did.once.adds.numbers.terms in
-    record {
-      says = looks_then_says (view p) (view s) (view t) i (Make (map.Del key))
-          c.say_of_del.result (lent_row None)
-          (last_looks p b i place key next held q full.same terms r keeps s settled full.looks)
-          c.say_of_del.ensures.did;
-      holds = record {
-        frame = leaf;
-        has = frame_again s t b leaf leaf c.say_of_del.ensures.kept said holds.has;
-        inside = leaf_inside s b i key leaf leaf holds;
-      };
-      number = last_number p b i place key next held q full.same terms r keeps s settled;
-      stays = stays_both p s t
-          (last_terms p b i place key next held q full.same terms r keeps s settled)
-          (last_parts p b i place key next held q full.same terms r keeps s settled)
-          (last_count p b i place key next held q full.same terms r keeps s settled)
-          (stays_same s t c.say_of_del.ensures.kept said settled.stays.known);
-    }
+    let key = call.key.now.tuple in
+    back_answers c.args.pass.now c.write_ahead.new.pass c.come_back.new.pass call.index
+    c.args.block c.in-Err.field-0.0 key held.known (kept_frame held.answer held.known) held.holds
+    c.in-Err.ensures.did c.come_back.ensures.back c.say_of_del.new.pass (Make (map.Del key))
+    c.say_of_del.result (lent_row None) c.say_of_del.ensures.kept c.say_of_del.ensures.did

@@ -1,4 +1,4 @@
-use Rattle.index_engine.proofs.SettingLemmas.{paged_then, leaf_is_back}
+use Rattle.index_engine.proofs.SettingLemmas.{paged_then, is_restored}
 use Rattle.index_engine.proofs.tree_call.TreeCall.restore.Goals as goal
 
 pub put_back-requires-clause-frame : goal.put_back-requires-clause-frame
@@ -12,6 +12,6 @@ frame_back-requires-clause-out g c = let held = c.requires.held in
 
 pub returns-clause-back : goal.returns-clause-back
 returns-clause-back g c =
-    leaf_is_back c.args.pass.now c.frame_out-frame.new.pass c.frame_back.new.pass c.args.block
+    is_restored c.args.pass.now c.frame_out-frame.new.pass c.frame_back.new.pass c.args.block
     c.frame_out-frame.result c.put_back.new.frame c.frame_out-frame.ensures.out
     c.frame_back.ensures.back c.args.before c.put_back.ensures
