@@ -14,7 +14,7 @@ use Rattle.tree_restructure.specs.Raises.{RaisesFrame}
 use Rattle.buffer_pool.specs.Parts.{part_of_index, part_ids}
 use Rattle.tree_smo.specs.Remakes.{Remakes}
 use Rattle.tree_smo.specs.Keeping.{HasMovedRows, KeepsPart, KeepsMovedRows}
-use Rattle.tree_smo.specs.PartHeld.{HoldsExactIf, LawsOfMoves}
+use Rattle.tree_smo.specs.PartHeld.{HoldsExactIf}
 use Rattle.tree_smo.specs.Storeys.{storeys_ids, RaisesStoreys, ChangesStoreys, HoldsStoreys}
 use Rattle.tree_smo.proofs.ChangedLemmas.{first_tells}
 use Rattle.tree_smo.proofs.KeepingLemmas.{place_remade, exact_remade}
@@ -39,7 +39,7 @@ pub record RaisesKept (p : TreePass) (i b under : ℕ) (c : RaiseCall p i b unde
   pub hashed : (j : ℕ) → c.held.can.root.hashed ≡ Some j → (x : Frame) × (y : Frame)
       × KeepsPart (shape_of_pass p) q j b under c.held.can.root x top c.held.fresh y low
 
-module _ (p : TreePass) (i b under : ℕ) (c : RaiseCall p i b under) where
+module _ {p : TreePass} {i b under : ℕ} (c : RaiseCall p i b under) where
   abbrev h : HoldsStoreys (view p) i b under
   h = c.held
 
@@ -55,9 +55,9 @@ module _ (p : TreePass) (i b under : ℕ) (c : RaiseCall p i b under) where
   pub some_parts : 0 < (shape_of_pass p).parts
   some_parts = (suits p c.fitted).parts
 
-  module _ (laws : LawsOfMoves) (m0 : TreePass) (changes : ChangesStoreys p b under m0) where
+  module _ (m0 : TreePass) (changes : ChangesStoreys p b under m0) where
     pub raised : RaisesStoreys p b under root h.fresh m0
-    raised = changes root h.fresh (has_top p i b under c) (has_low p i b under c)
+    raised = changes root h.fresh (has_top c) (has_low c)
 
     pub shapes : shape_of_pass p ≡ shape_of_pass m0
     shapes = same_shape p m0 (storeys_ids (shape_of_pass p) b under) raised.remakes
@@ -82,8 +82,8 @@ module _ (p : TreePass) (i b under : ℕ) (c : RaiseCall p i b under) where
       took_new = raised.low;
       gave = raised.has_top;
       took = raised.has_low;
-      apart = λ e. apart p i b under c (sym e);
-      moves = raise_moves laws.covered root raised.top h.fresh raised.low raised.raises
+      apart = λ e. apart c (sym e);
+      moves = raise_moves c.laws.covered root raised.top h.fresh raised.low raised.raises
           raised.hash.0 raised.hash.1 h.blank.hashed;
       tidy = known_tidy p c.fitted b root h.can.knows_root;
       took_tidy = known_tidy p c.fitted under h.fresh h.knows;

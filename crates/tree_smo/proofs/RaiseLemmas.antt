@@ -42,7 +42,7 @@ use Rattle.tree_smo.proofs.SettledLemmas.{whole_but, known_beyond, rests_beyond,
 use Rattle.tree_smo.proofs.RisingLemmas.{RaiseCall, root_in}
 use Rattle.tree_smo.proofs.RaiseKeptLemmas.{part_is, some_parts, RaisesKept}
 
-module _ (p : TreePass) (i b under : ℕ) (c : RaiseCall p i b under) (m0 : TreePass)
+module _ {p : TreePass} {i b under : ℕ} {c : RaiseCall p i b under} {m0 : TreePass}
     (raised : RaisesKept p i b under c m0) where
   abbrev w : ForestState
   w = c.fitted.whole
@@ -80,8 +80,8 @@ module _ (p : TreePass) (i b under : ℕ) (c : RaiseCall p i b under) (m0 : Tree
       (object.Tree was.can.tree) (object.Tree was.can.tree)
       (tree_has p known i was.can.tree was.can.knows_tree)
 
-  module _ (u : Tree) (grows : u ≡ record was.can.tree { height = suc was.can.tree.height })
-      (m : TreePass) (did : ChangesTree m0 i u m) where
+  module _ {u : Tree} (grows : u ≡ record was.can.tree { height = suc was.can.tree.height })
+      {m : TreePass} (did : ChangesTree m0 i u m) where
     has_tree : HasTree m i was.can.tree u
     has_tree = did.has was.can.tree was.can.tree tree_there
 
@@ -117,10 +117,10 @@ module _ (p : TreePass) (i b under : ℕ) (c : RaiseCall p i b under) (m0 : Tree
     first_shape = same_shape p m0 (first_ids (shape_of_pass p)) raised.remakes
 
     parts : 0 < sh.parts
-    parts = subst (λ (z : Shape). 0 < z.parts) here (some_parts p i b under c)
+    parts = subst (λ (z : Shape). 0 < z.parts) here (some_parts c)
 
     part_number : c.part ≡ part_of_index sh old_root.hashed
-    part_number = part_is p i b under c
+    part_number = part_is c
         ∙ ap (λ (z : Shape). part_of_index z old_root.hashed) here
 
     kept_now : (j : ℕ) → old_root.hashed ≡ Some j → (x : Frame) × (y : Frame)
@@ -286,7 +286,7 @@ module _ (p : TreePass) (i b under : ℕ) (c : RaiseCall p i b under) (m0 : Tree
       tree = record { index = i; old = was.can.tree; new = u };
       raise = raised.raises;
       two = subst (λ (x : PageRows). 1 < length x.rows) page_is was.can.two;
-      whole = subst (λ x. IsRootIn x old_root) page_is (root_in p i b under c);
+      whole = subst (λ x. IsRootIn x old_root) page_is (root_in c);
       root = part_of m w law fits_now b old_root raised.top top_now raised.raises.page
           raised.raises.had raised.raises.page.head.number false
           (ap (λ (x : PageRows). is_own x.head.number x.head.prev) (sym page_is)
@@ -308,13 +308,13 @@ module _ (p : TreePass) (i b under : ℕ) (c : RaiseCall p i b under) (m0 : Tree
     }
 
     -- so it may be settled
-    pub follows : LawsOfMoves → MayFollow (without_seen (view m)) (values m) None
-    follows laws = restructures_follow.raise (shape_of_pass m) (known_values m) (values m)
+    pub follows : MayFollow (without_seen (view m)) (values m) None
+    follows = restructures_follow.raise (shape_of_pass m) (known_values m) (values m)
         (raise_in_hand (shape_of_pass m) (known_values m) (values m) raises_frames)
-        (raise_hash laws)
+        (raise_hash c.laws)
 
-    pub makes_raise : (q : TreePass) → DidSettle m q → MakesRaiseBy p i b under c.part q
-    makes_raise q done = record {
+    pub makes_raise : {q : TreePass} → DidSettle m q → MakesRaiseBy p i b under c.part q
+    makes_raise {q} done = record {
       silently = settled_does p m (all_ids (shape_of_pass p)) known all whole q done;
       still = part_later q done;
       raises = record {

@@ -21,7 +21,7 @@ use Rattle.tree_facts.proofs.LevelLemmas.{levels_are_few}
 use Rattle.buffer_pool.specs.Forests.{FitsTrees, IsFittedTree}
 use Rattle.buffer_pool.specs.NewPages.{outside_page}
 use Rattle.buffer_pool.proofs.CallLemmas.{frame_has}
-use Rattle.tree_smo.specs.PartHeld.{HoldsPartFor}
+use Rattle.tree_smo.specs.PartHeld.{HoldsPartFor, LawsOfMoves}
 use Rattle.tree_smo.specs.Storeys.{SuitsStoreys, HoldsStoreys}
 use Rattle.tree_smo.proofs.LawfulLemmas.{outside_apart, known_tells}
 
@@ -46,22 +46,9 @@ pub record RaiseCall (p : TreePass) (i b under : ℕ) : Type 0 where
   pub held : HoldsStoreys (view p) i b under
   pub part : Option ℕ
   pub holds : HoldsPartFor (view p) b part
+  pub laws : LawsOfMoves
 
-abbrev pub raise_call : (p : TreePass) (i b under : ℕ) → IsKnown p → IsFittedTree (view p)
-    → i < (shape_of_pass p).indexes → (shape_of_pass p).pages ≤ 65536
-    → HoldsStoreys (view p) i b under → (part : Option ℕ) × HoldsPartFor (view p) b part
-    → RaiseCall p i b under
-raise_call p i b under known fitted below few held part = record {
-  known = known;
-  fitted = fitted;
-  below = below;
-  few = few;
-  held = held;
-  part = part.0;
-  holds = part.1;
-}
-
-module _ (p : TreePass) (i b under : ℕ) (c : RaiseCall p i b under) where
+module _ {p : TreePass} {i b under : ℕ} (c : RaiseCall p i b under) where
   abbrev w : ForestState
   w = c.fitted.whole
 

@@ -1,113 +1,95 @@
-use Rattle.std.proofs.Common.{◌+◌, arith}
-use Rattle.tree_smo.proofs.RaiseKeptLemmas.{raised_rows, in_place, same_count, raises_kept}
+use Rattle.std.proofs.Common.{◌≡◌, arith, rules, ℕ, Option}
+use Rattle.latch_space.specs.Passes.{view}
+use Rattle.tree_smo.specs.PartHeld.{HoldsPartFor}
+use Rattle.tree_smo.proofs.RaiseKeptLemmas.{RaisesKept, raised_rows, in_place, same_count, raises_kept}
 use Rattle.tree_smo.proofs.RaiseLemmas.{tree_there, whole, follows, makes_raise}
-use Rattle.tree_smo.proofs.RisingLemmas.{raise_call, one_higher, height_fits, suits_storeys}
+use Rattle.tree_smo.proofs.RisingLemmas.{RaiseCall, one_higher, height_fits, suits_storeys}
+use Rattle.tree_smo.proofs.storeys.make_raise.Given as given
 use Rattle.tree_smo.proofs.storeys.make_raise.Goals as goal
+use Rattle.tree_smo.proofs.storeys.make_raise.Goals.{After-laws_of_moves, After-keep_up_between, After-tree-old}
+
+-- the call, as lemmas know it
+call : (g : given.Over) (c : After-laws_of_moves g)
+    → (part : Option ℕ) × HoldsPartFor (view c.args.pass.now) c.args.root part
+    → RaiseCall c.args.pass.now c.args.index c.args.root c.args.under
+call g c part = record {
+  known = c.requires.known;
+  fitted = c.fits.ensures;
+  below = c.requires.index;
+  few = c.requires.few;
+  held = c.requires.held;
+  part = part.0;
+  holds = part.1;
+  laws = c.laws_of_moves.ensures;
+}
 
 pub change_storeys-requires-clause-suits : goal.change_storeys-requires-clause-suits
-change_storeys-requires-clause-suits g c = let p = c.args.pass.now in
-    let call = raise_call p c.args.index c.args.root c.args.under c.requires.known
-    c.fits.ensures c.requires.index c.requires.few c.requires.held c.requires.part in
-    suits_storeys p c.args.index c.args.root c.args.under call
+change_storeys-requires-clause-suits g c = suits_storeys
+    (call g (goal.at.change_storeys-requires-clause-suits g c).After-laws_of_moves c.requires.part)
 
-pub keep_up_between-requires-clause-moved : goal.keep_up_between-requires-clause-moved
-keep_up_between-requires-clause-moved g c = let p = c.args.pass.now in
-    let call = raise_call p c.args.index c.args.root c.args.under c.requires.known
-    c.fits.ensures c.requires.index c.requires.few c.requires.held c.requires.part in
-    raised_rows p c.args.index c.args.root c.args.under call c.laws_of_moves.ensures
-    c.change_storeys.new.pass c.in_ok-change_storeys.ensures.ok
+pub keep_up_between-requires : goal.keep_up_between-requires
+keep_up_between-requires g c =
+    let call = call g (goal.at.keep_up_between-requires g c).After-laws_of_moves c.requires.part in
+    let q = c.change_storeys.new.pass in let changes = c.in_ok-change_storeys.ensures.ok in
+    record {
+      own = search rules;
+      moved = raised_rows call q changes;
+      place = in_place call q changes;
+      room = (let same = same_count call q changes in let room = c.requires.room in
+          omega (arith, same, room));
+    }
 
-pub keep_up_between-requires-clause-place : goal.keep_up_between-requires-clause-place
-keep_up_between-requires-clause-place g c = let p = c.args.pass.now in
-    let call = raise_call p c.args.index c.args.root c.args.under c.requires.known
-    c.fits.ensures c.requires.index c.requires.few c.requires.held c.requires.part in
-    in_place p c.args.index c.args.root c.args.under call c.laws_of_moves.ensures
-    c.change_storeys.new.pass c.in_ok-change_storeys.ensures.ok
-
-pub keep_up_between-requires-clause-room : goal.keep_up_between-requires-clause-room
-keep_up_between-requires-clause-room g c = let p = c.args.pass.now in
-    let call = raise_call p c.args.index c.args.root c.args.under c.requires.known
-    c.fits.ensures c.requires.index c.requires.few c.requires.held c.requires.part in
-    let same = same_count p c.args.index c.args.root c.args.under call c.laws_of_moves.ensures
-    c.change_storeys.new.pass c.in_ok-change_storeys.ensures.ok in
-    let room = c.requires.room in omega (arith, same, room)
+-- the root was raised, and its partition kept up with its rows
+raised : (g : given.Over) (c : After-keep_up_between g)
+    (call : RaiseCall c.args.pass.now c.args.index c.args.root c.args.under)
+    → RaisesKept c.args.pass.now c.args.index c.args.root c.args.under call
+    c.keep_up_between.new.pass
+raised g c call = raises_kept call c.change_storeys.new.pass c.in_ok-change_storeys.ensures.ok
+    c.keep_up_between.new.pass c.keep_up_between.ensures.kept
 
 pub tree-old-requires-clause-held : goal.tree-old-requires-clause-held
-tree-old-requires-clause-held g c = let p = c.args.pass.now in
-    let call = raise_call p c.args.index c.args.root c.args.under c.requires.known
-    c.fits.ensures c.requires.index c.requires.few c.requires.held c.requires.part in
-    let t = c.requires.held.can.tree in
-    let there = tree_there p c.args.index c.args.root c.args.under call
-    c.keep_up_between.new.pass (raises_kept p c.args.index c.args.root c.args.under call c.laws_of_moves.ensures
-    c.change_storeys.new.pass c.in_ok-change_storeys.ensures.ok c.keep_up_between.new.pass
-    c.keep_up_between.ensures.kept) in (t, t, there)
+tree-old-requires-clause-held g c = let at = goal.at.tree-old-requires-clause-held g c in
+    let call = call g at.After-laws_of_moves c.requires.part in
+    (call.held.can.tree, call.held.can.tree, tree_there (raised g at.After-keep_up_between call))
 
 pub change_tree-requires-clause-held : goal.change_tree-requires-clause-held
-change_tree-requires-clause-held g c = let p = c.args.pass.now in
-    let call = raise_call p c.args.index c.args.root c.args.under c.requires.known
-    c.fits.ensures c.requires.index c.requires.few c.requires.held c.requires.part in
-    let t = c.requires.held.can.tree in
-    let there = tree_there p c.args.index c.args.root c.args.under call
-    c.keep_up_between.new.pass (raises_kept p c.args.index c.args.root c.args.under call c.laws_of_moves.ensures
-    c.change_storeys.new.pass c.in_ok-change_storeys.ensures.ok c.keep_up_between.new.pass
-    c.keep_up_between.ensures.kept) in (t, t, there)
+change_tree-requires-clause-held g c = let at = goal.at.change_tree-requires-clause-held g c in
+    let call = call g at.After-laws_of_moves c.requires.part in
+    (call.held.can.tree, call.held.can.tree, tree_there (raised g at.After-keep_up_between call))
+
+-- the tree that was read is that of the call
+tree_read : (g : given.Over) (c : After-tree-old g)
+    (call : RaiseCall c.args.pass.now c.args.index c.args.root c.args.under)
+    → RaisesKept c.args.pass.now c.args.index c.args.root c.args.under call
+    c.keep_up_between.new.pass
+    → c.tree-old.result ≡ call.held.can.tree
+tree_read g c call raised = c.tree-old.ensures call.held.can.tree call.held.can.tree
+    (tree_there raised)
 
 pub overflow_add-height : goal.overflow_add-height
-overflow_add-height g c = let p = c.args.pass.now in let t = c.requires.held.can.tree in
-    let call = raise_call p c.args.index c.args.root c.args.under c.requires.known
-    c.fits.ensures c.requires.index c.requires.few c.requires.held c.requires.part in
-    let there = tree_there p c.args.index c.args.root c.args.under call
-    c.keep_up_between.new.pass (raises_kept p c.args.index c.args.root c.args.under call c.laws_of_moves.ensures
-    c.change_storeys.new.pass c.in_ok-change_storeys.ensures.ok c.keep_up_between.new.pass
-    c.keep_up_between.ensures.kept) in
-    let room = height_fits p c.args.index c.args.root c.args.under call
-    c.tree-old.result (c.tree-old.ensures t t there) in omega (arith, room)
+overflow_add-height g c = let at = goal.at.overflow_add-height g c in
+    let call = call g at.After-laws_of_moves c.requires.part in
+    let room = height_fits call c.tree-old.result
+    (tree_read g at.After-tree-old call (raised g at.After-keep_up_between call)) in
+    omega (arith, room)
 
-pub settle-requires-clause-whole : goal.settle-requires-clause-whole
-settle-requires-clause-whole g c = let p = c.args.pass.now in let t = c.requires.held.can.tree in
-    let call = raise_call p c.args.index c.args.root c.args.under c.requires.known
-    c.fits.ensures c.requires.index c.requires.few c.requires.held c.requires.part in
-    let there = tree_there p c.args.index c.args.root c.args.under call
-    c.keep_up_between.new.pass (raises_kept p c.args.index c.args.root c.args.under call c.laws_of_moves.ensures
-    c.change_storeys.new.pass c.in_ok-change_storeys.ensures.ok c.keep_up_between.new.pass
-    c.keep_up_between.ensures.kept) in
-    let old = c.tree-old.result in
-    whole p c.args.index c.args.root c.args.under call
-    c.keep_up_between.new.pass (raises_kept p c.args.index c.args.root c.args.under call c.laws_of_moves.ensures
-    c.change_storeys.new.pass c.in_ok-change_storeys.ensures.ok c.keep_up_between.new.pass
-    c.keep_up_between.ensures.kept)
-    (record old { height = old.height + 1 }) (one_higher t old (c.tree-old.ensures t t there))
-    c.change_tree.new.pass c.change_tree.ensures.changed
-
-pub settle-requires-clause-rule : goal.settle-requires-clause-rule
-settle-requires-clause-rule g c = let p = c.args.pass.now in let t = c.requires.held.can.tree in
-    let call = raise_call p c.args.index c.args.root c.args.under c.requires.known
-    c.fits.ensures c.requires.index c.requires.few c.requires.held c.requires.part in
-    let there = tree_there p c.args.index c.args.root c.args.under call
-    c.keep_up_between.new.pass (raises_kept p c.args.index c.args.root c.args.under call c.laws_of_moves.ensures
-    c.change_storeys.new.pass c.in_ok-change_storeys.ensures.ok c.keep_up_between.new.pass
-    c.keep_up_between.ensures.kept) in
-    let old = c.tree-old.result in
-    follows p c.args.index c.args.root c.args.under call
-    c.keep_up_between.new.pass (raises_kept p c.args.index c.args.root c.args.under call c.laws_of_moves.ensures
-    c.change_storeys.new.pass c.in_ok-change_storeys.ensures.ok c.keep_up_between.new.pass
-    c.keep_up_between.ensures.kept)
-    (record old { height = old.height + 1 }) (one_higher t old (c.tree-old.ensures t t there))
-    c.change_tree.new.pass c.change_tree.ensures.changed c.laws_of_moves.ensures
+pub settle-requires : goal.settle-requires
+settle-requires g c = let at = goal.at.settle-requires g c in
+    let call = call g at.After-laws_of_moves c.requires.part in
+    let raised = raised g at.After-keep_up_between call in
+    let grows = one_higher call.held.can.tree c.tree-old.result
+    (tree_read g at.After-tree-old call raised) in
+    record {
+      own = search rules;
+      whole = whole raised grows c.change_tree.ensures.changed;
+      rule = follows raised grows c.change_tree.ensures.changed;
+    }
 
 pub returns-clause-ok : goal.returns-clause-ok
-returns-clause-ok g c = λ part holds. let p = c.args.pass.now in let t = c.requires.held.can.tree in
-    let call = raise_call p c.args.index c.args.root c.args.under c.requires.known
-    c.fits.ensures c.requires.index c.requires.few c.requires.held (part, holds) in
-    let there = tree_there p c.args.index c.args.root c.args.under call
-    c.keep_up_between.new.pass (raises_kept p c.args.index c.args.root c.args.under call c.laws_of_moves.ensures
-    c.change_storeys.new.pass c.in_ok-change_storeys.ensures.ok c.keep_up_between.new.pass
-    c.keep_up_between.ensures.kept) in
-    let old = c.tree-old.result in
-    makes_raise p c.args.index c.args.root c.args.under call
-    c.keep_up_between.new.pass (raises_kept p c.args.index c.args.root c.args.under call c.laws_of_moves.ensures
-    c.change_storeys.new.pass c.in_ok-change_storeys.ensures.ok c.keep_up_between.new.pass
-    c.keep_up_between.ensures.kept)
-    (record old { height = old.height + 1 }) (one_higher t old (c.tree-old.ensures t t there))
-    c.change_tree.new.pass c.change_tree.ensures.changed c.settle.new.pass
-    c.settle.ensures.did
+unfolding call
+returns-clause-ok g c part holds = let at = goal.at.returns-clause-ok g c in
+    let call = call g at.After-laws_of_moves (part, holds) in
+    let raised = raised g at.After-keep_up_between call in
+    let grows = one_higher call.held.can.tree c.tree-old.result
+    (tree_read g at.After-tree-old call raised) in
+    makes_raise raised grows c.change_tree.ensures.changed c.settle.ensures.did
