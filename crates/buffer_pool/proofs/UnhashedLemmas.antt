@@ -161,7 +161,6 @@ module _ {p q : TreePass} {b : ℕ} {f : Frame} (known : IsKnown p) {p1 : TreePa
     ]
   ]
 
-  -- a partition that was in hand is held once that is made known
   part_settled : (o : Option ℕ) → DroppedOut p p1 b f o → (r : TreePass) → DidSettle q r
       → KnowsPartIf (view r) o
   part_settled None d r told = tt
