@@ -39,3 +39,4 @@ pub mod LearnerLemmas
 pub mod SeekLearnLemmas
 pub mod SeekHitLemmas
 pub mod SeekMissLemmas
+pub mod ClosingLemmas
