@@ -9,7 +9,7 @@ use std::io::{self, BufWriter, Write};
 use std::path::Path;
 use std::process::ExitCode;
 
-const USAGE: &str = "usage: generate gets|seeks|puts|random|descending|front|mix LANES LINES SEED FOLDER";
+const USAGE: &str = "usage: generate gets|seeks|puts|random|descending|front|mix|churn|split LANES LINES SEED FOLDER";
 const INDEXES: &str =
     "# rows with even numbers, and rows with odd ones\nindex item 1\nindex price 2\n";
 
@@ -30,6 +30,14 @@ enum Kind {
     /// Half of the lines put keys, each above those before, and the others delete them in that
     /// order, so that each takes the first row out.
     Front,
+    /// A tenth of the lines put keys in no order, three tenths get each of them three times, so that
+    /// leaves are hashed, and the others delete them and put them again in turn. Each lane has keys of
+    /// its own.
+    Churn,
+    /// A fifth of the lines put keys in no order, three fifths get each of them three times, and the
+    /// others put as many keys beside them, so that hashed leaves are split. Each lane has keys of its
+    /// own.
+    Split,
     /// Two gets for a put and a del, with skew, over an eighth as many keys as lines. All lanes ask
     /// for the same keys.
     Mix,
@@ -144,6 +152,25 @@ fn text_of(plan: &Plan, lane: u64, line: u64, numbers: &mut Numbers) -> String {
                 format!("get {}", key(own(numbers.skewed(rows))))
             }
         }
+        Kind::Churn => {
+            let rows = plan.lines_of(lane).div_ceil(10);
+            let own = |row| scatter(lane << 40 | row);
+            match line / rows {
+                0 => put(own(line), numbers.next()),
+                1..4 => format!("get {}", key(own(line % rows))),
+                _ if line % 2 == 0 => format!("del {}", key(own(line / 2 % rows))),
+                _ => put(own(line / 2 % rows), numbers.next()),
+            }
+        }
+        Kind::Split => {
+            let rows = plan.lines_of(lane).div_ceil(5);
+            let own = |row| scatter(lane << 40 | row);
+            match line / rows {
+                1..4 => format!("get {}", key(own(line % rows))),
+                0 => put(own(line), numbers.next()),
+                _ => put(own(line - 3 * rows), numbers.next()),
+            }
+        }
         Kind::Seeks => {
             if line < plan.lines_of(lane).div_ceil(5) {
                 put(scatter(lane << 40 | line), numbers.next())
@@ -200,6 +227,8 @@ fn read_words(words: &[String]) -> Option<(Plan, &Path)> {
         "descending" => Kind::Descending,
         "front" => Kind::Front,
         "mix" => Kind::Mix,
+        "churn" => Kind::Churn,
+        "split" => Kind::Split,
         _ => return None,
     };
     let plan = Plan {

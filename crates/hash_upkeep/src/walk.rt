@@ -13,6 +13,8 @@ use index_page::Page;
 pub(crate) struct RowWalk {
     pub(crate) passed: Option<Node>,
     pub(crate) ahead: Option<Node>,
+    // the number of the row ahead, by which the one after it is found; no clause speaks of it
+    number: usize,
 }
 
 impl RowWalk {
@@ -27,6 +29,7 @@ impl RowWalk {
         RowWalk {
             passed: None,
             ahead: how.node_beside(page, page.first()),
+            number: 0,
         }
     }
 
@@ -44,7 +47,8 @@ impl RowWalk {
             < length (nodes_from_node how.now page.now.rows self.old.ahead) }
     {
         page.is_in_order();
-        let next = how.node_beside(page, page.next(node.place));
+        let next = how.node_beside(page, page.next_near(node.place, self.number));
+        self.number = self.number.wrapping_add(1);
         let neighbour = if how.params.left { self.passed } else { next };
         self.passed = Some(node);
         self.ahead = next;

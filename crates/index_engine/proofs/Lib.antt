@@ -39,4 +39,5 @@ pub mod LearnerLemmas
 pub mod SeekLearnLemmas
 pub mod SeekHitLemmas
 pub mod SeekMissLemmas
+pub mod ReadLemmas
 pub mod ClosingLemmas

@@ -17,7 +17,7 @@ use Rattle.forest_law.specs.Numbers.{frame_id}
 use Rattle.forest_world.specs.Held.{TreePass, shape_of_pass, HasFrame}
 use Rattle.hash_maintain.specs.Leaves.{kept_frame, without_row}
 use Rattle.leaf_rows.specs.Changing.{LacksRow, PutsRow, WasPut, HasRowOf, HasSomeRow, TakesRowOut, frame_without, hashed_as}
-use Rattle.leaf_rows.specs.Finding.{HasSpot}
+use Rattle.leaf_rows.specs.Finding.{HasRow, HasSpot}
 use Rattle.leaf_rows.specs.Setting.{frame_with, IsNoLonger, IsLongerValue, SetsValue, PageBefore, frame_before, value_refusal, LacksRoomFor}
 use Rattle.index_engine.specs.Hashed.{KeepsHashed}
 use Rattle.index_engine.specs.Holds.{HoldsLeaf, KeepsNumber, StaysKnown}
@@ -28,6 +28,13 @@ pub record HasSpotIn (f : Frame) (key : FieldList) (spot : Spot) : Type 0 where
   pub page : PageRows
   pub paged : f.page ≡ Some page
   pub finds : HasSpot page key spot
+
+-- the frame has a leaf, on which the key's row stands at the place
+pub record HasKeyRowIn (f : Frame) (key : FieldList) (place : ℕ) : Type 0 where
+  pub page : PageRows
+  pub paged : f.page ≡ Some page
+  pub level : page.head.level ≡ 0
+  pub row : HasRow page place key
 
 -- the key's row stands at the place of the frame's leaf; a del takes it out, a set gives it a value
 -- that is no longer, and another value is refused only where it has no room

@@ -14,7 +14,7 @@ use Rattle.forest_world.specs.Held.{TreePass, shape_of_pass, HasFrame}
 use Rattle.call_law.specs.Hands.{KnowsFrame, KnowsPart, HoldsNoPart}
 use Rattle.call_law.specs.Spoken.{View}
 use Rattle.buffer_pool.specs.Pages.{HasNumber}
-use Rattle.leaf_rows.specs.Finding.{HasSpot}
+use Rattle.leaf_rows.specs.Finding.{HasRow, HasSpot}
 use Rattle.tree_facts.specs.TreeFrames.{low_of, high_of}
 use Rattle.tree_descent.specs.Leaves.{cut_in, IsPageFor}
 
@@ -40,6 +40,12 @@ pub record HoldsFreshAlone (p : TreePass) (b i : ℕ) (key : FieldList) (spot : 
   pub fresh : HoldsFresh p b i key spot
   pub one : count p ≡ 1
   pub parts : HoldsNoPart (view p)
+
+-- it holds the leaf alone, and the key's row stands there at the place
+pub record HoldsKeyRow (p : TreePass) (b i place : ℕ) (key : FieldList) : Type 0 where
+  pub spot : Spot
+  pub alone : HoldsFreshAlone p b i key spot
+  pub row : HasRow alone.fresh.holds.leaf.page.is.page place key
 
 -- the frame has a page of the number that the page in the block's frame was known to have
 abbrev pub KeepsNumber : View → ℕ → Frame → Type 0

@@ -17,7 +17,7 @@ use crate::engine::{Engine, EnginePass};
 use crate::write::Write;
 use hash_guess::{Guess, guess};
 use key_tuple::{Key, Mode, NoMemory, Tuple, Value};
-use leaf_search::{how_of, note_of_hit};
+use leaf_search::{KeySearch, how_of, note_of_hit};
 use map_history::{How, Reply, RowBuf, Told};
 use std::sync::Wait;
 
@@ -43,9 +43,14 @@ impl Engine {
         ensures kept { result.reply ≢ Reply.Found → out.new ≡ out.old }
     {
         let (world, learn) = (&mut pass.world, &mut pass.learn);
-        let searched = self.find(world, learn, index, key, Mode::Ge, wait);
-        self.call(index, key, &searched, wait)
-            .get(&mut pass.world, &searched.leaf, out)
+        match self.search(world, learn, index, key, Mode::Ge, wait) {
+            KeySearch::Row { block, place, note } => self
+                .call(index, key, How::Hit, note, wait)
+                .read(&mut pass.world, block, place, out),
+            KeySearch::Leaf(searched) => self
+                .call(index, key, searched.how, searched.note, wait)
+                .get(&mut pass.world, &searched.leaf, out),
+        }
     }
 
     /// The row that the mode asks for: `Found`, with the row in `out`, or `Absent`. One that isn't
@@ -160,7 +165,7 @@ impl Engine {
     {
         let (world, learn) = (&mut pass.world, &mut pass.learn);
         let searched = self.find(world, learn, index, key, Mode::Ge, wait);
-        self.call(index, key, &searched, wait)
+        self.call(index, key, searched.how, searched.note, wait)
             .del(&mut pass.world, &searched.leaf)
     }
 
@@ -191,7 +196,7 @@ impl Engine {
         let most = u64::from(pass.sizes.max_changes);
         let (world, learn) = (&mut pass.world, &mut pass.learn);
         let searched = self.find(world, learn, index, key, write.mode(), wait);
-        self.call(index, key, &searched, wait)
+        self.call(index, key, searched.how, searched.note, wait)
             .write(&mut pass.world, &searched.leaf, most, write, value)
     }
 }

@@ -32,6 +32,15 @@ impl Page {
         self.place_after(self.position(place) + 1)
     }
 
+    /// The same, where the row's number is likely to be the one named: it is looked at first, so
+    /// that a walk that counts its rows searches for none.
+    pub fn next_near(&self, place: Place, number: usize) -> Option<Place>
+        requires { IsSome (find_row place self.now.rows) }
+        ensures { NextIs self.now.rows place result }
+    {
+        self.place_after(self.position_near(place, number) + 1)
+    }
+
     /// The place of the row before, none at the first one.
     pub fn prev(&self, place: Place) -> Option<Place>
         requires { IsSome (find_row place self.now.rows) }
@@ -56,6 +65,19 @@ impl Page {
         ensures few { result ≤ PAGE_ROOM }
     {
         self.cut(self.rows.record(place), Mode::Ge)
+    }
+
+    /// The same, with a look at the row of a number first.
+    fn position_near(&self, place: Place, number: usize) -> usize
+        requires { IsSome (find_row place self.now.rows) }
+        ensures row { IsPosition self.now.rows place result }
+        ensures few { result ≤ PAGE_ROOM }
+    {
+        if number < self.rows.len() && self.rows.stored(number).0 == place {
+            number
+        } else {
+            self.position(place)
+        }
     }
 
     /// The place of the first row after so many.

@@ -2,3 +2,4 @@ pub mod ValueLemmas
 pub mod ChangeLemmas
 pub mod FullLemmas
 pub mod SetLemmas
+pub mod RowSpotLemmas

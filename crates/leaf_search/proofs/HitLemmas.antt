@@ -60,7 +60,7 @@ module _ (v : View) (fitted : IsFittedTree v) (i : ℕ) (mode : Mode) (key : Fie
   hit_order = subst (λ (s : Shape). IsOrderly (fields_for s) page_there) fitted.fits.shape
       tells.order
 
-  whole_there : length key ≡ hit.is.page.head.fields
+  pub whole_there : length key ≡ hit.is.page.head.fields
   whole_there = whole
       ∙ (ap (fields_for v.terms.shape) (sym hit.is.index) ∙ sym hit_order.fields)
 

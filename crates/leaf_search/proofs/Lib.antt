@@ -12,3 +12,4 @@ pub mod KeyLemmas
 pub mod HitLemmas
 pub mod TryLemmas
 pub mod SearchLemmas
+pub mod KeyRowLemmas

@@ -5,3 +5,4 @@ pub mod Hows
 pub mod Downs
 pub mod Searches
 pub mod Traces
+pub mod KeySearches

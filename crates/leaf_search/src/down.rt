@@ -6,7 +6,7 @@ ghost use Rattle.latch_space.specs.Passes.{view, count, IsSamePass};
 ghost use Rattle.latch_space.specs.Spaces.{IsPassOf};
 ghost use Rattle.key_tuple.specs.declared.mode.Mode.TheVariants as mode;
 ghost use Rattle.search_info.specs.Passes.{knowledge, HasUnique, IsLearnPassOf, IsSameLearnPass};
-ghost use Rattle.index_page.specs.Page.{PageRows};
+ghost use Rattle.index_page.specs.Page.{PageRows, IsPageInOrder};
 ghost use Rattle.index_page.specs.Search.{Finds};
 ghost use Rattle.forest_law.specs.State.{fields_for};
 ghost use Rattle.forest_world.specs.Held.{shape_of_pass};
@@ -74,13 +74,7 @@ pub(crate) fn search_down<R: Wait>(
 }
 
 /// The spot of a key on the leaf in the block's frame.
-pub(crate) fn key_spot(
-    space: &ForestSpace,
-    pass: &ForestPass,
-    block: u32,
-    index: u32,
-    key: &Key,
-) -> Spot
+pub fn key_spot(space: &ForestSpace, pass: &ForestPass, block: u32, index: u32, key: &Key) -> Spot
     requires own { IsForest space.now × IsPassOf space.now pass.now }
     requires fields { length key.now.tuple ≡ fields_for (shape_of_pass pass.now) index }
     requires leaf { HoldsPage (view pass.now) block index 0 }
@@ -92,7 +86,29 @@ pub(crate) fn key_spot(
     spot_in(frame(space, pass, block), key)
 }
 
-/// The same on the page of a frame that has one.
+/// The rows of the leaf in the block's frame are in order.
+pub(crate) fn leaf_is_in_order(space: &ForestSpace, pass: &ForestPass, block: u32, index: u32)
+    requires own { IsForest space.now × IsPassOf space.now pass.now }
+    requires leaf { HoldsPage (view pass.now) block index 0 }
+    requires known { IsKnown pass.now }
+    ensures { (h : HoldsPage (view pass.now) block index 0) → IsPageInOrder h.is.page }
+{
+    let _ = index;
+    page_is_in_order(frame(space, pass, block));
+}
+
+/// The same of the page of a frame that has one.
+fn page_is_in_order(frame: &Frame)
+    requires { (page : PageRows) × (frame.now.page ≡ Some page) }
+    ensures { (page : PageRows) → frame.now.page ≡ Some page → IsPageInOrder page }
+{
+    match &frame.page {
+        Some(page) => page.is_in_order(),
+        None => unreachable!(),
+    }
+}
+
+/// The spot on the page of a frame that has one.
 fn spot_in(frame: &Frame, key: &Key) -> Spot
     requires paged { (page : PageRows) × (frame.now.page ≡ Some page) }
     requires fields { (page : PageRows) → frame.now.page ≡ Some page

@@ -10,11 +10,10 @@ ghost use Rattle.forest_world.specs.Held.{shape_of_pass};
 ghost use Rattle.call_law.specs.Hands.{HoldsNoFrameBut, HoldsNoTable};
 ghost use Rattle.buffer_pool.specs.Forests.{IsForest, IsFittedTree};
 ghost use Rattle.leaf_search.specs.Hows.{how_of, note_of_hit};
-ghost use Rattle.leaf_search.specs.Searches.{Searches};
-ghost use Rattle.leaf_search.specs.Traces.{SearchTrace};
+ghost use Rattle.leaf_search.specs.KeySearches.{SearchesKey};
 
-use crate::down::{key_spot, search_down};
-use crate::searched::Searched;
+use crate::down::{key_spot, leaf_is_in_order, search_down};
+use crate::searched::{KeySearch, Searched};
 use forest_world::{ForestPass, ForestSpace};
 use hash_guess::{Cause, Guess, guess};
 use key_tuple::{Key, Mode};
@@ -26,7 +25,8 @@ use tree_descent::Leaf;
 /// Holds the leaf of an index that has the key in its bounds. The hash is asked first, by one try
 /// on the partition of the index and one on a block; where it tells nothing, a way down is gone,
 /// and the index and the block learn from it. `mode` is the one that the operation searches with,
-/// which tells what is learnt; the spot is always that of the key itself.
+/// which tells what is learnt; a spot is always that of the key itself. Where the hash led to the
+/// key's row, nothing more is looked up.
 pub fn search_key<R: Wait>(
     space: &ForestSpace,
     pass: &mut ForestPass,
@@ -36,7 +36,7 @@ pub fn search_key<R: Wait>(
     key: &Key,
     mode: Mode,
     wait: &R,
-) -> Searched
+) -> KeySearch
     requires own { IsForest space.now × IsPassOf space.now pass.old }
     requires learner { IsLearnPassOf learner.now learn.old }
     requires index { index < (shape_of_pass pass.old).indexes }
@@ -48,28 +48,36 @@ pub fn search_key<R: Wait>(
     requires room { count pass.old + 3 ≤ MAX_HELD }
     ensures own { IsSamePass pass.old pass.new × IsPassOf space.now pass.new }
     ensures learner { IsSameLearnPass learn.old learn.new × IsLearnPassOf learner.now learn.new }
-    ensures searched { Searches pass.old (knowledge learn.old) index key.now.tuple result
-        pass.new (knowledge learn.new) }
-    ensures trace { SearchTrace pass.old (knowledge learn.old) index mode key.now.tuple result
+    ensures searched { SearchesKey pass.old (knowledge learn.old) index mode key.now.tuple result
         pass.new (knowledge learn.new) }
     ensures fits { IsFittedTree (view pass.new) }
 {
     match guess(space, pass, learner, learn, index, key, mode) {
-        Guess::Hit { block, learn, .. } => {
+        Guess::Hit {
+            block,
+            place,
+            found,
+            learn,
+        } => {
+            let note = note_of_hit(&learn);
+            if found {
+                leaf_is_in_order(space, pass, block, index);
+                return KeySearch::Row { block, place, note };
+            }
             let spot = key_spot(space, pass, block, index, key);
-            Searched {
+            KeySearch::Leaf(Searched {
                 leaf: Leaf { block, spot },
                 how: How::Hit,
-                note: note_of_hit(&learn),
-            }
+                note,
+            })
         }
         Guess::Miss { cause, .. } => {
             let (leaf, note) = search_down(space, pass, learner, learn, index, key, mode, wait);
-            Searched {
+            KeySearch::Leaf(Searched {
                 leaf,
                 how: how_of(&cause),
                 note,
-            }
+            })
         }
     }
 }

@@ -8,6 +8,7 @@ use Rattle.search_info.specs.Passes.{HasUnique}
 use Rattle.tree_descent.proofs.DescentLemmas.{vain_frames, vain_shape, vain_tables}
 use Rattle.leaf_search.specs.Searches.{Searches}
 use Rattle.leaf_search.proofs.HitLemmas.{hit_leaf}
+use Rattle.leaf_search.proofs.KeyRowLemmas.{hits_key}
 use Rattle.leaf_search.proofs.SearchLemmas.{hit_whole, searches_hit, searches_down_too}
 use Rattle.leaf_search.proofs.searching.search_key.Goals as goal
 
@@ -40,21 +41,53 @@ key_spot-spot-requires-clause-known g c = let p = c.args.pass.now in let q = c.g
     arm.ensures.fits arm.block arm.place arm.found arm.learn did in
     did.hits.does.known
 
-pub returns-in-Hit-clause-searched : goal.returns-in-Hit-clause-searched
-returns-in-Hit-clause-searched g c = let p = c.args.pass.now in let q = c.guess.new.pass in
+pub leaf_is_in_order-requires-clause-leaf : goal.leaf_is_in_order-requires-clause-leaf
+leaf_is_in_order-requires-clause-leaf g c = let p = c.args.pass.now in
+    let q = c.guess.new.pass in let l = c.args.learn.now.seat.me.0 in
+    let m = c.guess.new.learn.seat.me.0 in let arm = c.in-Hit in let did = arm.ensures.did in
+    hit_leaf (view q) arm.ensures.fits c.args.index c.args.mode c.args.key.now.tuple arm.block
+    arm.place arm.found did.hits.hit
+    (hit_whole p q l m c.args.index c.args.mode c.args.key.now.tuple c.requires.fields
+    arm.ensures.fits arm.block arm.place arm.found arm.learn did)
+
+pub leaf_is_in_order-requires-clause-known : goal.leaf_is_in_order-requires-clause-known
+leaf_is_in_order-requires-clause-known g c = c.in-Hit.ensures.did.hits.does.known
+
+pub returns-then-found-clause-searched : goal.returns-then-found-clause-searched
+returns-then-found-clause-searched g c = let p = c.args.pass.now in let q = c.guess.new.pass in
+    let l = c.args.learn.now.seat.me.0 in let m = c.guess.new.learn.seat.me.0 in
+    let arm = c.in-Hit in let did = arm.ensures.did in
+    hits_key p q l m c.args.index c.args.mode c.args.key.now.tuple arm.block arm.place
+    c.note_of_hit-note.result arm.learn arm.found c.if-found.true did
+    (c.leaf_is_in_order.ensures (hit_leaf (view q) arm.ensures.fits c.args.index c.args.mode
+    c.args.key.now.tuple arm.block arm.place arm.found did.hits.hit
+    (hit_whole p q l m c.args.index c.args.mode c.args.key.now.tuple c.requires.fields
+    arm.ensures.fits arm.block arm.place arm.found arm.learn did))) c.note_of_hit-note.ensures
+
+pub returns-else-found-clause-searched : goal.returns-else-found-clause-searched
+returns-else-found-clause-searched g c = let p = c.args.pass.now in let q = c.guess.new.pass in
     let l = c.args.learn.now.seat.me.0 in let m = c.guess.new.learn.seat.me.0 in
     let arm = c.in-Hit in let did = arm.ensures.did in
     let whole = hit_whole p q l m c.args.index c.args.mode c.args.key.now.tuple c.requires.fields
-    arm.ensures.fits arm.block arm.place arm.found arm.learn did in
-    subst (λ z. Searches p l c.args.index c.args.key.now.tuple (record {
-      leaf = record { block = arm.block; spot = c.key_spot-spot.result };
-      how = how.Hit;
-      note = z;
-    }) q m) (sym c.note_of_hit.ensures)
-    (searches_hit p q l m c.args.index c.args.mode c.args.key.now.tuple c.requires.fields
-    arm.ensures.fits arm.block arm.place arm.found arm.learn did c.key_spot-spot.result
-    (c.key_spot-spot.ensures (hit_leaf (view q) arm.ensures.fits c.args.index c.args.mode
-    c.args.key.now.tuple arm.block arm.place arm.found did.hits.hit whole)))
+    arm.ensures.fits arm.block arm.place arm.found arm.learn did in (
+      subst (λ z. Searches p l c.args.index c.args.key.now.tuple (record {
+        leaf = record { block = arm.block; spot = c.key_spot-spot.result };
+        how = how.Hit;
+        note = z;
+      }) q m) (sym c.note_of_hit-note.ensures)
+          (searches_hit p q l m c.args.index c.args.mode c.args.key.now.tuple c.requires.fields
+          arm.ensures.fits arm.block arm.place arm.found arm.learn did c.key_spot-spot.result
+          (c.key_spot-spot.ensures (hit_leaf (view q) arm.ensures.fits c.args.index c.args.mode
+          c.args.key.now.tuple arm.block arm.place arm.found did.hits.hit whole))),
+      inl (record {
+        place = arm.place;
+        found = arm.found;
+        learn = arm.learn;
+        guess = did;
+        how_is = refl;
+        note_is = c.note_of_hit-note.ensures;
+      }),
+    )
 
 pub search_down-note-requires-clause-unique : goal.search_down-note-requires-clause-unique
 search_down-note-requires-clause-unique g c = let p = c.args.pass.now in let q = c.guess.new.pass in
@@ -104,34 +137,24 @@ search_down-note-requires-clause-room g c = let p = c.args.pass.now in let q = c
 pub returns-in-Miss-clause-searched : goal.returns-in-Miss-clause-searched
 returns-in-Miss-clause-searched g c = let p = c.args.pass.now in let q = c.guess.new.pass in
     let l = c.args.learn.now.seat.me.0 in let n = c.guess.new.learn.seat.me.0 in
-    let arm = c.in-Miss in let did = arm.ensures.did in
-    subst (λ z. Searches p l c.args.index c.args.key.now.tuple (record {
-      leaf = c.search_down-note.result.0;
-      how = z;
-      note = c.search_down-note.result.1;
-    }) c.search_down-note.new.pass c.search_down-note.new.learn.seat.me.0) (sym c.how_of.ensures)
-    (searches_down_too p q c.search_down-note.new.pass l n
-    c.search_down-note.new.learn.seat.me.0 c.args.index c.args.mode c.args.key.now.tuple
-    c.requires.fields arm.cause arm.learn did c.search_down-note.result.0
-    c.search_down-note.result.1 c.search_down-note.ensures.went)
-
-pub returns-in-Hit-clause-trace : goal.returns-in-Hit-clause-trace
-returns-in-Hit-clause-trace g c = let arm = c.in-Hit in inl (record {
-  place = arm.place;
-  found = arm.found;
-  learn = arm.learn;
-  guess = arm.ensures.did;
-  how_is = refl;
-  note_is = c.note_of_hit.ensures;
-})
-
-pub returns-in-Miss-clause-trace : goal.returns-in-Miss-clause-trace
-returns-in-Miss-clause-trace g c = let arm = c.in-Miss in inr (record {
-  between = c.guess.new.pass;
-  read = c.guess.new.learn.seat.me.0;
-  cause = arm.cause;
-  learn = arm.learn;
-  guess = arm.ensures.did;
-  how_is = c.how_of.ensures;
-  down = c.search_down-note.ensures.went;
-})
+    let arm = c.in-Miss in let did = arm.ensures.did in (
+      subst (λ z. Searches p l c.args.index c.args.key.now.tuple (record {
+        leaf = c.search_down-note.result.0;
+        how = z;
+        note = c.search_down-note.result.1;
+      }) c.search_down-note.new.pass c.search_down-note.new.learn.seat.me.0)
+          (sym c.how_of.ensures)
+          (searches_down_too p q c.search_down-note.new.pass l n
+          c.search_down-note.new.learn.seat.me.0 c.args.index c.args.mode c.args.key.now.tuple
+          c.requires.fields arm.cause arm.learn did c.search_down-note.result.0
+          c.search_down-note.result.1 c.search_down-note.ensures.went),
+      inr (record {
+        between = q;
+        read = n;
+        cause = arm.cause;
+        learn = arm.learn;
+        guess = did;
+        how_is = c.how_of.ensures;
+        down = c.search_down-note.ensures.went;
+      }),
+    )

@@ -1,13 +1,13 @@
 use Rattle.std.proofs.Common.{◌≡◌, ◌++◌, cond, Some, None, sym, ap, ◌∙◌, subst, arith, length}
 use Rattle.index_page.specs.Rows.{first_of_rows}
 use Rattle.hash_law.specs.Entries.{first_or, unless_alike}
-use Rattle.hash_upkeep.specs.Walk.{nodes_from_node, entries_ahead}
+use Rattle.hash_upkeep.specs.Walk.{nodes_from_node, entries_ahead, entries_behind}
 use Rattle.hash_upkeep.proofs.WalkLemmas.{PassesRow, passes_row, found_from, ahead_is, entered_if, passed_if}
 use Rattle.hash_upkeep.proofs.walk.RowWalk.pass.Goals as goal
 use Rattle.hash_upkeep.proofs.walk.RowWalk.pass.Goals.{then-how, else-how}
 
-pub next-requires : goal.next-requires
-next-requires c = let how = c.args.how.now in let rows = c.args.page.now.rows in
+pub next_near-requires : goal.next_near-requires
+next_near-requires c = let how = c.args.how.now in let rows = c.args.page.now.rows in
     found_from how c.args.node.place rows c.args.node
     (subst (λ a. first_or None (nodes_from_node how rows a) ≡ a) c.requires.there c.requires.on)
 
@@ -15,16 +15,16 @@ passes : (c : goal.After-shares_fold)
     → PassesRow c.args.how.now c.args.page.now.rows c.args.self.now.passed c.args.node
     c.node_beside-next.result
 passes c = let how = c.args.how.now in let rows = c.args.page.now.rows in
-    passes_row how rows c.args.self.now.passed c.args.node c.next.result c.node_beside-next.result
-    c.is_in_order.ensures.places c.next.ensures
+    passes_row how rows c.args.self.now.passed c.args.node c.next_near.result c.node_beside-next.result
+    c.is_in_order.ensures.places c.next_near.ensures
     (subst (λ a. first_or None (nodes_from_node how rows a) ≡ a) c.requires.there c.requires.on)
-    (c.node_beside-next.ensures (first_of_rows c.next.ensures.right) c.next.ensures.next_at)
+    (c.node_beside-next.ensures (first_of_rows c.next_near.ensures.right) c.next_near.ensures.next_at)
 
 ahead : (c : goal.After-shares_fold)
     → entries_ahead c.args.how.now c.args.page.now.rows c.args.self.now
     ≡ unless_alike c.if-how.neighbour c.args.node
-    ++ entries_ahead c.args.how.now c.args.page.now.rows
-    (record { passed = Some c.args.node; ahead = c.node_beside-next.result })
+    ++ entries_behind c.args.how.now.params.left (Some c.args.node)
+    (nodes_from_node c.args.how.now c.args.page.now.rows c.node_beside-next.result)
 ahead c = let how = c.args.how.now in
     let beside : c.if-how.neighbour
     ≡ cond how.params.left c.args.self.now.passed c.node_beside-next.result =

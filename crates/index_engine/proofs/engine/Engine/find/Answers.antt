@@ -1,46 +1,56 @@
-use Rattle.std.proofs.Common.{◌≡◌, ap, ◌∙◌, sym, subst, length, arith}
-use Rattle.latch_space.proofs.Pointwise.{lacks_each}
-use Rattle.search_info.specs.Passes.{HasUnique}
-use Rattle.forest_law.specs.Numbers.{pool_id, frame_id, part_id}
-use Rattle.forest_law.specs.State.{fields_for, or_zero}
-use Rattle.forest_world.specs.Held.{shape_of_pass}
-use Rattle.buffer_pool.proofs.SpaceLemmas.{objects_of}
-use Rattle.index_engine.specs.Traces.{IsFoundBy}
-use Rattle.index_engine.proofs.HoldLemmas.{fresh_leaf}
-use Rattle.index_engine.proofs.LearnerLemmas.{has_unique}
-use Rattle.index_engine.proofs.WayLemmas.{by_search}
+use Rattle.search_info.specs.Passes.{knowledge}
+use Rattle.leaf_search.proofs.KeyRowLemmas.{key_searches, key_traces, leaf_there, told_hit, whole_after}
+use Rattle.index_engine.proofs.ReadLemmas.{free_parts, key_whole, searched_alone}
 use Rattle.index_engine.proofs.engine.Engine.find.Goals as goal
 
-pub search_key-requires-clause-unique : goal.search_key-requires-clause-unique
-search_key-requires-clause-unique g c = let engine = c.args.self.now in
-    let own = c.requires.own in let below = c.requires.index in let lists = engine.forest.lists in
-    subst (λ t. HasUnique engine.learner c.args.index (fields_for t.shape c.args.index))
-    (sym own.1) (has_unique engine.learner engine.space.terms.shape c.args.index engine.learns
-    (omega (arith, below, lists)))
+pub key_spot-spot-requires-clause-fields : goal.key_spot-spot-requires-clause-fields
+key_spot-spot-requires-clause-fields g c = let p = c.args.pass.now in let arm = c.in-Row in
+    let whole = key_whole c.args.self.now p c.args.index c.args.key.now.tuple c.requires.key
+    c.requires.own in
+    whole_after p c.search.new.pass (knowledge c.args.learn.now) (knowledge c.search.new.learn)
+    c.args.index c.args.mode c.args.key.now.tuple whole arm.ensures.fits arm.block arm.place
+    arm.note arm.ensures.searched
 
-pub search_key-requires-clause-frames : goal.search_key-requires-clause-frames
-search_key-requires-clause-frames g c = let p = c.args.pass.now in
-    let objects = objects_of c.args.self.now.space p c.args.self.now.forest c.requires.own in
-    λ b below apart. lacks_each p (frame_id (shape_of_pass p) b) c.requires.nothing
-    (omega (arith, objects, below))
+pub key_spot-spot-requires-clause-leaf : goal.key_spot-spot-requires-clause-leaf
+key_spot-spot-requires-clause-leaf g c = let p = c.args.pass.now in let arm = c.in-Row in
+    let whole = key_whole c.args.self.now p c.args.index c.args.key.now.tuple c.requires.key
+    c.requires.own in
+    leaf_there p c.search.new.pass (knowledge c.args.learn.now) (knowledge c.search.new.learn)
+    c.args.index c.args.mode c.args.key.now.tuple whole arm.ensures.fits arm.block arm.place
+    arm.note arm.ensures.searched
 
-pub search_key-requires-clause-tables : goal.search_key-requires-clause-tables
-search_key-requires-clause-tables g c = let p = c.args.pass.now in
-    let objects = objects_of c.args.self.now.space p c.args.self.now.forest c.requires.own in
-    record {
-      pool = lacks_each p pool_id c.requires.nothing (omega (arith, objects));
-      parts = λ k below. lacks_each p (part_id (shape_of_pass p) k) c.requires.nothing
-          (omega (arith, objects, below));
-    }
+pub key_spot-spot-requires-clause-known : goal.key_spot-spot-requires-clause-known
+key_spot-spot-requires-clause-known g c = c.in-Row.ensures.searched.guess.hits.does.known
 
-pub returns-clause-held : goal.returns-clause-held
-returns-clause-held g c = let p = c.args.pass.now in let q = c.search_key.new.pass in
-    let i = c.args.index in let key = c.args.key.now.tuple in let s = c.search_key.result in
-    let searched = c.search_key.ensures.searched in
-    let objects = objects_of c.args.self.now.space p c.args.self.now.forest c.requires.own in
-    let same : length key ≡ fields_for (shape_of_pass p) i =
-    ap or_zero (sym c.requires.key) ∙ ap (λ t. fields_for t.shape i) (sym c.requires.own.1) in
-    fresh_leaf (IsFoundBy (shape_of_pass p) i key s.how) p q i key s.leaf
-    (by_search p _ i key s q _ searched) c.requires.nothing same
-    (λ k below. lacks_each p (part_id (shape_of_pass p) k) c.requires.nothing
-    (omega (arith, objects, below)))
+pub returns-in-Row-clause-searched : goal.returns-in-Row-clause-searched
+returns-in-Row-clause-searched g c = let p = c.args.pass.now in let q = c.search.new.pass in
+    let arm = c.in-Row in let l = knowledge c.args.learn.now in
+    let m = knowledge c.search.new.learn in let i = c.args.index in
+    let key = c.args.key.now.tuple in
+    let whole = key_whole c.args.self.now p i key c.requires.key c.requires.own in
+    key_searches p q l m i c.args.mode key whole arm.ensures.fits arm.block arm.place arm.note
+    arm.ensures.searched c.key_spot-spot.result
+    (c.key_spot-spot.ensures (leaf_there p q l m i c.args.mode key whole arm.ensures.fits arm.block
+    arm.place arm.note arm.ensures.searched))
+
+pub returns-in-Row-clause-trace : goal.returns-in-Row-clause-trace
+returns-in-Row-clause-trace g c = let arm = c.in-Row in
+    key_traces c.args.pass.now c.search.new.pass (knowledge c.args.learn.now)
+    (knowledge c.search.new.learn) c.args.index c.args.mode c.args.key.now.tuple arm.block
+    arm.place arm.note arm.ensures.searched c.key_spot-spot.result
+
+pub returns-in-Row-clause-held : goal.returns-in-Row-clause-held
+returns-in-Row-clause-held g c = let p = c.args.pass.now in let q = c.search.new.pass in
+    let arm = c.in-Row in let i = c.args.index in let key = c.args.key.now.tuple in
+    let engine = c.args.self.now in
+    let whole = key_whole c.args.self.now p i key c.requires.key c.requires.own in
+    searched_alone p q _ _ i key c.requires.nothing whole
+    (free_parts engine p c.requires.own c.requires.nothing) (told_hit arm.block c.key_spot-spot.result arm.note)
+    (returns-in-Row-clause-searched g c)
+
+pub returns-in-Leaf-clause-held : goal.returns-in-Leaf-clause-held
+returns-in-Leaf-clause-held g c = let p = c.args.pass.now in let i = c.args.index in
+    let key = c.args.key.now.tuple in let engine = c.args.self.now in
+    let whole = key_whole c.args.self.now p i key c.requires.key c.requires.own in
+    searched_alone p c.search.new.pass _ _ i key c.requires.nothing whole
+    (free_parts engine p c.requires.own c.requires.nothing) c.in-Leaf.searched c.in-Leaf.ensures.searched.0

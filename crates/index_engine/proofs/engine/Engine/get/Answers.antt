@@ -1,35 +1,122 @@
-use Rattle.std.proofs.Common.{ap, ◌∙◌}
+use Rattle.std.proofs.Common.{◌≡◌, true, ap, sym, subst, ◌∙◌}
 use Rattle.latch_space.specs.Passes.{view}
+use Rattle.map_history.specs.Columns.{may_stand}
 use Rattle.map_history.specs.Operation as asked
 use Rattle.map_history.specs.Report.{Columns}
+use Rattle.map_history.specs.declared.columns.How.TheVariants as ways
 use Rattle.search_info.specs.Passes.{knowledge}
+use Rattle.key_tuple.specs.declared.mode.Mode.TheVariants.{Ge}
 use Rattle.forest_world.specs.Held.{shape_of_pass}
+use Rattle.leaf_search.specs.Tries.{TriesAfter}
+use Rattle.leaf_search.proofs.KeyRowLemmas.{key_traces, told_hit}
+use Rattle.leaf_search.proofs.SearchLemmas.{hit_stands}
 use Rattle.index_engine.specs.Engines.{lessons_of}
+use Rattle.index_engine.specs.Holds.{HoldsFreshAlone, HoldsKeyRow}
 use Rattle.index_engine.specs.Leaving.{AnswersAndLeaves}
 use Rattle.index_engine.specs.Traces.{IsFoundBy}
+use Rattle.index_engine.proofs.ReadLemmas.{free_parts, key_whole, row_in_hand, row_searches, row_spot_there, searched_alone}
 use Rattle.index_engine.proofs.TellLemmas.{tells_found}
 use Rattle.index_engine.proofs.WayLemmas.{by_search, about_key, tells_search}
 use Rattle.index_engine.proofs.engine.Engine.get.Goals as goal
 
-pub returns-clause-told : goal.returns-clause-told
-returns-clause-told g c = let p = c.args.pass.now.world in let p0 = c.find-searched.new.pass in
+pub call-requires-clause-stands : goal.call-requires-clause-stands
+call-requires-clause-stands g c = let hits = c.in-Row.ensures.searched in
+    subst (λ n. may_stand (record { how = ways.Hit; note = n }) ≡ true) (sym hits.note_is)
+    (hit_stands hits.learn)
+
+pub read-requires-clause-held : goal.read-requires-clause-held
+read-requires-clause-held g c = let engine = c.args.self.now in let p = c.args.pass.now.world in
+    let row = c.in-Row in let call = c.call.result in let about = c.call.ensures.about in
+    about_key (λ n k. HoldsKeyRow c.search.new.pass row.block n row.place k) c.args.index call.index
+    c.args.key.now.tuple call.key.now.tuple (sym about.0) (sym (ap (λ k. k.tuple) about.1))
+    (row_in_hand p c.search.new.pass (lessons_of c.args.pass.now) (knowledge c.search.new.learn)
+    c.args.index c.args.key.now.tuple c.args.pass.now.nothing
+    (key_whole engine p c.args.index c.args.key.now.tuple c.requires.key c.requires.own.0)
+    (free_parts engine p c.requires.own.0 c.args.pass.now.nothing) row.ensures.fits row.block row.place row.note
+    row.ensures.searched)
+
+pub returns-in-Row-clause-told : goal.returns-in-Row-clause-told
+returns-in-Row-clause-told g c = let engine = c.args.self.now in let p = c.args.pass.now.world in
+    let q = c.search.new.pass in let r = c.read.new.pass in let i = c.args.index in
+    let key = c.args.key.now.tuple in let row = c.in-Row in let l = lessons_of c.args.pass.now in
+    let m = knowledge c.search.new.learn in let call = c.call.result in
+    let about = c.call.ensures.about in let told = c.read.result in let out = c.read.new.out in
+    let whole = key_whole engine p i key c.requires.key c.requires.own.0 in
+    let free = free_parts engine p c.requires.own.0 c.args.pass.now.nothing in
+    let spot = row_spot_there p q l m i key c.args.pass.now.nothing whole free row.ensures.fits
+    row.block row.place row.note row.ensures.searched in
+    let answers = about_key (λ n k. AnswersAndLeaves q row.block n (asked.Get k) told out r)
+    call.index i call.key.now.tuple key about.0 (ap (λ k. k.tuple) about.1) c.read.ensures.told in
+    tells_search (view p) (view r) i key ways.Hit (asked.Get key) told out answers.gave.frame
+    (ap (λ (z : Columns). z.how) (c.read.ensures.columns ∙ c.call.ensures.found))
+    (tells_found (IsFoundBy (shape_of_pass p) i key ways.Hit) p q r i key
+    (record { block = row.block; spot = spot })
+    (by_search p l i key (told_hit row.block spot row.note) q m
+    (row_searches p q l m i key c.args.pass.now.nothing whole free row.ensures.fits row.block
+    row.place row.note row.ensures.searched)) (asked.Get key) told out answers)
+
+pub returns-in-Row-clause-searched : goal.returns-in-Row-clause-searched
+returns-in-Row-clause-searched g c = let engine = c.args.self.now in
+    let p = c.args.pass.now.world in let q = c.search.new.pass in let i = c.args.index in
+    let key = c.args.key.now.tuple in let row = c.in-Row in let l = lessons_of c.args.pass.now in
+    let m = knowledge c.search.new.learn in
+    let spot = row_spot_there p q l m i key c.args.pass.now.nothing
+    (key_whole engine p i key c.requires.key c.requires.own.0)
+    (free_parts engine p c.requires.own.0 c.args.pass.now.nothing) row.ensures.fits row.block row.place row.note
+    row.ensures.searched in
+    record {
+      searched = told_hit row.block spot row.note;
+      between = q;
+      trace = key_traces p q l m i Ge key row.block row.place row.note row.ensures.searched spot;
+      told = c.read.ensures.columns ∙ c.call.ensures.found;
+    }
+
+pub returns-in-Row-clause-tried : goal.returns-in-Row-clause-tried
+returns-in-Row-clause-tried g c = let engine = c.args.self.now in
+    let p = c.args.pass.now.world in let i = c.args.index in let key = c.args.key.now.tuple in
+    let row = c.in-Row in let l = lessons_of c.args.pass.now in
+    let m = knowledge c.search.new.learn in
+    subst (λ h. TriesAfter l i h m)
+    (sym (ap (λ (z : Columns). z.how) (c.read.ensures.columns ∙ c.call.ensures.found)))
+    (row_searches p c.search.new.pass l m i key c.args.pass.now.nothing
+    (key_whole engine p i key c.requires.key c.requires.own.0)
+    (free_parts engine p c.requires.own.0 c.args.pass.now.nothing) row.ensures.fits row.block
+    row.place row.note row.ensures.searched).tried
+
+pub returns-in-Row-clause-kept : goal.returns-in-Row-clause-kept
+returns-in-Row-clause-kept g c = λ other. absurd (other c.read.ensures.found)
+
+pub get-requires-clause-alone : goal.get-requires-clause-alone
+get-requires-clause-alone g c = let engine = c.args.self.now in let p = c.args.pass.now.world in
+    let searched = c.in-Leaf.searched in let call = c.call-in-Leaf.result in
+    let about = c.call-in-Leaf.ensures.about in
+    about_key (λ n k. HoldsFreshAlone c.search.new.pass searched.leaf.block n k searched.leaf.spot)
+    c.args.index call.index c.args.key.now.tuple call.key.now.tuple (sym about.0)
+    (sym (ap (λ k. k.tuple) about.1))
+    (searched_alone p c.search.new.pass (lessons_of c.args.pass.now)
+    (knowledge c.search.new.learn) c.args.index c.args.key.now.tuple c.args.pass.now.nothing
+    (key_whole engine p c.args.index c.args.key.now.tuple c.requires.key c.requires.own.0)
+    (free_parts engine p c.requires.own.0 c.args.pass.now.nothing) searched c.in-Leaf.ensures.searched.0)
+
+pub returns-in-Leaf-clause-told : goal.returns-in-Leaf-clause-told
+returns-in-Leaf-clause-told g c = let p = c.args.pass.now.world in let p0 = c.search.new.pass in
     let q = c.get.new.pass in let i = c.args.index in let key = c.args.key.now.tuple in
-    let s = c.find-searched.result in let m = knowledge c.find-searched.new.learn in
-    let call = c.call.result in let about = c.call.ensures.about in
+    let s = c.in-Leaf.searched in let m = knowledge c.search.new.learn in
+    let call = c.call-in-Leaf.result in let about = c.call-in-Leaf.ensures.about in
     let told = c.get.result in let out = c.get.new.out in
     let answers = about_key
     (λ n k. AnswersAndLeaves p0 s.leaf.block n (asked.Get k) told out q)
     call.index i call.key.now.tuple key about.0 (ap (λ k. k.tuple) about.1) c.get.ensures.told in
     tells_search (view p) (view q) i key s.how (asked.Get key) told out answers.gave.frame
-    (ap (λ (z : Columns). z.how) (c.get.ensures.columns ∙ c.call.ensures.found))
+    (ap (λ (z : Columns). z.how) (c.get.ensures.columns ∙ c.call-in-Leaf.ensures.found))
     (tells_found (IsFoundBy (shape_of_pass p) i key s.how) p p0 q i key s.leaf
-    (by_search p (lessons_of c.args.pass.now) i key s p0 m c.find-searched.ensures.searched)
+    (by_search p (lessons_of c.args.pass.now) i key s p0 m c.in-Leaf.ensures.searched.0)
     (asked.Get key) told out answers)
 
-pub returns-clause-searched : goal.returns-clause-searched
-returns-clause-searched g c = record {
-  searched = c.find-searched.result;
-  between = c.find-searched.new.pass;
-  trace = c.find-searched.ensures.trace;
-  told = c.get.ensures.columns ∙ c.call.ensures.found;
+pub returns-in-Leaf-clause-searched : goal.returns-in-Leaf-clause-searched
+returns-in-Leaf-clause-searched g c = record {
+  searched = c.in-Leaf.searched;
+  between = c.search.new.pass;
+  trace = c.in-Leaf.ensures.searched.1;
+  told = c.get.ensures.columns ∙ c.call-in-Leaf.ensures.found;
 }
