@@ -4,11 +4,23 @@
 #[cfg(test)]
 mod calls;
 #[cfg(test)]
+mod hashed;
+#[cfg(test)]
+mod lanes;
+#[cfg(test)]
 mod limits;
 #[cfg(test)]
 mod merges;
 #[cfg(test)]
+mod neighbours;
+#[cfg(test)]
+mod pairs;
+#[cfg(test)]
+mod recount;
+#[cfg(test)]
 mod room;
+#[cfg(test)]
+mod rounds;
 #[cfg(test)]
 mod sets;
 #[cfg(test)]

@@ -43,3 +43,4 @@ pub mod SeekLearnLemmas
 pub mod SeekHitLemmas
 pub mod SeekMissLemmas
 pub mod ReadLemmas
+pub mod ClosingLemmas

@@ -30,6 +30,10 @@ pub record IsSame (p q : EnginePass) : Type 0 where
   pub learn : IsSameLearnPass p.learn q.learn
   pub sizes : q.sizes ≡ p.sizes
 
+-- it has all numbers, so that there is no other pass
+abbrev pub IsOnlyPass : View → Type 0
+IsOnlyPass v = (v.low ≡ 0) × (v.end ≡ v.terms.passes)
+
 -- how many indexes there are
 abbrev pub indexes_of : Engine → ℕ
 indexes_of engine = engine.space.terms.indexes

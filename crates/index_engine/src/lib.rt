@@ -4,6 +4,7 @@
 
 mod calls;
 mod changing;
+mod closing;
 mod committing;
 mod deleting;
 mod dividing;

@@ -1,0 +1,206 @@
+//! Leaves that are hashed, split, changed, merged and evicted, by one caller: a recount after each
+//! round.
+use crate::recount::{Counted, recount};
+use crate::rounds::{Round, each, ended, worked};
+use crate::setup::{Order, open_sized};
+use forest_law::Object;
+use key_tuple::Mode;
+use map_history::Sizes;
+use std::alloc::Global;
+use std::sync::Wait;
+
+/// Sixteen blocks, and two partitions.
+fn sizes_for(fold_bits: u32) -> Sizes {
+    Sizes {
+        blocks: 16,
+        pages: 200,
+        parts: 2,
+        cells: 64,
+        nodes: 1000,
+        fold_bits,
+        max_changes: 10_000,
+    }
+}
+
+/// Looks for rows until the leaves that they are on are hashed.
+fn looks(order: Order<'static>, first: u32, rows: u32) -> Round {
+    Round {
+        order,
+        first,
+        step: 16,
+        rows,
+        times: 300,
+    }
+}
+
+/// Sixty rows with 1,000 bytes, of which one on each leaf is looked for: six leaves have eight rows,
+/// and the last has twelve. Sixteen larger ones come between those of the first two leaves, which
+/// split. Eight values get shorter; four get longer, so that the last leaf isn't hashed any more.
+/// Then the larger rows go, and twelve others beside them, and leaves are merged. Two hundred rows
+/// fill so many leaves that all others are evicted; and rows of the last three are looked for.
+fn rounds(order: Order<'static>) -> [Round; 9] {
+    [
+        each(Order::Put(&[b'v'; 1000]), 0, 2, 60),
+        looks(order, 8, 7),
+        each(Order::Put(&[b'v'; 2000]), 1, 2, 16),
+        each(Order::Set(b"s"), 0, 2, 8),
+        each(Order::Set(&[b's'; 1500]), 100, 2, 4),
+        each(Order::Del, 1, 2, 16),
+        each(Order::Del, 32, 2, 12),
+        each(Order::Put(&[b'v'; 2000]), 200, 1, 200),
+        looks(order, 72, 3),
+    ]
+}
+
+/// How the rows are looked for, to how many bits folds are cut, and how many nodes there are after
+/// some of the rounds.
+struct Case {
+    order: Order<'static>,
+    fold_bits: u32,
+    nodes: [Option<u32>; 9],
+}
+
+const CASES: [Case; 5] = [
+    // A node for each row of a hashed leaf.
+    Case {
+        order: Order::Get,
+        fold_bits: 64,
+        nodes: [
+            Some(0),
+            Some(60),
+            Some(76),
+            Some(76),
+            Some(64),
+            Some(48),
+            Some(36),
+            Some(0),
+            None,
+        ],
+    },
+    Case {
+        order: Order::Get,
+        fold_bits: 1,
+        nodes: [Some(0), None, None, None, None, None, None, Some(0), None],
+    },
+    // A node for each group of a hashed leaf: for its first row, or for its last.
+    Case {
+        order: Order::Seek(Mode::Ge),
+        fold_bits: 64,
+        nodes: [
+            Some(0),
+            Some(15),
+            None,
+            None,
+            None,
+            None,
+            None,
+            Some(0),
+            None,
+        ],
+    },
+    Case {
+        order: Order::Seek(Mode::Le),
+        fold_bits: 64,
+        nodes: [
+            Some(0),
+            Some(15),
+            None,
+            None,
+            None,
+            None,
+            None,
+            Some(0),
+            None,
+        ],
+    },
+    Case {
+        order: Order::Seek(Mode::Le),
+        fold_bits: 1,
+        nodes: [Some(0), None, None, None, None, None, None, Some(0), None],
+    },
+];
+
+/// What lay in an engine of these sizes when one caller had worked these rounds.
+fn remains<R: Wait>(
+    alloc: Global,
+    sizes: &Sizes,
+    rounds: &[Round],
+    wait: &R,
+) -> Option<Vec<Object>> {
+    let (engine, pass) = open_sized(alloc, sizes, 1)?;
+    match worked(alloc, &engine, pass, rounds, 0, wait) {
+        Some(pass) => ended(alloc, engine, pass),
+        None => None,
+    }
+}
+
+/// The recount of that.
+fn recount_after<R: Wait>(
+    alloc: Global,
+    sizes: &Sizes,
+    rounds: &[Round],
+    wait: &R,
+) -> Option<Counted> {
+    match remains(alloc, sizes, rounds, wait) {
+        Some(objects) => recount(alloc, objects, sizes),
+        None => None,
+    }
+}
+
+/// Whether so many nodes were counted, or some where none are named, and leaves where there are
+/// nodes.
+fn is_as_wanted(told: Option<Counted>, nodes: Option<u32>) -> bool {
+    match (told, nodes) {
+        (Some(told), Some(nodes)) => told.nodes == nodes && (told.leaves > 0) == (nodes > 0),
+        (Some(told), None) => told.nodes > 0 && told.leaves > 0,
+        (None, _) => false,
+    }
+}
+
+/// The first round of a case behind which something else is counted.
+fn other_round<R: Wait>(alloc: Global, case: &Case, wait: &R) -> Option<usize> {
+    let sizes = sizes_for(case.fold_bits);
+    let rounds = rounds(case.order);
+    for (place, nodes) in case.nodes.iter().enumerate() {
+        let done = rounds.get(..place.wrapping_add(1)).unwrap_or(&[]);
+        if !is_as_wanted(recount_after(alloc, &sizes, done, wait), *nodes) {
+            return Some(place);
+        }
+    }
+    None
+}
+
+/// The first case with such a round, and the round.
+fn other_case<R: Wait>(alloc: Global, wait: &R) -> Option<(usize, usize)> {
+    for (place, case) in CASES.iter().enumerate() {
+        if let Some(round) = other_round(alloc, case, wait) {
+            return Some((place, round));
+        }
+    }
+    None
+}
+
+#[test]
+fn hashed_leaves_and_partitions_agree(rt: HostRuntime) {
+    assert_eq!(rt; other_case(rt.alloc(), &rt), None);
+}
+
+/// How many leaves are hashed after so many rounds.
+fn leaves_after<R: Wait>(alloc: Global, count: usize, wait: &R) -> Option<u32> {
+    let rounds = rounds(Order::Get);
+    let done = rounds.get(..count)?;
+    match recount_after(alloc, &sizes_for(64), done, wait) {
+        Some(told) => Some(told.leaves),
+        None => None,
+    }
+}
+
+/// Seven leaves are hashed; two of them split and both halves are; and some are merged.
+#[test]
+fn hashed_leaves_split_and_merge(rt: HostRuntime) {
+    let hashed = leaves_after(rt.alloc(), 2, &rt).unwrap_or(0);
+    let split = leaves_after(rt.alloc(), 3, &rt).unwrap_or(0);
+    let merged = leaves_after(rt.alloc(), 7, &rt).unwrap_or(99);
+    assert_eq!(rt; hashed, 7);
+    assert!(rt; split >= 9 && merged < 7);
+}
