@@ -18,6 +18,8 @@ mod limits;
 #[cfg(test)]
 mod meeting;
 #[cfg(test)]
+mod one_bit;
+#[cfg(test)]
 mod reading;
 #[cfg(test)]
 mod refused;

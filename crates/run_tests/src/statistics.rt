@@ -53,6 +53,29 @@ pub(crate) fn has_line(report: &[u8], wanted: &str) -> bool {
     }
 }
 
+/// The number behind a word of a line.
+fn number_behind(line: &str, word: &str) -> Option<u64> {
+    let mut behind = false;
+    for part in line.split(' ') {
+        if behind {
+            return part.parse::<u64>().ok();
+        }
+        behind = part == word;
+    }
+    None
+}
+
+/// How often a report says that a word was told of the index `t`.
+pub(crate) fn count_in(report: &[u8], word: &str) -> Option<u64> {
+    let text = str::from_utf8(report).ok()?;
+    for line in text.split('\n') {
+        if line.starts_with("stats t ") {
+            return number_behind(line, word);
+        }
+    }
+    None
+}
+
 fn count_words(line: &str) -> usize {
     line.split(' ').count()
 }
