@@ -33,19 +33,18 @@ fn looks(order: Order<'static>, first: u32, rows: u32) -> Round {
     }
 }
 
-/// Sixty rows with 1,000 bytes, of which one on each leaf is looked for: six leaves have eight rows,
-/// and the last has twelve. Sixteen larger ones come between those of the first two leaves, which
-/// split. Eight values get shorter; four get longer, and the last leaf, which has room for them,
-/// stays hashed. Then the larger rows go, and twelve others beside them, and leaves are merged. Two
-/// hundred rows fill so many leaves that all others are evicted; and rows of the last three are
-/// looked for.
+/// Sixty rows with 1,000 bytes: six leaves have eight rows, and the last has twelve. A row of each of
+/// the six is looked for. Sixteen larger ones come between those of the first two leaves, which
+/// split. Eight values get shorter; four of the sixth leaf get longer, and it stays hashed. Then the
+/// larger rows go, and twelve others beside them, and leaves are merged. Two hundred rows fill so
+/// many leaves that all others are evicted; and rows of the last three are looked for.
 fn rounds(order: Order<'static>) -> [Round; 9] {
     [
         each(Order::Put(&[b'v'; 1000]), 0, 2, 60),
-        looks(order, 8, 7),
+        looks(order, 8, 6),
         each(Order::Put(&[b'v'; 2000]), 1, 2, 16),
         each(Order::Set(b"s"), 0, 2, 8),
-        each(Order::Set(&[b's'; 1500]), 100, 2, 4),
+        each(Order::Set(&[b's'; 1500]), 84, 2, 4),
         each(Order::Del, 1, 2, 16),
         each(Order::Del, 32, 2, 12),
         each(Order::Put(&[b'v'; 2000]), 200, 1, 200),
@@ -68,12 +67,12 @@ const CASES: [Case; 5] = [
         fold_bits: 64,
         nodes: [
             Some(0),
-            Some(60),
-            Some(76),
-            Some(76),
-            Some(76),
-            Some(60),
             Some(48),
+            Some(64),
+            Some(64),
+            Some(64),
+            Some(48),
+            Some(36),
             Some(0),
             None,
         ],
@@ -89,7 +88,7 @@ const CASES: [Case; 5] = [
         fold_bits: 64,
         nodes: [
             Some(0),
-            Some(15),
+            Some(12),
             None,
             None,
             None,
@@ -104,7 +103,7 @@ const CASES: [Case; 5] = [
         fold_bits: 64,
         nodes: [
             Some(0),
-            Some(15),
+            Some(12),
             None,
             None,
             None,
@@ -196,12 +195,12 @@ fn leaves_after<R: Wait>(alloc: Global, count: usize, wait: &R) -> Option<u32> {
     }
 }
 
-/// Seven leaves are hashed; two of them split and both halves are; and some are merged.
+/// Six leaves are hashed; two of them split and both halves are; and some are merged.
 #[test]
 fn hashed_leaves_split_and_merge(rt: HostRuntime) {
     let hashed = leaves_after(rt.alloc(), 2, &rt).unwrap_or(0);
     let split = leaves_after(rt.alloc(), 3, &rt).unwrap_or(0);
     let merged = leaves_after(rt.alloc(), 7, &rt).unwrap_or(99);
-    assert_eq!(rt; hashed, 7);
-    assert!(rt; split >= 9 && merged < 7);
+    assert_eq!(rt; hashed, 6);
+    assert!(rt; split >= 8 && merged < 7);
 }
