@@ -17,9 +17,11 @@ use Rattle.leaf_rows.specs.Changing.{hashed_as}
 use Rattle.index_engine.specs.Commits.{IsFullThen}
 use Rattle.index_engine.specs.Hashed.{HoldsAtRest, HoldsRowBack, HoldsRowCame, IsBack, RowIsKept, Settles}
 use Rattle.index_engine.specs.Holds.{HoldsLeaf, IsLeafOf, KeepsNumber}
-use Rattle.index_engine.specs.Says.{AnswersHolding, OnlyLooks, SaysOnce, SeesFull}
+use Rattle.engine_law.specs.Says.{OnlyLooks, SaysOnce, SeesFull}
+use Rattle.index_engine.specs.Says.{AnswersHolding}
 use Rattle.index_engine.proofs.HoldLemmas.{frame_again, leaf_again}
-use Rattle.index_engine.proofs.KnownLemmas.{leaf_inside, number_stays, one_frame}
+use Rattle.engine_law.proofs.KnownLemmas.{one_frame}
+use Rattle.index_engine.proofs.NumberLemmas.{leaf_inside, number_stays}
 use Rattle.index_engine.proofs.RehashLemmas.{keeps_rehashed, kept_again, leaf_rehashed, rests_rehashed}
 use Rattle.index_engine.proofs.SettleLemmas.{full_still, parts_both, parts_same, stays_both, stays_same}
 use Rattle.index_engine.proofs.TellLemmas.{looks_both, looks_then_says}

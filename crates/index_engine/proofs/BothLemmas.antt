@@ -27,7 +27,7 @@ use Rattle.buffer_pool.proofs.PartLemmas.{part_has}
 use Rattle.leaf_rows.specs.Finding.{HasSpot}
 use Rattle.index_engine.specs.Hashed.{HoldsLeafAndPart, HoldsHashed, HoldsPartKept, KeepsHashed, GivesPartOf, count_with_part}
 use Rattle.index_engine.specs.Holds.{IsLeafOf, HoldsFreshAlone, HoldsStill, StaysKnown}
-use Rattle.index_engine.proofs.HashedLemmas.{part_no_frame}
+use Rattle.engine_law.proofs.KnownLemmas.{part_no_frame}
 use Rattle.index_engine.proofs.UpkeepLemmas.{none_hashed}
 
 -- the partition of an index is one of all

@@ -14,19 +14,11 @@ use Rattle.index_law.specs.Answers.{Gives, LogFull}
 use Rattle.index_law.specs.Meanings.{reply_word, gives}
 use Rattle.forest_law.specs.declared.objects.Frame.{Frame}
 use Rattle.forest_world.specs.Held.{TreePass}
+use Rattle.engine_law.proofs.WordLemmas.{says_word}
 use Rattle.index_engine.specs.Holds.{HoldsLeaf}
-use Rattle.index_engine.specs.Says.{SeesFull, TellsMost, AsksOf, CanSay}
-use Rattle.index_engine.specs.Tells.{HasKeyOf}
-
--- a word that says what the map replies
-pub says_word : (m : Map) (ask : Ask) (reply : Reply) (row : Pair) → Says m ask reply row
-    → reply_word ask reply row ≡ Some (Gives (reply_of m ask))
-says_word m ask words.Found row says = ap gives says
-says_word m ask words.Absent row says = ap gives says
-says_word m ask words.Ok row says = ap gives says
-says_word m ask words.Duplicate row says = ap gives says
-says_word m ask words.SpaceFull row says = absurd cc
-says_word m ask (words.LogFull n) row says = absurd cc
+use Rattle.engine_law.specs.Says.{SeesFull}
+use Rattle.index_engine.specs.Says.{TellsMost, AsksOf, CanSay}
+use Rattle.engine_law.specs.Tells.{HasKeyOf}
 
 says_no_number : (m : Map) (ask : Ask) (reply : Reply) (row : Pair) (most : ℕ)
     → Says m ask reply row → TellsMost reply most

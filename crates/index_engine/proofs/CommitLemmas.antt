@@ -37,8 +37,8 @@ use Rattle.forest_world.specs.Held.{TreePass, shape_of_pass}
 use Rattle.call_law.specs.Once.{IsRightBy, AnswersOnce}
 use Rattle.call_law.specs.Spoken.{View, OwnAnswer}
 use Rattle.index_engine.specs.Commits.{IsCommitted, DidWrite, DidWriteAhead, IsFullThen, Commits, WritesAhead}
-use Rattle.index_engine.proofs.HashedLemmas.{part_no_frame}
-use Rattle.index_engine.proofs.SeenLemmas.{said_alone, said_alone_only, adds_said, one_mark, more_seen, extends_length, now_seen}
+use Rattle.engine_law.proofs.KnownLemmas.{part_no_frame}
+use Rattle.engine_law.proofs.SeenLemmas.{said_alone, said_alone_only, adds_said, one_mark, more_seen, extends_length, now_seen}
 
 module _ (p q : TreePass) (i : ℕ) (change : MapChange) (columns : Columns)
     (stands : may_stand columns ≡ true) where

@@ -16,7 +16,8 @@ use Rattle.index_engine.specs.Changes.{HoldsOldRow}
 use Rattle.index_engine.specs.Commits.{MakesChange}
 use Rattle.index_engine.specs.Hashed.{HoldsRowBack, KeepsHashed}
 use Rattle.index_engine.specs.Holds.{KeepsNumber, KeepsParts}
-use Rattle.index_engine.specs.Says.{SaysOnce, AnswersHolding}
+use Rattle.engine_law.specs.Says.{SaysOnce}
+use Rattle.index_engine.specs.Says.{AnswersHolding}
 use Rattle.index_engine.proofs.HashedLemmas.{hash_again, part_block, tidy_without, without_block}
 use Rattle.index_engine.proofs.HoldLemmas.{frame_again}
 use Rattle.index_engine.proofs.RehashLemmas.{del_kept, has_row, kept_as, stands_kept}

@@ -22,10 +22,10 @@ use Rattle.index_engine.specs.Changes.{HoldsRowOf, KnowsAsMuch, KnowsSame, Refus
 use Rattle.index_engine.specs.Lengthening.{GrowsRow, HoldsGrownRow, HoldsGrownRowAt, HoldsRowToGrow, HoldsSomePage, IsRestored, RowGrew, StaysUngrown}
 use Rattle.index_engine.specs.Hashed.{HoldsRowBack, HoldsRowCame, HoldsRowToGo, IsBack, KeepsHashed, KeepsRowThatCame, RowIsKept}
 use Rattle.index_engine.specs.Holds.{HoldsLeaf, IsLeafOf, KeepsNumber}
-use Rattle.index_engine.specs.Says.{OnlyLooks}
+use Rattle.engine_law.specs.Says.{OnlyLooks}
 use Rattle.index_engine.proofs.BackLemmas.{back_earlier, leaf_back}
 use Rattle.index_engine.proofs.HashedLemmas.{hash_moves, part_block, tidy_rows}
-use Rattle.index_engine.proofs.KnownLemmas.{number_stays}
+use Rattle.index_engine.proofs.NumberLemmas.{number_stays}
 use Rattle.index_engine.proofs.RehashLemmas.{before_kept, has_grown, has_row, keeps_rehashed, kept_as, kept_paged, longer_kept, moves_paged, sets_kept, sets_rehashed, stands_kept}
 use Rattle.index_engine.proofs.SettleLemmas.{parts_same, stays_both}
 

@@ -34,6 +34,7 @@ use Rattle.hash_maintain.specs.Parting.{LacksPart}
 use Rattle.hash_maintain.specs.Upkeep.{AreInPlace, IsExactIn, IsExactWhereHashed}
 use Rattle.call_law.specs.Spoken.{View}
 use Rattle.leaf_rows.specs.Changing.{frame_without}
+use Rattle.engine_law.proofs.KnownLemmas.{part_no_frame}
 use Rattle.index_engine.specs.Changes.{KnowsSame}
 use Rattle.index_engine.specs.Hashed.{IsHashedFor, HoldsPartKept, HoldsPartOf, KeepsHashed, ids_held}
 
@@ -153,10 +154,6 @@ one_part p k m x n y a b = let same = one_has p (part_id (shape_of_pass p) k) (o
 pub not_lacked : (p : TreePass) (k : ℕ) (x y : Part) → HasPart p k x y → LacksPart p k → ⊥
 not_lacked p k x y has lacks = none_is_not (holding has.held.0 (object.Part x))
     (sym lacks ∙ has.held.1)
-
--- a partition's number is no frame's
-pub part_no_frame : (s : Shape) (k b : ℕ) → k < s.parts → part_id s k ≢ frame_id s b
-part_no_frame s k b below e = omega (arith, below, e)
 
 module _ (p q : TreePass) (held : (view q).held ≡ (view p).held)
     (terms : (view q).terms ≡ (view p).terms) where

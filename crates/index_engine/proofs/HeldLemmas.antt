@@ -27,8 +27,9 @@ use Rattle.index_engine.specs.Leaving.{AnswersAndLeaves, LooksAndLeaves}
 use Rattle.index_engine.specs.Says.{AnswersHolding}
 use Rattle.index_engine.specs.Traces.{IsFullLeaf}
 use Rattle.index_engine.proofs.BothLemmas.{both_held, part_is_one}
-use Rattle.index_engine.proofs.HashedLemmas.{part_no_frame}
-use Rattle.index_engine.proofs.KnownLemmas.{gave_known, leaf_inside}
+use Rattle.engine_law.proofs.KnownLemmas.{part_no_frame}
+use Rattle.engine_law.proofs.KnownLemmas.{gave_known}
+use Rattle.index_engine.proofs.NumberLemmas.{leaf_inside}
 use Rattle.index_engine.proofs.TellLemmas.{beside_looks, beside_says}
 
 module _ (p0 q0 q1 : TreePass) (i : ℕ) (key : FieldList) (leaf : Leaf) (part : Option ℕ)

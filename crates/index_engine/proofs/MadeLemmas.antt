@@ -7,12 +7,13 @@ use Rattle.map_history.specs.Map.{MapChange, Pair}
 use Rattle.map_history.specs.Operation.{Make}
 use Rattle.forest_law.specs.declared.objects.Frame.{Frame}
 use Rattle.forest_world.specs.Held.{TreePass, shape_of_pass}
-use Rattle.index_engine.specs.declared.found.Found.{Found}
+use Rattle.engine_law.specs.declared.found.Found.{Found}
 use Rattle.index_engine.specs.Commits.{DidWrite, MakesChange}
 use Rattle.index_engine.specs.Hashed.{KeepsHashed}
 use Rattle.index_engine.specs.Holds.{HoldsLeaf}
-use Rattle.index_engine.specs.Says.{AnswersHolding, columns_by, told_made}
-use Rattle.index_engine.proofs.KnownLemmas.{made_inside, number_made}
+use Rattle.engine_law.specs.Says.{columns_by}
+use Rattle.index_engine.specs.Says.{AnswersHolding, told_made}
+use Rattle.index_engine.proofs.NumberLemmas.{made_inside, number_made}
 use Rattle.index_engine.proofs.SettleLemmas.{keeps_parts}
 use Rattle.index_engine.proofs.TellLemmas.{says_made}
 

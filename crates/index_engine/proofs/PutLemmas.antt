@@ -16,9 +16,9 @@ use Rattle.leaf_rows.proofs.ChangeLemmas.{taken_back}
 use Rattle.index_engine.specs.Changes.{HoldsInserted, HoldsNewRow, HoldsNewRowAt, HoldsPutRow, HoldsToPut, KnowsSame, TookBack}
 use Rattle.index_engine.specs.Hashed.{HoldsRowCame, HoldsRowToGo, HoldsAtRest, IsBack, KeepsHashed, RowIsKept, Settles}
 use Rattle.index_engine.specs.Holds.{IsLeafOf}
-use Rattle.index_engine.specs.Says.{OnlyLooks}
+use Rattle.engine_law.specs.Says.{OnlyLooks}
 use Rattle.index_engine.proofs.HashedLemmas.{hash_moves, part_block, tidy_rows, tidy_without, without_is}
-use Rattle.index_engine.proofs.KnownLemmas.{one_frame}
+use Rattle.engine_law.proofs.KnownLemmas.{one_frame}
 use Rattle.index_engine.proofs.RehashLemmas.{puts_kept, rests_rehashed}
 use Rattle.index_engine.proofs.SettleLemmas.{stays_both, parts_same}
 

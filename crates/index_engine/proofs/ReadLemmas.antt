@@ -28,7 +28,7 @@ use Rattle.index_engine.specs.Engines.{FitsKey}
 use Rattle.index_engine.specs.Holds.{HoldsFreshAlone, HoldsKeyRow}
 use Rattle.index_engine.specs.Traces.{IsFoundBy}
 use Rattle.index_engine.proofs.HoldLemmas.{fresh_leaf}
-use Rattle.index_engine.proofs.KnownLemmas.{one_frame, same_page}
+use Rattle.engine_law.proofs.KnownLemmas.{one_frame, same_page}
 use Rattle.index_engine.proofs.WayLemmas.{by_search}
 
 -- a key of the index has as many fields as the index's keys

@@ -29,14 +29,10 @@ use Rattle.buffer_pool.specs.Forests.{FitsTrees}
 use Rattle.tree_facts.specs.Leaves.{TellsMap}
 use Rattle.tree_facts.specs.TreeFrames.{low_of, high_of}
 use Rattle.tree_facts.proofs.LeafLemmas.{leaves_tell_maps}
-use Rattle.index_engine.specs.Says.{SeesFull, MaySay, AsksOf, CanSay}
+use Rattle.engine_law.specs.Says.{SeesFull}
+use Rattle.engine_law.proofs.WordLemmas.{map_at_end}
+use Rattle.index_engine.specs.Says.{MaySay, AsksOf, CanSay}
 use Rattle.index_engine.proofs.HoldLemmas.{frame_there}
-
--- a list is what it is after all of its changes
-pub map_at_end : (xs : Entries) → map_at xs (length xs) ≡ map_after (changes xs)
-map_at_end xs = let same : length (changes xs) ≡ length xs =
-    length-map xs (λ (e : Entry MadeChange). e.change.change) in
-    ap map_after (take_all (length xs) (changes xs) (omega (arith, same)))
 
 -- the key is in the bounds of the frame
 abbrev IsInside : Frame → FieldList → Type 0

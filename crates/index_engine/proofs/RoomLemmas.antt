@@ -31,9 +31,10 @@ use Rattle.tree_growth.specs.Growing.{FindsNoRoom}
 use Rattle.index_engine.specs.declared.write.Write.{Write}
 use Rattle.index_engine.specs.declared.write.Write.TheVariants as write
 use Rattle.index_engine.specs.Writes.{write_asked, KnowsShort, SaysNoRoom, LacksPage}
-use Rattle.index_engine.specs.declared.found.Found.{Found}
-use Rattle.index_engine.specs.Says.{columns_by, told_space_full}
-use Rattle.index_engine.specs.Tells.{HasKeyOf}
+use Rattle.engine_law.specs.declared.found.Found.{Found}
+use Rattle.engine_law.specs.Says.{columns_by}
+use Rattle.index_engine.specs.Says.{told_space_full}
+use Rattle.engine_law.specs.Tells.{HasKeyOf}
 
 module _ (p q : TreePass) (i point : ℕ) (ask : Ask) (columns : Columns)
     (did : DidRead IsLawful IsRight IsReference (view p) i

@@ -27,12 +27,14 @@ use Rattle.call_law.specs.Hands.{KnowsFrame}
 use Rattle.call_law.specs.Once.{HasFulls, IsRightBy, AnswersOnce}
 use Rattle.call_law.specs.Spoken.{View, OwnAnswer, printed_word, sayings}
 use Rattle.buffer_pool.proofs.AddedLemmas.{only_said, read_adds}
-use Rattle.index_engine.specs.declared.found.Found.{Found}
-use Rattle.index_engine.specs.Says.{SeesFull, MaySay, TellsMost, CanSay, SaysOnce, columns_by}
-use Rattle.index_engine.specs.Tells.{TellsPoint}
+use Rattle.engine_law.specs.declared.found.Found.{Found}
+use Rattle.engine_law.specs.Says.{SeesFull, SaysOnce, columns_by}
+use Rattle.index_engine.specs.Says.{MaySay, TellsMost, CanSay}
+use Rattle.engine_law.specs.Tells.{TellsPoint}
 use Rattle.index_engine.proofs.HoldLemmas.{frame_there}
-use Rattle.index_engine.proofs.SeenLemmas.{one_mark, extends_length, now_seen}
-use Rattle.index_engine.proofs.RightLemmas.{map_at_end, reply_here, allowed_here}
+use Rattle.engine_law.proofs.SeenLemmas.{one_mark, extends_length, now_seen}
+use Rattle.engine_law.proofs.WordLemmas.{map_at_end}
+use Rattle.index_engine.proofs.RightLemmas.{reply_here, allowed_here}
 
 -- a reply that changes nothing
 no_change : (r : MapReply) → r ≢ Done → is_done r ≡ 0

@@ -23,9 +23,10 @@ use Rattle.leaf_rows.specs.Setting.{rows_with, page_with, frame_with}
 use Rattle.index_engine.specs.Changes.{RefusesHolding}
 use Rattle.index_engine.specs.Hashed.{KeepsHashed}
 use Rattle.index_engine.specs.Holds.{StaysKnown}
-use Rattle.index_engine.specs.Says.{OnlyLooks, AnswersHolding}
+use Rattle.engine_law.specs.Says.{OnlyLooks}
+use Rattle.index_engine.specs.Says.{AnswersHolding}
 use Rattle.index_engine.proofs.HashedLemmas.{part_asks, tidy_rows}
-use Rattle.index_engine.proofs.KnownLemmas.{number_later}
+use Rattle.index_engine.proofs.NumberLemmas.{number_later}
 use Rattle.index_engine.proofs.SettleLemmas.{parts_same, stays_both}
 use Rattle.index_engine.proofs.TellLemmas.{looks_both, looks_then_says}
 

@@ -32,7 +32,7 @@ use Rattle.buffer_pool.proofs.FrameLemmas.{one_held}
 use Rattle.index_engine.specs.Changes.{KnowsSame}
 use Rattle.index_engine.specs.Hashed.{HoldsPartKept, HoldsPartOf, HoldsAtRest, Settles}
 use Rattle.index_engine.specs.Holds.{KeepsParts, StaysKnown}
-use Rattle.index_engine.specs.Says.{SeesFull}
+use Rattle.engine_law.specs.Says.{SeesFull}
 use Rattle.index_engine.proofs.KeptLemmas.{hash_kept, one_at, others_rest, whole_kept}
 
 -- a partition that is known isn't lacked

@@ -34,18 +34,20 @@ use Rattle.buffer_pool.specs.Tries.{tries_alone}
 use Rattle.buffer_pool.proofs.PartLemmas.{part_no_tree}
 use Rattle.buffer_pool.proofs.AddedLemmas.{only_given, gave_adds, frame_no_tree, given_spares, spares_both}
 use Rattle.tree_descent.specs.declared.descending.Leaf.{Leaf}
-use Rattle.index_engine.specs.declared.found.Found.{Found}
+use Rattle.engine_law.specs.declared.found.Found.{Found}
 use Rattle.index_engine.specs.Commits.{IsCommitted}
 use Rattle.index_engine.specs.Holds.{HoldsLeaf, KeepsNumber}
 use Rattle.index_engine.specs.Hashed.{GivesPartOf}
 use Rattle.index_engine.specs.Leaving.{ComesToLeaf, AnswersAndLeaves}
-use Rattle.index_engine.specs.Says.{SaysOnce, SaysBeside, OnlyLooks, LooksBeside, SparesPages, AnswersHolding, columns_by, told_made}
-use Rattle.index_engine.specs.Tells.{TellsOnce}
+use Rattle.engine_law.specs.Says.{SaysOnce, OnlyLooks, columns_by}
+use Rattle.index_engine.specs.Says.{SaysBeside, LooksBeside, SparesPages, AnswersHolding, told_made}
+use Rattle.engine_law.specs.Tells.{TellsOnce}
 use Rattle.index_engine.specs.Traces.{Finding, EndsOnLeaf}
-use Rattle.index_engine.proofs.FrameTraceLemmas.{frames_both, said_frames}
+use Rattle.engine_law.proofs.FrameTraceLemmas.{frames_both, said_frames, said_spares}
 use Rattle.index_engine.proofs.HoldLemmas.{frame_again}
 use Rattle.index_engine.proofs.SettleLemmas.{stays_same}
-use Rattle.index_engine.proofs.KnownLemmas.{gave_known, knows_same, page_number, number_stays, leaf_inside}
+use Rattle.engine_law.proofs.KnownLemmas.{gave_known, knows_same, page_number}
+use Rattle.index_engine.proofs.NumberLemmas.{number_stays, leaf_inside}
 
 -- nothing was answered, and then nothing
 pub looks_both : (v v0 v1 : View) (i : ℕ) → OnlyLooks v v0 i → OnlyLooks v0 v1 i
@@ -104,15 +106,6 @@ said_holding p q b i key f ask told row holds known same says = record {
   };
   number = number_stays (view p) b f holds.has.held;
   stays = stays_same p q same says.once.adds.numbers.terms known;
-}
-
--- what was only said spares the trees
-pub said_spares : (shape : Shape) (s : Added) → IsOnlySaid s → SparesTrees shape s
-said_spares shape s only = record {
-  refused = subst (AllByRecursion (λ (f : Refusal Object). IsNoTree shape f.object))
-      (sym only.refused) tt;
-  references = subst (AllByRecursion (λ (q : Reference Object). IsNoTree shape q.object))
-      (sym only.references) tt;
 }
 
 -- so what was only said is told beside nothing

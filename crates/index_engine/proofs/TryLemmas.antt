@@ -27,7 +27,7 @@ use Rattle.leaf_search.specs.Tries.{TriesAfter}
 use Rattle.index_engine.specs.Leaving.{ComesToLeaf, AnswersAndLeaves, LooksAndLeaves, LeavesFull}
 use Rattle.index_engine.specs.Traces.{Finding, AreWayTo, IsFoundBy, EndsOnLeaf, IsFullLeaf, TellsOfWrite, GivesUp}
 use Rattle.index_engine.specs.Writes.{LacksPage, TellsGrowth, TellsAgain, AnswersAgain, AnswersWrite, MakesRoomThen, TriesWrite, LeavesUnanswered}
-use Rattle.index_engine.proofs.FrameTraceLemmas.{frames_both}
+use Rattle.engine_law.proofs.FrameTraceLemmas.{frames_both}
 use Rattle.index_engine.proofs.TellLemmas.{tells_found}
 use Rattle.index_engine.proofs.WayLemmas.{looks_found, ends_told}
 

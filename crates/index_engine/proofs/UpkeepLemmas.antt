@@ -27,7 +27,8 @@ use Rattle.buffer_pool.specs.Frames.{TakesOut, PutsBack}
 use Rattle.buffer_pool.specs.Hands.{HasOut}
 use Rattle.buffer_pool.specs.Parts.{part_of_index, part_ids}
 use Rattle.index_engine.specs.Hashed.{IsHashedFor, HoldsPartKept, HoldsPartOf, KeepsHashed, RowIsKept, ids_held}
-use Rattle.index_engine.proofs.HashedLemmas.{part_asks, one_part, not_lacked, part_no_frame, of_still, rest_still, exact_where, in_place}
+use Rattle.engine_law.proofs.KnownLemmas.{part_no_frame}
+use Rattle.index_engine.proofs.HashedLemmas.{part_asks, one_part, not_lacked, of_still, rest_still, exact_where, in_place}
 use Rattle.index_engine.proofs.HoldLemmas.{frame_there}
 
 -- a test that is there

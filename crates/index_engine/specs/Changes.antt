@@ -21,7 +21,7 @@ use Rattle.leaf_rows.specs.Finding.{HasRow, HasSpot}
 use Rattle.leaf_rows.specs.Setting.{frame_with, IsNoLonger, SetsValue, value_refusal, LacksRoomFor}
 use Rattle.index_engine.specs.Hashed.{KeepsHashed}
 use Rattle.index_engine.specs.Holds.{HoldsLeaf, KeepsNumber, StaysKnown}
-use Rattle.index_engine.specs.Says.{OnlyLooks}
+use Rattle.engine_law.specs.Says.{OnlyLooks}
 
 -- the frame has a leaf, on which the key belongs at the spot
 pub record HasSpotIn (f : Frame) (key : FieldList) (spot : Spot) : Type 0 where

@@ -21,7 +21,7 @@ use Rattle.call_law.specs.Once.{AnswersOnce}
 use Rattle.call_law.specs.Trace.{IsOnlySaid}
 use Rattle.index_engine.specs.Hashed.{KeepsHashed}
 use Rattle.index_engine.specs.Holds.{HoldsLeaf}
-use Rattle.index_engine.specs.Says.{SeesFull, OnlyLooks}
+use Rattle.engine_law.specs.Says.{SeesFull, OnlyLooks}
 
 -- the change, which the rows of the frame f allow, makes it the frame g, whose page is in order
 pub record MakesChange (shape : Shape) (change : MapChange) (f g : Frame) : Type 0 where

@@ -24,7 +24,7 @@ use Rattle.buffer_pool.specs.Parts.{part_of_index, part_ids, HoldsPartIf, KnowsP
 use Rattle.leaf_rows.specs.Changing.{hashed_as}
 use Rattle.tree_descent.specs.declared.descending.Leaf.{Leaf}
 use Rattle.index_engine.specs.Holds.{HoldsFresh, HoldsFreshAlone, StaysKnown}
-use Rattle.index_engine.specs.Says.{OnlyLooks}
+use Rattle.engine_law.specs.Says.{OnlyLooks}
 
 -- the frame isn't hashed, or it is for this index
 abbrev pub IsHashedFor : Option ℕ → Frame → Type 0

@@ -1,8 +1,7 @@
-pub mod Tells
 pub mod Traces
 pub mod Searched
-pub mod Engines
 pub mod Learners
+pub mod Engines
 pub mod Holds
 pub mod Leaving
 pub mod Hashed
@@ -11,7 +10,3 @@ pub mod Commits
 pub mod Changes
 pub mod Lengthening
 pub mod Writes
-pub mod SeekTraces
-pub mod Seeks
-pub mod SeekHands
-pub mod SeekSteps

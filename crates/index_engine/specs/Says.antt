@@ -22,15 +22,10 @@ use Rattle.forest_world.specs.Held.{TreePass}
 use Rattle.call_law.specs.Once.{IsQuiet, AnswersOnce}
 use Rattle.call_law.specs.Spoken.{View}
 use Rattle.call_law.specs.Trace.{Added, IsOnlySaid, SparesTrees, frame_references}
-use Rattle.index_engine.specs.declared.found.Found.{Found}
+use Rattle.engine_law.specs.declared.found.Found.{Found}
+use Rattle.engine_law.specs.Says.{SeesFull, SaysOnce}
+use Rattle.engine_law.specs.Tells.{HasKeyOf, IsTold}
 use Rattle.index_engine.specs.Holds.{HoldsLeaf, HoldsStill, KeepsNumber, StaysKnown}
-use Rattle.index_engine.specs.Tells.{HasKeyOf, IsTold}
-
--- the list of the index was seen with as many changes as it may have
-pub record SeesFull (v : View) (i : ℕ) : Type 0 where
-  pub list : Entries
-  pub seen : get_elem? v.seen i ≡ some list
-  pub full : length list ≡ v.terms.max_changes
 
 -- the rows of the held leaf make the word right: the map's reply that changes nothing, or the
 -- refusal of an allowed change at a full list
@@ -64,19 +59,6 @@ pub record CanSay (p : TreePass) (i : ℕ) (key : FieldList) (ask : Ask) (reply 
   pub most : TellsMost reply (view p).terms.max_changes
   pub row_key : HasKeyOf ask reply row
 
--- the one answer was told, not for want of a page, and nothing else was done
-pub record SaysOnce (v v' : View) (i : ℕ) (ask : Ask) (told : Told) (row : Pair) : Type 0 where
-  pub answer : Answer
-  pub is_told : IsTold ask told row answer
-  pub once : AnswersOnce v v' i ask answer
-  pub only : IsOnlySaid once.added
-  pub placed : told.reply ≢ words.SpaceFull
-
--- nothing was answered, and nothing else was done; the list may have been looked at
-pub record OnlyLooks (v v' : View) (i : ℕ) : Type 0 where
-  pub quiet : IsQuiet v v' i
-  pub only : IsOnlySaid quiet.added
-
 -- the pass has answered once, holds what it held, as it is known to be, and with it the leaf, of
 -- the same number
 pub record AnswersHolding (p q : TreePass) (b i : ℕ) (ask : Ask) (told : Told)
@@ -103,10 +85,6 @@ pub record SaysBeside (v v' : View) (i : ℕ) (ask : Ask) (told : Told) (row : P
 pub record LooksBeside (v v' : View) (i : ℕ) : Type 0 where
   pub quiet : IsQuiet v v' i
   pub beside : SparesPages v.terms.shape quiet.added
-
--- the two columns of what is told by a leaf that was found so
-abbrev pub columns_by : Found → Columns
-columns_by found = record { how = found.how; note = found.note }
 
 -- what is told of a change that was made at the point
 abbrev pub told_made : Found → ℕ → Told

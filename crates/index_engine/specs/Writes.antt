@@ -21,7 +21,7 @@ use Rattle.buffer_pool.specs.Forests.{FitsTrees}
 use Rattle.index_engine.specs.declared.write.Write.{Write}
 use Rattle.index_engine.specs.declared.write.Write.TheVariants as write
 use Rattle.index_engine.specs.Leaving.{AnswersAndLeaves, LooksAndLeaves, LeavesFull}
-use Rattle.index_engine.specs.Tells.{TellsOnce}
+use Rattle.engine_law.specs.Tells.{TellsOnce}
 use Rattle.index_engine.specs.Traces.{AreWayTo, EndsOnLeaf, IsFullLeaf}
 
 -- what a write asks: a new row, or another value for the row of the key

@@ -9,15 +9,15 @@ ghost use Rattle.leaf_search.specs.Tries.{TriesAfter};
 ghost use Rattle.index_engine.specs.Engines.{known, lessons_of, IsOf, IsSame, indexes_of, FitsKey};
 ghost use Rattle.index_engine.specs.Engines.{FitsTuple};
 ghost use Rattle.index_engine.specs.Searched.{SearchedFor, SoughtFor};
-ghost use Rattle.index_engine.specs.SeekTraces.{TellsOfSeek};
+ghost use Rattle.index_seeks.specs.SeekTraces.{TellsOfSeek};
 ghost use Rattle.index_engine.specs.Traces.{TellsByLeaf, TellsOfDel, TellsOfWrite, GivesUp};
 ghost use Rattle.index_engine.specs.Writes.{mode_of_write, write_asked};
 
 use crate::engine::{Engine, EnginePass};
 use crate::write::Write;
-use hash_guess::{Guess, guess};
+use index_seeks::seek_row;
 use key_tuple::{Key, Mode, NoMemory, Tuple, Value};
-use leaf_search::{KeySearch, how_of, note_of_hit};
+use leaf_search::KeySearch;
 use map_history::{How, Reply, RowBuf, Told};
 use std::sync::Wait;
 
@@ -74,24 +74,17 @@ impl Engine {
         ensures searched { SoughtFor pass.old index mode tuple.now (columns_told result) pass.new }
     {
         let (world, learn) = (&mut pass.world, &mut pass.learn);
-        match guess(&self.space, world, &self.learner, learn, index, tuple, mode) {
-            Guess::Hit {
-                block,
-                place,
-                learn,
-                ..
-            } => {
-                let note = note_of_hit(&learn);
-                self.seek_call(index, mode, tuple, How::Hit, note, wait)
-                    .end_on_hit(&mut pass.world, block, place, out)
-            }
-            Guess::Miss { cause, .. } => {
-                let (world, learn) = (&mut pass.world, &mut pass.learn);
-                let (pair, note) = self.find_pair(world, learn, index, mode, tuple, wait);
-                self.seek_call(index, mode, tuple, how_of(&cause), note, wait)
-                    .seek(&mut pass.world, &pair, out)
-            }
-        }
+        seek_row(
+            &self.space,
+            world,
+            &self.learner,
+            learn,
+            index,
+            mode,
+            tuple,
+            out,
+            wait,
+        )
     }
 
     /// A new row: `Ok`, `Duplicate` where the key is there, `LogFull` where the index has had all

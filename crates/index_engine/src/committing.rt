@@ -6,10 +6,10 @@ ghost use Rattle.index_law.specs.Meanings.{change_lent, change_by};
 ghost use Rattle.forest_law.specs.declared.objects.Frame.{Frame};
 ghost use Rattle.forest_law.specs.Opening.{new_frame};
 ghost use Rattle.index_engine.specs.Commits.{CanCommit, Commits, CanWriteAhead, WritesAhead};
-ghost use Rattle.index_engine.specs.Says.{columns_by};
+ghost use Rattle.engine_law.specs.Says.{columns_by};
 
-use crate::found::Found;
 use crate::tree_call::TreeCall;
+use engine_law::Found;
 use forest_law::blocks_ask_the_same;
 use forest_world::ForestPass;
 use index_law::{ChangeRef, Deed};

@@ -10,11 +10,11 @@ ghost use Rattle.leaf_search.specs.Searches.{Searches};
 ghost use Rattle.leaf_search.specs.Traces.{SearchTrace};
 ghost use Rattle.index_engine.specs.Engines.{indexes_of, FitsKey};
 ghost use Rattle.index_engine.specs.Holds.{HoldsFreshAlone};
-ghost use Rattle.index_engine.specs.Says.{columns_by};
+ghost use Rattle.engine_law.specs.Says.{columns_by};
 
 use crate::engine::Engine;
-use crate::found::Found;
 use crate::tree_call::TreeCall;
+use engine_law::Found;
 use forest_world::ForestPass;
 use key_tuple::{Key, Mode};
 use leaf_search::{KeySearch, Searched, key_spot, search_key};

@@ -7,10 +7,10 @@ ghost use Rattle.map_history.specs.Told.{Says, columns_told};
 ghost use Rattle.index_page.specs.Page.{PageRows};
 ghost use Rattle.tree_law.specs.Pages.{row_pairs};
 ghost use Rattle.index_engine.specs.Changes.{HasKeyRowIn, HasSpotIn};
-ghost use Rattle.index_engine.specs.Tells.{HasKeyOf};
+ghost use Rattle.engine_law.specs.Tells.{HasKeyOf};
 ghost use Rattle.index_engine.specs.Holds.{HoldsFreshAlone, HoldsKeyRow};
 ghost use Rattle.index_engine.specs.Leaving.{AnswersAndLeaves};
-ghost use Rattle.index_engine.specs.Says.{columns_by};
+ghost use Rattle.engine_law.specs.Says.{columns_by};
 ghost use Rattle.leaf_rows.specs.Finding.{HasRow, HasSpot};
 
 use crate::tree_call::TreeCall;

@@ -7,7 +7,8 @@ ghost use Rattle.map_history.specs.Operation.{operation_by};
 ghost use Rattle.map_history.specs.Told.{columns_told};
 ghost use Rattle.call_law.specs.Once.{IsQuiet};
 ghost use Rattle.index_engine.specs.Writes.{write_asked, KnowsShort, SaysNoRoom, TellsGrowth};
-ghost use Rattle.index_engine.specs.Says.{columns_by, told_space_full};
+ghost use Rattle.engine_law.specs.Says.{columns_by};
+ghost use Rattle.index_engine.specs.Says.{told_space_full};
 
 use crate::tree_call::TreeCall;
 use crate::write::Write;

@@ -9,7 +9,8 @@ ghost use Rattle.index_law.specs.Meanings.{lent_row};
 ghost use Rattle.index_engine.specs.Changes.{HoldsRowOf, KnowsAsMuch, RefusesHolding};
 ghost use Rattle.index_engine.specs.Hashed.{IsBack};
 ghost use Rattle.index_engine.specs.Lengthening.{HoldsGrownRow, HoldsGrownRowAt, IsLongerIn};
-ghost use Rattle.index_engine.specs.Says.{columns_by, AnswersHolding};
+ghost use Rattle.engine_law.specs.Says.{columns_by};
+ghost use Rattle.index_engine.specs.Says.{AnswersHolding};
 
 use crate::saying::made;
 use crate::tree_call::TreeCall;

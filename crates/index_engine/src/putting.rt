@@ -10,7 +10,8 @@ ghost use Rattle.latch_space.specs.Has.{IsKnown};
 ghost use Rattle.index_engine.specs.Changes.{HoldsNewRow, HoldsNewRowAt, HoldsRefusing, HoldsToPut};
 ghost use Rattle.index_engine.specs.Changes.{KnowsAsMuch, RefusesHolding};
 ghost use Rattle.index_engine.specs.Hashed.{HoldsHashed, IsBack};
-ghost use Rattle.index_engine.specs.Says.{columns_by, AnswersHolding};
+ghost use Rattle.engine_law.specs.Says.{columns_by};
+ghost use Rattle.index_engine.specs.Says.{AnswersHolding};
 
 use crate::changing::find_row;
 use crate::saying::made;

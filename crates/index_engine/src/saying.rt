@@ -6,11 +6,13 @@ ghost use Rattle.latch_space.specs.Spaces.{IsPassOf};
 ghost use Rattle.map_history.specs.Operation.{operation_by};
 ghost use Rattle.index_law.specs.Meanings.{lent_row};
 ghost use Rattle.map_history.specs.Told.{columns_told};
-ghost use Rattle.index_engine.specs.Says.{CanSay, SaysOnce, SeesFull, OnlyLooks};
-ghost use Rattle.index_engine.specs.Says.{columns_by, told_made};
+ghost use Rattle.engine_law.specs.Says.{SaysOnce, SeesFull, OnlyLooks};
+ghost use Rattle.index_engine.specs.Says.{CanSay};
+ghost use Rattle.engine_law.specs.Says.{columns_by};
+ghost use Rattle.index_engine.specs.Says.{told_made};
 
-use crate::found::Found;
 use crate::tree_call::TreeCall;
+use engine_law::Found;
 use forest_world::ForestPass;
 use index_law::Say;
 use map_history::{OpRef, Reply, RowBuf, Told};

@@ -9,7 +9,8 @@ ghost use Rattle.map_history.specs.Told.{columns_told};
 ghost use Rattle.index_law.specs.Meanings.{lent_row};
 ghost use Rattle.index_engine.specs.Changes.{HoldsRowOf, HoldsRowToSet, RefusesHolding};
 ghost use Rattle.index_engine.specs.Hashed.{HoldsHashed};
-ghost use Rattle.index_engine.specs.Says.{columns_by, CanSay, SaysOnce, AnswersHolding};
+ghost use Rattle.engine_law.specs.Says.{columns_by, SaysOnce};
+ghost use Rattle.index_engine.specs.Says.{CanSay, AnswersHolding};
 
 use crate::changing::find_row;
 use crate::committing::Becomes;

@@ -3,7 +3,7 @@ ghost use Rattle.std.specs.Prelude.{◌≡◌, ◌<◌, ◌≤◌, length};
 ghost use Rattle.forest_law.specs.State.{fields_for};
 ghost use Rattle.buffer_pool.specs.Forests.{IsForest};
 
-use crate::found::Found;
+use engine_law::Found;
 use forest_world::ForestSpace;
 use key_tuple::Key;
 use std::alloc::Global;

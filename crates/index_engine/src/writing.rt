@@ -8,7 +8,8 @@ ghost use Rattle.index_law.specs.Meanings.{lent_row};
 ghost use Rattle.index_engine.specs.Changes.{RefusesHolding};
 ghost use Rattle.index_engine.specs.Hashed.{HoldsHashed};
 ghost use Rattle.index_engine.specs.Holds.{HoldsFreshAlone};
-ghost use Rattle.index_engine.specs.Says.{columns_by, AnswersHolding};
+ghost use Rattle.engine_law.specs.Says.{columns_by};
+ghost use Rattle.index_engine.specs.Says.{AnswersHolding};
 ghost use Rattle.index_engine.specs.Writes.{write_asked, AnswersWrite, LeavesUnanswered};
 ghost use Rattle.index_engine.specs.Writes.{TellsAgain, TriesWrite};
 

@@ -5,7 +5,7 @@ use Rattle.map_history.specs.declared.reply.Told.{Told}
 use Rattle.map_history.specs.Report.{Columns}
 use Rattle.map_history.specs.Told.{columns_told}
 use Rattle.index_engine.specs.Engines.{lessons_of}
-use Rattle.index_engine.specs.Says.{columns_by}
+use Rattle.engine_law.specs.Says.{columns_by}
 use Rattle.leaf_search.specs.Traces.{SearchTrace}
 use Rattle.index_engine.specs.Searched.{SearchedFor}
 use Rattle.index_engine.specs.Writes.{mode_of_write, write_asked, AnswersWrite, LeavesUnanswered}

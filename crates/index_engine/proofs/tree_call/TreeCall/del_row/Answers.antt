@@ -13,7 +13,7 @@ use Rattle.index_engine.specs.Holds.{KeepsParts}
 use Rattle.index_engine.proofs.BackLemmas.{back_as, back_leaf, back_full, back_most, back_answers}
 use Rattle.index_engine.proofs.CallLemmas.{can_refuse}
 use Rattle.index_engine.proofs.GoneLemmas.{hash_next, makes_next, came_again}
-use Rattle.index_engine.proofs.KnownLemmas.{number_made, made_inside}
+use Rattle.index_engine.proofs.NumberLemmas.{number_made, made_inside}
 use Rattle.index_engine.proofs.RehashLemmas.{old_rehashed, stands_kept}
 use Rattle.index_engine.proofs.RowLemmas.{has_key}
 use Rattle.index_engine.proofs.SettleLemmas.{keeps_parts, known_after}

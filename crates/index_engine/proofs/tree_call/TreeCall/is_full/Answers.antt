@@ -1,6 +1,6 @@
 use Rattle.std.proofs.Common.{ap, ◌∙◌, sym, arith}
 use Rattle.latch_space.proofs.Pointwise.{sees_each}
-use Rattle.index_engine.proofs.LookLemmas.{looks, look_full, full_look}
+use Rattle.engine_law.proofs.LookLemmas.{looks, look_full, full_look}
 use Rattle.index_engine.proofs.tree_call.TreeCall.is_full.Goals as goal
 
 pub returns-clause-looked : goal.returns-clause-looked

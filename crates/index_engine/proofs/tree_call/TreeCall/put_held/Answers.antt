@@ -9,7 +9,7 @@ use Rattle.index_engine.proofs.CallLemmas.{can_duplicate, can_refuse}
 use Rattle.index_engine.proofs.HashedLemmas.{hash_again}
 use Rattle.index_engine.proofs.HoldLemmas.{frame_again, leaf_again}
 use Rattle.index_engine.proofs.SettleLemmas.{known_again, parts_same, stays_both, stays_same}
-use Rattle.index_engine.proofs.KnownLemmas.{number_stays, number_later, leaf_inside}
+use Rattle.index_engine.proofs.NumberLemmas.{number_stays, number_later, leaf_inside}
 use Rattle.index_engine.proofs.RowLemmas.{found_old, found_new, has_key, lacks_key}
 use Rattle.index_engine.proofs.TellLemmas.{looks_same, looks_then_says, said_holding}
 use Rattle.index_engine.proofs.tree_call.TreeCall.put_held.Goals as goal

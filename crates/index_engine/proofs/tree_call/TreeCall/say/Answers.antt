@@ -1,6 +1,6 @@
 use Rattle.index_law.specs.Meanings.{lent_row}
 use Rattle.map_history.specs.Operation.{operation_by}
-use Rattle.index_engine.specs.Says.{columns_by}
+use Rattle.engine_law.specs.Says.{columns_by}
 use Rattle.index_engine.proofs.RightLemmas.{may_answer}
 use Rattle.index_engine.proofs.SayLemmas.{says_once}
 use Rattle.index_engine.proofs.tree_call.TreeCall.say.Goals as goal

@@ -2,7 +2,7 @@ use Rattle.std.proofs.Common.{sym, subst}
 use Rattle.latch_space.specs.Passes.{view}
 use Rattle.map_history.specs.Operation.{operation_by}
 use Rattle.index_law.specs.Rightness.{AsksToWrite}
-use Rattle.index_engine.specs.Says.{columns_by}
+use Rattle.engine_law.specs.Says.{columns_by}
 use Rattle.index_engine.specs.Writes.{SaysNoRoom}
 use Rattle.index_engine.proofs.RoomLemmas.{says_no_room, may_say_full, write_asks}
 use Rattle.index_engine.proofs.tree_call.TreeCall.say_space_full.Goals as goal

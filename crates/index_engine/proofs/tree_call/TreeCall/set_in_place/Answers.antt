@@ -13,7 +13,7 @@ use Rattle.index_engine.proofs.CallLemmas.{can_refuse}
 use Rattle.index_engine.proofs.SetRowLemmas.{hash_with}
 use Rattle.index_engine.proofs.SettleLemmas.{keeps_parts, known_after, known_again, parts_same, stays_both, stays_same}
 use Rattle.index_engine.proofs.HoldLemmas.{frame_again, leaf_again}
-use Rattle.index_engine.proofs.KnownLemmas.{number_stays, number_made, leaf_inside, made_inside}
+use Rattle.index_engine.proofs.NumberLemmas.{number_stays, number_made, leaf_inside, made_inside}
 use Rattle.index_engine.proofs.RowLemmas.{has_key, set_makes}
 use Rattle.index_engine.proofs.TellLemmas.{says_made, says_same, looks_then_says}
 use Rattle.index_engine.proofs.tree_call.TreeCall.set_in_place.Goals as goal

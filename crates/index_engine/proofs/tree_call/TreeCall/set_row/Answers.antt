@@ -14,7 +14,7 @@ use Rattle.index_engine.proofs.SettleLemmas.{known_again, parts_same, stays_both
 use Rattle.index_engine.proofs.CallLemmas.{can_refuse}
 use Rattle.index_engine.proofs.ChangeLemmas.{frame_in_is}
 use Rattle.index_engine.proofs.HoldLemmas.{frame_again, leaf_again}
-use Rattle.index_engine.proofs.KnownLemmas.{number_stays, leaf_inside}
+use Rattle.index_engine.proofs.NumberLemmas.{number_stays, leaf_inside}
 use Rattle.index_engine.proofs.RowLemmas.{has_key}
 use Rattle.index_engine.proofs.SettingLemmas.{value_there, value_is}
 use Rattle.index_engine.proofs.TellLemmas.{looks_then_says}

@@ -3,7 +3,7 @@ use Rattle.latch_space.proofs.Pointwise.{sees_each}
 use Rattle.forest_law.specs.declared.objects.Object.TheVariants as object
 use Rattle.index_law.specs.Meanings.{change_lent, change_by}
 use Rattle.buffer_pool.proofs.SpaceLemmas.{objects_of, held_below}
-use Rattle.index_engine.specs.Says.{columns_by}
+use Rattle.engine_law.specs.Says.{columns_by}
 use Rattle.index_engine.proofs.CommitLemmas.{ahead_ends}
 use Rattle.index_engine.proofs.FollowLemmas.{next_values, next_at, next_else, next_suits, leaf_follows}
 use Rattle.index_engine.proofs.KeptLemmas.{whole_kept}

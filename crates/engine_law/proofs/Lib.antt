@@ -1,0 +1,5 @@
+pub mod KnownLemmas
+pub mod FrameTraceLemmas
+pub mod SeenLemmas
+pub mod WordLemmas
+pub mod LookLemmas

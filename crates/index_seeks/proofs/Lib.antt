@@ -1,0 +1,12 @@
+pub mod SpotLemmas
+pub mod PassingLemmas
+pub mod SawLemmas
+pub mod TellingLemmas
+pub mod SeekTraceLemmas
+pub mod SeekTryLemmas
+pub mod SeekHandLemmas
+pub mod StandLemmas
+pub mod StepLemmas
+pub mod SeekLearnLemmas
+pub mod SeekHitLemmas
+pub mod SeekMissLemmas

@@ -1,0 +1,24 @@
+use Rattle.std.proofs.Common.{ap, ◌∙◌, sym, arith}
+use Rattle.latch_space.specs.Passes.{view}
+use Rattle.latch_space.proofs.Pointwise.{sees_each}
+use Rattle.index_law.specs.Answers.{Look}
+use Rattle.engine_law.proofs.LookLemmas.{looks}
+use Rattle.index_seeks.proofs.SawLemmas.{counts_past}
+use Rattle.index_seeks.proofs.seek_call.SeekCall.count_changes.Goals as goal
+
+pub returns-then-speaks_at-clause-looked : goal.returns-then-speaks_at-clause-looked
+returns-then-speaks_at-clause-looked g c = looks c.args.pass.now c.read_point-point.new.pass
+    c.args.self.now.index c.read_point-point.result c.read_point-point.ensures.did
+
+pub returns-then-speaks_at-clause-past : goal.returns-then-speaks_at-clause-past
+returns-then-speaks_at-clause-past g c = let call = c.args.self.now in let p = c.args.pass.now in
+    let indexes = ap (λ z. z.indexes) c.requires.own.1 in let below = call.there in
+    let lists = call.forest.lists in
+    let room = sees_each p call.index (omega (arith, indexes, lists, below)) in
+    counts_past (view p) (view c.read_point-point.new.pass) call.index call.mode call.tuple.now
+    c.args.bound Look c.read_point-point.result c.read_point-point.ensures.did room
+    (sym c.speaks_at.ensures ∙ c.if-speaks_at.true)
+
+pub returns-else-speaks_at-clause-looked : goal.returns-else-speaks_at-clause-looked
+returns-else-speaks_at-clause-looked g c = looks c.args.pass.now c.read_point-point.new.pass
+    c.args.self.now.index c.read_point-point.result c.read_point-point.ensures.did

@@ -1,0 +1,35 @@
+use Rattle.std.proofs.Common.{subst, rules}
+use Rattle.latch_space.specs.Passes.{view}
+use Rattle.index_seeks.specs.SeekSteps.{TriesSeek}
+use Rattle.index_seeks.proofs.SeekTryLemmas.{tries_vain, tries_way, vain_none, vain_both, vain_then_way}
+use Rattle.index_seeks.proofs.seek_call.SeekCall.seek_again.Goals as goal
+
+pub loop-init : goal.loop-init
+loop-init g c = record {
+  own = search rules;
+  nothing = c.requires.nothing;
+  vain = vain_none (view c.args.pass.now) c.args.self.now.index;
+}
+
+pub returns-in-Some-try_seek-clause-told : goal.returns-in-Some-try_seek-clause-told
+returns-in-Some-try_seek-clause-told g c = let call = c.args.self.now in
+    let v = view c.loop.pass in let v' = view c.try_seek.new.pass in
+    let told = c.in-Some-try_seek.told in let out = c.try_seek.new.out in
+    vain_then_way (view c.args.pass.now) v v' call.index c.loop.invariant.vain call.mode
+    call.tuple.now told out
+    (tries_way v v' call.index call.mode call.tuple.now told out
+    (subst (λ o. TriesSeek v v' call.index call.mode call.tuple.now o out) c.in-Some-try_seek.is
+    c.try_seek.ensures.tried))
+
+pub loop-preserved : goal.loop-preserved
+loop-preserved g c = let call = c.args.self.now in record {
+  own = search rules;
+  nothing = c.try_seek.ensures.nothing;
+  vain = vain_both (view c.args.pass.now) (view c.loop.pass) (view c.try_seek.new.pass) call.index
+      c.loop.invariant.vain
+      (tries_vain (view c.loop.pass) (view c.try_seek.new.pass) call.index call.mode
+      call.tuple.now c.try_seek.new.out
+      (subst
+      (λ o. TriesSeek (view c.loop.pass) (view c.try_seek.new.pass) call.index call.mode
+      call.tuple.now o c.try_seek.new.out) c.in_default.is c.try_seek.ensures.tried));
+}

@@ -1,0 +1,36 @@
+use Rattle.std.proofs.Common.{◌∙◌, sym, subst, refl}
+use Rattle.latch_space.specs.Passes.{view}
+use Rattle.tree_neighbours.specs.Sides.{side_of}
+use Rattle.index_seeks.specs.Seeks.{TellsRow, far_of}
+use Rattle.index_seeks.specs.SeekSteps.{CountsPast}
+use Rattle.engine_law.proofs.KnownLemmas.{knows_same}
+use Rattle.index_seeks.proofs.StandLemmas.{stands_tells, stands_past}
+use Rattle.index_seeks.proofs.seek_call.SeekCall.stand_on.Goals as goal
+
+pub tell-requires-clause-can : goal.tell-requires-clause-can
+tell-requires-clause-can g c = let call = c.args.self.now in let stands = c.requires.stands in
+    stands_tells c.args.pass.now c.args.block call.index call.mode call.tuple.now c.args.bound
+    stands c.take_row_of.new.out
+    (subst (λ b. TellsRow call.mode call.tuple.now stands.holds.is.page.rows b
+    c.take_row_of.new.out) c.if-take_row_of.true (c.take_row_of.ensures stands.holds))
+
+pub returns-in-Some-clause-then : goal.returns-in-Some-clause-then
+returns-in-Some-clause-then g c = let call = c.args.self.now in let stands = c.requires.stands in
+    let p = c.args.pass.now in let q = c.count_changes.new.pass in
+    let terms = c.count_changes.ensures.own.1.1 ∙ sym c.requires.own.1 in (
+      refl,
+      c.count_changes.ensures.looked,
+      record {
+        frame = stands.holds.frame;
+        knows = knows_same p q c.args.block stands.holds.frame
+            c.count_changes.ensures.kept.held terms stands.holds.knows;
+        saw = subst (CountsPast (view p) (view q) call.index call.mode call.tuple.now c.args.bound)
+            c.in-Some.is c.count_changes.ensures.past (far_of (side_of call.mode)
+            stands.holds.frame)
+            (stands_past p c.args.block call.index call.mode call.tuple.now c.args.bound stands
+            c.take_row_of.new.out
+            (subst (λ b. TellsRow call.mode call.tuple.now stands.holds.is.page.rows b
+            c.take_row_of.new.out) c.if-take_row_of.false
+            (c.take_row_of.ensures stands.holds)));
+      },
+    )

@@ -1,0 +1,5 @@
+pub mod SeekTraces
+pub mod Seeks
+pub mod SeekHands
+pub mod SeekSteps
+pub mod SeekSearches
