@@ -28,9 +28,10 @@ use Rattle.call_law.specs.Trace.{Added, Adds, AreGivenAt, fulls}
 use Rattle.call_law.proofs.TraceLemmas.{both_added, adds_both, given_both}
 use Rattle.forest_world.specs.Held.{TreePass, shape_of_pass}
 use Rattle.tree_descent.specs.declared.descending.Leaf.{Leaf}
-use Rattle.index_engine.specs.Leaving.{ComesToLeaf, AnswersAndLeaves, AnswersDel, MergesLater}
+use Rattle.leaf_changes.specs.Says.{AnswersAndLeaves}
+use Rattle.index_engine.specs.Leaving.{ComesToLeaf, AnswersDel, MergesLater}
 use Rattle.index_engine.specs.Traces.{IsFoundBy, TellsOfDel, HasLightPage}
-use Rattle.index_engine.proofs.TellLemmas.{TellsFound, tells_found}
+use Rattle.index_engine.proofs.FoundLemmas.{TellsFound, tells_found}
 use Rattle.index_engine.proofs.WayLemmas.{ends_told}
 
 -- the answer to a word that a change was made

@@ -20,17 +20,18 @@ use Rattle.buffer_pool.specs.Pages.{HasNumber}
 use Rattle.buffer_pool.specs.Parts.{part_of_index, HoldsPartIf}
 use Rattle.buffer_pool.proofs.AddedLemmas.{frame_still}
 use Rattle.tree_descent.specs.declared.descending.Leaf.{Leaf}
-use Rattle.index_engine.specs.Changes.{RefusesHolding}
-use Rattle.index_engine.specs.Hashed.{GivesBoth, HoldsLeafAndPart, HoldsToChange}
-use Rattle.index_engine.specs.Holds.{KeepsNumber, HoldsStill, StaysKnown}
-use Rattle.index_engine.specs.Leaving.{AnswersAndLeaves, LooksAndLeaves}
-use Rattle.index_engine.specs.Says.{AnswersHolding}
+use Rattle.leaf_changes.specs.Changes.{RefusesHolding}
+use Rattle.leaf_changes.specs.Hashed.{GivesBoth, HoldsLeafAndPart, HoldsToChange}
+use Rattle.leaf_changes.specs.Holds.{KeepsNumber, HoldsStill, StaysKnown}
+use Rattle.leaf_changes.specs.Says.{AnswersAndLeaves}
+use Rattle.index_engine.specs.Leaving.{LooksAndLeaves}
+use Rattle.leaf_changes.specs.Says.{AnswersHolding}
 use Rattle.index_engine.specs.Traces.{IsFullLeaf}
-use Rattle.index_engine.proofs.BothLemmas.{both_held, part_is_one}
+use Rattle.leaf_changes.proofs.BothLemmas.{both_held, part_is_one}
 use Rattle.engine_law.proofs.KnownLemmas.{part_no_frame}
 use Rattle.engine_law.proofs.KnownLemmas.{gave_known}
-use Rattle.index_engine.proofs.NumberLemmas.{leaf_inside}
-use Rattle.index_engine.proofs.TellLemmas.{beside_looks, beside_says}
+use Rattle.leaf_changes.proofs.NumberLemmas.{leaf_inside}
+use Rattle.leaf_changes.proofs.TellLemmas.{beside_looks, beside_says}
 
 module _ (p0 q0 q1 : TreePass) (i : ℕ) (key : FieldList) (leaf : Leaf) (part : Option ℕ)
     (took : HoldsToChange p0 i key leaf part q0) where

@@ -25,9 +25,9 @@ use Rattle.leaf_search.specs.Searches.{Searches}
 use Rattle.leaf_search.proofs.KeyRowLemmas.{key_searches, row_key, row_there, spot_there, told_hit}
 use Rattle.index_engine.specs.declared.engine.Engine.{Engine}
 use Rattle.index_engine.specs.Engines.{FitsKey}
-use Rattle.index_engine.specs.Holds.{HoldsFreshAlone, HoldsKeyRow}
+use Rattle.leaf_changes.specs.Holds.{HoldsFreshAlone, HoldsKeyRow}
 use Rattle.index_engine.specs.Traces.{IsFoundBy}
-use Rattle.index_engine.proofs.HoldLemmas.{fresh_leaf}
+use Rattle.index_engine.proofs.FreshLemmas.{fresh_leaf}
 use Rattle.engine_law.proofs.KnownLemmas.{one_frame, same_page}
 use Rattle.index_engine.proofs.WayLemmas.{by_search}
 

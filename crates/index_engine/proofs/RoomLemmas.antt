@@ -33,7 +33,7 @@ use Rattle.index_engine.specs.declared.write.Write.TheVariants as write
 use Rattle.index_engine.specs.Writes.{write_asked, KnowsShort, SaysNoRoom, LacksPage}
 use Rattle.engine_law.specs.declared.found.Found.{Found}
 use Rattle.engine_law.specs.Says.{columns_by}
-use Rattle.index_engine.specs.Says.{told_space_full}
+use Rattle.leaf_changes.specs.Says.{told_space_full}
 use Rattle.engine_law.specs.Tells.{HasKeyOf}
 
 module _ (p q : TreePass) (i point : ℕ) (ask : Ask) (columns : Columns)

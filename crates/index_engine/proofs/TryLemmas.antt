@@ -24,11 +24,12 @@ use Rattle.call_law.proofs.TraceLemmas.{quiet_both, quiet_then_once, quiet_of}
 use Rattle.buffer_pool.proofs.AddedLemmas.{none_added, held_adds}
 use Rattle.tree_descent.specs.declared.descending.Leaf.{Leaf}
 use Rattle.leaf_search.specs.Tries.{TriesAfter}
-use Rattle.index_engine.specs.Leaving.{ComesToLeaf, AnswersAndLeaves, LooksAndLeaves, LeavesFull}
+use Rattle.leaf_changes.specs.Says.{AnswersAndLeaves}
+use Rattle.index_engine.specs.Leaving.{ComesToLeaf, LooksAndLeaves, LeavesFull}
 use Rattle.index_engine.specs.Traces.{Finding, AreWayTo, IsFoundBy, EndsOnLeaf, IsFullLeaf, TellsOfWrite, GivesUp}
 use Rattle.index_engine.specs.Writes.{LacksPage, TellsGrowth, TellsAgain, AnswersAgain, AnswersWrite, MakesRoomThen, TriesWrite, LeavesUnanswered}
 use Rattle.engine_law.proofs.FrameTraceLemmas.{frames_both}
-use Rattle.index_engine.proofs.TellLemmas.{tells_found}
+use Rattle.index_engine.proofs.FoundLemmas.{tells_found}
 use Rattle.index_engine.proofs.WayLemmas.{looks_found, ends_told}
 
 -- nothing was answered yet

@@ -23,9 +23,9 @@ use Rattle.tree_descent.specs.Descents.{Descends}
 use Rattle.leaf_search.specs.declared.searched.Searched.{Searched}
 use Rattle.leaf_search.specs.Searches.{Searches}
 use Rattle.index_engine.specs.Leaving.{ComesToLeaf, LooksAndLeaves}
-use Rattle.index_engine.specs.Says.{SparesPages}
+use Rattle.leaf_changes.specs.Says.{SparesPages}
 use Rattle.index_engine.specs.Traces.{Finding, AreWayTo, IsFoundBy, EndsOnLeaf, TellsByLeaf}
-use Rattle.index_engine.proofs.TellLemmas.{TellsFound, back, back_adds, ends_all, spares_all}
+use Rattle.index_engine.proofs.FoundLemmas.{TellsFound, back, back_adds, ends_all, spares_all}
 
 -- a search found the leaf by the hash, or by a way
 pub by_search : (p : TreePass) (l : Knows) (i : ℕ) (key : FieldList) (s : Searched) (q : TreePass)

@@ -19,8 +19,8 @@ use Rattle.buffer_pool.specs.Hands.{LacksFrame}
 use Rattle.tree_descent.specs.declared.descending.Leaf.{Leaf}
 use Rattle.tree_descent.specs.Leaves.{IsLeafFor}
 use Rattle.tree_growth.specs.Growing.{GrowsSilently}
-use Rattle.index_engine.specs.Holds.{KeepsNumber}
-use Rattle.index_engine.specs.Says.{SaysBeside, LooksBeside}
+use Rattle.leaf_changes.specs.Holds.{KeepsNumber}
+use Rattle.leaf_changes.specs.Says.{SaysBeside, LooksBeside}
 use Rattle.index_engine.specs.Traces.{Finding, IsFullLeaf, HasLightPage, SeesEach}
 
 -- the leaf with the key's position is held besides, and was found so by the references that were
@@ -34,14 +34,6 @@ pub record ComesToLeaf (found : Finding) (p : TreePass) (i : ℕ) (key : FieldLi
   pub is : IsLeafFor (shape_of_pass p) frame i mode.Ge key leaf.spot
   pub came : found is.page.is.page.head.number (frame_references silently.added.references)
   pub count : count q ≡ count p + 1
-
--- the operation was answered by the leaf in hand, which then was given back
-pub record AnswersAndLeaves (p : TreePass) (b i : ℕ) (ask : Ask) (told : Told) (row : Pair)
-    (q : TreePass) : Type 0 where
-  pub between : TreePass
-  pub says : SaysBeside (view p) (view between) i ask told row
-  pub gave : GivesFrame between b q
-  pub number : KeepsNumber (view p) b gave.frame
 
 -- nothing was answered, and the leaf in hand was given back
 pub record LooksAndLeaves (p : TreePass) (b i : ℕ) (q : TreePass) : Type 0 where

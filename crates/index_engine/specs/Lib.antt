@@ -2,11 +2,5 @@ pub mod Traces
 pub mod Searched
 pub mod Learners
 pub mod Engines
-pub mod Holds
 pub mod Leaving
-pub mod Hashed
-pub mod Says
-pub mod Commits
-pub mod Changes
-pub mod Lengthening
 pub mod Writes

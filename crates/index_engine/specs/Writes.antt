@@ -20,7 +20,8 @@ use Rattle.call_law.specs.Trace.{Added, Adds, AreGivenAt, fulls}
 use Rattle.buffer_pool.specs.Forests.{FitsTrees}
 use Rattle.index_engine.specs.declared.write.Write.{Write}
 use Rattle.index_engine.specs.declared.write.Write.TheVariants as write
-use Rattle.index_engine.specs.Leaving.{AnswersAndLeaves, LooksAndLeaves, LeavesFull}
+use Rattle.leaf_changes.specs.Says.{AnswersAndLeaves}
+use Rattle.index_engine.specs.Leaving.{LooksAndLeaves, LeavesFull}
 use Rattle.engine_law.specs.Tells.{TellsOnce}
 use Rattle.index_engine.specs.Traces.{AreWayTo, EndsOnLeaf, IsFullLeaf}
 

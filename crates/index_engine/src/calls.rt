@@ -13,8 +13,10 @@ ghost use Rattle.index_seeks.specs.SeekTraces.{TellsOfSeek};
 ghost use Rattle.index_engine.specs.Traces.{TellsByLeaf, TellsOfDel, TellsOfWrite, GivesUp};
 ghost use Rattle.index_engine.specs.Writes.{mode_of_write, write_asked};
 
+use crate::deleting::delete_key;
 use crate::engine::{Engine, EnginePass};
 use crate::write::Write;
+use crate::writing::write_key;
 use index_seeks::seek_row;
 use key_tuple::{Key, Mode, NoMemory, Tuple, Value};
 use leaf_search::KeySearch;
@@ -158,8 +160,8 @@ impl Engine {
     {
         let (world, learn) = (&mut pass.world, &mut pass.learn);
         let searched = self.find(world, learn, index, key, Mode::Ge, wait);
-        self.call(index, key, searched.how, searched.note, wait)
-            .del(&mut pass.world, &searched.leaf)
+        let call = self.call(index, key, searched.how, searched.note, wait);
+        delete_key(&call, &mut pass.world, &searched.leaf)
     }
 
     /// A put or a set.
@@ -189,7 +191,7 @@ impl Engine {
         let most = u64::from(pass.sizes.max_changes);
         let (world, learn) = (&mut pass.world, &mut pass.learn);
         let searched = self.find(world, learn, index, key, write.mode(), wait);
-        self.call(index, key, searched.how, searched.note, wait)
-            .write(&mut pass.world, &searched.leaf, most, write, value)
+        let call = self.call(index, key, searched.how, searched.note, wait);
+        write_key(&call, &mut pass.world, &searched.leaf, most, write, value)
     }
 }

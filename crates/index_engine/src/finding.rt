@@ -9,14 +9,14 @@ ghost use Rattle.leaf_search.specs.KeySearches.{SearchesKey};
 ghost use Rattle.leaf_search.specs.Searches.{Searches};
 ghost use Rattle.leaf_search.specs.Traces.{SearchTrace};
 ghost use Rattle.index_engine.specs.Engines.{indexes_of, FitsKey};
-ghost use Rattle.index_engine.specs.Holds.{HoldsFreshAlone};
+ghost use Rattle.leaf_changes.specs.Holds.{HoldsFreshAlone};
 ghost use Rattle.engine_law.specs.Says.{columns_by};
 
 use crate::engine::Engine;
-use crate::tree_call::TreeCall;
 use engine_law::Found;
 use forest_world::ForestPass;
 use key_tuple::{Key, Mode};
+use leaf_changes::TreeCall;
 use leaf_search::{KeySearch, Searched, key_spot, search_key};
 use map_history::{How, Note};
 use search_info::LearnPass;

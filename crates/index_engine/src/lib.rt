@@ -3,24 +3,14 @@
 #![tactic(auto)]
 
 mod calls;
-mod changing;
 mod closing;
-mod committing;
 mod deleting;
 mod dividing;
 mod engine;
 mod error;
 mod finding;
-mod getting;
 mod growing;
-mod holding;
-mod lengthening;
 mod opening;
-mod putting;
-mod saying;
-mod setting;
-mod tree_call;
-mod upkeep;
 mod write;
 mod writing;
 

@@ -86,43 +86,43 @@ returns-in-Hit-clause-tried g c = let p = c.args.pass.now in
     subst (λ h. TriesAfter l i h m) (sym by)
     (tries_after l i ways.Hit m (of_tries l i guessed.info event.Hit hit.learn m guessed.learns))
 
-pub find_pair-pair-note-requires-clause-nothing : goal.find_pair-pair-note-requires-clause-nothing
-find_pair-pair-note-requires-clause-nothing g c = let p = c.args.pass.now in
+pub find_pair-note-requires-clause-nothing : goal.find_pair-note-requires-clause-nothing
+find_pair-note-requires-clause-nothing g c = let p = c.args.pass.now in
     let guessed = subst (λ z. Guesses p (knowledge c.args.learn.now) c.args.index c.args.mode
     c.args.tuple.now z c.guess.new.pass (knowledge c.guess.new.learn)) c.in-Miss.is
     c.guess.ensures.did in
     guessed.keeps.count ∙ c.requires.nothing
 
 pub seek_call-requires-in-Miss-clause-stands : goal.seek_call-requires-in-Miss-clause-stands
-seek_call-requires-in-Miss-clause-stands g c = let found = c.find_pair-pair-note.ensures.found in
-    let pair = c.find_pair-pair-note.result.0 in
-    subst (λ h. may_stand (record { how = h; note = c.find_pair-pair-note.result.1 }) ≡ true)
+seek_call-requires-in-Miss-clause-stands g c = let found = c.find_pair-note.ensures.found in
+    let pair = c.find_pair-note.result.0 in
+    subst (λ h. may_stand (record { how = h; note = c.find_pair-note.result.1 }) ≡ true)
     (sym c.how_of.ensures)
-    (way_stands found.between c.find_pair-pair-note.new.pass (knowledge c.guess.new.learn)
-    (knowledge c.find_pair-pair-note.new.learn) c.args.index pair.leaf.block (figures_at pair.leaf.spot)
-    c.find_pair-pair-note.result.1 found.taught c.in-Miss.cause)
+    (way_stands found.between c.find_pair-note.new.pass (knowledge c.guess.new.learn)
+    (knowledge c.find_pair-note.new.learn) c.args.index pair.leaf.block (figures_at pair.leaf.spot)
+    c.find_pair-note.result.1 found.taught c.in-Miss.cause)
 
 pub seek-requires-clause-held : goal.seek-requires-clause-held
-seek-requires-clause-held g c = let r = c.find_pair-pair-note.new.pass in
+seek-requires-clause-held g c = let r = c.find_pair-note.new.pass in
     let about = c.seek_call-in-Miss.ensures.about in let call = c.seek_call-in-Miss.result in
-    let pair = c.find_pair-pair-note.result.0 in
+    let pair = c.find_pair-note.result.0 in
     about_seek (λ n m t. HoldsLeafPair r n m t pair.leaf pair.other) c.args.index call.index c.args.mode
     call.mode c.args.tuple.now call.tuple.now (sym about.0) (sym about.1) (sym about.2)
-    c.find_pair-pair-note.ensures.held
+    c.find_pair-note.ensures.held
 
 pub returns-in-Miss-clause-told : goal.returns-in-Miss-clause-told
 returns-in-Miss-clause-told g c =
     let p = c.args.pass.now in let q = c.guess.new.pass in
-    let r = c.find_pair-pair-note.new.pass in let s = c.seek.new.pass in let i = c.args.index in
+    let r = c.find_pair-note.new.pass in let s = c.seek.new.pass in let i = c.args.index in
     let mode = c.args.mode in let tuple = c.args.tuple.now in let l = knowledge c.args.learn.now in
-    let n = knowledge c.guess.new.learn in let m = knowledge c.find_pair-pair-note.new.learn in
+    let n = knowledge c.guess.new.learn in let m = knowledge c.find_pair-note.new.learn in
     let guessed = subst (λ z. Guesses p l i mode tuple z q n) c.in-Miss.is c.guess.ensures.did in
-    let pair = c.find_pair-pair-note.result.0 in let about = c.seek_call-in-Miss.ensures.about in
+    let pair = c.find_pair-note.result.0 in let about = c.seek_call-in-Miss.ensures.about in
     let call = c.seek_call-in-Miss.result in
     let how_is = ap (λ (z : Columns). z.how) c.seek.ensures.columns
     ∙ (c.seek_call-in-Miss.ensures.found.0 ∙ c.how_of.ensures) in
     miss_told p q r s l n m i mode tuple c.in-Miss.cause c.in-Miss.learn guessed pair
-    c.find_pair-pair-note.result.1 c.find_pair-pair-note.ensures.found c.seek.result c.seek.new.out how_is
+    c.find_pair-note.result.1 c.find_pair-note.ensures.found c.seek.result c.seek.new.out how_is
     (about_seek (λ k m t. SeeksFrom (shape_of_pass r) (view r) (view s) pair.leaf.block k m t
     c.seek.result c.seek.new.out) call.index i call.mode mode call.tuple.now tuple about.0 about.1
     about.2 c.seek.ensures.told)
@@ -130,16 +130,16 @@ returns-in-Miss-clause-told g c =
 pub returns-in-Miss-clause-tried : goal.returns-in-Miss-clause-tried
 returns-in-Miss-clause-tried g c =
     let p = c.args.pass.now in let q = c.guess.new.pass in
-    let r = c.find_pair-pair-note.new.pass in let s = c.seek.new.pass in let i = c.args.index in
+    let r = c.find_pair-note.new.pass in let s = c.seek.new.pass in let i = c.args.index in
     let mode = c.args.mode in let tuple = c.args.tuple.now in let l = knowledge c.args.learn.now in
-    let n = knowledge c.guess.new.learn in let m = knowledge c.find_pair-pair-note.new.learn in
+    let n = knowledge c.guess.new.learn in let m = knowledge c.find_pair-note.new.learn in
     let guessed = subst (λ z. Guesses p l i mode tuple z q n) c.in-Miss.is c.guess.ensures.did in
-    let pair = c.find_pair-pair-note.result.0 in let about = c.seek_call-in-Miss.ensures.about in
+    let pair = c.find_pair-note.result.0 in let about = c.seek_call-in-Miss.ensures.about in
     let call = c.seek_call-in-Miss.result in
     let how_is = ap (λ (z : Columns). z.how) c.seek.ensures.columns
     ∙ (c.seek_call-in-Miss.ensures.found.0 ∙ c.how_of.ensures) in
     miss_tried p q r s l n m i mode tuple c.in-Miss.cause c.in-Miss.learn guessed pair
-    c.find_pair-pair-note.result.1 c.find_pair-pair-note.ensures.found c.seek.result c.seek.new.out how_is
+    c.find_pair-note.result.1 c.find_pair-note.ensures.found c.seek.result c.seek.new.out how_is
 
 pub returns-in-Hit-clause-searched : goal.returns-in-Hit-clause-searched
 returns-in-Hit-clause-searched g c = let p = c.args.pass.now in
@@ -169,9 +169,9 @@ returns-in-Miss-clause-searched g c = let p = c.args.pass.now in
       learn = miss.learn;
       guess = subst (λ z. Guesses p (knowledge c.args.learn.now) c.args.index c.args.mode
           c.args.tuple.now z q (knowledge c.guess.new.learn)) miss.is c.guess.ensures.did;
-      after = c.find_pair-pair-note.new.pass;
-      pair = c.find_pair-pair-note.result.0;
-      note = c.find_pair-pair-note.result.1;
-      went = c.find_pair-pair-note.ensures.found;
+      after = c.find_pair-note.new.pass;
+      pair = c.find_pair-note.result.0;
+      note = c.find_pair-note.result.1;
+      went = c.find_pair-note.ensures.found;
       told = c.seek.ensures.columns ∙ (λ j. record { how = how j; note = call.1 j });
     })

@@ -11,11 +11,11 @@ use Rattle.leaf_search.specs.Tries.{TriesAfter}
 use Rattle.leaf_search.proofs.KeyRowLemmas.{key_traces, told_hit}
 use Rattle.leaf_search.proofs.SearchLemmas.{hit_stands}
 use Rattle.index_engine.specs.Engines.{lessons_of}
-use Rattle.index_engine.specs.Holds.{HoldsFreshAlone, HoldsKeyRow}
-use Rattle.index_engine.specs.Leaving.{AnswersAndLeaves}
+use Rattle.leaf_changes.specs.Holds.{HoldsFreshAlone, HoldsKeyRow}
+use Rattle.leaf_changes.specs.Says.{AnswersAndLeaves}
 use Rattle.index_engine.specs.Traces.{IsFoundBy}
 use Rattle.index_engine.proofs.ReadLemmas.{free_parts, key_whole, row_in_hand, row_searches, row_spot_there, searched_alone}
-use Rattle.index_engine.proofs.TellLemmas.{tells_found}
+use Rattle.index_engine.proofs.FoundLemmas.{tells_found}
 use Rattle.index_engine.proofs.WayLemmas.{by_search, about_key, tells_search}
 use Rattle.index_engine.proofs.engine.Engine.get.Goals as goal
 

@@ -15,38 +15,38 @@ use Rattle.index_engine.proofs.engine.Engine.write.Goals as goal
 
 pub returns-clause-ok : goal.returns-clause-ok
 returns-clause-ok g c = let p = c.args.pass.now.world in let p0 = c.find-searched.new.pass in
-    let q = c.write.new.pass in let i = c.args.index in let key = c.args.key.now.tuple in
+    let q = c.write_key.new.pass in let i = c.args.index in let key = c.args.key.now.tuple in
     let value = c.args.value.now in let s = c.find-searched.result in
-    let m = knowledge c.find-searched.new.learn in let call = c.call.result in
-    let about = c.call.ensures.about in
+    let m = knowledge c.find-searched.new.learn in let call = c.call-call.result in
+    let about = c.call-call.ensures.about in
     search_then_write p p0 q i key value s.leaf s.how
     (by_search p (lessons_of c.args.pass.now) i key s p0 m c.find-searched.ensures.searched)
-    (write_asked c.args.write key value) c.write.result
-    (IfOk-weaker c.write.result (λ (told : Told). columns_told told ≡ columns_by call.found)
+    (write_asked c.args.write key value) c.write_key.result
+    (IfOk-weaker c.write_key.result (λ (told : Told). columns_told told ≡ columns_by call.found)
     (λ (told : Told). told.how ≡ s.how)
-    (λ told same. ap (λ (z : Columns). z.how) (same ∙ c.call.ensures.found))
-    c.write.ensures.columns)
-    (about_key (λ n k. IfOk c.write.result
+    (λ told same. ap (λ (z : Columns). z.how) (same ∙ c.call-call.ensures.found))
+    c.write_key.ensures.columns)
+    (about_key (λ n k. IfOk c.write_key.result
     (λ (told : Told). AnswersWrite p0 s.leaf.block n k value (write_asked c.args.write k value) told q))
-    call.index i call.key.now.tuple key about.0 (ap (λ k. k.tuple) about.1) c.write.ensures.ok)
+    call.index i call.key.now.tuple key about.0 (ap (λ k. k.tuple) about.1) c.write_key.ensures.ok)
 
 pub returns-clause-err : goal.returns-clause-err
 returns-clause-err g c = let p = c.args.pass.now.world in let p0 = c.find-searched.new.pass in
-    let q = c.write.new.pass in let i = c.args.index in let key = c.args.key.now.tuple in
+    let q = c.write_key.new.pass in let i = c.args.index in let key = c.args.key.now.tuple in
     let value = c.args.value.now in let s = c.find-searched.result in
     let l = lessons_of c.args.pass.now in let m = knowledge c.find-searched.new.learn in
-    let call = c.call.result in let about = c.call.ensures.about in
+    let call = c.call-call.result in let about = c.call-call.ensures.about in
     let searched = c.find-searched.ensures.searched in
     search_then_gives_up p p0 q i key value s.leaf s.how (by_search p l i key s p0 m searched) l m
-    searched.tried c.write.result
-    (about_key (λ n k. OnErr c.write.result (LeavesUnanswered p0 s.leaf.block n k value q))
-    call.index i call.key.now.tuple key about.0 (ap (λ k. k.tuple) about.1) c.write.ensures.err)
+    searched.tried c.write_key.result
+    (about_key (λ n k. OnErr c.write_key.result (LeavesUnanswered p0 s.leaf.block n k value q))
+    call.index i call.key.now.tuple key about.0 (ap (λ k. k.tuple) about.1) c.write_key.ensures.err)
 
 pub returns-clause-searched : goal.returns-clause-searched
 returns-clause-searched g c = let i = c.args.index in let key = c.args.key.now.tuple in
     let mode = mode_of_write c.args.write in let s = c.find-searched.result in
-    IfOk-weaker c.write.result
-    (λ (told : Told). columns_told told ≡ columns_by c.call.result.found)
+    IfOk-weaker c.write_key.result
+    (λ (told : Told). columns_told told ≡ columns_by c.call-call.result.found)
     (λ (told : Told). SearchedFor c.args.pass.now i mode key (columns_told told) _)
     (λ told same. record {
       searched = s;
@@ -54,5 +54,5 @@ returns-clause-searched g c = let i = c.args.index in let key = c.args.key.now.t
       trace = subst (λ m. SearchTrace c.args.pass.now.world (lessons_of c.args.pass.now) i m key s
           c.find-searched.new.pass (knowledge c.find-searched.new.learn)) c.mode.ensures
           c.find-searched.ensures.trace;
-      told = same ∙ c.call.ensures.found;
-    }) c.write.ensures.columns
+      told = same ∙ c.call-call.ensures.found;
+    }) c.write_key.ensures.columns

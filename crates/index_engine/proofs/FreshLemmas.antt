@@ -1,0 +1,75 @@
+-- A leaf to which a way led, held alone.
+use Rattle.std.proofs.Common.{◌≡◌, ℕ, ◌+◌, ◌<◌, true, length, sym, ap, subst, ◌∙◌, arith, Option, Some, None}
+use lib.ListN.{get_elem?}
+use Rattle.key_tuple.specs.Order.{FieldList}
+use Rattle.key_tuple.specs.KeyPlace.{At, within}
+use Rattle.key_tuple.specs.Position.{IsOfFields}
+use Rattle.key_tuple.specs.declared.mode.Mode.TheVariants as mode
+use Rattle.key_tuple.proofs.PositionLemmas.{has_key}
+use Rattle.latch_law.specs.declared.knows.Holding.{Holding}
+use Rattle.latch_law.specs.declared.knows.Terms.{Terms}
+use Rattle.latch_law.specs.Views.{holding}
+use Rattle.latch_space.specs.Has.{Has, SameHands}
+use Rattle.latch_space.specs.Passes.{view, count}
+use Rattle.latch_space.proofs.Pointwise.{has_again}
+use Rattle.tree_law.specs.Pages.{low_place, high_place, HasFields}
+use Rattle.index_law.specs.Shape.{Shape}
+use Rattle.forest_law.specs.declared.objects.Frame.{Frame}
+use Rattle.forest_law.specs.declared.objects.Object.{Object}
+use Rattle.forest_law.specs.declared.objects.Object.TheVariants as object
+use Rattle.forest_law.specs.Numbers.{frame_id, part_id}
+use Rattle.forest_law.specs.Objects.{IsFrameOf}
+use Rattle.forest_law.specs.State.{ForestState, fields_for}
+use Rattle.forest_law.proofs.ObjectLemmas.{same_frame}
+use Rattle.forest_world.specs.Held.{TreePass, shape_of_pass, HasFrame}
+use Rattle.call_law.specs.Hands.{KnowsFrame, LacksObject}
+use Rattle.call_law.specs.Spoken.{View}
+use Rattle.buffer_pool.specs.Forests.{FitsTrees}
+use Rattle.buffer_pool.specs.Frames.{GivesFrame}
+use Rattle.buffer_pool.proofs.CallLemmas.{frame_has}
+use Rattle.buffer_pool.proofs.FrameLemmas.{one_held}
+use Rattle.tree_facts.specs.TreeFrames.{low_of, high_of}
+use Rattle.tree_descent.specs.declared.descending.Leaf.{Leaf}
+use Rattle.tree_descent.specs.Leaves.{cut_in, IsPageFor, IsLeafFor}
+use Rattle.leaf_changes.specs.Holds.{IsLeafOf, HoldsLeaf, HoldsFreshAlone}
+use Rattle.index_engine.specs.Leaving.{ComesToLeaf}
+use Rattle.index_engine.specs.Traces.{Finding}
+use Rattle.leaf_changes.proofs.HoldLemmas.{key_inside, page_fields}
+
+-- a leaf to which a way led is held alone
+pub fresh_leaf : (found : Finding) (p q : TreePass) (i : ℕ) (key : FieldList) (leaf : Leaf)
+    → ComesToLeaf found p i key leaf q → count p ≡ 0
+    → length key ≡ fields_for (shape_of_pass p) i
+    → ((k : ℕ) → k < (shape_of_pass p).parts → LacksObject (view p) (part_id (shape_of_pass p) k))
+    → HoldsFreshAlone q leaf.block i key leaf.spot
+fresh_leaf found p q i key leaf went none fits free =
+    let same = went.silently.does.adds.numbers.terms in
+    let known = went.silently.does.known in
+    let is = subst
+    (λ (t : Terms Shape). IsLeafFor t.shape went.frame i mode.Ge key leaf.spot)
+    (sym same) went.is in
+    let as_many = fits ∙ ap (λ (t : Terms Shape). fields_for t.shape i) (sym same) in
+    record {
+      fresh = record {
+        frame = went.frame;
+        holds = record {
+          has = frame_has q known leaf.block went.frame went.knows;
+          leaf = record {
+            page = is.page;
+            inside = key_inside (shape_of_pass q) i key went.frame is.page as_many;
+          };
+        };
+        finds = record {
+          level = is.page.is.at_level;
+          fields = as_many
+              ∙ sym (page_fields (shape_of_pass q) i key went.frame is.page as_many);
+          finds = is.finds;
+        };
+        known = known;
+      };
+      one = went.count ∙ ap (λ n. n + 1) none;
+      parts = λ k below. (let few = subst (λ (t : Terms Shape). k < t.shape.parts) same below in
+          ap (λ (t : Terms Shape). get_elem? (view q).held (part_id t.shape k)) same
+          ∙ (went.silently.does.rest (part_id (shape_of_pass p) k)
+          ((λ e. omega (arith, few, e)), tt) ∙ free k few));
+    }

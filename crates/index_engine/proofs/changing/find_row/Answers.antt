@@ -1,8 +1,0 @@
-use Rattle.index_engine.proofs.RowLemmas.{finds_row}
-use Rattle.index_engine.proofs.changing.find_row.Goals as goal
-
-pub returns : goal.returns
-returns c =
-    finds_row c.args.frame.now c.in-Some.page c.args.key.now.tuple c.args.spot.now
-    c.find_key.result c.in-Some.is c.is_in_order.ensures c.has_clock.ensures c.requires
-    c.find_key.ensures

@@ -1,0 +1,48 @@
+use Rattle.std.proofs.Common.{subst, rules}
+use Rattle.list_facts.proofs.Outcomes.{when_err}
+use Rattle.latch_space.specs.Passes.{view}
+use Rattle.call_law.proofs.TraceLemmas.{quiet_both}
+use Rattle.index_engine.specs.Writes.{write_asked, TriesWrite}
+use Rattle.index_engine.proofs.TryLemmas.{quiet_yet, quiet_then_again, way_tells, way_quiet, way_unanswered}
+use Rattle.index_engine.proofs.writing.write_again.Goals as goal
+
+pub loop-init : goal.loop-init
+loop-init g c = let call = c.args.call.now in record {
+  own = search rules;
+  nothing = c.requires.nothing;
+  quiet = quiet_yet (view c.args.pass.now) call.index;
+}
+
+pub returns-in_err-told-clause-err : goal.returns-in_err-told-clause-err
+returns-in_err-told-clause-err g c = let call = c.args.call.now in let key = call.key.now.tuple in
+    let value = c.args.value.now in let p = c.loop.pass in let q = c.try_write.new.pass in
+    when_err c.from_residual.result
+    (quiet_both (view c.args.pass.now) (view p) (view q) call.index c.loop.invariant.quiet
+    (way_unanswered p c.hold_leaf-leaf.new.pass q call.index key value
+    (write_asked c.args.write key value) c.hold_leaf-leaf.result c.hold_leaf-leaf.ensures.went
+    c.in_err-told.ensures.err))
+
+pub returns-in-Some-2-clause-ok : goal.returns-in-Some-2-clause-ok
+returns-in-Some-2-clause-ok g c = let call = c.args.call.now in let key = call.key.now.tuple in
+    let value = c.args.value.now in let p = c.loop.pass in let q = c.try_write.new.pass in
+    let ask = write_asked c.args.write key value in
+    quiet_then_again (view c.args.pass.now) (view p) (view q) call.index key ask c.in-Some-2.told
+    c.loop.invariant.quiet
+    (way_tells p c.hold_leaf-leaf.new.pass q call.index key value ask c.hold_leaf-leaf.result
+    c.hold_leaf-leaf.ensures.went c.in-Some-2.told
+    (subst (λ o. TriesWrite c.hold_leaf-leaf.new.pass c.hold_leaf-leaf.result.block call.index key value ask o q)
+    c.in-Some-2.is c.in_ok-told.ensures.ok))
+
+pub loop-preserved : goal.loop-preserved
+loop-preserved g c = let call = c.args.call.now in let key = call.key.now.tuple in
+    let value = c.args.value.now in let p = c.loop.pass in let q = c.try_write.new.pass in
+    let ask = write_asked c.args.write key value in record {
+      own = search rules;
+      nothing = c.try_write.ensures.nothing;
+      quiet = quiet_both (view c.args.pass.now) (view p) (view q) call.index
+          c.loop.invariant.quiet
+          (way_quiet p c.hold_leaf-leaf.new.pass q call.index key value ask c.hold_leaf-leaf.result
+          c.hold_leaf-leaf.ensures.went
+          (subst (λ o. TriesWrite c.hold_leaf-leaf.new.pass c.hold_leaf-leaf.result.block call.index key value
+          ask o q) c.in_default.is c.in_ok-told.ensures.ok));
+    }

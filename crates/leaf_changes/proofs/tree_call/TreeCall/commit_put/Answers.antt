@@ -1,0 +1,74 @@
+use Rattle.std.proofs.Common.{None, ap, subst, refl, is_none}
+use Rattle.map_history.specs.Map as map
+use Rattle.map_history.specs.Operation.{Make}
+use Rattle.index_law.specs.Meanings.{lent_row}
+use Rattle.forest_world.specs.Held.{shape_of_pass}
+use Rattle.leaf_rows.specs.Changing.{PutsRow}
+use Rattle.leaf_changes.proofs.BackLemmas.{back_as, back_leaf, back_full, back_most, back_answers}
+use Rattle.leaf_changes.proofs.CallLemmas.{can_refuse}
+use Rattle.leaf_changes.proofs.HashedLemmas.{hash_again}
+use Rattle.leaf_changes.proofs.HoldLemmas.{frame_again}
+use Rattle.leaf_changes.proofs.MadeLemmas.{made_answers}
+use Rattle.leaf_changes.proofs.RehashLemmas.{puts_rehashed}
+use Rattle.leaf_changes.proofs.RowLemmas.{lacked_key, put_makes}
+use Rattle.leaf_changes.proofs.tree_call.TreeCall.commit_put.Goals as goal
+
+pub commit-requires-clause-held : goal.commit-requires-clause-held
+commit-requires-clause-held g c = let held = c.requires.held in let call = c.args.self.now in
+    let key = call.key.now.tuple in record {
+      block = c.args.block;
+      index = held.index;
+      known = held.known;
+      made = held.made;
+      holds = held.holds;
+      hash = held.hash;
+      about = refl;
+      makes = put_makes (shape_of_pass c.args.pass.now) call.index key held.known
+          held.holds.leaf held.made c.args.place c.args.value.now held.puts;
+    }
+
+pub take_out-requires-clause-held : goal.take_out-requires-clause-held
+take_out-requires-clause-held g c = let held = c.requires.held in let full = c.in-Err.ensures.did in
+    let p = c.args.pass.now in let q = c.commit.new.pass in let b = c.args.block in
+    let terms = full.looks.quiet.adds.numbers.terms in record {
+      index = held.index;
+      known = held.known;
+      now = held.made;
+      key = c.args.self.now.key.now.tuple;
+      value = c.args.value.now;
+      has = frame_again p q b held.known held.made full.same terms held.holds.has;
+      puts = held.puts;
+      hash = hash_again p q full.same terms held.index b held.known held.made held.made held.hash;
+    }
+
+pub say-requires-clause-held : goal.say-requires-clause-held
+say-requires-clause-held g c = let held = c.requires.held in let call = c.args.self.now in
+    let i = call.index in let key = call.key.now.tuple in let value = c.args.value.now in
+    let n = c.in-Err.field-0.0 in let full = c.in-Err.ensures.did in let p = c.args.pass.now in
+    let q = c.commit.new.pass in let r = c.take_out.new.pass in let b = c.args.block in
+    let out = c.take_out.ensures.back in let f = held.known in let m = held.made in
+    let leaf = back_leaf p q r i b n key f m held.holds full out in
+    let puts = subst (λ z. PutsRow z m c.args.place key value)
+    (back_as p q r i b n key f m held.holds full out)
+    (puts_rehashed out.leaf f m c.args.place key value held.puts) in
+    can_refuse r b i key out.leaf leaf (map.Put key value) n (lent_row None) refl
+    (ap is_none (lacked_key (shape_of_pass r) i key out.leaf leaf.leaf m c.args.place value puts))
+    (back_full p q r i b n key f m held.holds full out)
+    (back_most p q r i b n key f m held.holds full out)
+
+pub returns-in-Ok-clause-did : goal.returns-in-Ok-clause-did
+returns-in-Ok-clause-did g c = let held = c.requires.held in let call = c.args.self.now in
+    let key = call.key.now.tuple in let p = c.args.pass.now in
+    let makes = put_makes (shape_of_pass p) call.index key held.known held.holds.leaf held.made
+    c.args.place c.args.value.now held.puts in
+    made_answers p c.commit.new.pass c.args.block call.index key held.index held.known held.made
+    held.holds held.hash (map.Put key c.args.value.now) call.found c.made.result c.in-Ok.point
+    (lent_row None) makes c.made.ensures c.in-Ok.ensures.did
+
+pub returns-in-Err-clause-did : goal.returns-in-Err-clause-did
+returns-in-Err-clause-did g c = let held = c.requires.held in let call = c.args.self.now in
+    let key = call.key.now.tuple in
+    back_answers c.args.pass.now c.commit.new.pass c.take_out.new.pass call.index c.args.block
+    c.in-Err.field-0.0 key held.known held.made held.holds c.in-Err.ensures.did
+    c.take_out.ensures.back c.say.new.pass (Make (map.Put key c.args.value.now)) c.say.result
+    (lent_row None) c.say.ensures.kept c.say.ensures.did

@@ -1,0 +1,50 @@
+use Rattle.std.proofs.Common.{refl, sym, subst}
+use Rattle.hash_maintain.specs.Leaves.{without_row, HasRowInFrame}
+use Rattle.leaf_changes.proofs.UpkeepLemmas.{asks_tidy, asks_exact, asks_place, asks_room, goes_back, row_is_kept}
+use Rattle.leaf_changes.proofs.tree_call.TreeCall.row_came.Goals as goal
+
+pub insert_in_frame-requires-clause-tidy : goal.insert_in_frame-requires-clause-tidy
+insert_in_frame-requires-clause-tidy g c = let held = c.requires.held in
+    asks_tidy c.args.pass.now c.frame_out-frame.new.pass c.args.block c.frame_out-frame.result
+    c.frame_out-frame.ensures.out held.index held.known held.now held.has (without_row c.args.place) held.hash
+    c.fits.ensures
+
+pub insert_in_frame-requires-clause-row : goal.insert_in_frame-requires-clause-row
+insert_in_frame-requires-clause-row g c = let held = c.requires.held in
+    subst (λ z. HasRowInFrame z c.args.place)
+    (sym (c.frame_out-frame.ensures.out.out held.known held.now held.has).1) held.row
+
+pub insert_in_frame-requires-clause-exact : goal.insert_in_frame-requires-clause-exact
+insert_in_frame-requires-clause-exact g c = let held = c.requires.held in
+    asks_exact c.args.pass.now c.frame_out-frame.new.pass c.args.block c.frame_out-frame.result
+    c.frame_out-frame.ensures.out held.index held.known held.now held.has (without_row c.args.place) held.hash
+    held.hash.is
+
+pub insert_in_frame-requires-clause-place : goal.insert_in_frame-requires-clause-place
+insert_in_frame-requires-clause-place g c = let held = c.requires.held in
+    asks_place c.args.pass.now c.frame_out-frame.new.pass c.args.block c.frame_out-frame.result
+    c.frame_out-frame.ensures.out held.index held.known held.now held.has (without_row c.args.place) held.hash
+
+pub insert_in_frame-requires-clause-room : goal.insert_in_frame-requires-clause-room
+insert_in_frame-requires-clause-room g c = let held = c.requires.held in
+    asks_room c.args.pass.now c.frame_out-frame.new.pass c.args.block c.frame_out-frame.result
+    c.frame_out-frame.ensures.out held.index held.known held.now held.has (without_row c.args.place) held.hash
+
+pub frame_back-requires-clause-out : goal.frame_back-requires-clause-out
+frame_back-requires-clause-out g c = let held = c.requires.held in
+    goes_back c.blocks_ask_the_same.ensures c.args.pass.now c.frame_out-frame.new.pass
+    c.insert_in_frame.new.pass c.args.block c.frame_out-frame.result c.insert_in_frame.new.frame
+    c.frame_out-frame.ensures.out c.fits.ensures (without_row c.args.place) (λ h. h)
+    (λ x. refl) (λ x. refl) c.insert_in_frame.result c.insert_in_frame.ensures.frame
+    (λ none. (c.insert_in_frame.ensures.rests none).0) (λ how is. (c.insert_in_frame.ensures.keeps how is).keeps)
+    held.index held.known held.now held.has held.hash
+
+pub returns-clause-kept : goal.returns-clause-kept
+returns-clause-kept g c o f h has hash =
+    row_is_kept c.blocks_ask_the_same.ensures c.args.pass.now c.frame_out-frame.new.pass
+    c.insert_in_frame.new.pass c.args.block c.frame_out-frame.result c.insert_in_frame.new.frame
+    c.frame_out-frame.ensures.out c.fits.ensures (without_row c.args.place) (λ h. h)
+    (λ x. refl) (λ x. refl) c.insert_in_frame.result c.insert_in_frame.ensures.frame
+    (λ none. (c.insert_in_frame.ensures.rests none).0) (λ how is. (c.insert_in_frame.ensures.keeps how is).keeps)
+    o f h has hash c.upkeep_keeps_the_hash.ensures.tidy c.frame_back.new.pass
+    c.frame_back.ensures.back
