@@ -18,13 +18,7 @@ suits_pair l r u s = record {
   other = s.other;
   has = s.has;
   has_other = s.has_other;
-  suits = record {
-    level = s.follows.level;
-    fields = s.follows.fields;
-    parts = s.follows.parts;
-    fits = s.fits;
-    number = s.number;
-  };
+  suits = assumption (s.follows, s.fits, s.number);
 }
 
 -- the second of two pointers in a row
@@ -84,21 +78,8 @@ merges_frame l l1 m r r1 n u s c left right rise other =
       reaches = ap (λ (f : Frame). f.high) left ∙ ap (λ (f : Frame). f.high) c.right;
       rises = subst (λ x. ClockRises x m.clock) (ap (λ (f : Frame). f.clock) c.left) rise;
       right_rises = subst (λ x. ClockRises x n.clock) (ap (λ (f : Frame). f.clock) c.right) other;
-      left = left ∙ (λ i. (let x = c.left i in record x {
-        page = (sym (ap (λ (f : Frame). f.page) left)) i;
-        high = (sym (ap (λ (f : Frame). f.high) left)) i;
-        clock = m.clock;
-        figures = (sym (ap (λ (f : Frame). f.figures) left)) i;
-        hashed = (sym (ap (λ (f : Frame). f.hashed) left)) i;
-      }));
-      right = right ∙ (λ i. (let x = c.right i in record x {
-        page = (sym (ap (λ (f : Frame). f.page) right)) i;
-        low = None;
-        high = None;
-        clock = n.clock;
-        figures = (sym (ap (λ (f : Frame). f.figures) right)) i;
-        hashed = (sym (ap (λ (f : Frame). f.hashed) right)) i;
-      }));
+      left = λ i. record m { low = (ap (λ (f : Frame). f.low) left ∙ ap (λ (f : Frame). f.low) c.left) i };
+      right = λ i. record n { low = ap (λ (f : Frame). f.low) right i; high = ap (λ (f : Frame). f.high) right i };
     }
 
 -- and a pointer that went with them
@@ -132,18 +113,9 @@ lifts_frame t t1 m b b1 n c root child rise other = record {
   lifts = c.lifts;
   rises = subst (λ x. ClockRises x m.clock) (ap (λ (f : Frame). f.clock) c.root) rise;
   under_rises = subst (λ x. ClockRises x n.clock) (ap (λ (f : Frame). f.clock) c.child) other;
-  root = root ∙ (λ i. (let x = c.root i in record x {
-    page = (sym (ap (λ (f : Frame). f.page) root)) i;
-    clock = m.clock;
-    figures = (sym (ap (λ (f : Frame). f.figures) root)) i;
-    hashed = (sym (ap (λ (f : Frame). f.hashed) root)) i;
-  }));
-  child = child ∙ (λ i. (let x = c.child i in record x {
-    page = (sym (ap (λ (f : Frame). f.page) child)) i;
-    low = None;
-    high = None;
-    clock = n.clock;
-    figures = (sym (ap (λ (f : Frame). f.figures) child)) i;
-    hashed = (sym (ap (λ (f : Frame). f.hashed) child)) i;
-  }));
+  root = λ i. record m {
+    low = (ap (λ (f : Frame). f.low) root ∙ ap (λ (f : Frame). f.low) c.root) i;
+    high = (ap (λ (f : Frame). f.high) root ∙ ap (λ (f : Frame). f.high) c.root) i;
+  };
+  child = λ i. record n { low = ap (λ (f : Frame). f.low) child i; high = ap (λ (f : Frame). f.high) child i };
 }

@@ -1,5 +1,5 @@
 -- Frames of a root that took the rows of its only child are a lift of the law.
-use Rattle.std.proofs.Common.{◌≡◌, ℕ, suc, false, [], ◌∷◌, List, sym, ap, ◌∙◌, refl, Option, None}
+use Rattle.std.proofs.Common.{ℕ, suc, false, [], ◌∷◌, List, ap, ◌∙◌, refl, Option}
 use Rattle.index_page.specs.declared.head.PageHead.{PageHead}
 use Rattle.index_page.specs.Page.{PageRows}
 use Rattle.tree_law.specs.Pages.{Page, IsOrderly}
@@ -11,7 +11,7 @@ use Rattle.forest_law.specs.declared.objects.Object.{Object}
 use Rattle.forest_law.specs.State.{bound, page_within, fields_for}
 use Rattle.forest_law.specs.Steps.{frame_step, MakesFrameStep, MakeSteps}
 use Rattle.forest_law.specs.Restructures.{lift_steps, LiftsInHand}
-use Rattle.tree_restructure.proofs.FrameLemmas.{AreSame, has_page, orderly, fits_too, makes_step, was_orderly}
+use Rattle.tree_restructure.proofs.FrameLemmas.{has_page, same_under, makes_step, goes, was_orderly}
 use Rattle.tree_merging.specs.Lifts.{LiftsFrames, LiftsAreInHand}
 use Rattle.tree_merging.proofs.MergeLemmas.{emptied_orderly}
 use Rattle.tree_merging.proofs.RowLemmas.{same_back}
@@ -58,72 +58,23 @@ module _ (shape : Shape) (before news : List (Option Object))
       s.lift.had_under
 
   top_makes : MakesFrameStep shape before news (frame_step s.top root higher lower)
-  top_makes =
-      let r = s.lift in
-      let t = s.top.old in
-      let m = s.top.new in
-      let head = r.lifts.head in
-      let low : bound m.low ≡ None = ap (λ (f : Frame). bound f.low) r.root
-      ∙ ap bound s.whole.low in
-      let high : bound m.high ≡ None = ap (λ (f : Frame). bound f.high) r.root
-      ∙ ap bound s.whole.high in
-      let fields : r.top.head.fields ≡ r.page.head.fields =
-      ap (λ (h : PageHead). h.fields) head in
-      let index : r.top.head.index ≡ r.page.head.index = ap (λ (h : PageHead). h.index) head in
-      let same : AreSame r.top m lower = record {
-        index = index ∙ s.whole.index;
-        level = ap (λ (h : PageHead). h.level) head;
-        fields = fields;
-        prev = ap (λ (h : PageHead). h.prev) head ∙ s.whole.prev;
-        next = ap (λ (h : PageHead). h.next) head ∙ s.whole.next;
-        low = low;
-        high = high;
-        rows = refl;
-      } in
-      makes_step shape before news root false s.top s.root higher lower
-      (has_page t root r.page higher r.had refl (record {
-        index = s.whole.index;
-        level = s.only.level;
-        fields = refl;
-        prev = s.whole.prev;
-        next = s.whole.next;
-        low = ap bound s.whole.low;
-        high = ap bound s.whole.high;
-        rows = s.one.is;
-      }))
-      (has_page m root r.top lower r.has (ap (λ (h : PageHead). h.number) head) same)
-      (orderly (fields_for shape) r.top m lower same r.lifts.order
-      (fields ∙ old.fields ∙ ap (fields_for shape) (sym index))
-      (fits_too _ _ _ None fields low tt) (fits_too _ _ _ None fields high tt))
+  top_makes = let r = s.lift in
+      goes shape before news root false s.top s.root r.page r.top higher lower r.had refl
+      (assumption (s.whole, s.only.level, s.one.is, ap bound s.whole.low, ap bound s.whole.high))
+      r.has (ap (λ (h : PageHead). h.number) r.lifts.head)
+      (same_under r.top s.top.new lower r.lifts.head (assumption s.whole)
+      (ap (λ (f : Frame). bound f.low) r.root ∙ ap bound s.whole.low)
+      (ap (λ (f : Frame). bound f.high) r.root ∙ ap bound s.whole.high) refl)
+      r.lifts.order (assumption (old.fields ∙ ap (fields_for shape) s.whole.index))
 
   below_makes : MakesFrameStep shape before news (frame_step s.below under child storeys.fresh)
-  below_makes =
-      let r = s.lift in
-      let b = s.below.old in
-      let m = s.below.new in
+  below_makes = let r = s.lift in
       makes_step shape before news under false s.below s.child child storeys.fresh
-      (has_page b under r.under child r.had_under refl (record {
-        index = s.only.index;
-        level = refl;
-        fields = s.only.fields;
-        prev = s.only.prev;
-        next = s.only.next;
-        low = ap bound s.only.low;
-        high = ap bound s.only.high;
-        rows = refl;
-      }))
-      (has_page m under r.gone storeys.fresh r.has_gone
-      (ap (λ (p : PageRows). p.head.number) r.lifts.is_gone) (record {
-        index = refl;
-        level = refl;
-        fields = refl;
-        prev = refl;
-        next = refl;
-        low = refl;
-        high = refl;
-        rows = refl;
-      }))
-      (emptied_orderly (fields_for shape) m r.under r.gone r.lifts.is_gone
+      (has_page s.below.old under r.under child r.had_under refl
+      (assumption (s.only, ap bound s.only.low, ap bound s.only.high)))
+      (has_page s.below.new under r.gone storeys.fresh r.has_gone
+      (ap (λ (p : PageRows). p.head.number) r.lifts.is_gone) (assumption))
+      (emptied_orderly (fields_for shape) s.below.new r.under r.gone r.lifts.is_gone
       (ap (λ (f : Frame). f.low) r.child) (ap (λ (f : Frame). f.high) r.child) child_old.fields)
 
   makes : MakeSteps shape before news (lift_steps root under storeys s.top s.below)

@@ -3,7 +3,7 @@ use Rattle.std.proofs.Common.{◌≡◌, ◌≢◌, ℕ, false, [], List, sym, a
 use Rattle.std.proofs.lemmas.Bool.{ne_eqb}
 use Rattle.index_page.specs.declared.head.PageHead.{PageHead}
 use Rattle.index_page.specs.Page.{PageRows}
-use Rattle.tree_law.specs.Pages.{Page, is_own, IsOrderly}
+use Rattle.tree_law.specs.Pages.{Page, HasFields, is_own, IsOrderly}
 use Rattle.tree_law.specs.PageMoves.{TwoHalves, MergesPages, whole_page, left_page, right_page}
 use Rattle.tree_law.proofs.PageRowLemmas.{own_of}
 use Rattle.index_law.specs.Shape.{Shape}
@@ -14,7 +14,7 @@ use Rattle.forest_law.specs.Steps.{InHand, frame_step, MakesFrameStep, MakeSteps
 use Rattle.forest_law.specs.Restructures.{up_before, up_after, merge_steps, MergesInHand}
 use Rattle.tree_restructure.specs.Links.{RelinksNext}
 use Rattle.tree_restructure.specs.Splits.{NextTakesPart}
-use Rattle.tree_restructure.proofs.FrameLemmas.{AreSame, has_page, orderly, fits_too, makes_step, was_orderly, was_own}
+use Rattle.tree_restructure.proofs.FrameLemmas.{has_page, same_under, makes_step, goes, was_orderly, was_own}
 use Rattle.tree_restructure.proofs.BeyondLemmas.{beyond_page, beyond_prev, beyond_stands, beyond_makes, beyond_apart}
 use Rattle.tree_merging.specs.Merges.{emptied}
 use Rattle.tree_merging.specs.MergeSteps.{MergesFrames, MergesAreInHand}
@@ -117,118 +117,41 @@ module _ (shape : Shape) (before news : List (Option Object))
 
   left_makes : MakesFrameStep shape before news (frame_step s.hands.left left
       (left_page left right parent halves) (whole_page left right parent halves))
-  left_makes =
-      let c = s.under.merge in
-      let l = s.hands.left.old in
-      let m = s.hands.left.new in
-      let head = c.merges.head in
-      let low : bound m.low ≡ bound l.low = ap (λ (f : Frame). bound f.low) c.left in
-      let high : bound m.high ≡ bound s.hands.right.old.high = ap bound c.reaches in
-      let fields : c.whole.head.fields ≡ c.page.head.fields =
-      ap (λ (h : PageHead). h.fields) head in
-      let index : c.whole.head.index ≡ c.page.head.index = ap (λ (h : PageHead). h.index) head in
-      let same : AreSame c.whole m (whole_page left right parent halves) = record {
-        index = index;
-        level = ap (λ (h : PageHead). h.level) head;
-        fields = fields;
-        prev = ap (λ (h : PageHead). h.prev) head;
-        next = ap (λ (h : PageHead). h.next) head;
-        low = low;
-        high = high;
-        rows = c.merges.behind;
-      } in
-      makes_step shape before news left false s.hands.left s.left
-      (left_page left right parent halves) (whole_page left right parent halves)
-      (has_page l left c.page (left_page left right parent halves) c.had refl (record {
-        index = refl;
-        level = refl;
-        fields = refl;
-        prev = refl;
-        next = c.follows.next;
-        low = refl;
-        high = c.follows.high;
-        rows = refl;
-      }))
-      (has_page m left c.whole (whole_page left right parent halves) c.has
-      (ap (λ (h : PageHead). h.number) head) same)
-      (orderly (fields_for shape) c.whole m (whole_page left right parent halves) same
-      c.merges.order
-      (fields ∙ left_old.fields ∙ ap (fields_for shape) (sym index))
-      (fits_too _ _ _ _ fields low left_old.low)
-      (fits_too _ _ _ _ (fields ∙ sym c.follows.fields) high right_old.high))
+  left_makes = let c = s.under.merge in
+      let is = whole_page left right parent halves in
+      goes shape before news left false s.hands.left s.left c.page c.whole
+      (left_page left right parent halves) is c.had refl (assumption c.follows) c.has
+      (ap (λ (h : PageHead). h.number) c.merges.head)
+      (same_under c.whole s.hands.left.new is c.merges.head (assumption)
+      (ap (λ (f : Frame). bound f.low) c.left) (ap bound c.reaches) c.merges.behind)
+      c.merges.order (assumption (
+        left_old,
+        subst
+            (λ k. HasFields k (bound s.hands.right.old.high)) c.follows.fields right_old.high,
+      ))
 
   right_makes : MakesFrameStep shape before news (frame_step s.hands.right right
       (right_page left right parent halves) halves.fresh)
-  right_makes =
-      let c = s.under.merge in
-      let r = s.hands.right.old in
-      let m = s.hands.right.new in
-      makes_step shape before news right false s.hands.right s.right
-      (right_page left right parent halves) halves.fresh
-      (has_page r right c.other (right_page left right parent halves) c.had_other refl (record {
-        index = c.follows.index;
-        level = c.follows.level;
-        fields = c.follows.fields;
-        prev = c.follows.prev;
-        next = refl;
-        low = c.follows.low;
-        high = refl;
-        rows = refl;
-      }))
-      (has_page m right c.gone halves.fresh c.has_gone
-      (ap (λ (p : PageRows). p.head.number) c.merges.is_gone) (record {
-        index = refl;
-        level = refl;
-        fields = refl;
-        prev = refl;
-        next = refl;
-        low = refl;
-        high = refl;
-        rows = refl;
-      }))
-      (emptied_orderly (fields_for shape) m c.other c.gone c.merges.is_gone
+  right_makes = let c = s.under.merge in
+      let was = right_page left right parent halves in
+      makes_step shape before news right false s.hands.right s.right was halves.fresh
+      (has_page s.hands.right.old right c.other was c.had_other refl (assumption c.follows))
+      (has_page s.hands.right.new right c.gone halves.fresh c.has_gone
+      (ap (λ (p : PageRows). p.head.number) c.merges.is_gone) (assumption))
+      (emptied_orderly (fields_for shape) s.hands.right.new c.other c.gone c.merges.is_gone
       (ap (λ (f : Frame). f.low) c.right) (ap (λ (f : Frame). f.high) c.right) right_old.fields)
 
   up_makes : MakesFrameStep shape before news (frame_step s.hands.up parent
       (up_after left right parent halves) (up_before left right parent halves))
-  up_makes =
-      let p = s.under.pointer in
-      let u = s.hands.up.old in
-      let m = s.hands.up.new in
+  up_makes = let p = s.under.pointer in
+      let is = up_before left right parent halves in
       let old = was_orderly shape before news parent false s.hands.up s.up p.was.page p.was.has in
-      let low : bound m.low ≡ bound u.low = ap (λ (f : Frame). bound f.low) p.kept in
-      let high : bound m.high ≡ bound u.high = ap (λ (f : Frame). bound f.high) p.kept in
-      let fields : p.new.head.fields ≡ p.was.page.head.fields =
-      ap (λ (h : PageHead). h.fields) p.head in
-      let index : p.new.head.index ≡ p.was.page.head.index =
-      ap (λ (h : PageHead). h.index) p.head in
-      let same : AreSame p.new m (up_before left right parent halves) = record {
-        index = index;
-        level = ap (λ (h : PageHead). h.level) p.head;
-        fields = fields;
-        prev = ap (λ (h : PageHead). h.prev) p.head;
-        next = ap (λ (h : PageHead). h.next) p.head;
-        low = low;
-        high = high;
-        rows = p.is;
-      } in
-      makes_step shape before news parent false s.hands.up s.up
-      (up_after left right parent halves) (up_before left right parent halves)
-      (has_page u parent p.was.page (up_after left right parent halves) p.was.has refl (record {
-        index = refl;
-        level = refl;
-        fields = refl;
-        prev = refl;
-        next = refl;
-        low = refl;
-        high = refl;
-        rows = p.was.was;
-      }))
-      (has_page m parent p.new (up_before left right parent halves)
-      (ap (λ (f : Frame). f.page) p.kept) (ap (λ (h : PageHead). h.number) p.head) same)
-      (orderly (fields_for shape) p.new m (up_before left right parent halves) same p.order
-      (fields ∙ old.fields ∙ ap (fields_for shape) (sym index))
-      (fits_too _ _ _ _ fields low old.low) (fits_too _ _ _ _ fields high old.high))
+      goes shape before news parent false s.hands.up s.up p.was.page p.new
+      (up_after left right parent halves) is p.was.has refl (assumption p.was.was)
+      (ap (λ (f : Frame). f.page) p.kept) (ap (λ (h : PageHead). h.number) p.head)
+      (same_under p.new s.hands.up.new is p.head (assumption)
+      (ap (λ (f : Frame). bound f.low) p.kept) (ap (λ (f : Frame). bound f.high) p.kept) p.is)
+      p.order (assumption old)
 
   makes : MakeSteps shape before news (merge_steps left right parent halves s.hands) []
   makes = record {

@@ -85,15 +85,7 @@ module _ (w : ForestState) (law : IsLawful w) (b : ℕ) (f : Frame) (up : PageRo
   apart m e same =
       let next = next_pages_fit w law d r other is_right m e in
       let has : HasPageWithin w next.after.index next.after.level (low_place next.after.low)
-      (high_place next.after.high) m = record {
-        page = next.after;
-        at = next.at;
-        tree = next.tree;
-        index = refl;
-        at_level = refl;
-        low = refl;
-        high = refl;
-      } in
+      (high_place next.after.high) m = search in
       let known = known_page w law m next.after.index next.after.level (low_place next.after.low)
       (high_place next.after.high) has c l page is_left (sym same) in
       let over : before (low_of l) (high_of r) ≡ true =

@@ -1,5 +1,5 @@
 -- The page behind two halves, in a split of frames in hand.
-use Rattle.std.proofs.Common.{◌≡◌, ◌≢◌, ℕ, false, List, sym, ap, subst, ◌∙◌, refl, arith, Option, Some, None}
+use Rattle.std.proofs.Common.{◌≡◌, ◌≢◌, ℕ, false, List, sym, ap, subst, ◌∙◌, arith, Option, Some, None}
 use Rattle.std.proofs.lemmas.Bool.{ne_eqb}
 use Rattle.std.specs.List.{AllByRecursion}
 use Rattle.index_page.specs.declared.head.PageHead.{PageHead}
@@ -7,13 +7,13 @@ use Rattle.tree_law.specs.Pages.{Page, is_own}
 use Rattle.index_law.specs.Shape.{Shape}
 use Rattle.forest_law.specs.declared.objects.Frame.{Frame}
 use Rattle.forest_law.specs.declared.objects.Object.{Object}
-use Rattle.forest_law.specs.State.{bound, page_within, fields_for}
+use Rattle.forest_law.specs.State.{bound, page_within}
 use Rattle.forest_law.specs.Steps.{InHand, ClockStands, MakesFrameStep, IsNoFrameOf}
 use Rattle.forest_law.specs.Restructures.{beyond_steps}
 use Rattle.tree_restructure.specs.Links.{RelinksNext}
 use Rattle.tree_restructure.specs.Parts.{frame_ids}
 use Rattle.tree_restructure.specs.Splits.{NextTakesPart, next_hands}
-use Rattle.tree_restructure.proofs.FrameLemmas.{AreSame, has_page, orderly, fits_too, makes_step, was_orderly, was_own}
+use Rattle.tree_restructure.proofs.FrameLemmas.{same_under, goes, was_orderly, was_own}
 
 -- the page behind, where there is one
 module _ (shape : Shape) (before news : List (Option Object)) (right : ℕ) (hand : InHand) where
@@ -47,42 +47,14 @@ module _ (shape : Shape) (before news : List (Option Object)) (right : ℕ) (han
   beyond_makes none (Some n) x part =
       let r = x.0 in
       let old = was_orderly shape before news n false hand part r.page r.had in
-      let low : bound hand.new.low ≡ bound hand.old.low =
-      ap (λ (f : Frame). bound f.low) r.kept in
-      let high : bound hand.new.high ≡ bound hand.old.high =
-      ap (λ (f : Frame). bound f.high) r.kept in
-      let fields : r.new.head.fields ≡ r.page.head.fields =
-      ap (λ (h : PageHead). h.fields) r.head in
-      let index : r.new.head.index ≡ r.page.head.index =
-      ap (λ (h : PageHead). h.index) r.head in
       let was = page_within r.page hand.old.low hand.old.high in
-      let is : Page = record was { prev = Some right } in
-      let same : AreSame r.new hand.new is = record {
-        index = index;
-        level = ap (λ (h : PageHead). h.level) r.head;
-        fields = fields;
-        prev = ap (λ (h : PageHead). h.prev) r.head;
-        next = ap (λ (h : PageHead). h.next) r.head;
-        low = low;
-        high = high;
-        rows = r.rows;
-      } in (
-        makes_step shape before news n false hand part was is
-            (has_page hand.old n r.page was r.had x.1 (record {
-              index = refl;
-              level = refl;
-              fields = refl;
-              prev = refl;
-              next = refl;
-              low = refl;
-              high = refl;
-              rows = refl;
-            }))
-            (has_page hand.new n r.new is (ap (λ (f : Frame). f.page) r.kept)
-            (ap (λ (h : PageHead). h.number) r.head ∙ x.1) same)
-            (orderly (fields_for shape) r.new hand.new is same r.order
-            (fields ∙ old.fields ∙ ap (fields_for shape) (sym index))
-            (fits_too _ _ _ _ fields low old.low) (fits_too _ _ _ _ fields high old.high)),
+      let is : Page = record was { prev = Some right } in (
+        goes shape before news n false hand part r.page r.new was is r.had x.1 (assumption)
+            (ap (λ (f : Frame). f.page) r.kept) (ap (λ (h : PageHead). h.number) r.head ∙ x.1)
+            (same_under r.new hand.new is r.head (assumption)
+            (ap (λ (f : Frame). bound f.low) r.kept) (ap (λ (f : Frame). bound f.high) r.kept)
+            r.rows)
+            r.order (assumption old),
         tt,
       )
 

@@ -35,21 +35,8 @@ cuts_frame l l1 m r r1 n at key high c k h left right rise other = record {
   reaches = ap (λ (f : Frame). f.high) right ∙ ap (λ (f : Frame). f.high) c.left;
   rises = subst (λ x. ClockRises x m.clock) (ap (λ (f : Frame). f.clock) c.left) rise;
   right_rises = subst (λ x. ClockRises x n.clock) (ap (λ (f : Frame). f.clock) c.right) other;
-  left = left ∙ (λ i. (let x = c.left i in record x {
-    page = (sym (ap (λ (f : Frame). f.page) left)) i;
-    high = (sym (ap (λ (f : Frame). f.high) left)) i;
-    clock = m.clock;
-    figures = (sym (ap (λ (f : Frame). f.figures) left)) i;
-    hashed = (sym (ap (λ (f : Frame). f.hashed) left)) i;
-  }));
-  right = right ∙ (λ i. (let x = c.right i in record x {
-    page = (sym (ap (λ (f : Frame). f.page) right)) i;
-    low = (sym (ap (λ (f : Frame). f.low) right)) i;
-    high = (sym (ap (λ (f : Frame). f.high) right)) i;
-    clock = n.clock;
-    figures = (sym (ap (λ (f : Frame). f.figures) right)) i;
-    hashed = (sym (ap (λ (f : Frame). f.hashed) right)) i;
-  }));
+  left = λ i. record m { low = (ap (λ (f : Frame). f.low) left ∙ ap (λ (f : Frame). f.low) c.left) i };
+  right = refl;
 }
 
 -- a page that rose, with the bounds and clocks of its frames
@@ -69,20 +56,11 @@ raises_frame t t1 m b b1 n c root under rise other = record {
   raises = c.raises;
   rises = subst (λ x. ClockRises x m.clock) (ap (λ (f : Frame). f.clock) c.root) rise;
   under_rises = subst (λ x. ClockRises x n.clock) (ap (λ (f : Frame). f.clock) c.under) other;
-  root = root ∙ (λ i. (let x = c.root i in record x {
-    page = (sym (ap (λ (f : Frame). f.page) root)) i;
-    clock = m.clock;
-    figures = (sym (ap (λ (f : Frame). f.figures) root)) i;
-    hashed = (sym (ap (λ (f : Frame). f.hashed) root)) i;
-  }));
-  under = under ∙ (λ i. (let x = c.under i in record x {
-    page = (sym (ap (λ (f : Frame). f.page) under)) i;
-    low = None;
-    high = None;
-    clock = n.clock;
-    figures = (sym (ap (λ (f : Frame). f.figures) under)) i;
-    hashed = (sym (ap (λ (f : Frame). f.hashed) under)) i;
-  }));
+  root = λ i. record m {
+    low = (ap (λ (f : Frame). f.low) root ∙ ap (λ (f : Frame). f.low) c.root) i;
+    high = (ap (λ (f : Frame). f.high) root ∙ ap (λ (f : Frame). f.high) c.root) i;
+  };
+  under = λ i. record n { low = ap (λ (f : Frame). f.low) under i; high = ap (λ (f : Frame). f.high) under i };
 }
 
 -- a pointer that was put in on the page of a frame

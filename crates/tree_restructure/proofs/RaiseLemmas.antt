@@ -1,5 +1,5 @@
 -- Frames of a root that rose are a raise of the law.
-use Rattle.std.proofs.Common.{◌≡◌, ℕ, suc, true, false, [], ◌∷◌, List, sym, ap, ◌∙◌, refl, arith, Option, None}
+use Rattle.std.proofs.Common.{ℕ, suc, true, false, [], ◌∷◌, List, ap, ◌∙◌, refl, arith, Option}
 use Rattle.index_page.specs.declared.head.PageHead.{PageHead}
 use Rattle.tree_law.specs.Pages.{Page, IsOrderly}
 use Rattle.tree_law.specs.PageMoves.{TwoStoreys, full_page}
@@ -10,7 +10,7 @@ use Rattle.forest_law.specs.State.{bound, page_within, fields_for}
 use Rattle.forest_law.specs.Steps.{frame_step, MakesFrameStep, MakeSteps}
 use Rattle.forest_law.specs.Restructures.{raise_steps, RaisesInHand}
 use Rattle.tree_restructure.specs.Raises.{RaisesFrames, RaisesAreInHand}
-use Rattle.tree_restructure.proofs.FrameLemmas.{AreSame, has_page, orderly, fits_too, makes_step, was_orderly, was_own}
+use Rattle.tree_restructure.proofs.FrameLemmas.{same_under, goes, was_orderly, was_own}
 
 module _ (shape : Shape) (before news : List (Option Object))
     (s : RaisesFrames shape before news) where
@@ -49,81 +49,23 @@ module _ (shape : Shape) (before news : List (Option Object))
   old = was_orderly shape before news root false s.top s.root s.raise.page s.raise.had
 
   top_makes : MakesFrameStep shape before news (frame_step s.top root whole higher)
-  top_makes =
-      let r = s.raise in
-      let t = s.top.old in
-      let m = s.top.new in
-      let head = r.raises.head in
-      let low : bound m.low ≡ None = ap (λ (f : Frame). bound f.low) r.root
-      ∙ ap bound s.whole.low in
-      let high : bound m.high ≡ None = ap (λ (f : Frame). bound f.high) r.root
-      ∙ ap bound s.whole.high in
-      let fields : r.top.head.fields ≡ r.page.head.fields =
-      ap (λ (h : PageHead). h.fields) head in
-      let index : r.top.head.index ≡ r.page.head.index = ap (λ (h : PageHead). h.index) head in
-      let same : AreSame r.top m higher = record {
-        index = index ∙ s.whole.index;
-        level = ap (λ (h : PageHead). h.level) head;
-        fields = fields;
-        prev = ap (λ (h : PageHead). h.prev) head;
-        next = ap (λ (h : PageHead). h.next) head;
-        low = low;
-        high = high;
-        rows = r.raises.one.is;
-      } in
-      makes_step shape before news root false s.top s.root whole higher
-      (has_page t root r.page whole r.had refl (record {
-        index = s.whole.index;
-        level = refl;
-        fields = refl;
-        prev = s.whole.prev;
-        next = s.whole.next;
-        low = ap bound s.whole.low;
-        high = ap bound s.whole.high;
-        rows = refl;
-      }))
-      (has_page m root r.top higher r.has (ap (λ (h : PageHead). h.number) head) same)
-      (orderly (fields_for shape) r.top m higher same r.raises.order
-      (fields ∙ old.fields ∙ ap (fields_for shape) (sym index))
-      (fits_too _ _ _ None fields low tt) (fits_too _ _ _ None fields high tt))
+  top_makes = let r = s.raise in
+      goes shape before news root false s.top s.root r.page r.top whole higher r.had refl
+      (assumption (s.whole, ap bound s.whole.low, ap bound s.whole.high)) r.has
+      (ap (λ (h : PageHead). h.number) r.raises.head)
+      (same_under r.top s.top.new higher r.raises.head (assumption s.whole)
+      (ap (λ (f : Frame). bound f.low) r.root ∙ ap bound s.whole.low)
+      (ap (λ (f : Frame). bound f.high) r.root ∙ ap bound s.whole.high) r.raises.one.is)
+      r.raises.order (assumption (old.fields ∙ ap (fields_for shape) s.whole.index))
 
   below_makes : MakesFrameStep shape before news (frame_step s.below under storeys.fresh lower)
-  below_makes =
-      let r = s.raise in
-      let b = s.below.old in
-      let m = s.below.new in
-      let head = r.raises.new_head in
-      let low : bound m.low ≡ None = ap (λ (f : Frame). bound f.low) r.under in
-      let high : bound m.high ≡ None = ap (λ (f : Frame). bound f.high) r.under in
-      let fields : r.new.head.fields ≡ r.page.head.fields =
-      ap (λ (h : PageHead). h.fields) head ∙ r.blank.fields in
-      let index : r.new.head.index ≡ r.page.head.index =
-      ap (λ (h : PageHead). h.index) head ∙ r.blank.index in
-      let same : AreSame r.new m lower = record {
-        index = index ∙ s.whole.index;
-        level = ap (λ (h : PageHead). h.level) head ∙ r.blank.level;
-        fields = fields;
-        prev = ap (λ (h : PageHead). h.prev) head;
-        next = ap (λ (h : PageHead). h.next) head;
-        low = low;
-        high = high;
-        rows = refl;
-      } in
-      makes_step shape before news under true s.below s.under storeys.fresh lower
-      (has_page b under r.fresh storeys.fresh r.had_fresh refl (record {
-        index = refl;
-        level = refl;
-        fields = refl;
-        prev = refl;
-        next = refl;
-        low = refl;
-        high = refl;
-        rows = refl;
-      }))
-      (has_page m under r.new lower r.has_new (ap (λ (h : PageHead). h.number) head) same)
-      (orderly (fields_for shape) r.new m lower same r.raises.new_order
-      (fields ∙ old.fields ∙ ap (fields_for shape) (sym index))
-      (fits_too _ _ _ None fields low tt) (fits_too _ _ _ None fields high tt))
+  below_makes = let r = s.raise in
+      goes shape before news under true s.below s.under r.fresh r.new storeys.fresh lower
+      r.had_fresh refl (assumption) r.has_new (ap (λ (h : PageHead). h.number) r.raises.new_head)
+      (same_under r.new s.below.new lower r.raises.new_head
+      (assumption (r.blank.index ∙ s.whole.index, r.blank))
+      (ap (λ (f : Frame). bound f.low) r.under) (ap (λ (f : Frame). bound f.high) r.under) refl)
+      r.raises.new_order (assumption (old.fields ∙ ap (fields_for shape) s.whole.index))
 
   makes : MakeSteps shape before news (raise_steps root under storeys s.top s.below)
       (s.tree ∷ [])

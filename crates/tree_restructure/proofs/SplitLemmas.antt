@@ -19,7 +19,7 @@ use Rattle.forest_law.specs.Restructures.{up_before, up_after, split_steps, Spli
 use Rattle.tree_restructure.specs.Splits.{SplitsFrames, SplitsAreInHand}
 use Rattle.tree_restructure.proofs.BeyondLemmas.{beyond_page, beyond_prev, beyond_tree, beyond_stands, beyond_makes, beyond_apart}
 use Rattle.tree_restructure.proofs.DueLemmas.{child_charge, this_and_next, load_whole, loads_near}
-use Rattle.tree_restructure.proofs.FrameLemmas.{AreSame, has_page, orderly, fits_too, makes_step, was_orderly, was_own}
+use Rattle.tree_restructure.proofs.FrameLemmas.{same_under, goes, was_orderly, was_own}
 
 -- the key at which rows begin has as many fields as the page's keys
 first_fields : (head : PageHead) (at : FieldList) (rows : List Row) → BeginsAt at rows
@@ -119,43 +119,14 @@ module _ (shape : Shape) (before news : List (Option Object))
         was = whole_page left right parent halves;
         is = left_page left right parent halves;
       })
-  left_makes =
-      let c = s.cut in
-      let l = s.hands.left.old in
-      let m = s.hands.left.new in
-      let head = c.cuts.head in
-      let low : bound m.low ≡ bound l.low = ap (λ (f : Frame). bound f.low) c.left in
-      let fields : c.stays.head.fields ≡ c.page.head.fields =
-      ap (λ (h : PageHead). h.fields) head in
-      let index : c.stays.head.index ≡ c.page.head.index = ap (λ (h : PageHead). h.index) head in
-      let same : AreSame c.stays m (left_page left right parent halves) = record {
-        index = index;
-        level = ap (λ (h : PageHead). h.level) head;
-        fields = fields;
-        prev = ap (λ (h : PageHead). h.prev) head;
-        next = ap (λ (h : PageHead). h.next) head;
-        low = low;
-        high = c.ends;
-        rows = c.cuts.stay;
-      } in
-      makes_step shape before news left false s.hands.left s.left
-      (whole_page left right parent halves) (left_page left right parent halves)
-      (has_page l left c.page (whole_page left right parent halves) c.had refl (record {
-        index = refl;
-        level = refl;
-        fields = refl;
-        prev = refl;
-        next = refl;
-        low = refl;
-        high = refl;
-        rows = c.cuts.was;
-      }))
-      (has_page m left c.stays (left_page left right parent halves) c.has
-      (ap (λ (h : PageHead). h.number) head) same)
-      (orderly (fields_for shape) c.stays m (left_page left right parent halves) same c.cuts.order
-      (fields ∙ left_old.fields ∙ ap (fields_for shape) (sym index))
-      (fits_too _ _ _ _ fields low left_old.low)
-      (fits_too _ _ _ (Some s.at) fields c.ends at_fields))
+  left_makes = let c = s.cut in
+      let is = left_page left right parent halves in
+      goes shape before news left false s.hands.left s.left c.page c.stays
+      (whole_page left right parent halves) is c.had refl (assumption c.cuts.was) c.has
+      (ap (λ (h : PageHead). h.number) c.cuts.head)
+      (same_under c.stays s.hands.left.new is c.cuts.head (assumption)
+      (ap (λ (f : Frame). bound f.low) c.left) c.ends c.cuts.stay)
+      c.cuts.order (assumption (left_old, at_fields))
 
   right_makes : MakesFrameStep shape before news
       (record {
@@ -164,44 +135,13 @@ module _ (shape : Shape) (before news : List (Option Object))
         was = halves.fresh;
         is = right_page left right parent halves;
       })
-  right_makes =
-      let c = s.cut in
-      let r = s.hands.right.old in
-      let m = s.hands.right.new in
-      let head = c.cuts.new_head in
-      let high : bound m.high ≡ bound s.hands.left.old.high = ap bound c.reaches in
-      let fields : c.new.head.fields ≡ c.page.head.fields =
-      ap (λ (h : PageHead). h.fields) head ∙ c.blank.fields in
-      let index : c.new.head.index ≡ c.page.head.index =
-      ap (λ (h : PageHead). h.index) head ∙ c.blank.index in
-      let same : AreSame c.new m (right_page left right parent halves) = record {
-        index = index;
-        level = ap (λ (h : PageHead). h.level) head ∙ c.blank.level;
-        fields = fields;
-        prev = ap (λ (h : PageHead). h.prev) head;
-        next = ap (λ (h : PageHead). h.next) head;
-        low = c.begins;
-        high = high;
-        rows = refl;
-      } in
-      makes_step shape before news right true s.hands.right s.right halves.fresh
-      (right_page left right parent halves) (has_page r right c.fresh halves.fresh c.had_fresh refl (record {
-        index = refl;
-        level = refl;
-        fields = refl;
-        prev = refl;
-        next = refl;
-        low = refl;
-        high = refl;
-        rows = refl;
-      }))
-      (has_page m right c.new (right_page left right parent halves) c.has_new
-      (ap (λ (h : PageHead). h.number) head) same)
-      (orderly (fields_for shape) c.new m (right_page left right parent halves) same
-      c.cuts.new_order
-      (fields ∙ left_old.fields ∙ ap (fields_for shape) (sym index))
-      (fits_too _ _ _ (Some s.at) fields c.begins at_fields)
-      (fits_too _ _ _ _ fields high left_old.high))
+  right_makes = let c = s.cut in
+      let is = right_page left right parent halves in
+      goes shape before news right true s.hands.right s.right c.fresh c.new halves.fresh is
+      c.had_fresh refl (assumption) c.has_new (ap (λ (h : PageHead). h.number) c.cuts.new_head)
+      (same_under c.new s.hands.right.new is c.cuts.new_head (assumption c.blank) c.begins
+      (ap bound c.reaches) refl)
+      c.cuts.new_order (assumption (left_old, at_fields))
 
   up_makes : MakesFrameStep shape before news
       (record {
@@ -210,43 +150,15 @@ module _ (shape : Shape) (before news : List (Option Object))
         was = up_before left right parent halves;
         is = up_after left right parent halves;
       })
-  up_makes =
-      let p = s.pointer in
-      let u = s.hands.up.old in
-      let m = s.hands.up.new in
+  up_makes = let p = s.pointer in
+      let is = up_after left right parent halves in
       let old = was_orderly shape before news parent false s.hands.up s.up p.page p.had in
-      let low : bound m.low ≡ bound u.low = ap (λ (f : Frame). bound f.low) p.kept in
-      let high : bound m.high ≡ bound u.high = ap (λ (f : Frame). bound f.high) p.kept in
-      let fields : p.new.head.fields ≡ p.page.head.fields =
-      ap (λ (h : PageHead). h.fields) p.head in
-      let index : p.new.head.index ≡ p.page.head.index = ap (λ (h : PageHead). h.index) p.head in
-      let same : AreSame p.new m (up_after left right parent halves) = record {
-        index = index;
-        level = ap (λ (h : PageHead). h.level) p.head;
-        fields = fields;
-        prev = ap (λ (h : PageHead). h.prev) p.head;
-        next = ap (λ (h : PageHead). h.next) p.head;
-        low = low;
-        high = high;
-        rows = p.is;
-      } in
-      makes_step shape before news parent false s.hands.up s.up
-      (up_before left right parent halves) (up_after left right parent halves)
-      (has_page u parent p.page (up_before left right parent halves) p.had refl (record {
-        index = refl;
-        level = refl;
-        fields = refl;
-        prev = refl;
-        next = refl;
-        low = refl;
-        high = refl;
-        rows = p.was;
-      }))
-      (has_page m parent p.new (up_after left right parent halves)
-      (ap (λ (f : Frame). f.page) p.kept) (ap (λ (h : PageHead). h.number) p.head) same)
-      (orderly (fields_for shape) p.new m (up_after left right parent halves) same p.order
-      (fields ∙ old.fields ∙ ap (fields_for shape) (sym index))
-      (fits_too _ _ _ _ fields low old.low) (fits_too _ _ _ _ fields high old.high))
+      goes shape before news parent false s.hands.up s.up p.page p.new
+      (up_before left right parent halves) is p.had refl (assumption p.was)
+      (ap (λ (f : Frame). f.page) p.kept) (ap (λ (h : PageHead). h.number) p.head)
+      (same_under p.new s.hands.up.new is p.head (assumption)
+      (ap (λ (f : Frame). bound f.low) p.kept) (ap (λ (f : Frame). bound f.high) p.kept) p.is)
+      p.order (assumption old)
 
   makes : MakeSteps shape before news (split_steps left right parent halves s.hands) []
   makes = record {
