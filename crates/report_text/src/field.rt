@@ -1,7 +1,7 @@
 //! Fields, values and keys as text.
-ghost use Rattle.std.specs.Prelude.{◌≡◌, ◌<◌, ◌++◌, OnOk, OnErr};
+ghost use Rattle.std.specs.Prelude.{◌≡◌, ◌<◌, ◌++◌, not, OnOk, OnErr};
 ghost use Rattle.map_history.specs.Text.{is_plain, hex_digit, byte_text, field_text, key_text};
-ghost use Rattle.std.specs.List.{flat_map};
+ghost use Rattle.std.specs.List.{flat_map, position};
 ghost use Rattle.report_text.specs.Line.{KeepsBytes, separator};
 
 use key_tuple::Fields;
@@ -11,7 +11,12 @@ use std::alloc::AllocError;
 fn is_plain(byte: u8) -> bool
     ensures { result ≡ is_plain byte }
 {
-    matches!(byte, b'!'..=b'}') && byte != b'%' && byte != b','
+    // most bytes are behind the comma
+    if b',' < byte {
+        byte <= b'}'
+    } else {
+        b'!' <= byte && byte != b'%' && byte != b','
+    }
 }
 
 /// The digit of a number below 16, in lower case.
@@ -38,14 +43,34 @@ fn put_byte(out: &mut Vec<u8>, byte: u8) -> Result<(), AllocError>
     Ok(())
 }
 
+/// Bytes that stand for themselves are put together, up to the next that doesn't.
 fn put_bytes(out: &mut Vec<u8>, bytes: &[u8]) -> Result<(), AllocError>
     ensures ok { OnOk result (out.new.items ≡ out.old.items ++ flat_map byte_text bytes.now) }
     ensures err { OnErr result (KeepsBytes out.old.items out.new.items) }
 {
-    for byte in bytes {
-        put_byte(out, *byte)?;
+    let mut rest = bytes;
+    'rest: while let Some(at) = first_escape(rest) {
+        put_run(out, &rest[..at], rest[at])?;
+        rest = &rest[at + 1..];
     }
+    out.extend_from_slice(rest)?;
     Ok(())
+}
+
+/// Where the first byte is that doesn't stand for itself.
+fn first_escape(bytes: &[u8]) -> Option<usize>
+    ensures { result ≡ position (λ b. not (is_plain b)) bytes.now }
+{
+    bytes.iter().position(|byte| !is_plain(*byte))
+}
+
+/// Some bytes as they are, and one as its text.
+fn put_run(out: &mut Vec<u8>, run: &[u8], byte: u8) -> Result<(), AllocError>
+    ensures ok { OnOk result (out.new.items ≡ (out.old.items ++ run.now) ++ byte_text byte) }
+    ensures err { OnErr result (KeepsBytes out.old.items out.new.items) }
+{
+    out.extend_from_slice(run)?;
+    put_byte(out, byte)
 }
 
 /// The bytes of a field or a value, or `~` where there is none.

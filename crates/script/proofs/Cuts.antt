@@ -1,11 +1,9 @@
 -- Pieces and lines at their first cut.
-use Rattle.std.proofs.Common.{◌≡◌, ℕ, suc, ◌+◌, ◌-◌, ◌<◌, ◌≤◌, Bool, true, false, cond, eqb, List, [], ◌∷◌, ◌++◌, length, get_or, take, drop, Some, None, refl, subst, arith, add-one}
-use Rattle.std.specs.List.{position, position_or_len}
-use Rattle.std.proofs.lemmas.Bool.{eqb-true, eq-eqb, ltb-false}
-use Rattle.std.proofs.lemmas.List.Quantifiers.{position-Some}
+use Rattle.std.proofs.Common.{◌≡◌, ℕ, suc, ◌+◌, ◌-◌, ◌<◌, ◌≤◌, Bool, true, false, eqb, List, [], ◌∷◌, ◌++◌, length, get_or, take, drop, refl, subst, arith, add-one}
+use Rattle.memchr.specs.Find.{Nowhere, NoneBefore, Passes, is_byte}
+use Rattle.std.proofs.lemmas.Bool.{eqb-true, eq-eqb}
 use Rattle.std.proofs.lemmas.List.Splits.{slice_split_none, slice_split_at}
-use Rattle.std.proofs.lemmas.List.{get_or-take, length-take, take_rest}
-use Rattle.std.proofs.lemmas.List.Sums.{fails_before_first}
+use Rattle.std.proofs.lemmas.List.{get_or-take, get_or_default, length-take, take_rest}
 use Rattle.std.proofs.Math.Seq.{split_at}
 use Rattle.script.specs.Grammar.{lines_of}
 use Rattle.script.specs.Pieces.{LacksByte, IsFirstCut, pieces_by}
@@ -13,28 +11,28 @@ use Rattle.script.specs.Pieces.{LacksByte, IsFirstCut, pieces_by}
 abbrev is_at : ℕ → ℕ → Bool
 is_at v b = eqb b v
 
-none_cond : (b : Bool) (n : ℕ) → cond b (Some n) None ≡ None → b ≡ false
-none_cond true n h = absurd cc
-none_cond false n h = refl
+isn't_true : (b : Bool) → ¬ (b ≡ true) → b ≡ false
+isn't_true true h = absurd (h refl)
+isn't_true false h = refl
+
+-- where there is no such byte up to a place, each byte before it is another
+lacks_before : (v : ℕ) (s : List ℕ) (n k d : ℕ) → n ≤ length s → Nowhere (Passes (is_byte v) s) 0 n → k < n → eqb (get_or s k d) v ≡ false
+lacks_before v s n k d within none lt = rw (get_or_default s k d 0 (omega arith)) (isn't_true (eqb (get_or s k 0) v) (none k (omega arith) lt))
 
 -- what the first place cuts
-pub cut_there : (v : ℕ) (s : List ℕ) (i : ℕ) → position (is_at v) s ≡ Some i → IsFirstCut v s (take i s) (drop (i + 1) s)
-cut_there v s i h =
-    let p = position-Some (is_at v) s i 0 h in
-    let lt : i < length s = p.0 in
-    let is : get_or s i 0 ≡ v = eqb-true _ _ p.1 in
+pub cut_there : (v : ℕ) (s : List ℕ) (i : ℕ) → NoneBefore (Passes (is_byte v) s) 0 (length s) i → Passes (is_byte v) s i → IsFirstCut v s (take i s) (drop (i + 1) s)
+cut_there v s i h here =
+    let is : get_or s i 0 ≡ v = eqb-true _ _ here in
     record {
-      whole = subst (λ (b : ℕ). s ≡ take i s ++ b ∷ drop (i + 1) s) is (rw add-one (split_at s i 0 lt));
+      whole = subst (λ (b : ℕ). s ≡ take i s ++ b ∷ drop (i + 1) s) is (rw add-one (split_at s i 0 h.high));
       first = λ k d klt.
           let ki : k < i = omega (arith, length-take i s) in
-          rw (get_or-take i s k d ki) ((position-Some (is_at v) s i d h).2 k ki);
+          rw (get_or-take i s k d ki) (lacks_before v s i k d (omega (arith, h.high)) h.before ki);
     }
 
 -- where there is no place, nothing is cut
-pub cut_nowhere : (v : ℕ) (s : List ℕ) → position (is_at v) s ≡ None → LacksByte v s
-cut_nowhere v s h k d lt =
-    let long : length s ≤ position_or_len (is_at v) s = ltb-false _ _ (none_cond _ _ h) in
-    fails_before_first (is_at v) s k d (omega arith)
+pub cut_nowhere : (v : ℕ) (s : List ℕ) → Nowhere (Passes (is_byte v) s) 0 (length s) → LacksByte v s
+cut_nowhere v s h k d lt = lacks_before v s (length s) k d (omega arith) h lt
 
 -- the first piece, and the pieces of what is cut off
 pub pieces_cut : (v : ℕ) (s a b : List ℕ) → IsFirstCut v s a b → pieces_by v s ≡ a ∷ pieces_by v b
@@ -67,5 +65,5 @@ lines_last [] lt h = absurd (omega arith)
 lines_last (x ∷ s) lt h = lines_whole x s h
 
 -- the same, as `&bytes[..i]` and `&bytes[i + 1..]` stand
-pub cut_parts : (v : ℕ) (s : List ℕ) (i : ℕ) → position (is_at v) s ≡ Some i → IsFirstCut v s (take i s) (take (length s - (i + 1)) (drop (i + 1) s))
-cut_parts v s i h = rw (take_rest s (i + 1)) (cut_there v s i h)
+pub cut_parts : (v : ℕ) (s : List ℕ) (i : ℕ) → NoneBefore (Passes (is_byte v) s) 0 (length s) i → Passes (is_byte v) s i → IsFirstCut v s (take i s) (take (length s - (i + 1)) (drop (i + 1) s))
+cut_parts v s i h here = rw (take_rest s (i + 1)) (cut_there v s i h here)

@@ -10,3 +10,4 @@ pub mod ByteFacts
 pub mod LaneFacts
 pub mod NumberFacts
 pub mod Decimals
+pub mod Runs

@@ -1,5 +1,6 @@
 //! Fields and values as text.
-ghost use Rattle.std.specs.Prelude.{◌≡◌, ◌<◌, length, IfSome, MatchOption, Some, None};
+ghost use Rattle.std.specs.Prelude.{◌≡◌, ◌<◌, length, not, IfSome, MatchOption, Some, None};
+ghost use Rattle.std.specs.List.{position};
 ghost use Rattle.map_history.specs.Text.{is_plain};
 ghost use Rattle.script.specs.Grammar.{digit_of, byte_of, bytes_of, field_of, in_front, behind};
 ghost use Rattle.script.specs.Pieces.{IsFirstByte};
@@ -30,20 +31,30 @@ pub fn add_field(bytes: &mut Vec<u8>, text: &[u8]) -> Result<(), Refusal>
     }
 }
 
-#[tactic(auto, using(crate::proofs::Steps::behind_in_front))]
+/// Bytes that stand for themselves are put together, up to the next that doesn't.
+#[tactic(auto, using(crate::proofs::Runs::run_decoded, crate::proofs::Runs::run_refused, crate::proofs::Runs::run_alone))]
 fn decode(bytes: &mut Vec<u8>, text: &[u8]) -> Result<(), Refusal>
     ensures { Leaves result (or_bad (behind bytes.old.items (bytes_of text.now)))
         bytes.new.items }
 {
     let mut rest = text;
-    'text: while !rest.is_empty() {
-        let Some((byte, after)) = first_byte(rest) else {
+    'text: while let Some(at) = first_escape(rest) {
+        bytes.extend_from_slice(&rest[..at])?;
+        let Some((byte, after)) = first_byte(&rest[at..]) else {
             return Err(Refusal::Flawed(Flaw::BadLine));
         };
         bytes.push(byte)?;
         rest = after;
     }
+    bytes.extend_from_slice(rest)?;
     Ok(())
+}
+
+/// Where the first byte is that doesn't stand for itself.
+fn first_escape(text: &[u8]) -> Option<usize>
+    ensures { result ≡ position (λ b. not (is_plain b)) text.now }
+{
+    text.iter().position(|byte| !stands_alone(*byte))
 }
 
 /// The byte at the front of a text, and the text after it.
@@ -80,5 +91,10 @@ fn digit(byte: u8) -> Option<u8>
 fn stands_alone(byte: u8) -> bool
     ensures { result ≡ is_plain byte }
 {
-    b'!' <= byte && byte <= b'}' && byte != b'%' && byte != b','
+    // most bytes are behind the comma
+    if b',' < byte {
+        byte <= b'}'
+    } else {
+        b'!' <= byte && byte != b'%' && byte != b','
+    }
 }

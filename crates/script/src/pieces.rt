@@ -1,9 +1,10 @@
 //! Parts of a file, cut where a byte stands. Nothing is copied.
-ghost use Rattle.std.specs.Prelude.{◌≡◌, ◌==◌, MatchOption};
-ghost use Rattle.std.specs.List.{position};
+ghost use Rattle.std.specs.Prelude.{◌≡◌, MatchOption};
 ghost use Rattle.std.specs.Iterator.{YieldsFirstRef, item_count};
 ghost use Rattle.script.specs.Pieces.{LacksByte, IsFirstCut, pieces_by, pieces_left, lines_left};
 ghost use Rattle.script.specs.Grammar.{lines_of};
+
+use memchr::memchr;
 
 /// What stands between the bytes of one value: one piece more than there are such bytes.
 #[derive(Debug, Clone, Copy)]
@@ -89,16 +90,11 @@ impl<'a> Iterator for Lines<'a> {
 }
 
 /// What stands before the first byte of this value, and what stands after it.
+#[tactic(auto, using(crate::proofs::Cuts::cut_parts, crate::proofs::Cuts::cut_nowhere))]
 fn cut(bytes: &[u8], value: u8) -> Option<(&[u8], &[u8])>
     ensures { MatchOption result (LacksByte value bytes.now)
         (λ p. IsFirstCut value bytes.now p.0.now p.1.now) }
 {
-    let at = first_place(bytes, value)?;
+    let at = memchr(value, bytes)?;
     Some((&bytes[..at], &bytes[at + 1..]))
-}
-
-fn first_place(bytes: &[u8], value: u8) -> Option<usize>
-    ensures { result ≡ position (λ b. b == value) bytes.now }
-{
-    bytes.iter().position(|byte| *byte == value)
 }

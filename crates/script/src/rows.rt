@@ -12,6 +12,7 @@ use crate::field::{add_field, field};
 use crate::modes::find_mode;
 use crate::pieces::Pieces;
 use crate::words::{one_word, two_words};
+use arrayvec::ArrayVec;
 use key_tuple::{Key, KeyError, MAX_FIELDS, Mode, Tuple, Value};
 use std::alloc::Global;
 
@@ -19,7 +20,7 @@ use std::alloc::Global;
 #[derive(Debug, Drop)]
 struct KeyText {
     bytes: Vec<u8>,
-    ends: Vec<usize>,
+    ends: ArrayVec<usize, 4>,
 }
 
 /// `KEY`, for an index whose keys have so many fields.
@@ -62,6 +63,7 @@ pub fn read_search(alloc: Global, count: u8, words: Pieces<'_>) -> Result<(Mode,
 
 /// The fields of a key's word, if there are exactly so many.
 fn key_text(alloc: Global, count: u8, word: &[u8]) -> Result<KeyText, Refusal>
+    requires { count ≤ MAX_FIELDS }
     ensures fields { Gives text_fields result (or_bad (key_spelled count word.now)) }
     ensures counted { IfOk result (λ t. length t.ends.items ≡ count) }
     ensures rise { IfOk result (λ t. RiseTo 0 t.ends.items (length t.bytes.items)) }
@@ -75,18 +77,19 @@ fn key_text(alloc: Global, count: u8, word: &[u8]) -> Result<KeyText, Refusal>
 
 /// The fields of a tuple's word, if there are at most so many.
 fn tuple_text(alloc: Global, most: u8, word: &[u8]) -> Result<KeyText, Refusal>
+    requires { most ≤ MAX_FIELDS }
     ensures fields { Gives text_fields result (or_bad (tuple_spelled most word.now)) }
     ensures few { IfOk result (λ t. length t.ends.items ≤ most) }
     ensures rise { IfOk result (λ t. RiseTo 0 t.ends.items (length t.bytes.items)) }
 {
     let mut bytes = Vec::with_capacity(alloc, word.len())?;
-    let mut ends = Vec::with_capacity(alloc, usize::from(most))?;
+    let mut ends = ArrayVec::new();
     for text in Pieces::new(word, b',') {
         if ends.len() == usize::from(most) {
             return Err(Refusal::Flawed(Flaw::BadLine));
         }
         add_field(&mut bytes, text)?;
-        ends.push(bytes.len())?;
+        ends.push(bytes.len());
     }
     Ok(KeyText { bytes, ends })
 }

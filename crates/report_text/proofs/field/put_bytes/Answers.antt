@@ -1,5 +1,14 @@
+-- A run and an escaped byte more, or the last run.
+use Rattle.std.proofs.Common.{sym, ◌∙◌}
 use Rattle.report_text.proofs.LineLemmas.{Extends-at_exit}
+use Rattle.report_text.proofs.RunLemmas.{run_put, all_put}
 use Rattle.report_text.proofs.field.put_bytes.Goals as goal
 
-pub returns-in_err-put_byte-clause-err : goal.returns-in_err-put_byte-clause-err
-returns-in_err-put_byte-clause-err c = Extends-at_exit _ _ _ _ _ c.loop-byte.invariant c.in_err-put_byte.ensures.err
+pub returns-in_err-put_run-clause-err : goal.returns-in_err-put_run-clause-err
+returns-in_err-put_run-clause-err c = Extends-at_exit _ _ _ _ _ c.rest.invariant.grown c.in_err-put_run.ensures.err
+
+pub rest-preserved : goal.rest-preserved
+rest-preserved c = run_put _ _ _ _ _ _ (sym c.first_escape.ensures ∙ c.in-Some.is) c.in_ok-put_run.ensures.ok c.rest.invariant
+
+pub returns-clause-ok : goal.returns-clause-ok
+returns-clause-ok c = all_put _ _ _ _ _ (sym c.first_escape.ensures ∙ c.in_default.is) c.in_ok-extend_from_slice.ensures.items c.rest.invariant

@@ -1,7 +1,10 @@
-use Rattle.std.proofs.Common.{◌≡◌, ◌++◌, take}
-use Rattle.std.specs.List.{flat_map}
-use Rattle.map_history.specs.Text.{byte_text}
+-- What was put and what is left are the whole.
+use Rattle.std.proofs.Common.{length}
+use Rattle.report_text.proofs.RunLemmas.{IsPutSoFar}
 use Rattle.report_text.proofs.field.put_bytes.Given as goal
 
-abbrev pub invariant-loop-byte : goal.invariant-loop-byte
-invariant-loop-byte l = l.out.items ≡ l.initial.out.items ++ flat_map byte_text (take l.byte-index l.bytes)
+abbrev pub invariant-rest : goal.invariant-rest
+invariant-rest l = IsPutSoFar l.initial.out.items l.out.items l.bytes l.rest
+
+abbrev pub decreases-rest : goal.decreases-rest
+decreases-rest l = length l.rest

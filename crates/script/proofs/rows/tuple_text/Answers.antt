@@ -23,7 +23,7 @@ returns-in_err-add_field-clause-fields c =
 pub loop-text-preserved : goal.loop-text-preserved
 loop-text-preserved c =
     let end : c.len-in-loop-text.result ≡ length c.add_field.new.bytes.items = omega (arith, c.len-in-loop-text.ensures, c.add_field.new.bytes.ok.0) in
-    let pushed = c.in_ok-push.ensures.items ∙ ap (λ (n : ℕ). c.loop-text.ends.items ++ n ∷ []) end in
+    let pushed = c.push.ensures.items ∙ ap (λ (n : ℕ). c.loop-text.ends.items ++ n ∷ []) end in
     let fields = field_more (tuple_of c.args.word.now) c.loop-text.bytes.items c.loop-text.ends.items c.add_field.new.bytes.items c.push.new.self.items (pieces_left c.loop-text.text-iterator) c.in-Some.text.now (pieces_left c.next.new.self)
     c.loop-text.invariant.0 c.in-Some.ensures.steps c.in_ok-add_field.ensures pushed in
     (fields, grind arith)
