@@ -145,15 +145,15 @@ pub record RowEnters (old new : List ℕ) (fields : ℕ) (row : Row) : Type 0 wh
   pub page : IsBytePage new fields
   pub inserts : Inserts (page_in_bytes old fields) (page_in_bytes new fields) row
 
-pub row_enters : {old new : List ℕ} {fields before : ℕ} (row : Row) → IsBytePage old fields → (c : CutsRows old fields (not_below row.key) before) → InsertsInBytes old new fields c.left c.right row
+pub row_enters : {old new : List ℕ} {fields before : ℕ} (row : Row) → IsBytePage old fields → (c : CutsRows (rows_in_bytes old fields) (not_below row.key) before) → InsertsInBytes old new fields c.left c.right row
     → IsRowOf (head_in_bytes old fields) row → LacksKey row.key (rows_in_bytes old fields) → load_of (rows_in_bytes old fields) + charge_of row.key row.body ≤ PAGE_ROOM → RowEnters old new fields row
 row_enters {old} {new} {fields} row b c i suits lacks room =
     let page = page_in_bytes old fields in
     let k = length c.left in
     let head = head_same fields (record { low = i.low; high = i.high }) in
-    let at : insert (rows_in_bytes old fields) k row ≡ rows_in_bytes new fields = ap (λ (xs : List Row). insert xs k row) c.rows ∙ insert_between c.left c.right row ∙ sym i.rows in
-    let low : take k (rows_in_bytes old fields) ≡ c.left = ap (take k) c.rows ∙ take_at c.left c.right k refl in
-    let high : drop k (rows_in_bytes old fields) ≡ c.right = ap (drop k) c.rows ∙ drop_at c.left c.right k refl in
+    let at : insert (rows_in_bytes old fields) k row ≡ rows_in_bytes new fields = ap (λ (xs : List Row). insert xs k row) c.split ∙ insert_between c.left c.right row ∙ sym i.rows in
+    let low : take k (rows_in_bytes old fields) ≡ c.left = ap (take k) c.split ∙ take_at c.left c.right k refl in
+    let high : drop k (rows_in_bytes old fields) ≡ c.right = ap (drop k) c.split ∙ drop_at c.left c.right k refl in
     let differ : PlacesDiffer (insert (rows_in_bytes old fields) k row) = subst PlacesDiffer (sym at) (rows_differ i.page) in
     let order = inserted_order page row k b.order suits lacks (subst (AllOut (not_below row.key)) (sym low) c.out) (subst (AllIn (not_below row.key)) (sym high) c.past) room differ in
     let whole : page_in_bytes new fields ≡ (let q : PageRows = record { head = page.head; rows = insert page.rows k row } in q) =
@@ -178,12 +178,12 @@ may_be_written kind key tail limits short child =
     record { number = omega arith; key = fields_short key _ few (omega arith); tail = omega arith; child = child }
 
 -- it may come where the cut is
-pub can_be_inserted : {bytes : List ℕ} {fields before size : ℕ} {kind : RecordKind} {key : FieldList} {tail : List ℕ} → IsBytePage bytes fields → (c : CutsRows bytes fields (not_below key) before)
+pub can_be_inserted : {bytes : List ℕ} {fields before size : ℕ} {kind : RecordKind} {key : FieldList} {tail : List ℕ} → IsBytePage bytes fields → (c : CutsRows (rows_in_bytes bytes fields) (not_below key) before)
     → IsRecord (record_from 0 0 kind key tail) → length key ≡ fields → size ≡ record_size_of kind key tail → takes (gaps_in_bytes bytes fields) size ≡ true
     → CanInsertRow bytes fields c.left c.right before kind key tail size
 can_be_inserted b c sound count size room = record {
   page = b.rows;
-  rows = c.rows;
+  rows = c.split;
   before_is = c.before_is;
   sound = sound;
   count = count;
@@ -198,7 +198,7 @@ charge_by_size kind key tail place size is = omega (arith, charge_of_record plac
 
 -- the page with the row, as the form of the page tells what the row needs
 pub row_put : {old new : List ℕ} {fields before size place : ℕ} (kind : RecordKind) {key : FieldList} (tail : List ℕ) (form : GappedPage) → form_in_bytes old fields ≡ form → IsBytePage old fields
-    → (c : CutsRows old fields (not_below key) before) → InsertsInBytes old new fields c.left c.right (placed_row place key (body_of_kind kind tail))
+    → (c : CutsRows (rows_in_bytes old fields) (not_below key) before) → InsertsInBytes old new fields c.left c.right (placed_row place key (body_of_kind kind tail))
     → length key ≡ form.page.head.fields → IsWithinLimits key → LacksKey key form.page.rows → FitsLevel form.page.head.level (body_of_kind kind tail) → HasShortValue (body_of_kind kind tail)
     → size ≡ record_size_of kind key tail → load_of form.page.rows + size + 1 ≤ PAGE_ROOM → RowEnters old new fields (placed_row place key (body_of_kind kind tail))
 row_put {old} {new} {fields} {before} {size} {place} kind {key} tail form is b c i count limits lacks level short size_is room =

@@ -1,16 +1,19 @@
 -- The rows around a cut, and their places.
-use Rattle.std.proofs.Common.{◌≡◌, ℕ, suc, ◌<◌, ◌≤◌, Bool, false, cond, Option, Some, None, IsSome, IfSome, List, [], ◌∷◌, ◌++◌, map, length, take, drop, nat_eq, refl, sym, ap, subst, ◌∙◌, arith}
+use Rattle.std.proofs.Common.{◌≡◌, ℕ, suc, ◌<◌, ◌≤◌, Bool, false, cond, Option, Some, None, IsSome, IfSome, unwrap_or, List, [], ◌∷◌, ◌++◌, map, length, take, drop, nat_eq, refl, sym, ap, subst, ◌∙◌, arith}
 use Rattle.std.proofs.lemmas.List.{append_assoc, take_at, drop_at}
 use Rattle.std.proofs.lemmas.Bool.{false≢true}
 use Rattle.std.proofs.lemmas.Bool.Decides.{nat_tests}
 use Rattle.std.specs.List.{AllByRecursion}
 use Rattle.list_facts.proofs.Each.{each_left, each_right, each_both}
+use Rattle.key_tuple.specs.Order.{FieldList}
 use Rattle.key_tuple.specs.KeyPlace.{KeyPlace, not_below, above}
+use Rattle.key_tuple.specs.declared.mode.Mode.TheVariants.{Ge}
 use Rattle.page_mirror.specs.Cells.{end_in}
 use Rattle.page_mirror.specs.Mirror.{origin_of}
 use Rattle.index_page.specs.Rows.{Row, find_row, first_of_rows, last_row_after, last_of_rows, IsAt}
 use Rattle.index_page.specs.Page.{PlacesDiffer, RowsAscend}
-use Rattle.index_page.specs.Search.{AllOut, AllIn}
+use Rattle.index_page.specs.declared.spot.Spot.{Spot}
+use Rattle.index_page.specs.Search.{AllOut, AllIn, Finds}
 use Rattle.index_page.specs.Changes.{PrevIs}
 use Rattle.index_page.proofs.RowLemmas.{find_among, get_split, ascends_right}
 use Rattle.index_page.proofs.KeyLemmas.{position_of}
@@ -96,25 +99,25 @@ pub record Sides (bytes : List ℕ) (fields : ℕ) (left right : List Row) (befo
   pub after_at : IsAt (rows_in_bytes bytes fields) after (first_of_rows right)
 
 -- behind the cut there is the right part
-abbrev pub right_ascends : {bytes : List ℕ} {fields place : ℕ} {p : KeyPlace → Bool} → IsBytePage bytes fields → (c : CutsRows bytes fields p place) → IsBehindRows bytes fields c.left c.right place
-right_ascends b c = record { page = b.rows; ascend = ascends_right c.left c.right (subst RowsAscend c.rows b.order.ascend); rows = c.rows; before_is = c.before_is }
+abbrev pub right_ascends : {bytes : List ℕ} {fields place : ℕ} {p : KeyPlace → Bool} → IsBytePage bytes fields → (c : CutsRows (rows_in_bytes bytes fields) p place) → IsBehindRows bytes fields c.left c.right place
+right_ascends b c = record { page = b.rows; ascend = ascends_right c.left c.right (subst RowsAscend c.split b.order.ascend); rows = c.split; before_is = c.before_is }
 
-pub sides : {bytes : List ℕ} {fields place : ℕ} {p : KeyPlace → Bool} (next : ℕ) (before after : Option ℕ) → (b : IsBytePage bytes fields) → (c : CutsRows bytes fields p place)
+pub sides : {bytes : List ℕ} {fields place : ℕ} {p : KeyPlace → Bool} (next : ℕ) (before after : Option ℕ) → (b : IsBytePage bytes fields) → (c : CutsRows (rows_in_bytes bytes fields) p place)
     → next ≡ origin_of b.rows.parts.mirror (b.rows.parts.mirror.next (before_rows (right_ascends b c)).here) → before ≡ left_place place → after ≡ told next
     → Sides bytes fields c.left c.right before after
 sides {bytes} {fields} {place} next before after b c leads before_is after_is = record {
-  before_at = subst (λ (o : Option ℕ). IsAt (rows_in_bytes bytes fields) o (last_of_rows c.left)) (sym before_is) (before_is_at place c.left c.right b.rows c.rows c.before_is);
+  before_at = subst (λ (o : Option ℕ). IsAt (rows_in_bytes bytes fields) o (last_of_rows c.left)) (sym before_is) (before_is_at place c.left c.right b.rows c.split c.before_is);
   after_at = subst (λ (o : Option ℕ). IsAt (rows_in_bytes bytes fields) o (first_of_rows c.right)) (sym after_is) (after_is_at next (right_ascends b c) leads);
 }
 
 -- the rows that are below a row's key are those before it
 pub prev_is : {bytes : List ℕ} {fields : ℕ} (place : ℕ) (row : Row) (before : ℕ) → (b : IsBytePage bytes fields) → find_row place (rows_in_bytes bytes fields) ≡ Some row
-    → CutsRows bytes fields (not_below row.key) before → PrevIs (rows_in_bytes bytes fields) place (left_place before)
+    → CutsRows (rows_in_bytes bytes fields) (not_below row.key) before → PrevIs (rows_in_bytes bytes fields) place (left_place before)
 prev_is {bytes} {fields} place row before b found c =
     let rows = rows_in_bytes bytes fields in
     let k = length c.left in
-    let low : take k rows ≡ c.left = ap (take k) c.rows ∙ take_at c.left c.right k refl in
-    let high : drop k rows ≡ c.right = ap (drop k) c.rows ∙ drop_at c.left c.right k refl in
+    let low : take k rows ≡ c.left = ap (take k) c.split ∙ take_at c.left c.right k refl in
+    let high : drop k rows ≡ c.right = ap (drop k) c.split ∙ drop_at c.left c.right k refl in
     let at = position_of (page_in_bytes bytes fields) place row k b.order found (subst (AllOut (not_below row.key)) (sym low) c.out) (subst (AllIn (not_below row.key)) (sym high) c.past) in
     record {
       left = take k rows;
@@ -122,7 +125,7 @@ prev_is {bytes} {fields} place row before b found c =
       right = drop (suc k) rows;
       split = get_split rows k at.row at.there;
       place_is = at.place_is;
-      prev_at = subst (λ (l : List Row). IsAt rows (left_place before) (last_of_rows l)) (sym low) (before_is_at before c.left c.right b.rows c.rows c.before_is);
+      prev_at = subst (λ (l : List Row). IsAt rows (left_place before) (last_of_rows l)) (sym low) (before_is_at before c.left c.right b.rows c.split c.before_is);
     }
 
 -- the tuple without fields is above no key
@@ -132,12 +135,28 @@ none_above [] a = refl
 none_above (x ∷ rows) a = absurd (false≢true a.0)
 
 -- so a cut there leaves out all rows
-pub last_is : {bytes : List ℕ} {fields : ℕ} (before : ℕ) → IsPageOfRows bytes fields → CutsRows bytes fields (above []) before
+pub last_is : {bytes : List ℕ} {fields : ℕ} (before : ℕ) → IsPageOfRows bytes fields → CutsRows (rows_in_bytes bytes fields) (above []) before
     → IsAt (rows_in_bytes bytes fields) (left_place before) (last_of_rows (rows_in_bytes bytes fields))
 last_is {bytes} {fields} before page c =
-    let whole : rows_in_bytes bytes fields ≡ c.left = c.rows ∙ ap (λ (l : List Row). c.left ++ l) (none_above c.right c.past) ∙ append_none c.left in
-    subst (λ (l : List Row). IsAt (rows_in_bytes bytes fields) (left_place before) (last_of_rows l)) (sym whole) (before_is_at before c.left c.right page c.rows c.before_is)
+    let whole : rows_in_bytes bytes fields ≡ c.left = c.split ∙ ap (λ (l : List Row). c.left ++ l) (none_above c.right c.past) ∙ append_none c.left in
+    subst (λ (l : List Row). IsAt (rows_in_bytes bytes fields) (left_place before) (last_of_rows l)) (sym whole) (before_is_at before c.left c.right page c.split c.before_is)
   where
     append_none : (xs : List Row) → xs ++ [] ≡ xs
     append_none [] = refl
     append_none (x ∷ xs) = ap (λ (ys : List Row). x ∷ ys) (append_none xs)
+
+-- a place, and where there is none that of infimum
+place_or_infimum : (rows left : List Row) (place : Option ℕ) → IsAt rows place (last_of_rows left) → unwrap_or place 99 ≡ place_before left
+place_or_infimum rows [] place at = ap (λ (o : Option ℕ). unwrap_or o 99) at
+place_or_infimum rows (x ∷ xs) place at = ap (λ (o : Option ℕ). unwrap_or o 99) at.0
+
+-- the row before a key's spot is the last below the key
+pub spot_below : (key : FieldList) (rows : List Row) (spot : Spot) (before : ℕ) → Finds Ge key rows spot → before ≡ unwrap_or spot.before 99 → CutsRows rows (not_below key) before
+spot_below key rows spot before found is = record {
+  left = found.left;
+  right = found.right;
+  split = found.split;
+  before_is = is ∙ place_or_infimum rows found.left spot.before found.before_at;
+  out = found.out;
+  past = found.past;
+}

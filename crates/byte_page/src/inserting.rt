@@ -1,5 +1,7 @@
 //! Rows that come.
-ghost use Rattle.std.specs.Prelude.{◌≡◌, ◌+◌, ◌≤◌, ◌<◌, ℕ, List, length, true, Some, Err, IfOk, IfErr, OnErr, IfSome};
+ghost use Rattle.std.specs.Prelude.{◌≡◌, ◌≢◌, ◌+◌, ◌≤◌, ◌<◌, ℕ, List, length, true, Some, Err, IfOk, IfErr, OnErr, IfSome};
+ghost use Rattle.key_tuple.specs.declared.mode.Mode.TheVariants as modes;
+ghost use Rattle.key_tuple.specs.KeyPlace.{not_below};
 ghost use Rattle.key_tuple.specs.Limits.{IsWithinLimits};
 ghost use Rattle.compact_record.specs.Kind.{status_bits};
 ghost use Rattle.compact_record.specs.Reading.{child_of};
@@ -8,17 +10,20 @@ ghost use Rattle.index_page.specs.declared.TheConstants.{PAGE_ROOM, MAX_CHARGE};
 ghost use Rattle.index_page.specs.Rows.{Child, placed_row, body_by, LacksKey};
 ghost use Rattle.index_page.specs.Page.{FitsLevel, HasShortValue};
 ghost use Rattle.index_page.specs.Changes.{Inserts};
+ghost use Rattle.index_page.specs.Search.{Finds};
 ghost use Rattle.index_page.specs.Loads.{charge_of, load_of};
 ghost use Rattle.index_page.specs.Refusals.{room_refusal, takes};
 ghost use Rattle.page_rows.specs.Reading.{body_of_kind};
+ghost use Rattle.page_search.specs.Cuts.{CutsRows};
 ghost use Rattle.byte_page.specs.Form.{gap_refusal};
+ghost use Rattle.byte_page.specs.Searching.{spot_with};
 
 use crate::page::BytePage;
+use crate::search::ByteSpot;
+use crate::walks::INFIMUM;
 use compact_record::RecordKind;
 use index_page::{Body, Gaps, PageError, Place, charge};
-use key_tuple::{Fields, Mode};
-use page_rows::insert_row;
-use page_search::find_before;
+use key_tuple::Fields;
 
 /// The bytes of a pointer beside its key's fields and their lengths, and one of the directory.
 const POINTER_CHARGE: u16 = 10;
@@ -40,44 +45,72 @@ impl BytePage {
             gap_refusal self.old (A.fields_of key.now) (body_by body.entry) ≡ Some e) }
         ensures err { OnErr result (self.new ≡ self.old) }
     {
+        let before = self.place_below(key);
+        self.insert_behind(before, key, body)
+    }
+
+    /// Puts a new row in at the spot that a search for its key with `Ge` told, and looks nothing up
+    /// again. That the key is not there tell the spot's figures.
+    pub fn insert_at<A: Fields>(
+        &mut self,
+        spot: &ByteSpot,
+        key: &A,
+        body: Body<'_>,
+    ) -> Result<Place, PageError>
+        requires spot { (cut : ℕ)
+            × Finds modes.Ge (A.fields_of key.now) self.old.page.rows (spot_with spot.now cut) }
+        requires absent { spot.now.up.fields ≢ length (A.fields_of key.now) }
+        requires fields { length (A.fields_of key.now) ≡ self.old.page.head.fields }
+        requires limits { IsWithinLimits (A.fields_of key.now) }
+        requires body { FitsLevel self.old.page.head.level (body_by body) }
+        ensures ok { IfOk result (λ place. Inserts self.old.page self.new.page
+            (placed_row place (A.fields_of key.now) (body_by body.entry))) }
+        ensures refused { IfSome
+            (gap_refusal self.old (A.fields_of key.now) (body_by body.entry))
+            (λ e. result ≡ Err e) }
+        ensures cause { IfErr result (λ e.
+            gap_refusal self.old (A.fields_of key.now) (body_by body.entry) ≡ Some e) }
+        ensures err { OnErr result (self.new ≡ self.old) }
+    {
+        self.is_in_order();
+        self.insert_behind(spot.before.unwrap_or(INFIMUM), key, body)
+    }
+
+    /// Puts a new row in behind the last one below its key, whose place is `before`.
+    fn insert_behind<A: Fields>(
+        &mut self,
+        before: Place,
+        key: &A,
+        body: Body<'_>,
+    ) -> Result<Place, PageError>
+        requires before { CutsRows self.old.page.rows (not_below (A.fields_of key.now)) before }
+        requires fields { length (A.fields_of key.now) ≡ self.old.page.head.fields }
+        requires limits { IsWithinLimits (A.fields_of key.now) }
+        requires absent { LacksKey (A.fields_of key.now) self.old.page.rows }
+        requires body { FitsLevel self.old.page.head.level (body_by body) }
+        ensures ok { IfOk result (λ place. Inserts self.old.page self.new.page
+            (placed_row place (A.fields_of key.now) (body_by body.entry))) }
+        ensures refused { IfSome
+            (gap_refusal self.old (A.fields_of key.now) (body_by body.entry))
+            (λ e. result ≡ Err e) }
+        ensures cause { IfErr result (λ e.
+            gap_refusal self.old (A.fields_of key.now) (body_by body.entry) ≡ Some e) }
+        ensures err { OnErr result (self.new ≡ self.old) }
+    {
         let need = charge(key, body);
         if let Some(refusal) = refusal_by(need, self.free(), self.gaps()) {
             return Err(refusal);
         }
         match body {
             Body::Value(value) => {
-                Ok(self.put_in(RecordKind::Row, key, value.as_bytes(), need - 1))
+                let size = need - 1;
+                Ok(self.enter(before, RecordKind::Row, key, value.as_bytes(), size))
             }
             Body::Child(number) => {
                 let kind = pointer_kind(need, key.count());
-                Ok(self.put_in(kind, key, &child_bytes(number), need - 1))
+                Ok(self.enter(before, kind, key, &child_bytes(number), need - 1))
             }
         }
-    }
-
-    /// The same for a record of a kind, where there is room for so many bytes.
-    pub(crate) fn put_in<A: Fields>(
-        &mut self,
-        kind: RecordKind,
-        key: &A,
-        tail: &[u8],
-        size: u16,
-    ) -> Place
-        requires fields { length (A.fields_of key.now) ≡ self.old.page.head.fields }
-        requires limits { IsWithinLimits (A.fields_of key.now) }
-        requires absent { LacksKey (A.fields_of key.now) self.old.page.rows }
-        requires body { FitsLevel self.old.page.head.level (body_of_kind kind tail.now) }
-        requires short { length tail.now ≤ 2048 }
-        requires value { HasShortValue (body_of_kind kind tail.now) }
-        requires child { status_bits kind ≡ 1 → length tail.now ≡ 4 }
-        requires size { size ≡ record_size_of kind (A.fields_of key.now) tail.now }
-        requires room { load_of self.old.page.rows + size + 1 ≤ PAGE_ROOM }
-        requires gap { takes self.old.gaps size ≡ true }
-        ensures { Inserts self.old.page self.new.page
-            (placed_row result (A.fields_of key.now) (body_of_kind kind tail.now)) }
-    {
-        let before = find_before(&self.bytes, self.fields, key, Mode::Ge);
-        insert_row(&mut self.bytes, self.fields, before, kind, key, tail, size)
     }
 }
 

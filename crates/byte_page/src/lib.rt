@@ -5,6 +5,7 @@
 mod appending;
 mod copy;
 mod deleting;
+mod entering;
 mod front;
 mod inserting;
 mod laws;

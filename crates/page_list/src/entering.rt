@@ -17,11 +17,13 @@ pub fn enter_list(page: &mut [u8], before: u16, at: u16)
 {
     let next = next_of(page, before);
     let owner = find_owner(page, next);
-    let slot = find_slot(page, owner);
     let count = owns(page, owner);
-    link_between(page, before, at, owner);
     if count == 8 {
+        let slot = find_slot(page, owner);
+        link_between(page, before, at, owner);
         split_slot(page, slot);
+    } else {
+        link_between(page, before, at, owner);
     }
 }
 

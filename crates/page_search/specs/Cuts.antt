@@ -9,10 +9,10 @@ use Rattle.page_rows.specs.Spelling.{IsPageOfRows}
 use Rattle.page_rows.specs.Inserting.{place_before}
 
 -- the cut leaves out the rows up to the place `before`, and admits those behind it
-pub record CutsRows (bytes : List ℕ) (fields : ℕ) (p : KeyPlace → Bool) (before : ℕ) : Type 0 where
+pub record CutsRows (rows : List Row) (p : KeyPlace → Bool) (before : ℕ) : Type 0 where
   pub left : List Row
   pub right : List Row
-  pub rows : rows_in_bytes bytes fields ≡ left ++ right
+  pub split : rows ≡ left ++ right
   pub before_is : before ≡ place_before left
   pub out : AllOut p left
   pub past : AllIn p right

@@ -22,7 +22,7 @@ pub fn find_before<A: Fields>(page: &[u8], fields: u8, tuple: &A, mode: Mode) ->
     requires page { IsPageOfRows page.now fields }
     requires ascend { RowsAscend (rows_in_bytes page.now fields) }
     requires tuple { length (A.fields_of tuple.now) ≤ fields }
-    ensures { CutsRows page.now fields (cut_of mode (A.fields_of tuple.now)) result }
+    ensures { CutsRows (rows_in_bytes page.now fields) (cut_of mode (A.fields_of tuple.now)) result }
 {
     let mut before = owner_before(page, fields, tuple, mode);
     for _ in 0..BESIDE_OWNER {

@@ -65,6 +65,14 @@ returns-then-count-eq8 c = λ m gs free g e.
     entered_split w linked
     (c.split_slot.ensures (linked_in m g (owned_with m gs g w) m.slots) (groups_with gs g w) free (can_split w e (omega (arith, count)) slot linked))
 
+pub link_between-requires-else-count-eq8 : goal.link_between-requires-else-count-eq8
+link_between-requires-else-count-eq8 c =
+    let r = c.requires in
+    let h = r.4.gap in
+    let w = group_at h in
+    let behind = record_behind w c.next_of-next.result h (c.next_of-next.ensures r.0 r.3.p h.before_at) in
+    (r.0, r.1, r.2, r.3, w, gap_owner w h (c.find_owner-owner.ensures r.0 r.1 r.2 (length w.early) r.3.n behind))
+
 pub returns-else-count-eq8 : goal.returns-else-count-eq8
 returns-else-count-eq8 c = λ m gs free g e.
     let h = e.gap in
@@ -74,4 +82,4 @@ returns-else-count-eq8 c = λ m gs free g e.
     let gap = gap_owner w h owner in
     let count = c.owns-count.ensures m w.owner gap.owner_at in
     let other = c.if-count-eq8.false in
-    entered_whole w e (λ x. other (count ∙ x)) (c.link_between.ensures m gs free g w gap)
+    entered_whole w e (λ x. other (count ∙ x)) (c.link_between-else-count-eq8.ensures m gs free g w gap)

@@ -40,7 +40,7 @@ returns-in-None g c =
     record {
       left = inv.0;
       right = inv.1 ++ inv.2;
-      rows = b.rows;
+      split = b.rows;
       before_is = b.before_is;
       out = inv.4;
       past = c.in-None.ensures inv.0 (inv.1 ++ inv.2) b;
@@ -81,7 +81,7 @@ returns g c =
     record {
       left = inv.0;
       right = inv.2;
-      rows = b.rows ∙ ap (λ (xs : List Row). inv.0 ++ (xs ++ inv.2)) none;
+      split = b.rows ∙ ap (λ (xs : List Row). inv.0 ++ (xs ++ inv.2)) none;
       before_is = b.before_is;
       out = inv.4;
       past = inv.5;

@@ -1,6 +1,7 @@
 use Rattle.std.proofs.Common.{[], ℕ, List, ap, subst}
 use Rattle.key_tuple.specs.KeyPlace.{above}
 use Rattle.index_page.specs.Rows.{Row, last_of_rows, IsAt}
+use Rattle.page_rows.specs.Reading.{rows_in_bytes}
 use Rattle.page_search.specs.Cuts.{CutsRows}
 use Rattle.byte_page.specs.Form.{GappedPage}
 use Rattle.byte_page.proofs.SearchLemmas.{last_is}
@@ -11,6 +12,6 @@ returns c =
     let bytes = c.self.inside.bytes.items in
     let fields = c.self.inside.fields in
     let same = ap (λ (f : GappedPage). f.page.rows) c.self.view_is in
-    let cut = subst (λ (b : List ℕ). CutsRows b fields (above []) c.find_before.result) c.deref.ensures.value c.find_before.ensures in
+    let cut = subst (λ (b : List ℕ). CutsRows (rows_in_bytes b fields) (above []) c.find_before.result) c.deref.ensures.value c.find_before.ensures in
     let last = last_is c.find_before.result c.self.invariant.rows cut in
     subst (λ (rows : List Row). IsAt rows c.place_left.result (last_of_rows rows)) same (rw c.place_left.ensures last)

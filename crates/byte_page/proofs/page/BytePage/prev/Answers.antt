@@ -26,6 +26,6 @@ returns c =
     let same = ap (λ (f : GappedPage). f.page.rows) c.self.view_is in
     let row = row_of_record c.args.place c.row-row.result in
     let found : find_row c.args.place (rows_in_bytes bytes fields) ≡ Some row = ap (find_row c.args.place) same ∙ c.row-row.ensures in
-    let cut = subst (λ (b : List ℕ). CutsRows b fields (not_below row.key) c.find_before.result) c.deref.ensures.value c.find_before.ensures in
+    let cut = subst (λ (b : List ℕ). CutsRows (rows_in_bytes b fields) (not_below row.key) c.find_before.result) c.deref.ensures.value c.find_before.ensures in
     subst (λ (rows : List Row). PrevIs rows c.args.place c.place_left.result) same
     (subst (PrevIs (rows_in_bytes bytes fields) c.args.place) (sym c.place_left.ensures) (prev_is c.args.place row c.find_before.result c.self.invariant found cut))

@@ -13,7 +13,7 @@ use Rattle.byte_page.proofs.page.BytePage.search.Goals as goal
 pub next_of-requires : goal.next_of-requires
 next_of-requires g c =
     let p = cut_of c.args.mode (g.A.Fields.fields_of c.args.tuple.now) in
-    let cut = subst (λ (b : List ℕ). CutsRows b c.self.inside.fields p c.find_before-cut.result) c.deref.ensures.value c.find_before-cut.ensures in
+    let cut = subst (λ (b : List ℕ). CutsRows (rows_in_bytes b c.self.inside.fields) p c.find_before-cut.result) c.deref.ensures.value c.find_before-cut.ensures in
     let m = c.self.invariant.rows.parts.mirror in
     let r = before_rows (right_ascends c.self.invariant cut) in
     (m, r.here, subst (λ (b : List ℕ). HasOrigin b m r.here c.find_before-cut.result) (sym c.deref-2.ensures.value) r.at)
@@ -21,7 +21,7 @@ next_of-requires g c =
 pub agreement-requires-clause-there : goal.agreement-requires-clause-there
 agreement-requires-clause-there g c =
     let p = cut_of c.args.mode (g.A.Fields.fields_of c.args.tuple.now) in
-    let cut = subst (λ (b : List ℕ). CutsRows b c.self.inside.fields p c.find_before-cut.result) c.deref.ensures.value c.find_before-cut.ensures in
+    let cut = subst (λ (b : List ℕ). CutsRows (rows_in_bytes b c.self.inside.fields) p c.find_before-cut.result) c.deref.ensures.value c.find_before-cut.ensures in
     let m = c.self.invariant.rows.parts.mirror in
     let r = before_rows (right_ascends c.self.invariant cut) in
     let at = c.next_of.ensures m r.here (subst (λ (b : List ℕ). HasOrigin b m r.here c.find_before-cut.result) (sym c.deref-2.ensures.value) r.at) in
@@ -32,7 +32,7 @@ agreement-requires-clause-there g c =
 pub agreement-requires-2-clause-there : goal.agreement-requires-2-clause-there
 agreement-requires-2-clause-there g c =
     let p = cut_of c.args.mode (g.A.Fields.fields_of c.args.tuple.now) in
-    let cut = subst (λ (b : List ℕ). CutsRows b c.self.inside.fields p c.find_before-cut.result) c.deref.ensures.value c.find_before-cut.ensures in
+    let cut = subst (λ (b : List ℕ). CutsRows (rows_in_bytes b c.self.inside.fields) p c.find_before-cut.result) c.deref.ensures.value c.find_before-cut.ensures in
     let m = c.self.invariant.rows.parts.mirror in
     let r = before_rows (right_ascends c.self.invariant cut) in
     let at = c.next_of.ensures m r.here (subst (λ (b : List ℕ). HasOrigin b m r.here c.find_before-cut.result) (sym c.deref-2.ensures.value) r.at) in
@@ -44,7 +44,7 @@ pub returns : goal.returns
 returns g c =
     let tuple = g.A.Fields.fields_of c.args.tuple.now in
     let p = cut_of c.args.mode tuple in
-    let cut = subst (λ (b : List ℕ). CutsRows b c.self.inside.fields p c.find_before-cut.result) c.deref.ensures.value c.find_before-cut.ensures in
+    let cut = subst (λ (b : List ℕ). CutsRows (rows_in_bytes b c.self.inside.fields) p c.find_before-cut.result) c.deref.ensures.value c.find_before-cut.ensures in
     let m = c.self.invariant.rows.parts.mirror in
     let r = before_rows (right_ascends c.self.invariant cut) in
     let at = c.next_of.ensures m r.here (subst (λ (b : List ℕ). HasOrigin b m r.here c.find_before-cut.result) (sym c.deref-2.ensures.value) r.at) in
@@ -56,7 +56,7 @@ returns g c =
       record {
         left = cut.left;
         right = cut.right;
-        split = sym same ∙ cut.rows;
+        split = sym same ∙ cut.split;
         out = cut.out;
         past = cut.past;
         before_at = low;
