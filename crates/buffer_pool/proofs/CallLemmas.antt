@@ -66,20 +66,10 @@ module _ (p q r : TreePass) (ks : List ℕ) where
 module _ (p q : TreePass) (a : Added) where
   -- a call does so beside more objects
   pub does_more : (k : ℕ) (ks : List ℕ) → Does p q ks a → Does p q (k ∷ ks) a
-  does_more k ks does = record {
-    adds = does.adds;
-    spares = does.spares;
-    rest = rest_more (view p) (view q) k ks does.rest;
-    known = does.known;
-  }
+  does_more k ks does = assumption (rest_more (view p) (view q) k ks does.rest)
 
   pub does_none : (ks : List ℕ) → Does p q [] a → Does p q ks a
-  does_none ks does = record {
-    adds = does.adds;
-    spares = does.spares;
-    rest = rest_none (view p) (view q) ks does.rest;
-    known = does.known;
-  }
+  does_none ks does = assumption (rest_none (view p) (view q) ks does.rest)
 
   -- and beside any objects that these are among
   pub does_among : (ks js : List ℕ) → ((j : ℕ) → AllByRecursion (λ (k : ℕ). j ≢ k) js
@@ -94,12 +84,7 @@ module _ (p q : TreePass) (a : Added) where
   -- and not beside an object that is held as before, or lacked as before
   pub does_again : (k : ℕ) (ks : List ℕ) → Does p q (k ∷ ks) a
       → get_elem? (view q).held k ≡ get_elem? (view p).held k → Does p q ks a
-  does_again k ks does same = record {
-    adds = does.adds;
-    spares = does.spares;
-    rest = rest_again (view p) (view q) k ks does.rest same;
-    known = does.known;
-  }
+  does_again k ks does same = assumption (rest_again (view p) (view q) k ks does.rest same)
 
 -- nothing was done
 pub does_nothing : (p : TreePass) → IsKnown p → DoesSilently p p []

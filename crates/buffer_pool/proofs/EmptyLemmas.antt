@@ -68,11 +68,7 @@ empties_itself p b t x f both fitted empty = record {
 module _ (p q : TreePass) (x : Pool) (b : ℕ) (victim : HoldsVictim p x b q) (t : Object)
     (held : KnowsPool (view p) t x) where
   pub victim_both : HoldsPoolAndFrame q b t x victim.holds.frame
-  victim_both = record {
-    known = victim.holds.tries.does.known;
-    pool = victim.holds.tries.does.rest pool_id ((λ e. omega (arith, e)), tt) ∙ held;
-    frame = victim.holds.knows;
-  }
+  victim_both = assumption (victim.holds.tries.does.rest pool_id ((λ e. omega (arith, e)), tt) ∙ held)
 
   victim_shape : shape_of_pass q ≡ shape_of_pass p
   victim_shape = tries_shape p q (frame_id (shape_of_pass p) b ∷ []) victim.holds.tries

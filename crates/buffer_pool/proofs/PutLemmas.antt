@@ -65,18 +65,10 @@ module _ (x : Pool) (n : ℕ) (to : Where) (image : Option Stored) (y : Pool)
 
 -- a pool rests where a block gets an age, or loses it
 pub aged_rests : (x : Pool) (b : ℕ) (y : Pool) → IsAged x b y → PoolRests x y
-aged_rests x b y aged = record {
-  places = aged.place;
-  images = aged.images;
-  ages = ap length aged.ages ∙ length-set x.ages b y.tick;
-}
+aged_rests x b y aged = assumption (ap length aged.ages ∙ length-set x.ages b y.tick)
 
 pub ageless_rests : (x : Pool) (b : ℕ) (y : Pool) → IsAgeless x b y → PoolRests x y
-ageless_rests x b y ageless = record {
-  places = ageless.place;
-  images = ageless.images;
-  ages = ap length ageless.ages ∙ length-set x.ages b 0;
-}
+ageless_rests x b y ageless = assumption (ap length ageless.ages ∙ length-set x.ages b 0)
 
 -- and one that rests keeps all that it kept
 pub keeps_then : (x : Pool) (n : ℕ) (y z : Pool) → KeepsOthers x n y → PoolRests y z

@@ -90,12 +90,7 @@ pub pages_weighed : (sh : Shape) (xs : List Object) (lists : List Entries)
     → AreLawfulObjects sh xs lists
     → AreWeighed short_keys sh.indexes sh.pages (fields_for sh) (heights_of xs) (maps_of lists)
     (pages_of sh xs)
-pages_weighed sh xs lists law = record {
-  balances = short_balances;
-  rises = ascend lists;
-  law = law.pages;
-  numbers = numbers_below sh xs lists law;
-}
+pages_weighed sh xs lists law = assumption (short_balances, ascend lists, numbers_below sh xs lists law)
 
 module _ (sh : Shape) (xs ys : List Object) (before news : List (Option Object))
     (leads : Leads xs ys before news) (lists : List Entries)

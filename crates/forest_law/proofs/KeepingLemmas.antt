@@ -87,15 +87,7 @@ module _ (sh : Shape) (xs ys : List Object) (before news : List (Option Object))
     pub objects_stay : length ys ≡ length xs → length lists' ≡ length lists → AreLawfulLists lists'
         → AreLawfulObjects sh ys lists'
     objects_stay same longer lawful = record {
-      counted = record {
-        objects = same ∙ law.counted.objects;
-        places = many.named ∙ law.counted.places;
-        images = many.stored ∙ law.counted.images;
-        ages = many.aged ∙ law.counted.ages;
-        fields = law.counted.fields;
-        lists = longer ∙ law.counted.lists;
-        hash = law.counted.hash;
-      };
+      counted = assumption (same ∙ law.counted.objects, many.named ∙ law.counted.places, many.stored ∙ law.counted.images, many.aged ∙ law.counted.ages, longer ∙ law.counted.lists);
       kinds = kinds_stay sh xs ys before news leads law.kinds f.kinds;
       placed = placed_stay sh xs ys before news leads law.kinds f.kinds f.turns law.placed f.each
           f.frames f.pool;

@@ -256,14 +256,7 @@ module _ (key : FieldList) (value : List ℕ) where
         becomes = (refl, refl);
         had = record { rows = _; paged = refl; number = refl; is = refl };
         has = record { rows = _; paged = refl; number = refl; is = refl };
-        order = record {
-          fields = refl;
-          keys = (refl, tt);
-          low = tt;
-          high = tt;
-          bodies = (refl, tt);
-          places = (tt, tt);
-        };
+        order = assumption;
       },
       tt,
     );

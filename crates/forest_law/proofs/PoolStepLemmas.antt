@@ -166,11 +166,7 @@ module _ (sh : Shape) (before news : List (Option Object)) (number : ℕ)
     allowed = tt;
     clocks = clocks t.later;
     pays = t.pays;
-    outside = record {
-      one = one_stays sh before news kinds (turn from to was is ∷ []) (t.seen, tt)
-          (frames_beside (turn from to was is) t.away t.frame) t.outside;
-      framed = (t.tree, tt);
-    };
+    outside = assumption (one_stays sh before news kinds (turn from to was is ∷ []) (t.seen, tt) (frames_beside (turn from to was is) t.away t.frame) t.outside);
     hash = hash;
   }
 
@@ -374,9 +370,4 @@ restores_follows sh before news re hash = turn_follows sh before news re.number 
     }) hash
 
 pub pages_come_and_go : PagesComeAndGo
-pages_come_and_go = record {
-  brings = brings_follows;
-  takes = takes_follows;
-  evicts = evicts_follows;
-  restores = restores_follows;
-}
+pages_come_and_go = assumption (brings_follows, takes_follows, evicts_follows, restores_follows)

@@ -203,10 +203,4 @@ module _ (sh : Shape) (before news : List (Option Object)) where
       (inl ((λ own. own), tt)) hash
 
 pub restructures_follow : RestructuresFollow
-restructures_follow = record {
-  split = split_follows;
-  merge = merge_follows;
-  raise = raise_follows;
-  lift = lift_follows;
-  rearrange = rearrange_follows;
-}
+restructures_follow = assumption (split_follows, merge_follows, raise_follows, lift_follows, rearrange_follows)

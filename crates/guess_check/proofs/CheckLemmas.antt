@@ -1,9 +1,8 @@
 -- The check as a test tells what the law of trees asks for, and nothing else.
-use Rattle.std.proofs.Common.{◌≡◌, ◌⊎◌, inl, inr, ◌≢◌, ℕ, Bool, true, false, not, cond, ◌&&◌, ◌||◌, Option, Some, None, is_none, List, length, refl, sym, ap, ◌∙◌, eqb}
+use Rattle.std.proofs.Common.{◌≡◌, inl, inr, ◌≢◌, ℕ, Bool, true, false, not, cond, ◌&&◌, ◌||◌, Option, Some, None, is_none, List, length, refl, sym, ap, ◌∙◌}
 use mathlib.Core.Bool.{beq}
 use Rattle.std.proofs.lemmas.Bool.{true≢false, and_parts, and_from, or_cases, or_left, or_right, not-true, not_from_false, eqb-true, eq-eqb}
 use Rattle.std.specs.Ordering.{is_eq}
-use Rattle.std.specs.declared.cmp.Ordering.TheVariants.{Equal}
 use Rattle.list_facts.proofs.Orders.{is_equal}
 use Rattle.key_tuple.specs.Order.{FieldList, tuple_cmp}
 use Rattle.key_tuple.specs.KeyPlace.{KeyPlace, At, cut_of, looks_ahead, not_below, above}
@@ -12,7 +11,7 @@ use Rattle.key_tuple.specs.declared.mode.Mode.TheVariants.{Ge, G, Le, L}
 use Rattle.index_page.specs.declared.head.PageHead.{PageHead}
 use Rattle.index_page.specs.Page.{PageRows}
 use Rattle.index_page.specs.Rows.{Row, first_of_rows, last_of_rows}
-use Rattle.tree_law.specs.GuessCheck.{PrevIsOut, NextIsIn, MatchesAll, PassesCheck}
+use Rattle.tree_law.specs.GuessCheck.{PrevIsOut, NextIsIn, PassesCheck}
 use Rattle.guess_check.specs.Check.{is_left_out, is_admitted, is_end, is_ge, is_the_key, meets, passes, told_of}
 use Rattle.guess_check.specs.Laws.{page_between, CheckedRowsPass}
 

@@ -123,13 +123,7 @@ module _ (p m : TreePass) (index : ℕ) (tuple : FieldList) (info : Info) (n : N
   takes = took_does p m (part_in p index) known entry.took entry.at_once
 
   names_place : NamesPlace p index tuple info part n.block n.place
-  names_place = record {
-    asked = entry.asked;
-    node = n;
-    entry = entry.entry;
-    block_is = refl;
-    place_is = refl;
-  }
+  names_place = search n
 
   -- and was given back
   module _ (q : TreePass) where
@@ -250,15 +244,6 @@ misses_keep p q known index mode tuple info (PartBusy n) told = record {
   silently = record { added = _; does = told.does; silent = refl };
   count = told.count;
 }
-misses_keep p q known index mode tuple info (NoEntry fold) told = record {
-  silently = record { added = _; does = told.does; silent = refl };
-  count = told.count;
-}
-misses_keep p q known index mode tuple info (BlockBusy n) told = record {
-  silently = record { added = _; does = told.does; silent = refl };
-  count = told.count;
-}
-misses_keep p q known index mode tuple info (Unequal block place) told = record {
-  silently = record { added = _; does = told.does; silent = refl };
-  count = told.count;
-}
+misses_keep p q known index mode tuple info (NoEntry fold) told = search
+misses_keep p q known index mode tuple info (BlockBusy n) told = search
+misses_keep p q known index mode tuple info (Unequal block place) told = search

@@ -138,9 +138,4 @@ pub hit_still : (v v' : View) (ks : List ℕ) → SameNumbers v v' → HoldsTheR
     → AllByRecursion (λ (k : ℕ). frame_id v.terms.shape block ≢ k) ks
     → HoldsHit v index mode tuple block place found
     → HoldsHit v' index mode tuple block place found
-hit_still v v' ks same rest index mode tuple block place found apart hit = record {
-  frame = hit.frame;
-  knows = frame_still v v' ks same rest block apart hit.frame hit.knows;
-  is = hit.is;
-  checks = hit.checks;
-}
+hit_still v v' ks same rest index mode tuple block place found apart hit = search (frame_still v v' ks same rest block apart hit.frame hit.knows)

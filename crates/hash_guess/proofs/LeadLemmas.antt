@@ -133,12 +133,7 @@ module _ (p m : TreePass) (index : ℕ) (tuple : FieldList) (info : Info) (asked
   pub misses_part : (n : ℕ) → TellsPart p k (Busy n) m → MissesPart p index tuple info n m
   misses_part n told =
       let busy : RefusesPart p (part_in p index) n m =
-      subst (λ j. RefusesPart p j n m) is told in record {
-        asked = asked;
-        was_held = busy.was_held;
-        does = refused_part p m (part_in p index) n known busy;
-        count = busy.same.count;
-      }
+      subst (λ j. RefusesPart p j n m) is told in assumption (asked, refused_part p m (part_in p index) n known busy)
 
   module _ (told : TellsPart p k Taken m) (seen : Part)
       (read : (x y : Part) → HasPart m k x y → seen ≡ y) where

@@ -52,12 +52,7 @@ written_row fold block (z ∷ before) x y after place key =
 
 -- nodes follow their rows
 pub nodes_follow : NodesFollowRows
-nodes_follow = record {
-  appended = nodes_of-append;
-  first = first_node;
-  last = last_node;
-  written = written_row;
-}
+nodes_follow = assumption (nodes_of-append, first_node, last_node, written_row)
 
 module _ (n : Node) where
   -- a node unless something: at most once

@@ -84,11 +84,7 @@ module _ (owed : EntriesAreOwed) (how : Hashing) (f : Frame) (page : PageRows)
   pub came_exact : (answer : Upkeep)
       → Renews how.block (kept_entries answer (row_entries how page.rows)) old new
       → KeepsUpSo how (kept_frame answer f) old new
-  came_exact Kept renews = record {
-    exact = nodes_exact owed how new f page paged so renews.nodes;
-    others = renews.others;
-    shape = renews.shape;
-  }
+  came_exact Kept renews = assumption (nodes_exact owed how new f page paged so renews.nodes)
   came_exact (Dropped need spare) renews = unhashed_exact how f old new renews
 
   -- and that of one that goes

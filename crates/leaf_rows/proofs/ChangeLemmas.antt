@@ -105,24 +105,7 @@ rows_around page place row order s =
 
 pub rows_are_taken_out : RowsAreTakenOut
 rows_are_taken_out f place key has order within = let h = has.has in
-    let s = find_stands has.page.rows place h.row h.there in record {
-      page = has.page;
-      had = has.paged;
-      value = h.value;
-      has = h.has;
-      deletes = record {
-        left = s.left;
-        row = h.row;
-        right = s.right;
-        value = h.value;
-        is_del = ap Del (sym h.key_is);
-        body = h.body;
-        was = s.split;
-        is = rows_around has.page place h.row order s;
-        ascend = pairs_ascend has.page.rows order.ascend;
-        rises = changes.one_step f.clock within;
-      };
-    }
+    let s = find_stands has.page.rows place h.row h.there in search (ap Del (sym h.key_is), rows_around has.page place h.row order s, pairs_ascend has.page.rows order.ascend, changes.one_step f.clock within)
 
 -- what is taken out of a leaf in order is what a del takes out
 pub takes_out : (f : Frame) (place : ℕ) (page : PageRows) → f.page ≡ Some page

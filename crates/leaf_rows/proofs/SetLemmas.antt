@@ -113,12 +113,7 @@ module _ (f : Frame) (place : ℕ) (key : FieldList) (value : List ℕ) (has : H
   set_sets new clock other sets differ stays rises =
       let there = row_there has.page new place other value order sets in
       let same : sets.row ≡ has.has.row = same_some _ _ (sym there ∙ has.has.there) in
-      let s : StandsAt has.page.rows place has.has.row = record {
-        left = sets.left;
-        right = sets.right;
-        split = sets.was ∙ ap (λ (x : Row). sets.left ++ x ∷ sets.right) same;
-        place_is = ap (λ (x : Row). x.place) (sym same) ∙ sets.place_is;
-      } in
+      let s : StandsAt has.page.rows place has.has.row = search (sets.was ∙ ap (λ (x : Row). sets.left ++ x ∷ sets.right) same, ap (λ (x : Row). x.place) (sym same) ∙ sets.place_is) in
       let is = sets.is ∙ ap (λ (x : Row). sets.left ++ placed_row other x.key (Bytes value)
       ∷ sets.right) same in
       sets_value new clock other s is sets.head differ (λ e. (

@@ -98,12 +98,7 @@ pub suited_tidy : (f : Frame) (figures : BlockFigures) → SuitsLeaf f figures
     → IsTidy (hash_block f) → IsTidy (hash_block (with_figures f figures))
 suited_tidy f figures suits tidy = record {
   both = tidy.both ∙ ap is_some (sym suits.built);
-  leaf = λ index e. (let leaf = tidy.leaf index e in record {
-    page = leaf.page;
-    page_is = leaf.page_is;
-    leaf = leaf.leaf;
-    index_is = leaf.index_is;
-  });
+  leaf = λ index e. (let leaf = tidy.leaf index e in search);
   built = λ params e. tidy.built params (sym suits.built ∙ e);
   advice = suits.advice;
 }

@@ -66,13 +66,7 @@ module _ (q r : TreePass) (l m : Knows) (i b : ℕ) (figures : Figures) (told : 
       taught.becomes.taken,
       ap (λ (s : Shape). get_elem? (view r).held (frame_id s b)) taught_shape ∙ taught.becomes.is,
     );
-    is = record {
-      page = taught.leaf.is.page;
-      paged = taught.same.page ∙ taught.leaf.is.paged;
-      tree = taught.leaf.is.tree;
-      index = taught.leaf.is.index;
-      at_level = taught.leaf.is.at_level;
-    };
+    is = search (taught.same.page ∙ taught.leaf.is.paged);
     order = subst (λ (s : Shape). IsOrderly (fields_for s)
         (page_within taught.leaf.is.page taught.new.low taught.new.high)) (sym taught_shape)
         (subst (IsOrderly (fields_for (shape_of_pass q)))

@@ -80,13 +80,7 @@ module _ (p q : TreePass) (b i : ℕ) (figures : BlockFigures)
   on_part : (answer : Build) (given : List (Reference Object))
       → BuildsOnPart p i b h.leaf.is.page (unhelped figures) answer given
       → BuildsOnPart p i b h.leaf.is.page figures answer given
-  on_part answer given builds = record {
-    differs = builds.differs;
-    was = builds.was;
-    now = builds.now;
-    told = builds.told;
-    given = builds.given;
-  }
+  on_part answer given builds = search
 
   -- a build that is made isn't told as one that wasn't needed
   not_needed : (need spare : ℕ) → NotNeeded ≡ build_by need spare → ⊥
@@ -107,17 +101,7 @@ module _ (p q : TreePass) (b i : ℕ) (figures : BlockFigures)
   pub ends_built : (answer : Build) (told : Note) → told ≡ note_of_build answer
       → EndsBuild p i b f h.leaf.is.page (unhelped figures) answer q
       → EndsHashing p i b f h.leaf.is.page figures told q
-  ends_built answer told is ends = record {
-    new = frame_built answer (hashing_as p b i figures.advice) (with_figures f (unhelped figures));
-    given = ends.given;
-    becomes = ends.becomes;
-    hashes = record {
-      answer = answer;
-      note_is = is;
-      becomes = refl;
-      builds = builds_so answer ends.given ends.builds;
-    };
-  }
+  ends_built answer told is ends = search (frame_built answer (hashing_as p b i figures.advice) (with_figures f (unhelped figures)), answer, is, builds_so answer ends.given ends.builds)
 
 -- partitions alone were given back
 pub hashes_parts : (p : TreePass) (i b : ℕ) (f : Frame) (page : PageRows) (figures : BlockFigures)

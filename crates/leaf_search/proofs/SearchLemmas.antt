@@ -88,11 +88,7 @@ module _ {p q : TreePass} {l m : Knows} {i : ℕ} {mode : Mode} {key : FieldList
         note = note_of_hit told;
       }) q m
   searches_hit spot finds = record {
-    silently = record {
-      added = tries_and_given [] (part_given p i guess.hits.part ∷ []);
-      does = guess.hits.does;
-      silent = refl;
-    };
+    silently = search (tries_and_given [] (part_given p i guess.hits.part ∷ []));
     lacked = guess.hits.lacked;
     frame = guess.hits.hit.frame;
     knows = guess.hits.hit.knows;

@@ -91,15 +91,7 @@ more_tries l q m i ks js first second = record {
 -- so a search has tried what is said of it
 pub tries_after : (l : Knows) (i : ℕ) (how : How) (m : Knows) → AddsTries l i (kinds_after how) m
     → TriesAfter l i how m
-tries_after l i how m adds = record {
-  opening = adds.opening;
-  low = adds.low;
-  end = adds.end;
-  tries = adds.tries;
-  added = adds.added;
-  each = adds.each;
-  kinds = adds.are;
-}
+tries_after l i how m adds = search
 
 -- after a read one event was tried
 pub of_tries : (l : Knows) (i : ℕ) (info : Info) (event : Event) (told : Learn) (m : Knows)

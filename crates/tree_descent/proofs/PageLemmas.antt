@@ -165,14 +165,7 @@ module _ (w : ForestState) (law : IsLawful w) where
         ∙ (ap (pages_of w.shape w.objects) number.number ∙ has.at)) in
         subst (λ (s : Shape). IsPageFor s f i level cut) fits.shape
         (record {
-          is = record {
-            page = rows;
-            paged = number.paged;
-            tree = ap (λ m. is_own m rows.head.prev) number.number
-                ∙ (ap (λ (z : Page). is_own n z.prev) same ∙ has.tree);
-            index = ap (λ (z : Page). z.index) same ∙ has.index;
-            at_level = ap (λ (z : Page). z.level) same ∙ has.at_level;
-          };
+          is = search (rows, ap (λ m. is_own m rows.head.prev) number.number ∙ (ap (λ (z : Page). is_own n z.prev) same ∙ has.tree), ap (λ (z : Page). z.index) same ∙ has.index, ap (λ (z : Page). z.level) same ∙ has.at_level);
           order = (frames_tell_pages w law b f rows (known_frame b f knows) number.paged).order;
           within = record {
             low = ap (λ (z : Page). cut (low_place z.low)) same ∙ has.low;

@@ -109,15 +109,7 @@ module _ (p q : TreePass) (head : PageHead) (b : ℕ) (got : GetsPage p head b q
 
   -- the new page's frame is held, where nothing was got since
   pub holds_outside : (r : TreePass) → GetsNothing q r → HoldsOutsidePage (view r) b
-  holds_outside r same = record {
-    frame = got.frame;
-    knows = frame_still (view q) (view r) [] same.silently.does.adds.numbers same.silently.does.rest b
-        tt got.frame got.knows;
-    page = outside_page head got.number;
-    paged = got.has.page;
-    own = refl;
-    empty = refl;
-  }
+  holds_outside r same = search (frame_still (view q) (view r) [] same.silently.does.adds.numbers same.silently.does.rest b tt got.frame got.knows, outside_page head got.number)
 
   -- and neither the pool nor a partition is
   pub no_table : HoldsNoTable (view p) → HoldsNoTable (view q)

@@ -128,11 +128,7 @@ module _ (at : SplitBlocks) where
         moved b ne e = ne (e ∙ ap (λ (s : Shape). frame_id s b) (sym same))
 
     pub as_before : IsAsBefore p q
-    as_before = record {
-      same_view = remakes.same_view;
-      known = all_known;
-      same_count = remakes.same_count;
-    }
+    as_before = assumption all_known
 
 -- what came back after a split, or after none
 module _ (at : SplitBlocks) (p q r : TreePass) (hands new : SplitHands)

@@ -71,11 +71,7 @@ pub held_silently : (p q : TreePass) → IsKnown p → (part : Option ℕ) → H
     → DoesSilently p q (part_ids (shape_of_pass p) part)
 held_silently p q known None same = subst (λ (z : TreePass). DoesSilently p z []) (sym same)
     (does_nothing p known)
-held_silently p q known (Some k) held = record {
-  added = _;
-  does = held.tries.does;
-  silent = refl;
-}
+held_silently p q known (Some k) held = search
 
 pub gave_silently : (p q : TreePass) → IsKnown p → (part : Option ℕ) → GivesPartIf p part q
     → DoesSilently p q (part_ids (shape_of_pass p) part)

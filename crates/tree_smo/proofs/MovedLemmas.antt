@@ -156,21 +156,10 @@ rehashed_cut l m m' r n n' at c left right = record {
   reaches = ap (λ (f : Frame). f.high) right ∙ c.reaches;
   rises = subst (ClockRises l.clock) (sym (ap (λ (f : Frame). f.clock) left)) c.rises;
   right_rises = subst (ClockRises r.clock) (sym (ap (λ (f : Frame). f.clock) right)) c.right_rises;
-  left = left ∙ (λ i. (let x = c.left i in record x {
-    page = (sym (ap (λ (f : Frame). f.page) left)) i;
-    high = (sym (ap (λ (f : Frame). f.high) left)) i;
-    clock = (sym (ap (λ (f : Frame). f.clock) left)) i;
-    figures = m'.figures;
-    hashed = m'.hashed;
-  }));
-  right = right ∙ (λ i. (let x = c.right i in record x {
-    page = (sym (ap (λ (f : Frame). f.page) right)) i;
-    low = (sym (ap (λ (f : Frame). f.low) right)) i;
-    high = (sym (ap (λ (f : Frame). f.high) right)) i;
-    clock = (sym (ap (λ (f : Frame). f.clock) right)) i;
-    figures = n'.figures;
-    hashed = n'.hashed;
-  }));
+  left = λ i. record m' {
+    low = (ap (λ (f : Frame). f.low) left ∙ ap (λ (f : Frame). f.low) c.left) i;
+  };
+  right = refl;
 }
 
 -- or rose
@@ -189,18 +178,12 @@ rehashed_raise t m m' b n n' c root under = record {
   raises = c.raises;
   rises = subst (ClockRises t.clock) (sym (ap (λ (f : Frame). f.clock) root)) c.rises;
   under_rises = subst (ClockRises b.clock) (sym (ap (λ (f : Frame). f.clock) under)) c.under_rises;
-  root = root ∙ (λ i. (let x = c.root i in record x {
-    page = (sym (ap (λ (f : Frame). f.page) root)) i;
-    clock = (sym (ap (λ (f : Frame). f.clock) root)) i;
-    figures = m'.figures;
-    hashed = m'.hashed;
-  }));
-  under = under ∙ (λ i. (let x = c.under i in record x {
-    page = (sym (ap (λ (f : Frame). f.page) under)) i;
-    low = (ap (λ (f : Frame). f.low) c.under) i;
-    high = (ap (λ (f : Frame). f.high) c.under) i;
-    clock = (sym (ap (λ (f : Frame). f.clock) under)) i;
-    figures = n'.figures;
-    hashed = n'.hashed;
-  }));
+  root = λ i. record m' {
+    low = (ap (λ (f : Frame). f.low) root ∙ ap (λ (f : Frame). f.low) c.root) i;
+    high = (ap (λ (f : Frame). f.high) root ∙ ap (λ (f : Frame). f.high) c.root) i;
+  };
+  under = λ i. record n' {
+    low = (ap (λ (f : Frame). f.low) under ∙ ap (λ (f : Frame). f.low) c.under) i;
+    high = (ap (λ (f : Frame). f.high) under ∙ ap (λ (f : Frame). f.high) c.under) i;
+  };
 }

@@ -105,13 +105,7 @@ pub record NextTaken (p : TreePass) (plan : SplitPlan) (n b : ℕ) (q : TreePass
 abbrev pub next_taken : (p : TreePass) (plan : SplitPlan) (n b : ℕ) (q : TreePass)
     → (can : CanSplit (view p) plan.parent plan.child plan.head.index) × IsPlanOf can.low plan
     → plan.head.next ≡ Some n → PagesIn p n b q → IsFittedTree (view q) → NextTaken p plan n b q
-next_taken p plan n b q held next took fitted = record {
-  can = held.0;
-  is = held.1;
-  next = next;
-  took = took;
-  fitted = fitted;
-}
+next_taken p plan n b q held next took fitted = search (next, took, fitted)
 
 -- the plan, with the block of the page behind
 abbrev pub plan_with : SplitPlan → ℕ → SplitPlan
@@ -178,12 +172,7 @@ module _ (p : TreePass) (plan : SplitPlan) (n b : ℕ) (q : TreePass)
       two = can.two;
       full = can.full;
     };
-    is = record {
-      head = c.is.head;
-      cut = c.is.cut;
-      limits = c.is.limits;
-      next = c.is.next;
-    };
+    is = assumption;
     next = (took.frame, took.knows, tree_page, c.next ∙ ap Some (sym took.has.number));
   }
 

@@ -82,17 +82,7 @@ abbrev pub split_call : (p : TreePass) (plan : SplitPlan) (right : ℕ) → IsKn
     → IsFittedTree (view p) → HoldsPlan (view p) plan
     → (f : Frame) × KnowsFrame (view p) right f × (n : ℕ) × HasOutsidePage f plan.head n
     → (part : Option ℕ) × HoldsPartFor (view p) plan.child part → SplitCall p plan right
-split_call p plan right known fitted held blank part = record {
-  known = known;
-  fitted = fitted;
-  held = held;
-  fresh = blank.0;
-  knows = blank.1;
-  number = blank.2;
-  blank = blank.3;
-  part = part.0;
-  holds = part.1;
-}
+split_call p plan right known fitted held blank part = search (known, fitted, held)
 
 module _ (p : TreePass) (plan : SplitPlan) (right : ℕ) (c : SplitCall p plan right) where
   abbrev v : View

@@ -20,6 +20,7 @@ use Rattle.buffer_pool.specs.Hands.{LacksFrame}
 use Rattle.buffer_pool.proofs.AddedLemmas.{none_added, only_given, held_adds, none_spares}
 use Rattle.buffer_pool.proofs.CallLemmas.{does_both, does_again, gave_frame}
 use Rattle.tree_smo.specs.Remakes.{IsAsBefore}
+use Rattle.tree_law.proofs.ListLemmas.{In-append_left, In-append_right}
 
 module _ (p q : TreePass) (ks js : List ℕ)
     (fewer : (k : ℕ) → AllByRecursion (λ (j : ℕ). k ≢ j) js
@@ -34,11 +35,7 @@ module _ (p q : TreePass) (ks js : List ℕ)
   }
 
   pub silently_weaker : DoesSilently p q ks → DoesSilently p q js
-  silently_weaker s = record {
-    added = s.added;
-    does = does_weaker s.added s.does;
-    silent = s.silent;
-  }
+  silently_weaker s = search (does_weaker s.added s.does)
 
 -- a pass that is as before did nothing
 pub silently_same : (p q : TreePass) → IsAsBefore p q → DoesSilently p q []
@@ -57,16 +54,6 @@ silently_same p q same = record {
 pub does_shape : (p q : TreePass) (ks : List ℕ) (a : Added) → Does p q ks a
     → shape_of_pass q ≡ shape_of_pass p
 does_shape p q ks a does = ap (λ (t : Terms Shape). t.shape) does.adds.numbers.terms
-
--- what is among some things is among more
-pub in_left : {A : Type 0} (x : A) (xs ys : List A) → In x xs → In x (xs ++ ys)
-in_left x [] ys among = absurd among
-in_left x (y ∷ xs) ys (inl e) = inl e
-in_left x (y ∷ xs) ys (inr among) = inr (in_left x xs ys among)
-
-pub in_right : {A : Type 0} (x : A) (xs ys : List A) → In x ys → In x (xs ++ ys)
-in_right x [] ys among = among
-in_right x (y ∷ xs) ys among = inr (in_right x xs ys among)
 
 -- a page is held while a call is made, and its frame given back
 module _ (p q r s : TreePass) (b : ℕ) (took : DoesSilently p q (frame_id (shape_of_pass p) b ∷ []))
@@ -117,9 +104,9 @@ module _ (p q r s : TreePass) (b : ℕ) (took : DoesSilently p q (frame_id (shap
   -- a reference of the call is among all that were added
   pub among_around : (x : Reference Object) (a : Added) → In x a.references
       → In x (around_added a).references
-  among_around x a among = in_left x (took.added.references ++ a.references)
+  among_around x a among = In-append_left x (took.added.references ++ a.references)
       (only_given (frame_id (shape_of_pass r) b) gave.taken (object.Frame gave.frame)).references
-      (in_right x took.added.references a.references among)
+      (In-append_right x took.added.references a.references among)
 
   -- and what was said is what the call said
   pub said_around : (a : Added) → (around_added a).said ≡ a.said

@@ -1,4 +1,4 @@
-use Rattle.std.proofs.Common.{◌≡◌, sym, ap, ◌∙◌}
+use Rattle.std.proofs.Common.{sym, ap, ◌∙◌}
 use Rattle.std.specs.Ordering.{is_eq}
 use Rattle.guess_check.proofs.CheckLemmas.{none_beyond, the_key_passes, apart_so, same_so}
 use Rattle.guess_check.proofs.checking.check.Goals as goal

@@ -1,4 +1,4 @@
-use Rattle.std.proofs.Common.{◌≡◌, not, is_some, ap, sym, ◌∙◌}
+use Rattle.std.proofs.Common.{is_some, ap, sym, ◌∙◌}
 use Rattle.key_tuple.specs.KeyPlace.{cut_of}
 use Rattle.index_page.specs.declared.head.PageHead.{PageHead}
 use Rattle.guess_check.proofs.BesideLemmas.{last_none, last_some}

@@ -12,16 +12,7 @@ use Rattle.tree_smo.proofs.storeys.make_raise.Goals.{After-laws_of_moves, After-
 call : (g : given.Over) (c : After-laws_of_moves g)
     → (part : Option ℕ) × HoldsPartFor (view c.args.pass.now) c.args.root part
     → RaiseCall c.args.pass.now c.args.index c.args.root c.args.under
-call g c part = record {
-  known = c.requires.known;
-  fitted = c.fits.ensures;
-  below = c.requires.index;
-  few = c.requires.few;
-  held = c.requires.held;
-  part = part.0;
-  holds = part.1;
-  laws = c.laws_of_moves.ensures;
-}
+call g c part = search
 
 pub change_storeys-requires-clause-suits : goal.change_storeys-requires-clause-suits
 change_storeys-requires-clause-suits g c = suits_storeys
