@@ -1,7 +1,11 @@
 -- A block isn't hashed any more, its page outside the trees is gone, the pool is given back, and
 -- then its frame.
-use Rattle.std.proofs.Common.{◌≡◌, ℕ, [], ◌∷◌, ◌++◌, inl, sym, ap, subst, refl, arith}
+use Rattle.std.proofs.Common.{◌≡◌, ◌∙◌, ℕ, [], ◌∷◌, ◌++◌, inl, sym, ap, subst, refl, arith, Some}
 use Rattle.list_facts.proofs.Each.{each_append}
+use Rattle.list_facts.proofs.Places.{same_some}
+use Rattle.index_page.specs.Page.{PageRows}
+use Rattle.tree_law.proofs.PageRowLemmas.{own_of}
+use Rattle.forest_law.specs.declared.objects.Frame.{Frame}
 use Rattle.latch_law.specs.declared.knows.Holding.{Holding}
 use Rattle.latch_law.specs.declared.knows.Terms.{Terms}
 use Rattle.latch_law.specs.Views.{holding}
@@ -25,7 +29,7 @@ use Rattle.buffer_pool.specs.Frames.{GivesFrame}
 use Rattle.buffer_pool.specs.Hands.{MayGiveBack}
 use Rattle.buffer_pool.specs.NewPages.{HoldsOutsidePage, FreesPage}
 use Rattle.buffer_pool.specs.Pools.{TakesPool, GivesPool, HoldsKnownPool}
-use Rattle.buffer_pool.specs.Parts.{UnhashesBlock}
+use Rattle.buffer_pool.specs.Parts.{IsPageOutside, UnhashesBlock}
 use Rattle.buffer_pool.specs.Tries.{tries_alone, TriesGivingParts, HoldsPoolAndFrame}
 use Rattle.buffer_pool.specs.Turning.{MayFree, FreesFrom}
 use Rattle.buffer_pool.proofs.AddedLemmas.{only_given, frame_still}
@@ -36,6 +40,17 @@ use Rattle.buffer_pool.proofs.GiveLemmas.{first, first_shape, pool_taken, all_ad
 use Rattle.buffer_pool.proofs.InsideLemmas.{empty_inside}
 use Rattle.buffer_pool.proofs.TurnLemmas.{frame_not_pool}
 use Rattle.buffer_pool.proofs.VictimLemmas.{in_left, in_right}
+
+-- a page outside the trees that is held is all that the block's frame has
+pub outside_page_is : (p : TreePass) (b : ℕ) → HoldsOutsidePage (view p) b → (f : Frame)
+    → KnowsFrame (view p) b f → IsPageOutside f
+outside_page_is p b was f knows = subst IsPageOutside
+    (same_frame was.frame f (ap (λ (h : Holding Object). h.known)
+    (one_held p (frame_id (shape_of_pass p) b) (holding was.knows.0 (object.Frame was.frame))
+    (holding knows.0 (object.Frame f)) was.knows.1 knows.1)))
+    (λ page paged. let same = same_some was.page page (sym was.paged ∙ paged) in
+    own_of page.head.number page.head.prev (subst (λ (z : PageRows). z.head.prev ≡ Some z.head.number)
+    same was.own))
 
 module _ (p0 p p1 : TreePass) (b : ℕ) (did : UnhashesBlock p0 b p)
     (lacked : HoldsNoTable (view p0)) (took : TakesPool p p1)

@@ -15,6 +15,7 @@ use Rattle.forest_law.specs.declared.objects.Stored.{Stored}
 use Rattle.forest_law.specs.declared.objects.Object.{Object}
 use Rattle.forest_law.specs.declared.objects.Object.TheVariants as object
 use Rattle.forest_law.specs.Hashed.{hash_block, due_for}
+use Rattle.forest_law.specs.HashStays.{IsHashedAlike, IsHashedWith}
 use Rattle.forest_law.specs.Numbers.{pool_id, part_id, frame_id}
 use Rattle.forest_law.proofs.HashLawLemmas.{unhashed_asks, hashes_are_exact}
 use Rattle.forest_law.proofs.ObjectLemmas.{same_frame, same_part}
@@ -37,6 +38,7 @@ same_rests : (shape : Shape) (b : ℕ) (x y : Frame) → y ≡ x → FrameRestsH
 same_rests shape b x y same = record {
   tidy = λ t. subst (λ (z : Frame). IsTidy (hash_block z)) (sym same) t;
   asks = λ k p q. ap (due_for shape k b q) same;
+  alike = λ index params was. subst (IsHashedWith index params) (sym same) was;
 }
 
 module _ (p : TreePass) (ks : List ℕ) (known : IsKnownBeyond p ks) where
@@ -107,6 +109,10 @@ empty_bare f tidy empty = pick f.hashed refl
     pick (Some index) e = let leaf = tidy.leaf index e in
         absurd (none_is leaf.page (sym empty ∙ leaf.page_is))
 
+-- a frame that isn't hashed has nothing to stay
+pub bare_alike : (f g : Frame) → f.hashed ≡ None → IsHashedAlike f g
+bare_alike f g bare index params was = absurd (none_is index (sym bare ∙ was.hashed))
+
 -- a frame that isn't hashed rests where its page goes
 pub unload_rests : (shape : Shape) (b : ℕ) (f : Frame) (s : Stored) (g : Frame)
     → UnloadsFrame f s g → f.hashed ≡ None → FrameRestsHash shape b f g
@@ -121,6 +127,7 @@ unload_rests shape b f s g unloads bare = record {
   };
   asks = λ k. unhashed_asks shape k b f g bare
       (ap (λ (z : Frame). z.hashed) unloads.empty ∙ bare);
+  alike = bare_alike f g bare;
 }
 
 -- and where a page comes whose keys have a field
@@ -134,4 +141,5 @@ load_rests shape b f s g made bare keyed = record {
     advice = keyed;
   });
   asks = λ k. unhashed_asks shape k b f g bare (ap (λ (z : Frame). z.hashed) made ∙ bare);
+  alike = bare_alike f g bare;
 }

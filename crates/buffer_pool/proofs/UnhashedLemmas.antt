@@ -1,6 +1,6 @@
 -- A block's frame comes back unhashed: the step follows, and what is known once the partition is
 -- given back.
-use Rattle.std.proofs.Common.{◌≡◌, ◌≢◌, inl, inr, ℕ, ◌<◌, List, [], ◌∷◌, ◌++◌, sym, ap, subst, ◌∙◌, refl, arith, Option, Some, None}
+use Rattle.std.proofs.Common.{◌≡◌, ◌≢◌, inl, inr, true, false, ℕ, ◌<◌, List, [], ◌∷◌, ◌++◌, sym, ap, subst, ◌∙◌, refl, arith, Option, Some, None}
 use Rattle.std.specs.List.{AllByRecursion}
 use Rattle.std.proofs.lemmas.Bool.{cases_eq}
 use lib.ListN.{get_elem?}
@@ -20,27 +20,28 @@ use Rattle.forest_law.specs.declared.objects.Frame.{Frame}
 use Rattle.forest_law.specs.declared.objects.Object.{Object}
 use Rattle.forest_law.specs.declared.objects.Object.TheVariants as object
 use Rattle.forest_law.specs.Hashed.{hash_block, IsExactFor}
+use Rattle.forest_law.specs.HashStays.{StaysHashed}
 use Rattle.forest_law.specs.Law.{Follows}
-use Rattle.forest_law.specs.Numbers.{part_id, frame_id, frames_of}
+use Rattle.forest_law.specs.Numbers.{pool_id, part_id, frame_id, frames_of}
 use Rattle.forest_law.specs.Steps.{Rests}
 use Rattle.forest_law.proofs.HashLawLemmas.{unhashed_asks}
 use Rattle.forest_law.proofs.RowStepLemmas.{row_changes_follow}
 use Rattle.forest_world.specs.Held.{TreePass, shape_of_pass, HasFrame, HasPart, RestsBeyond}
 use Rattle.forest_world.specs.HandLaws.{StepsInHand}
 use Rattle.forest_world.specs.HashHands.{IsHashedIn, HandKeepsHash, HandsKeepTheHash}
-use Rattle.forest_world.proofs.HandLemmas.{hands_make_steps, rests_itself}
+use Rattle.forest_world.proofs.HandLemmas.{becomes_of, hands_make_steps, rests_itself}
 use Rattle.hash_maintain.specs.Leaves.{unhashed}
 use Rattle.hash_maintain.specs.Hands.{UpkeepKeepsTheHash}
 use Rattle.hash_maintain.proofs.PassLemmas.{knows_forest}
 use Rattle.buffer_pool.specs.Calls.{Does}
 use Rattle.buffer_pool.specs.Forests.{TreeView}
 use Rattle.buffer_pool.specs.Frames.{PutsBack}
-use Rattle.buffer_pool.specs.Parts.{part_ids, KnowsPartIf}
+use Rattle.buffer_pool.specs.Parts.{part_ids, KnowsPartIf, MayUnhash}
 use Rattle.buffer_pool.proofs.AddedLemmas.{none_added, held_adds, none_spares}
 use Rattle.buffer_pool.proofs.FrameLemmas.{one_held}
-use Rattle.buffer_pool.proofs.HashRestLemmas.{frame_rests}
+use Rattle.buffer_pool.proofs.HashRestLemmas.{bare_alike, frame_rests}
 use Rattle.buffer_pool.proofs.KeepLemmas.{learnt_same}
-use Rattle.buffer_pool.proofs.PartLemmas.{part_kept}
+use Rattle.buffer_pool.proofs.PartLemmas.{hold_tries, part_kept}
 use Rattle.buffer_pool.proofs.SpaceLemmas.{known_below}
 use Rattle.buffer_pool.proofs.UnhashLemmas.{HeldFor, DroppedOut}
 
@@ -85,18 +86,46 @@ module _ {p q : TreePass} {b : ℕ} {f : Frame} (known : IsKnown p) {p1 : TreePa
       back.hand.others (λ e. (let below = d.part.below in omega (arith, e, below))) d.part.known
       d.part.now d.part.has
 
+  -- a leaf whose page may go may be unhashed
+  may_be : MayUnhash (view p) f → (o : Option ℕ) → DroppedOut p p1 b f o
+      → StaysHashed (shape_of_pass q) (known_values q) (values q) b f (unhashed f)
+  may_be (inr outside) o d index params was leaf = absurd (not_both
+      (sym (outside leaf.page leaf.page_is) ∙ leaf.inside))
+    where
+      not_both : true ≡ false → ⊥
+      not_both e = absurd cc
+  may_be (inl pool) o d index params was leaf = inr (inr (record {
+    stays = refl;
+    old = pool.1;
+    new = pool.1;
+    pool = becomes_of q pool_id (object.Pool pool.1) (object.Pool pool.1) (record {
+      held = (pool.0, held);
+      value = known_else d pool_id (holding pool.0 (object.Pool pool.1)) (λ e. omega (arith, e))
+          (apart o) held;
+    });
+  }))
+    where
+      held : Holds (view q) pool_id (holding pool.0 (object.Pool pool.1))
+      held = ap (λ (v : TreeView). get_elem? v.held pool_id) (same_view d) ∙ pool.2
+
+      apart : (z : Option ℕ) → AllByRecursion (λ (k : ℕ). pool_id ≢ k)
+          (part_ids (shape_of_pass p) z)
+      apart None = tt
+      apart (Some k) = ((λ e. omega (arith, e)), tt)
+
   -- the hash is kept
-  keeps : HandsKeepTheHash → UpkeepKeepsTheHash → IsTidy (hash_block f)
+  keeps : HandsKeepTheHash → UpkeepKeepsTheHash → MayUnhash (view p) f → IsTidy (hash_block f)
       → b < frames_of (shape_of_pass p) → (o : Option ℕ) → DroppedOut p p1 b f o
       → HandKeepsHash q
-  keeps law upkeep tidy below None d = law.rests q (frame_rests q b f (unhashed f)
+  keeps law upkeep may tidy below None d = law.rests q (frame_rests q b f (unhashed f)
       (has_frame d)
       (record {
         tidy = upkeep.tidy (Dropped 0 0) f;
         asks = λ k. unhashed_asks (shape_of_pass q) k b f (unhashed f) d.part refl;
+        alike = bare_alike f (unhashed f) d.part;
       })
       (λ j h apart holds. known_else d j h (not_frame d j apart.1.0) tt holds))
-  keeps law upkeep tidy below (Some k) d = let shape = ap (λ (t : Terms Shape). t.shape)
+  keeps law upkeep may tidy below (Some k) d = let shape = ap (λ (t : Terms Shape). t.shape)
       back.hand.terms in
       upkeep.keeps q k b (record {
         known = d.part.known;
@@ -113,6 +142,7 @@ module _ {p q : TreePass} {b : ℕ} {f : Frame} (known : IsKnown p) {p1 : TreePa
             d.part.exact;
         others = d.part.others;
         shape = d.part.shape;
+        stays = may_be may (Some k) d;
         beyond = λ j h apart holds. known_else d j h
             (not_frame d j apart.1.0)
             (not_part p q j k (same_shape d) apart.0, tt) holds;
@@ -189,7 +219,7 @@ pub record UnhashedInHand (p0 p q : TreePass) (b : ℕ) (f : Frame) (o : Option 
   pub dropped : DroppedOut p between b f o
   pub back : PutsBack between b (unhashed f) q
 
-module _ {p0 p q : TreePass} {b : ℕ} {f : Frame} {o : Option ℕ}
+module _ {p0 p q : TreePass} {b : ℕ} {f : Frame} {o : Option ℕ} (before : IsKnown p0)
     (done : UnhashedInHand p0 p q b f o) where
   abbrev known : IsKnown p
   known = done.held.known
@@ -205,13 +235,27 @@ module _ {p0 p q : TreePass} {b : ℕ} {f : Frame} {o : Option ℕ}
       → (x : Object) × Shows q k x
   unhash_whole = steps.whole
 
-  pub unhash_follows : HandsKeepTheHash → UpkeepKeepsTheHash
+  -- the pool is held still
+  may_still : MayUnhash (view p0) f → MayUnhash (view p) f
+  may_still (inr outside) = inr outside
+  may_still (inl pool) = inl (
+    pool.0,
+    pool.1,
+    (hold_tries p0 p o before done.held.holds).does.rest pool_id (apart o) ∙ pool.2,
+  )
+    where
+      apart : (z : Option ℕ) → AllByRecursion (λ (k : ℕ). pool_id ≢ k)
+          (part_ids (shape_of_pass p0) z)
+      apart None = tt
+      apart (Some k) = ((λ e. omega (arith, e)), tt)
+
+  pub unhash_follows : HandsKeepTheHash → UpkeepKeepsTheHash → MayUnhash (view p0) f
       → Follows (shape_of_pass q) (known_values q) (values q) None
-  unhash_follows law upkeep = let held = done.held in
+  unhash_follows law upkeep may = let held = done.held in
       let below = known_below p b held.knows.0 (object.Frame f) held.knows.1
       (knows_forest p held.fitted).objects in
       row_changes_follow.rest (shape_of_pass q) (known_values q) (values q) steps.make
-      (keeps known done.back law upkeep held.tidy below o d)
+      (keeps known done.back law upkeep (may_still may) held.tidy below o d)
 
   module _ {r : TreePass} (told : DidSettle q r) where
     held_now : (view r).held ≡ learnt (values q) (view q).held

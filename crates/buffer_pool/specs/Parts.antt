@@ -1,5 +1,5 @@
 -- The partition of the index that a block is hashed for, held while the block's rows change.
-use Rattle.std.specs.Prelude.{ℕ, ◌≡◌, ◌+◌, ◌<◌, Option, Some, None, List, [], ◌∷◌}
+use Rattle.std.specs.Prelude.{ℕ, ◌≡◌, ◌+◌, ◌<◌, ◌⊎◌, true, Option, Some, None, List, [], ◌∷◌}
 use Rattle.std.specs.List.{AllByRecursion}
 use Rattle.latch_law.specs.Rule.{Holds}
 use Rattle.latch_law.specs.Views.{holding}
@@ -7,9 +7,12 @@ use Rattle.latch_law.specs.Whole.{reference}
 use Rattle.latch_space.specs.Passes.{view, count}
 use Rattle.hash_partition.specs.Part.{Part}
 use Rattle.hash_law.specs.Blocks.{part_for}
+use Rattle.index_page.specs.Page.{PageRows}
+use Rattle.tree_law.specs.Pages.{is_own}
 use Rattle.index_law.specs.Shape.{Shape}
 use Rattle.forest_law.specs.declared.objects.Frame.{Frame}
 use Rattle.forest_law.specs.declared.objects.Object.{Object}
+use Rattle.forest_law.specs.declared.objects.Pool.{Pool}
 use Rattle.forest_law.specs.declared.objects.Object.TheVariants as object
 use Rattle.forest_law.specs.Numbers.{part_id, frame_id}
 use Rattle.forest_law.specs.Hashed.{IsExactFor}
@@ -18,7 +21,7 @@ use Rattle.hash_maintain.specs.Leaves.{unhashed}
 use Rattle.call_law.specs.Hands.{KnowsFrame, KnowsPart, LacksObject}
 use Rattle.call_law.specs.Spoken.{View}
 use Rattle.buffer_pool.specs.Calls.{DoesSilently}
-use Rattle.buffer_pool.specs.Tries.{Tries}
+use Rattle.buffer_pool.specs.Tries.{Tries, KnowsPool}
 pub use Rattle.buffer_pool.specs.Tries.{IsOfPart}
 
 -- the partition of the index that a block is hashed for, if it is
@@ -67,6 +70,16 @@ pub record GivesPartBack (p : TreePass) (k : ℕ) (q : TreePass) : Type 0 where
 abbrev pub GivesPartIf : TreePass → Option ℕ → TreePass → Type 0
 GivesPartIf p None q = q ≡ p
 GivesPartIf p (Some k) q = GivesPartBack p k q
+
+-- the frame's page, if it has one, is outside the trees
+abbrev pub IsPageOutside : Frame → Type 0
+IsPageOutside f =
+    (page : PageRows) → f.page ≡ Some page → is_own page.head.number page.head.prev ≡ true
+
+-- the frame's block may lose its nodes: the pool is held, so that its page may go to its image, or the
+-- page is outside the trees
+abbrev pub MayUnhash : View → Frame → Type 0
+MayUnhash v f = ((t : Object) × (x : Pool) × KnowsPool v t x) ⊎ IsPageOutside f
 
 -- the block's frame, which is held, is known to be as it was, but not hashed; partitions alone were
 -- given back

@@ -24,6 +24,6 @@ pub use frames::{give_back, take_frame, try_frame};
 pub use hands::{frame, frame_back, frame_out};
 pub use new_pages::{free_page, new_page};
 pub use paging::{page_if, page_in, try_page};
-pub use parts::{give_part_if, hold_part_for, unhash_block};
+pub use parts::{give_part_if, hold_part_for};
 pub use pools::{give_pool_back, pool, pool_back, pool_out, take_pool};
 pub use trees::{change_tree, give_tree_back, take_tree, tree};

@@ -9,7 +9,7 @@ ghost use Rattle.forest_world.specs.Held.{shape_of_pass};
 ghost use Rattle.call_law.specs.Hands.{HoldsNoPart, KnowsFrame};
 ghost use Rattle.buffer_pool.specs.Forests.{IsForest, IsFittedTree};
 ghost use Rattle.buffer_pool.specs.Parts.{part_of_index, HoldsPartIf, KnowsPartIf, GivesPartIf};
-ghost use Rattle.buffer_pool.specs.Parts.{UnhashesBlock};
+ghost use Rattle.buffer_pool.specs.Parts.{MayUnhash, UnhashesBlock};
 
 use crate::hands::{frame, frame_back, frame_out};
 use forest_world::{ForestPass, ForestSpace, hands_keep_the_hash};
@@ -56,10 +56,16 @@ pub fn give_part_if(space: &ForestSpace, pass: &mut ForestPass, part: Option<u32
 }
 
 /// Takes the block's nodes out of the partition of its index, in a step of its own: the frame isn't
-/// hashed then.
-pub fn unhash_block<R: Wait>(space: &ForestSpace, pass: &mut ForestPass, block: u32, wait: &R)
+/// hashed then. Its page is to go, with the pool in hand, or is outside the trees.
+pub(crate) fn unhash_block<R: Wait>(
+    space: &ForestSpace,
+    pass: &mut ForestPass,
+    block: u32,
+    wait: &R,
+)
     requires own { IsForest space.now × IsPassOf space.now pass.old }
     requires held { (f : Frame) × KnowsFrame (view pass.old) block f }
+    requires may { (f : Frame) → KnowsFrame (view pass.old) block f → MayUnhash (view pass.old) f }
     requires known { IsKnown pass.old }
     requires parts { HoldsNoPart (view pass.old) }
     requires room { count pass.old < MAX_HELD }

@@ -52,6 +52,7 @@ module _ (sh : Shape) (before news : List (Option Object)) where
     exact = λ k b p q x y part frame exact. still_exact k b p q x y
         (λ n here. ap (λ (r : Part). count_of n r.nodes) (stays k p q part))
         (asked k b p q x y frame) exact;
+    stays = λ b x y becomes index params was leaf. inl (rest.stays b x y becomes index params was);
   }
     where
       stays : (k : ℕ) (p q : Part) → PartLeads sh before news k p q → q ≡ p
@@ -132,6 +133,7 @@ module _ (sh : Shape) (before news : List (Option Object)) where
       tidy = up.tidy;
       sound = λ j r s becomes. sound_at j r s becomes (cases_eq j k);
       exact = λ j b r s x y part frame exact. exact_at j b r s x y part frame (cases_eq j k) exact;
+      stays = up.stays;
     }
 
 -- where a partition isn't held, a held frame asks it for the same nodes after as before: no row of a

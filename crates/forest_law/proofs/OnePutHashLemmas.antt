@@ -1,5 +1,5 @@
 -- A restore of an empty root, and a put on it, hash nothing.
-use Rattle.std.proofs.Common.{◌≡◌, ℕ, zero, suc, ◌≤◌, List, length, sym, refl, subst, Option, Some, None}
+use Rattle.std.proofs.Common.{◌≡◌, ◌∙◌, ℕ, zero, suc, ◌≤◌, List, length, sym, ap, refl, subst, Option, Some, None}
 use mathlib.Core.Option.{some, some-injective, some-ne-none}
 use lib.ListN.{get_elem?}
 use Rattle.list_facts.proofs.Places.{none_is_not, same_some}
@@ -79,6 +79,9 @@ alone f = record { frame = frame; part = part }
     part (suc (suc (suc zero))) p e = not_part p (one_object (object.Frame f) (object.Part p) e)
     part (suc (suc (suc (suc k)))) p e = some-ne-none (Some (object.Part p)) (sym e)
 
+none_is : (index : ℕ) → None ≡ Some index → ⊥
+none_is index e = absurd cc
+
 -- one frame in hand that isn't hashed and stays tidy keeps the hash
 one_keeps : (sh : Shape) (before news : List (Option Object)) (f g : Frame) → HasOneFrame before f
     → HasOneFrame news g → f.hashed ≡ None → g.hashed ≡ None
@@ -89,12 +92,11 @@ one_keeps sh before news f g old new was is tidy = rests_keep sh before news (re
   parts = λ k p q becomes. absurd (old.part _ p becomes.0);
   asks = λ k b x y becomes. subst (λ z. AsksSame sh k b z y) (old.frame _ x becomes.0)
       (subst (AsksSame sh k b f) (new.frame _ y becomes.1) (unhashed_asks sh k b f g was is));
+  stays = λ b x y becomes index params hashed. absurd (none_is index
+      (sym was ∙ (ap (λ (z : Frame). z.hashed) (old.frame _ x becomes.0) ∙ hashed.hashed)));
 })
 
 -- a frame that isn't hashed is tidy where its page has the fields that its advice asks for
-none_is : (index : ℕ) → None ≡ Some index → ⊥
-none_is index e = absurd cc
-
 pub restore_keeps : (key : FieldList) → 1 ≤ length key → (pool now : Pool)
     → KeepsHash (one_index (length key)) (pool_in_hand pool first_frame)
     (pool_in_hand now (root_before key))

@@ -11,6 +11,7 @@ use Rattle.forest_law.specs.declared.objects.Object.TheVariants as object
 use Rattle.forest_law.specs.Numbers.{part_id, frame_id}
 use Rattle.forest_law.specs.Objects.{Becomes}
 use Rattle.forest_law.specs.Hashed.{hash_block, IsExactFor, IsPartFor}
+use Rattle.forest_law.specs.HashStays.{StaysHashed}
 
 -- partition k, p before and q after: it is in hand so, or it isn't in hand and stays
 abbrev pub PartLeads : Shape → List (Option Object) → List (Option Object) → ℕ → Part → Part
@@ -29,7 +30,8 @@ FrameLeads shape before news b x y =
     × (y ≡ x))
 
 -- what is in hand keeps the hash exact, whatever the partitions and frames of others are: each held
--- frame stays tidy, each held partition in order, and each partition exact of each block
+-- frame stays tidy, each held partition in order, and each partition exact of each block; and each held
+-- leaf that was hashed stays so, unless there is a cause
 pub record KeepsHash (shape : Shape) (before news : List (Option Object)) : Type 0 where
   pub tidy : (b : ℕ) (x y : Frame)
       → Becomes before news (frame_id shape b) (object.Frame x) (object.Frame y)
@@ -39,3 +41,6 @@ pub record KeepsHash (shape : Shape) (before news : List (Option Object)) : Type
       → IsPartFor shape p → IsPartFor shape q
   pub exact : (k b : ℕ) (p q : Part) (x y : Frame) → PartLeads shape before news k p q
       → FrameLeads shape before news b x y → IsExactFor shape k b p x → IsExactFor shape k b q y
+  pub stays : (b : ℕ) (x y : Frame)
+      → Becomes before news (frame_id shape b) (object.Frame x) (object.Frame y)
+      → StaysHashed shape before news b x y

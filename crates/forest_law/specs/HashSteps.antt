@@ -11,6 +11,7 @@ use Rattle.forest_law.specs.declared.objects.Object.TheVariants as object
 use Rattle.forest_law.specs.Numbers.{part_id, frame_id}
 use Rattle.forest_law.specs.Objects.{Becomes}
 use Rattle.forest_law.specs.Hashed.{hash_block, due_for, IsExactFor, IsPartFor}
+use Rattle.forest_law.specs.HashStays.{IsHashedAlike, StaysHashed}
 
 -- the block asks partition k for the same nodes after as before
 abbrev pub AsksSame : Shape → (k b : ℕ) → Frame → Frame → Type 0
@@ -27,8 +28,8 @@ StayTidy shape before news = (b : ℕ) (x y : Frame)
     → Becomes before news (frame_id shape b) (object.Frame x) (object.Frame y)
     → IsTidy (hash_block x) → IsTidy (hash_block y)
 
--- a step that hashes nothing: each held frame stays tidy and asks for what it asked for, and each
--- held partition stays
+-- a step that hashes nothing: each held frame stays tidy, asks for what it asked for, and is hashed as
+-- it was, if it was; and each held partition stays
 pub record RestsHash (shape : Shape) (before news : List (Option Object)) : Type 0 where
   pub tidy : StayTidy shape before news
   pub parts : (k : ℕ) (p q : Part)
@@ -36,6 +37,9 @@ pub record RestsHash (shape : Shape) (before news : List (Option Object)) : Type
   pub asks : (k b : ℕ) (x y : Frame)
       → Becomes before news (frame_id shape b) (object.Frame x) (object.Frame y)
       → AsksSame shape k b x y
+  pub stays : (b : ℕ) (x y : Frame)
+      → Becomes before news (frame_id shape b) (object.Frame x) (object.Frame y)
+      → IsHashedAlike x y
 
 -- the frame of the block is held, and partition k stays exact of it
 pub record StaysExact (shape : Shape) (before news : List (Option Object)) (k b : ℕ)
@@ -46,7 +50,8 @@ pub record StaysExact (shape : Shape) (before news : List (Option Object)) (k b 
   pub exact : IsExactFor shape k b p old → IsExactFor shape k b q new
 
 -- a step in which the held partition k keeps up with some blocks: of these it stays exact, of all
--- others it has the nodes that it had, and no other partition has to do with it
+-- others it has the nodes that it had, and no other partition has to do with it; a leaf that was hashed
+-- stays so, unless there is a cause
 pub record KeepsUp (shape : Shape) (before news : List (Option Object)) (k : ℕ) (p q : Part)
     (blocks : ℕ → Bool) : Type 0 where
   pub becomes : Becomes before news (part_id shape k) (object.Part p) (object.Part q)
@@ -60,3 +65,6 @@ pub record KeepsUp (shape : Shape) (before news : List (Option Object)) (k : ℕ
   pub asks : (j b : ℕ) (x y : Frame)
       → Becomes before news (frame_id shape b) (object.Frame x) (object.Frame y)
       → (blocks b ≡ true → j ≢ k) → AsksSame shape j b x y
+  pub stays : (b : ℕ) (x y : Frame)
+      → Becomes before news (frame_id shape b) (object.Frame x) (object.Frame y)
+      → StaysHashed shape before news b x y

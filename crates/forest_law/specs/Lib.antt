@@ -8,6 +8,7 @@ pub mod Placed
 pub mod Trees
 pub mod Lists
 pub mod Hashed
+pub mod HashStays
 pub mod HashKept
 pub mod HashSteps
 pub mod Clocked

@@ -20,6 +20,7 @@ use Rattle.forest_law.specs.Numbers.{part_id, frame_id}
 use Rattle.forest_law.specs.Objects.{Becomes}
 use Rattle.forest_law.specs.Hashed.{hash_block, due_for, IsPartFor}
 use Rattle.forest_law.specs.HashLaws.{BlocksAskTheSame}
+use Rattle.forest_law.specs.HashStays.{IsHashedWith, StaysHashed}
 use Rattle.forest_law.specs.HashSteps.{AsksSame, StaysExact, KeepsUp}
 use Rattle.forest_law.proofs.ObjectLemmas.{same_frame, same_part}
 use Rattle.forest_law.proofs.HashLemmas.{rests_keep, keeps_up}
@@ -75,6 +76,7 @@ rests_itself : (shape : Shape) (b : ℕ) (x y : Frame) → y ≡ x → FrameRest
 rests_itself shape b x y same = record {
   tidy = λ t. subst (λ z. IsTidy (hash_block z)) (sym same) t;
   asks = λ k p q. ap (due_for shape k b q) same;
+  alike = λ index params was. subst (IsHashedWith index params) (sym same) was;
 }
 
 module _ (p : TreePass) where
@@ -122,6 +124,7 @@ module _ (p : TreePass) where
     tidy = λ b x y becomes. (rest.frames b x y tt (has_frame b x y becomes)).tidy;
     parts = λ k r s becomes. rest.parts k r s tt (has_part k r s becomes);
     asks = λ k b x y becomes. (rest.frames b x y tt (has_frame b x y becomes)).asks k;
+    stays = λ b x y becomes. (rest.frames b x y tt (has_frame b x y becomes)).alike;
   })
 
   -- a partition that keeps up with some blocks in hand keeps the hash
@@ -159,6 +162,15 @@ module _ (p : TreePass) where
         ∙ u.is_in index (ap (λ (z : Frame). z.hashed) (sym same.1) ∙ is)))
     asks j b x y has false e apart = (hand.beyond.frames b x y (none_of blocks b e) has).asks j
 
+    stays_hashed : (b : ℕ) (x y : Frame) → HasFrame p b x y → (t : Bool) → among blocks b ≡ t
+        → StaysHashed sh (known_values p) (values p) b x y
+    stays_hashed b x y has true e = let u = kept b e in
+        let same = one_frame b x y u.old u.new has u.frame in
+        subst (StaysHashed sh (known_values p) (values p) b x) (sym same.1)
+        (subst (λ z. StaysHashed sh (known_values p) (values p) b z u.new) (sym same.0) u.stays)
+    stays_hashed b x y has false e = λ index params was leaf.
+        inl ((hand.beyond.frames b x y (none_of blocks b e) has).alike index params was)
+
     known : IsPartFor sh hand.was → (n : Node) → (t : Bool) → among blocks n.block ≡ t
         → 1 ≤ count_of n hand.now.nodes → n.block < sh.blocks
     known sound n true e has = (kept n.block e).below
@@ -178,6 +190,7 @@ module _ (p : TreePass) where
       others = λ b e n here. hand.others n
           (subst (λ c. AllByRecursion (λ (d : ℕ). c ≢ d) blocks) (sym here) (none_of blocks b e));
       asks = λ j b x y becomes. asks j b x y (has_frame b x y becomes) (among blocks b) refl;
+      stays = λ b x y becomes. stays_hashed b x y (has_frame b x y becomes) (among blocks b) refl;
     }
 
     keep_up : HandKeepsHash p

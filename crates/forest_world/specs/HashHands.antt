@@ -11,16 +11,19 @@ use Rattle.forest_law.specs.declared.objects.Frame.{Frame}
 use Rattle.forest_law.specs.Numbers.{part_id, frame_id, frames_of}
 use Rattle.forest_law.specs.Hashed.{hash_block, IsExactFor}
 use Rattle.forest_law.specs.HashKept.{KeepsHash}
+use Rattle.forest_law.specs.HashStays.{IsHashedAlike, StaysHashed}
 use Rattle.forest_law.specs.HashSteps.{AsksSame}
 use Rattle.forest_world.specs.Held.{TreePass, shape_of_pass, HasFrame, HasPart, HoldsFrame, HoldsPart, IsKnownBeyond}
 
--- a block's frame stays tidy, and asks each partition for the same nodes after as before
+-- a block's frame stays tidy, asks each partition for the same nodes after as before, and is hashed as
+-- it was, if it was
 pub record FrameRestsHash (shape : Shape) (b : ℕ) (x y : Frame) : Type 0 where
   pub tidy : IsTidy (hash_block x) → IsTidy (hash_block y)
   pub asks : (k : ℕ) → AsksSame shape k b x y
+  pub alike : IsHashedAlike x y
 
 -- beyond these partitions and blocks, each partition in hand is what it is known to be, and each frame
--- in hand stays tidy and asks for what it asked for
+-- in hand rests
 pub record HashRestsBeyond (p : TreePass) (ks blocks : List ℕ) : Type 0 where
   pub parts : (j : ℕ) (r s : Part) → AllByRecursion (λ (k : ℕ). j ≢ k) ks → HasPart p j r s → s ≡ r
   pub frames : (c : ℕ) (x y : Frame) → AllByRecursion (λ (b : ℕ). c ≢ b) blocks
@@ -31,7 +34,8 @@ abbrev pub IsHashedIn : Shape → ℕ → Frame → Type 0
 IsHashedIn shape k f = (index : ℕ) → f.hashed ≡ Some index → part_for shape.parts index ≡ k
 
 -- partition k keeps up with the block, whose frame is in hand: the frame is hashed in no other
--- partition, stays tidy, and where the partition was exact of the block, it is
+-- partition, stays tidy, and where the partition was exact of the block, it is; a leaf that was hashed
+-- stays so, unless there is a cause
 pub record KeepsUpBlock (p : TreePass) (k : ℕ) (was now : Part) (b : ℕ) : Type 0 where
   pub below : b < frames_of (shape_of_pass p)
   pub old : Frame
@@ -41,6 +45,7 @@ pub record KeepsUpBlock (p : TreePass) (k : ℕ) (was now : Part) (b : ℕ) : Ty
   pub is_in : IsHashedIn (shape_of_pass p) k new
   pub tidy : IsTidy (hash_block old) → IsTidy (hash_block new)
   pub exact : IsExactFor (shape_of_pass p) k b was old → IsExactFor (shape_of_pass p) k b now new
+  pub stays : StaysHashed (shape_of_pass p) (known_values p) (values p) b old new
 
 -- partition k is in hand and keeps up with these blocks; of all others it has the nodes that it had,
 -- it has as much room, and the hash rests beyond

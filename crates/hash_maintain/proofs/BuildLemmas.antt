@@ -1,5 +1,5 @@
 -- What a build of a leaf leaves in hand.
-use Rattle.std.proofs.Common.{◌≡◌, ℕ, Some, sym, ap, subst, ◌∙◌, refl}
+use Rattle.std.proofs.Common.{◌≡◌, ℕ, Some, length, sym, ap, subst, ◌∙◌, refl}
 use Rattle.list_facts.proofs.Places.{same_some}
 use Rattle.key_tuple.specs.declared.mode.Params.{Params}
 use Rattle.index_page.specs.Page.{PageRows}
@@ -7,7 +7,8 @@ use Rattle.hash_partition.specs.Part.{Part}
 use Rattle.hash_law.specs.Blocks.{part_for, HasLeafOf, IsTidy}
 use Rattle.hash_upkeep.specs.declared.hashing.Hashing.{Hashing}
 use Rattle.hash_upkeep.specs.declared.built.Build.{Build}
-use Rattle.hash_upkeep.specs.Build.{BuildsAnew}
+use Rattle.hash_upkeep.specs.Build.{BuildsAnew, LacksIfFull}
+use Rattle.hash_upkeep.specs.Hashing.{row_entries}
 use Rattle.hash_upkeep.specs.Laws.{EntriesAreOwed}
 use Rattle.forest_law.specs.declared.objects.Frame.{Frame}
 use Rattle.forest_law.specs.Hashed.{hash_block}
@@ -59,8 +60,10 @@ module _ (p : TreePass) (b k index bits : ℕ) (params : Params) (f : Frame)
       → KeepsUpSo (cut_to b index params bits) g was now
       → ((page : PageRows) → f.page ≡ Some page
       → BuildsAnew (cut_to b index params bits) page.rows was now answer)
+      → ((page : PageRows) → f.page ≡ Some page
+      → LacksIfFull answer now.spare (length (row_entries (cut_to b index params bits) page.rows)))
       → (i : ℕ) → HasLeafOf (hash_block f) i → BuildsInHand p b i params f g answer q
-  builds m q was now g answer held back keeps told i other =
+  builds m q was now g answer held back keeps told room i other =
       let kept = subst (λ n. KeepsUpSo (cut_to b index params n) g was now) bits_are keeps in
       subst (λ j. BuildsInHand p b j params f g answer q) (one_leaf f index i leaf_of other)
       (record {
@@ -70,4 +73,6 @@ module _ (p : TreePass) (b k index bits : ℕ) (params : Params) (f : Frame)
             (kept.exact (shape_of_pass p).parts) kept.others kept.shape;
         told = λ page paged. subst (λ n. BuildsAnew (cut_to b index params n) page.rows was now answer)
             bits_are (told page paged);
+        room = λ page paged. subst (λ n. LacksIfFull answer now.spare
+            (length (row_entries (cut_to b index params n) page.rows))) bits_are (room page paged);
       })

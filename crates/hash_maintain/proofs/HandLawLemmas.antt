@@ -38,6 +38,7 @@ keeps law p k b kept = law.keep_up p k (b ∷ []) (record {
       is_in = kept.is_in;
       tidy = kept.tidy;
       exact = λ was. kept.exact;
+      stays = kept.stays;
     },
     tt,
   );

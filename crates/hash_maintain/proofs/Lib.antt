@@ -5,6 +5,7 @@ pub mod HoldLemmas
 pub mod UpkeepLemmas
 pub mod BuildLemmas
 pub mod HandLawLemmas
+mod MoveStayLemmas
 pub mod MoveLemmas
 pub mod MovingLemmas
 pub mod MoveLawLemmas

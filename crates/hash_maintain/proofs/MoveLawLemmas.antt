@@ -1,5 +1,5 @@
 -- Rows that move between two frames keep their partition exact, and the hash.
-use Rattle.std.proofs.Common.{◌≡◌, ◌≢◌, ◌==◌, ◌≤◌, ℕ, Bool, true, false, if◌then◌else◌, [], ◌∷◌, Option, Some, None, sym, ap, subst, ◌∙◌, refl}
+use Rattle.std.proofs.Common.{◌≡◌, ◌≢◌, ◌==◌, ◌≤◌, inl, inr, ℕ, Bool, true, false, if◌then◌else◌, [], ◌∷◌, Option, Some, None, sym, ap, subst, ◌∙◌, refl}
 use Rattle.std.specs.Prelude.{is_some}
 use Rattle.std.proofs.lemmas.Bool.{eqb-true}
 use Rattle.list_facts.proofs.Places.{same_some}
@@ -22,27 +22,31 @@ use Rattle.index_law.specs.Shape.{Shape}
 use Rattle.forest_law.specs.declared.objects.Frame.{Frame}
 use Rattle.forest_law.specs.Counted.{SuitsHash}
 use Rattle.forest_law.specs.Hashed.{hash_block, IsExactFor}
+use Rattle.forest_law.specs.HashStays.{HasNoRows, StaysHashed}
+use Rattle.latch_space.specs.Passes.{values, known_values}
 use Rattle.forest_world.specs.Held.{TreePass, shape_of_pass}
 use Rattle.forest_world.specs.HashHands.{IsHashedIn, KeepsUpBlock, HandKeepsHash, HandsKeepTheHash}
 use Rattle.hash_maintain.specs.Moves.{MayMove, how_then, frame_hashed, IsExactOf, first_hashed, move_in, MovedSinceExact, MovesInHand}
-use Rattle.hash_maintain.specs.MoveLaws.{HasPageOf, MovesRows, StaysTidyIn, HoldsTidyIn, HasMoved, MovesKeepTheHash}
+use Rattle.hash_maintain.specs.MoveLaws.{HasPageOf, MovesRows, StaysTidyIn, HoldsTidyIn, OneIsEmpty, HasMoved, MovesKeepTheHash}
 use Rattle.hash_maintain.specs.Upkeep.{IsExactIn}
+use Rattle.hash_maintain.proofs.MoveStayLemmas.{same_page, gave_stays, took_stays}
 
 -- a block of a move in hand, of which the partition is exact now, is kept up with
-keeps_block : (p : TreePass) (index bits b : ℕ) (old new : Frame) (was now : Part)
-    → bits ≡ (shape_of_pass p).fold_bits
-    → HoldsTidyIn p (part_for (shape_of_pass p).parts index) b old new
+keeps_block : (p : TreePass) (index bits b : ℕ) (built : Option Params) (old new : Frame)
+    (was now : Part) → bits ≡ (shape_of_pass p).fold_bits → HoldsTidyIn p index built b old new
     → IsExactOf index bits b now new
+    → StaysHashed (shape_of_pass p) (known_values p) (values p) b old new
     → KeepsUpBlock p (part_for (shape_of_pass p).parts index) was now b
-keeps_block p index bits b old new was now bits_are hand exact = record {
+keeps_block p index bits b built old new was now bits_are hand exact stays = record {
   below = hand.below;
   old = old;
   new = new;
   frame = hand.frame;
-  was_in = hand.stays.was_in;
+  was_in = λ i is. ap (part_for (shape_of_pass p).parts) (hand.stays.was_for i is);
   is_in = hand.stays.is_in;
   tidy = λ t. hand.stays.tidy;
   exact = λ e. subst (λ n. IsExactOf index n b now new) bits_are exact (shape_of_pass p).parts;
+  stays = stays;
 }
 
 keeps : HandsKeepTheHash → (p : TreePass) (m : Move) → HasMoved p m → HandKeepsHash p
@@ -53,11 +57,11 @@ keeps law p m moved = law.keep_up p (part_for (shape_of_pass p).parts m.index) (
       has = moved.part;
       room = moved.keeps.shape.room;
       each = (
-        keeps_block p m.index m.bits m.from moved.gave_old moved.gave_new moved.known moved.now
-            moved.bits moved.gave moved.keeps.gave,
+        keeps_block p m.index m.bits m.from m.from_built moved.gave_old moved.gave_new moved.known
+            moved.now moved.bits moved.gave moved.keeps.gave (gave_stays p m moved),
         (
-          keeps_block p m.index m.bits m.to moved.took_old moved.took_new moved.known moved.now
-              moved.bits moved.took moved.keeps.took,
+          keeps_block p m.index m.bits m.to m.to_built moved.took_old moved.took_new moved.known
+              moved.now moved.bits moved.took moved.keeps.took (took_stays p m moved),
           tt,
         ),
       );
@@ -340,15 +344,14 @@ module _ (p : TreePass) (index fields a b : ℕ) (f x g y : Frame)
           on (moves.leaf hashed.0 hashed.1) (to_few how.params (other_tidy.built how.params was))
 
   -- a tidy frame with a page of the index was hashed for that alone
-  was_in : (z : Frame) (page : PageRows) → HasPageOf index fields z page → IsTidy (hash_block z)
-      → IsHashedIn (shape_of_pass p) (part_for (shape_of_pass p).parts i) z
-  was_in z page has t j is = ap (part_for (shape_of_pass p).parts)
-      (sym (hashed_for z page j has.page_is t is).1 ∙ (has.index_is ∙ same))
+  was_for : (z : Frame) (page : PageRows) → HasPageOf index fields z page → IsTidy (hash_block z)
+      → (j : ℕ) → z.hashed ≡ Some j → j ≡ i
+  was_for z page has t j is = sym (hashed_for z page j has.page_is t is).1 ∙ (has.index_is ∙ same)
 
   stay : (q : TreePass) (x' y' : Frame) (answer : Upkeep)
       → MovesInHand p (part_for (shape_of_pass p).parts i) move_now x y x' y' answer q
-      → StaysTidyIn (shape_of_pass p) (part_for (shape_of_pass p).parts i) f x'
-      × StaysTidyIn (shape_of_pass p) (part_for (shape_of_pass p).parts i) g y'
+      → StaysTidyIn (shape_of_pass p) i x.figures.built f x'
+      × StaysTidyIn (shape_of_pass p) i y.figures.built g y' × OneIsEmpty x' g
   stay q x' y' answer moved =
       let one = hashed_tidy (shape_of_pass p) i x
       (how_then answer (from_then move_now moves.left.head.level))
@@ -359,17 +362,26 @@ module _ (p : TreePass) (index fields a b : ℕ) (f x g y : Frame)
       (to_few g.figures.advice other_tidy.advice)) (to_how answer) in
       let from_is = moved.from_is moves.left moves.left_is.page_is in (
         record {
-          was_in = was_in f moves.from moves.from_is tidy;
+          was_for = was_for f moves.from moves.from_is tidy;
+          was_built = ap (λ (z : BlockFigures). z.built) (sym moves.gave.figures);
           is_in = subst (IsHashedIn (shape_of_pass p) (part_for (shape_of_pass p).parts i))
               (sym from_is) one.1;
           tidy = subst (λ (z : Frame). IsTidy (hash_block z)) (sym from_is) one.0;
         },
         record {
-          was_in = was_in g moves.to moves.to_is other_tidy;
+          was_for = was_for g moves.to moves.to_is other_tidy;
+          was_built = ap (λ (z : BlockFigures). z.built) (sym moves.took.figures);
           is_in = subst (IsHashedIn (shape_of_pass p) (part_for (shape_of_pass p).parts i))
               (sym moved.to_is) two.1;
           tidy = subst (λ (z : Frame). IsTidy (hash_block z)) (sym moved.to_is) two.0;
         },
+        elim moves.empty [
+          | inl none ↦ inl (subst HasNoRows (sym moves.to_is.page_is) none)
+          | inr none ↦ inr (subst HasNoRows
+              (sym (ap (λ (z : Frame). z.page) from_is
+              ∙ (same_page (how_then answer (from_then move_now moves.left.head.level)) x
+              ∙ moves.left_is.page_is))) none)
+        ],
       )
 
 pub moves_keep : EntriesAreOwed → HandsKeepTheHash → MovesKeepTheHash

@@ -1,5 +1,5 @@
 -- Rows that moved from one frame to another.
-use Rattle.std.proofs.Common.{◌≡◌, ◌==◌, ℕ, Bool, true, false, if◌then◌else◌, Option, Some, None, sym, subst, refl}
+use Rattle.std.proofs.Common.{◌≡◌, ◌==◌, ◌+◌, ℕ, Bool, true, false, if◌then◌else◌, length, Option, Some, None, sym, subst, refl}
 use Rattle.key_tuple.specs.declared.mode.Params.{Params}
 use Rattle.index_page.specs.Page.{PageRows}
 use Rattle.hash_partition.specs.Part.{Part}
@@ -11,10 +11,11 @@ use Rattle.hash_upkeep.specs.Cover.{RenewsBoth}
 use Rattle.hash_upkeep.specs.Hashing.{hashing_if, entries_if}
 use Rattle.hash_upkeep.specs.Laws.{EntriesAreOwed}
 use Rattle.hash_upkeep.specs.Moves.{from_then, to_then, built_or}
-use Rattle.hash_upkeep.specs.Upkeep.{kept_entries}
+use Rattle.hash_upkeep.specs.Upkeep.{LacksIfDropped, kept_entries}
 use Rattle.forest_law.specs.declared.objects.Frame.{Frame}
 use Rattle.hash_maintain.specs.Moves.{how_then, frame_hashed, IsExactOf, KeepsUpBoth}
 use Rattle.hash_maintain.proofs.LeafLemmas.{nodes_exact}
+use Rattle.hash_maintain.proofs.MoveStayLemmas.{both_stay}
 
 module _ (owed : EntriesAreOwed) (index block bits : ℕ) (f : Frame) (page : PageRows)
     (paged : f.page ≡ Some page) (new : Part) where
@@ -47,8 +48,10 @@ pub both_exact : EntriesAreOwed → (m : Move) (f g f' g' : Frame) (a b : PageRo
     → f' ≡ frame_hashed (how_then answer (from_then m a.head.level)) f
     → g' ≡ frame_hashed (how_then answer (to_then m)) g
     → RenewsBoth m.from (kept_entries answer (entries_if (from_then m a.head.level) a.rows)) m.to
-    (kept_entries answer (entries_if (to_then m) b.rows)) old new → KeepsUpBoth m f' g' old new
-both_exact owed m f g f' g' a b paged other old new answer from to renews = record {
+    (kept_entries answer (entries_if (to_then m) b.rows)) old new
+    → LacksIfDropped answer new.spare (length (entries_if (from_then m a.head.level) a.rows)
+    + length (entries_if (to_then m) b.rows)) → KeepsUpBoth m f' g' old new
+both_exact owed m f g f' g' a b paged other old new answer from to renews room = record {
   gave = subst (IsExactOf m.index m.bits m.from new) (sym from)
       (exact_level owed m.index m.from m.bits f a paged new (a.head.level == 0) m.from_built answer
       renews.first);
@@ -57,4 +60,5 @@ both_exact owed m f g f' g' a b paged other old new answer from to renews = reco
       renews.second);
   others = renews.others;
   shape = renews.shape;
+  stay = both_stay m f g f' g' a b paged other new answer from to room;
 }

@@ -1,5 +1,5 @@
 -- What the upkeep of a hashed frame leaves in hand.
-use Rattle.std.proofs.Common.{◌≡◌, ◌≤◌, ℕ, true, false, Option, Some, None, List, sym, ap, subst, ◌∙◌, refl}
+use Rattle.std.proofs.Common.{◌≡◌, ◌≤◌, ℕ, true, false, Option, Some, None, List, length, sym, ap, subst, ◌∙◌, refl}
 use Rattle.std.specs.Prelude.{is_some}
 use Rattle.list_facts.proofs.Places.{same_some}
 use Rattle.key_tuple.specs.declared.mode.Params.{Params}
@@ -10,7 +10,8 @@ use Rattle.hash_law.specs.Blocks.{folds_of, part_for, due, IsExact, IsTidy}
 use Rattle.hash_upkeep.specs.declared.hashing.Hashing.{Hashing}
 use Rattle.hash_upkeep.specs.Hashing.{row_entries}
 use Rattle.hash_upkeep.specs.declared.upkeep.Upkeep.{Upkeep}
-use Rattle.hash_upkeep.specs.Upkeep.{IsRowAnswer}
+use Rattle.hash_upkeep.specs.declared.upkeep.Upkeep.TheVariants.{Kept}
+use Rattle.hash_upkeep.specs.Upkeep.{IsRowAnswer, LacksIfDropped}
 use Rattle.hash_upkeep.specs.Laws.{EntriesAreOwed}
 use Rattle.index_law.specs.Shape.{Shape}
 use Rattle.chain_arena.specs.declared.node.Node.{Node}
@@ -24,6 +25,11 @@ use Rattle.hash_maintain.specs.Parting.{HoldsPartOut, PutsPartBack}
 use Rattle.hash_maintain.specs.Upkeep.{IsExactIn, KeepsUpInHand, KeepsUpWithRow, hashing_in}
 use Rattle.hash_maintain.proofs.LeafLemmas.{nodes_exact}
 use Rattle.hash_maintain.proofs.HoldLemmas.{in_hand, keeps_in_hand}
+
+-- a block that wasn't dropped lacks no room
+pub kept_lacks : (answer : Upkeep) (spare need : ℕ) → answer ≡ Kept
+    → LacksIfDropped answer spare need
+kept_lacks answer spare need kept = subst (λ u. LacksIfDropped u spare need) (sym kept) tt
 
 -- how a hashed block's frame is hashed
 pub record IsHow (b bits : ℕ) (f : Frame) (how : Hashing) : Type 0 where
@@ -184,9 +190,15 @@ module _ (p : TreePass) (b k : ℕ) (f : Frame) (how : Hashing) (call : IsCall p
       (answer_of : (spare : ℕ) → (brought driven : List Node) → Upkeep) (answer : Upkeep)
       → HoldsPartOut p k was m → PutsPartBack m k now q → KeepsUpSo how seen was now
       → ((page : PageRows) → f.page ≡ Some page
-      → IsRowAnswer how page.rows place (answer_of was.spare) answer) → (other : Hashing)
+      → IsRowAnswer how page.rows place (answer_of was.spare) answer)
+      → ((page : PageRows) → f.page ≡ Some page
+      → LacksIfDropped answer now.spare (length (row_entries how page.rows))) → (other : Hashing)
       → hashing_in p b f ≡ Some other
       → KeepsUpWithRow p b place other f seen answer_of answer q
-  row_keeps m q was now seen place answer_of answer held back keeps told other e =
+  row_keeps m q was now seen place answer_of answer held back keeps told room other e =
       subst (λ (h : Hashing). KeepsUpWithRow p b place h f seen answer_of answer q)
-      (one_way other e) (record { keeps = keeps_up m q was now seen held back keeps; told = told })
+      (one_way other e) (record {
+        keeps = keeps_up m q was now seen held back keeps;
+        told = told;
+        room = room;
+      })

@@ -1,5 +1,6 @@
 -- Rows that move between two frames in hand: what keeps their partition exact of both, and the hash.
-use Rattle.std.specs.Prelude.{ℕ, ◌≡◌, ◌≢◌, ◌<◌, Some, List, [], ◌∷◌}
+use Rattle.std.specs.Prelude.{ℕ, ◌≡◌, ◌≢◌, ◌<◌, ◌⊎◌, Option, Some, List, [], ◌∷◌}
+use Rattle.key_tuple.specs.declared.mode.Params.{Params}
 use Rattle.index_page.specs.Page.{PageRows}
 use Rattle.chain_arena.specs.declared.node.Node.{Node}
 use Rattle.hash_partition.specs.Part.{Part}
@@ -13,6 +14,7 @@ use Rattle.forest_law.specs.declared.objects.Frame.{Frame}
 use Rattle.forest_law.specs.Counted.{SuitsHash}
 use Rattle.forest_law.specs.Numbers.{frames_of}
 use Rattle.forest_law.specs.Hashed.{hash_block}
+use Rattle.forest_law.specs.HashStays.{HasNoRows}
 use Rattle.forest_law.specs.HashSteps.{KeepsHashing}
 use Rattle.forest_world.specs.Held.{TreePass, shape_of_pass, HasFrame, HasPart}
 use Rattle.forest_world.specs.HashHands.{IsHashedIn, HashRestsBeyond, HandKeepsHash}
@@ -27,8 +29,8 @@ pub record HasPageOf (index fields : ℕ) (f : Frame) (page : PageRows) : Type 0
 
 -- rows moved from the page of the frame f, which is x now, to that of the frame g, which is y now. All
 -- pages are of one index with keys of as many fields, the frames are hashed as they were, the rows
--- stay on their level, and nodes of both blocks that are exact, where the block that took the rows is
--- hashed as it was, have the folds of their rows
+-- stay on their level, the page that took them had none or the other has none, and nodes of both blocks
+-- that are exact, where the block that took the rows is hashed as it was, have the folds of their rows
 pub record MovesRows (index fields : ℕ) (f x g y : Frame) : Type 0 where
   pub from : PageRows
   pub left : PageRows
@@ -42,20 +44,29 @@ pub record MovesRows (index fields : ℕ) (f x g y : Frame) : Type 0 where
   pub took : KeepsHashing g y
   pub level : got.head.level ≡ from.head.level
   pub leaf : (i : ℕ) → g.hashed ≡ Some i → got.head.level ≡ 0
+  pub empty : (to.rows ≡ []) ⊎ (left.rows ≡ [])
   pub covered : (m : Move) (nodes : List Node) → m.to_built ≡ g.figures.built
       → AreBothExact m from to nodes → AreBothCovered m left got nodes
 
--- a frame is tidy, and was and is hashed in no partition but k
-pub record StaysTidyIn (shape : Shape) (k : ℕ) (old new : Frame) : Type 0 where
-  pub was_in : IsHashedIn shape k old
-  pub is_in : IsHashedIn shape k new
+-- a frame is tidy; it was hashed with these parameters, if it was, for no index but this one, and is
+-- hashed in no partition but that of the index
+pub record StaysTidyIn (shape : Shape) (index : ℕ) (built : Option Params)
+    (old new : Frame) : Type 0 where
+  pub was_for : (i : ℕ) → old.hashed ≡ Some i → i ≡ index
+  pub was_built : old.figures.built ≡ built
+  pub is_in : IsHashedIn shape (part_for shape.parts index) new
   pub tidy : IsTidy (hash_block new)
 
 -- the block's frame is in hand so
-pub record HoldsTidyIn (p : TreePass) (k b : ℕ) (old new : Frame) : Type 0 where
+pub record HoldsTidyIn (p : TreePass) (index : ℕ) (built : Option Params) (b : ℕ)
+    (old new : Frame) : Type 0 where
   pub below : b < frames_of (shape_of_pass p)
   pub frame : HasFrame p b old new
-  pub stays : StaysTidyIn (shape_of_pass p) k old new
+  pub stays : StaysTidyIn (shape_of_pass p) index built old new
+
+-- the page that took rows had none, or that which gave them has none
+abbrev pub OneIsEmpty : (gave_new took_old : Frame) → Type 0
+OneIsEmpty gave_new took_old = HasNoRows took_old.page ⊎ HasNoRows gave_new.page
 
 -- the partition of the index and both frames of the move are in hand, the partition exact of both
 -- blocks now and of others with the nodes that it is known to have, and the hash rests beyond
@@ -67,8 +78,10 @@ pub record HasMoved (p : TreePass) (m : Move) : Type 0 where
   pub took_old : Frame
   pub took_new : Frame
   pub part : HasPart p (part_for (shape_of_pass p).parts m.index) known now
-  pub gave : HoldsTidyIn p (part_for (shape_of_pass p).parts m.index) m.from gave_old gave_new
-  pub took : HoldsTidyIn p (part_for (shape_of_pass p).parts m.index) m.to took_old took_new
+  pub apart : m.from ≢ m.to
+  pub gave : HoldsTidyIn p m.index m.from_built m.from gave_old gave_new
+  pub took : HoldsTidyIn p m.index m.to_built m.to took_old took_new
+  pub empty : OneIsEmpty gave_new took_old
   pub bits : m.bits ≡ (shape_of_pass p).fold_bits
   pub keeps : KeepsUpBoth m gave_new took_new known now
   pub beyond : HashRestsBeyond p (part_for (shape_of_pass p).parts m.index ∷ [])
@@ -87,6 +100,6 @@ pub record MovesKeepTheHash : Type 0 where
       → MovesRows index fields f x g y → IsTidy (hash_block f) → IsTidy (hash_block g)
       → (i : ℕ) → first_hashed x y ≡ Some i
       → MovesInHand p (part_for (shape_of_pass p).parts i) (move_in p i a b x y) x y x' y' answer q
-      → StaysTidyIn (shape_of_pass p) (part_for (shape_of_pass p).parts i) f x'
-      × StaysTidyIn (shape_of_pass p) (part_for (shape_of_pass p).parts i) g y'
+      → StaysTidyIn (shape_of_pass p) i x.figures.built f x'
+      × StaysTidyIn (shape_of_pass p) i y.figures.built g y' × OneIsEmpty x' g
   pub keeps : (p : TreePass) (m : Move) → HasMoved p m → HandKeepsHash p

@@ -1,5 +1,5 @@
 -- Rows that moved from one frame to another, and the partition of both.
-use Rattle.std.specs.Prelude.{ℕ, ◌≡◌, ◌≢◌, Option, Some, None}
+use Rattle.std.specs.Prelude.{ℕ, ◌≡◌, ◌≢◌, ◌<◌, ◌+◌, ◌⊎◌, Option, Some, None, length}
 use Rattle.index_page.specs.Page.{PageRows}
 use Rattle.chain_arena.specs.declared.node.Node.{Node}
 use Rattle.chain_arena.specs.Bag.{count_of}
@@ -9,6 +9,7 @@ use Rattle.hash_upkeep.specs.declared.hashing.Hashing.{Hashing}
 use Rattle.hash_upkeep.specs.declared.moves.Move.{Move}
 use Rattle.hash_upkeep.specs.declared.upkeep.Upkeep.{Upkeep}
 use Rattle.hash_upkeep.specs.declared.upkeep.Upkeep.TheVariants.{Kept, Dropped}
+use Rattle.hash_upkeep.specs.Hashing.{entries_if}
 use Rattle.hash_upkeep.specs.Moves.{CanMove, AreBothCovered, IsMoveAnswer, from_then, to_then, built_or}
 use Rattle.forest_law.specs.declared.objects.Frame.{Frame}
 use Rattle.latch_space.specs.Has.{SameBut}
@@ -16,7 +17,7 @@ use Rattle.latch_space.specs.Passes.{view}
 use Rattle.forest_law.specs.Hashed.{hash_block, IsExactFor}
 use Rattle.forest_law.specs.Numbers.{part_id}
 use Rattle.forest_world.specs.Held.{TreePass, shape_of_pass, HasPart}
-use Rattle.hash_maintain.specs.Leaves.{hashed_with, unhashed}
+use Rattle.hash_maintain.specs.Leaves.{IsHashedSo, hashed_with, unhashed}
 use Rattle.hash_maintain.specs.Parting.{IsFoundOrTaken}
 use Rattle.hash_maintain.specs.Upkeep.{IsExactIn}
 
@@ -46,14 +47,42 @@ abbrev pub IsExactOf : (index bits block : ℕ) → Part → Frame → Type 0
 IsExactOf index bits block part f = (parts : ℕ)
     → IsExact (folds_of bits) parts (part_for parts index) block part (hash_block f)
 
--- the partition is exact of both blocks with these frames; other blocks' nodes, how many nodes there
--- is room for, and the stamps are as before
+-- the frame is hashed so, or not at all
+abbrev pub IsHashedIf : Option Hashing → Frame → Type 0
+IsHashedIf None f = f.hashed ≡ None
+IsHashedIf (Some how) f = IsHashedSo how f
+
+-- how the block with this page that gave rows is to be hashed
+abbrev pub gave_how : Move → Option PageRows → Option Hashing
+gave_how m None = None
+gave_how m (Some page) = from_then m page.head.level
+
+-- how many entries a page has, if there is one, hashed so, if it is
+abbrev pub entries_of_page : Option Hashing → Option PageRows → ℕ
+entries_of_page how None = 0
+entries_of_page how (Some page) = length (entries_if how page.rows)
+
+-- both frames are hashed as is to be after the move
+pub record AreHashedThen (m : Move) (from to : Frame) : Type 0 where
+  pub gave : IsHashedIf (gave_how m from.page) from
+  pub took : IsHashedIf (to_then m) to
+
+-- neither frame is hashed, since there is no room for the rows of both
+pub record LackRoom (m : Move) (from to : Frame) (spare : ℕ) : Type 0 where
+  pub gave : from.hashed ≡ None
+  pub took : to.hashed ≡ None
+  pub lacks : spare < entries_of_page (gave_how m from.page) from.page
+      + entries_of_page (to_then m) to.page
+
+-- the partition is exact of both blocks with these frames, which are hashed as is to be, unless there
+-- is no room; other blocks' nodes, how many nodes there is room for, and the stamps are as before
 pub record KeepsUpBoth (m : Move) (from to : Frame) (old new : Part) : Type 0 where
   pub gave : IsExactOf m.index m.bits m.from new from
   pub took : IsExactOf m.index m.bits m.to new to
   pub others : (n : Node) → n.block ≢ m.from → n.block ≢ m.to
       → count_of n new.nodes ≡ count_of n old.nodes
   pub shape : KeepsShape old new
+  pub stay : AreHashedThen m from to ⊎ LackRoom m from to new.spare
 
 -- the index that the first is hashed for, or else the second
 abbrev pub first_hashed : Frame → Frame → Option ℕ

@@ -1,13 +1,14 @@
 -- What a call on a hashed block leaves of its partition in hand.
-use Rattle.std.specs.Prelude.{ℕ, ◌≡◌, ◌<◌, Option, Some, List}
+use Rattle.std.specs.Prelude.{ℕ, ◌≡◌, ◌<◌, Option, Some, List, length}
 use Rattle.key_tuple.specs.declared.mode.Params.{Params}
 use Rattle.index_page.specs.Page.{PageRows}
 use Rattle.chain_arena.specs.declared.node.Node.{Node}
 use Rattle.hash_upkeep.specs.declared.hashing.Hashing.{Hashing}
 use Rattle.hash_upkeep.specs.declared.built.Build.{Build}
-use Rattle.hash_upkeep.specs.Build.{BuildsAnew}
+use Rattle.hash_upkeep.specs.Build.{BuildsAnew, LacksIfFull}
+use Rattle.hash_upkeep.specs.Hashing.{row_entries}
 use Rattle.hash_upkeep.specs.declared.upkeep.Upkeep.{Upkeep}
-use Rattle.hash_upkeep.specs.Upkeep.{IsRowAnswer}
+use Rattle.hash_upkeep.specs.Upkeep.{IsRowAnswer, LacksIfDropped}
 use Rattle.hash_maintain.specs.Leaves.{hashing_of}
 use Rattle.latch_space.specs.Has.{SameBut}
 use Rattle.latch_space.specs.Passes.{view}
@@ -62,13 +63,16 @@ pub record KeepsUpInHand (p : TreePass) (k b : ℕ) (f : Frame) (q : TreePass) :
   pub terms : (view q).terms ≡ (view p).terms
 
 -- of a block that was hashed so, its frame f and then g, partition k of its index keeps up with what
--- the frame is seen as then; the answer is told by how many nodes were spare
+-- the frame is seen as then; the answer is told by how many nodes were spare, and where the block was
+-- dropped there is no room for the rows of f
 pub record KeepsUpWithRow (p : TreePass) (b place : ℕ) (how : Hashing) (f g : Frame)
     (answer_of : (spare : ℕ) → (brought driven : List Node) → Upkeep) (answer : Upkeep)
     (q : TreePass) : Type 0 where
   pub keeps : KeepsUpInHand p (part_for (shape_of_pass p).parts how.index) b g q
   pub told : (page : PageRows) → f.page ≡ Some page
       → IsRowAnswer how page.rows place (answer_of keeps.was.spare) answer
+  pub room : (page : PageRows) → f.page ≡ Some page
+      → LacksIfDropped answer keeps.now.spare (length (row_entries how page.rows))
 
 -- how the block with this frame is hashed in the pass's space, if it is
 abbrev pub hashing_in : TreePass → ℕ → Frame → Option Hashing
@@ -84,12 +88,15 @@ hashing_as p b index params = record {
 }
 
 -- of a block with a leaf of the index, its frame f and then g, the index's partition keeps up with a
--- build, which tells by how many nodes were spare
+-- build, which tells by how many nodes were spare; where the arena was full there is no room
 pub record BuildsInHand (p : TreePass) (b index : ℕ) (params : Params) (f g : Frame)
     (answer : Build) (q : TreePass) : Type 0 where
   pub keeps : KeepsUpInHand p (part_for (shape_of_pass p).parts index) b g q
   pub told : (page : PageRows) → f.page ≡ Some page
       → BuildsAnew (hashing_as p b index params) page.rows keeps.was keeps.now answer
+  pub room : (page : PageRows) → f.page ≡ Some page
+      → LacksIfFull answer keeps.now.spare
+      (length (row_entries (hashing_as p b index params) page.rows))
 
 -- the frame has a leaf of an index, and where the partition of that is held or free, it is exact so
 pub record IsLeafExactIn (p : TreePass) (b : ℕ) (f : Frame) : Type 0 where

@@ -1,9 +1,10 @@
 //! A frame and its partition: hashed, unhashed, and kept up with a row.
-ghost use Rattle.std.specs.Prelude.{◌≡◌, ◌≢◌, Some};
+ghost use Rattle.std.specs.Prelude.{◌≡◌, ◌≢◌, Some, length};
 ghost use Rattle.index_page.specs.Page.{PageRows};
 ghost use Rattle.hash_law.specs.Blocks.{AskFew, HasLeafOf, IsTidy};
-ghost use Rattle.hash_upkeep.specs.Build.{BuildsAnew};
-ghost use Rattle.hash_upkeep.specs.Upkeep.{IsRowAnswer, upkeep_of};
+ghost use Rattle.hash_upkeep.specs.Build.{BuildsAnew, LacksIfFull};
+ghost use Rattle.hash_upkeep.specs.Hashing.{row_entries};
+ghost use Rattle.hash_upkeep.specs.Upkeep.{IsRowAnswer, LacksIfDropped, upkeep_of};
 ghost use Rattle.forest_law.specs.Hashed.{hash_block};
 ghost use Rattle.hash_maintain.specs.Leaves.{CutsFolds, HasRowInFrame, IsExactSo, IsHashedSo, KeepsUpSo};
 ghost use Rattle.hash_maintain.specs.Leaves.{frame_built, hashing_of, kept_frame, unhashed, without_row};
@@ -58,6 +59,8 @@ pub fn rehash(part: &mut Partition, frame: &mut Frame, how: &Hashing) -> Build
         → (result ≡ Build.NotNeeded) × (part.new ≡ part.old) }
     ensures anew { frame.old.figures.built ≢ Some how.now.params → (page : PageRows)
         → frame.old.page ≡ Some page → BuildsAnew how.now page.rows part.old part.new result }
+    ensures room { (page : PageRows) → frame.old.page ≡ Some page
+        → LacksIfFull result part.new.spare (length (row_entries how.now page.rows)) }
     ensures frame { frame.new ≡ frame_built result how.now frame.old }
     ensures part { KeepsUpSo how.now frame.new part.old part.new }
 {
@@ -81,6 +84,8 @@ pub fn row_came(part: &mut Partition, frame: &mut Frame, place: Place, how: &Has
     ensures answer { (page : PageRows) → frame.old.page ≡ Some page
         → IsRowAnswer how.now page.rows place
         (λ brought driven. upkeep_of part.old.spare driven brought) result }
+    ensures room { (page : PageRows) → frame.old.page ≡ Some page
+        → LacksIfDropped result part.new.spare (length (row_entries how.now page.rows)) }
     ensures frame { frame.new ≡ kept_frame result frame.old }
     ensures part { KeepsUpSo how.now frame.new part.old part.new }
 {
@@ -91,7 +96,7 @@ pub fn row_came(part: &mut Partition, frame: &mut Frame, place: Place, how: &Has
 }
 
 /// Keeps up with the row at a place of the frame's leaf, which is about to go. Once it is gone the
-/// partition is exact.
+/// partition is exact. There is room for that.
 pub fn row_goes(part: &mut Partition, frame: &mut Frame, place: Place, how: &Hashing) -> Upkeep
     requires bits { CutsFolds how.now }
     requires hashed { IsHashedSo how.now frame.old }
@@ -101,6 +106,7 @@ pub fn row_goes(part: &mut Partition, frame: &mut Frame, place: Place, how: &Has
     ensures answer { (page : PageRows) → frame.old.page ≡ Some page
         → IsRowAnswer how.now page.rows place
         (λ brought driven. upkeep_of part.old.spare brought driven) result }
+    ensures kept { result ≡ Upkeep.Kept }
     ensures frame { frame.new ≡ kept_frame result frame.old }
     ensures part { KeepsUpSo how.now (without_row place frame.new) part.old part.new }
 {

@@ -88,8 +88,8 @@ pub fn insert_in_frame<R: Wait>(
     }
 }
 
-/// Keeps up with the row at a place of the frame's leaf, which is about to go, or drops the block where
-/// there is no room. Where the frame isn't hashed, nothing is done.
+/// Keeps up with the row at a place of the frame's leaf, which is about to go. There is room for that.
+/// Where the frame isn't hashed, nothing is done.
 pub fn delete_in_frame<R: Wait>(
     space: &ForestSpace,
     pass: &mut ForestPass,
@@ -110,6 +110,7 @@ pub fn delete_in_frame<R: Wait>(
     ensures keeps { (how : Hashing) → hashing_in pass.old block frame.old ≡ Some how
         → KeepsUpWithRow pass.old block place how frame.old (without_row place frame.new)
         (λ spare brought driven. upkeep_of spare brought driven) result pass.new }
+    ensures kept { result ≡ Upkeep.Kept }
 {
     pass.fits();
     entries_are_owed();

@@ -1,5 +1,5 @@
 -- What a build answers, and what a block has in its partition afterwards.
-use Rattle.std.specs.Prelude.{ℕ, ◌≡◌, nat_lt, if◌then◌else◌, Option, Some, None, List, [], length}
+use Rattle.std.specs.Prelude.{ℕ, ◌≡◌, ◌<◌, nat_lt, if◌then◌else◌, Option, Some, None, List, [], length}
 use Rattle.key_tuple.specs.declared.mode.Params.{Params}
 use Rattle.index_page.specs.Rows.{Row}
 use Rattle.hash_partition.specs.Part.{Part}
@@ -18,6 +18,12 @@ abbrev pub built_after : Build → Params → Option Params
 built_after (Built nodes) params = Some params
 built_after NotNeeded params = Some params
 built_after (ArenaFull need spare) params = None
+
+-- where the arena was full, fewer nodes are spare then than this
+abbrev pub LacksIfFull : Build → (spare need : ℕ) → Type 0
+LacksIfFull (Built nodes) spare need = Unit {0}
+LacksIfFull NotNeeded spare need = Unit {0}
+LacksIfFull (ArenaFull needed was) spare need = spare < need
 
 -- a build of a block that was hashed in another way, or not at all: once its old entries are out,
 -- which `out` shows, the spare nodes tell the answer

@@ -1,5 +1,5 @@
 -- Whether a partition keeps up with a change of rows.
-use Rattle.std.specs.Prelude.{ℕ, ◌≡◌, nat_lt, if◌then◌else◌, List, [], ◌∷◌, ◌++◌}
+use Rattle.std.specs.Prelude.{ℕ, ◌≡◌, ◌<◌, nat_lt, if◌then◌else◌, List, [], ◌∷◌, ◌++◌}
 use Rattle.index_page.specs.Rows.{Row}
 use Rattle.chain_arena.specs.declared.node.Node.{Node}
 use Rattle.hash_law.specs.Sums.{need_of, spare_after}
@@ -25,6 +25,11 @@ IfKept (Dropped need spare) A B = B
 abbrev pub kept_entries : Upkeep → List Node → List Node
 kept_entries Kept ms = ms
 kept_entries (Dropped need spare) ms = []
+
+-- where it dropped the block, fewer nodes are spare then than this
+abbrev pub LacksIfDropped : Upkeep → (spare need : ℕ) → Type 0
+LacksIfDropped Kept spare need = Unit {0}
+LacksIfDropped (Dropped needed was) spare need = spare < need
 
 -- the answer is told by what the row at a place brings in and drives out
 pub record IsRowAnswer (how : Hashing) (rows : List Row) (place : ℕ)

@@ -1,9 +1,9 @@
 //! A leaf is hashed.
-ghost use Rattle.std.specs.Prelude.{◌≡◌, ◌≢◌, Some};
+ghost use Rattle.std.specs.Prelude.{◌≡◌, ◌≢◌, Some, length};
 ghost use Rattle.hash_law.specs.Entries.{NodesAt};
-ghost use Rattle.hash_upkeep.specs.Hashing.{CanHash, CanHashIf, as_built, entries_if};
+ghost use Rattle.hash_upkeep.specs.Hashing.{CanHash, CanHashIf, as_built, entries_if, row_entries};
 ghost use Rattle.hash_upkeep.specs.Cover.{Renews};
-ghost use Rattle.hash_upkeep.specs.Build.{BuildsAnew, built_after};
+ghost use Rattle.hash_upkeep.specs.Build.{BuildsAnew, LacksIfFull, built_after};
 
 use crate::built::Build;
 use crate::entering::{count_entries, enter_all};
@@ -23,6 +23,8 @@ pub fn build(part: &mut Partition, page: &Page, built: Option<Params>, how: &Has
         → (result ≡ Build.NotNeeded) × (part.new ≡ part.old) }
     ensures anew { built ≢ Some how.now.params
         → BuildsAnew how.now page.now.rows part.old part.new result }
+    ensures room { LacksIfFull result part.new.spare
+        (length (row_entries how.now page.now.rows)) }
     ensures part { Renews how.now.block
         (entries_if (as_built how.now (built_after result how.now.params)) page.now.rows)
         part.old part.new }

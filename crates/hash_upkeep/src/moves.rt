@@ -1,8 +1,8 @@
 //! A partition keeps up with rows that move from one block to another.
-ghost use Rattle.std.specs.Prelude.{◌≡◌, ◌≢◌, ◌++◌, []};
+ghost use Rattle.std.specs.Prelude.{◌≡◌, ◌≢◌, ◌+◌, ◌++◌, [], length};
 ghost use Rattle.hash_upkeep.specs.Hashing.{entries_if};
 ghost use Rattle.hash_upkeep.specs.Cover.{RenewsBoth};
-ghost use Rattle.hash_upkeep.specs.Upkeep.{kept_entries};
+ghost use Rattle.hash_upkeep.specs.Upkeep.{LacksIfDropped, kept_entries};
 ghost use Rattle.hash_upkeep.specs.Moves.{AreBothCovered, CanMove, IsMoveAnswer};
 ghost use Rattle.hash_upkeep.specs.Moves.{from_then, from_was, to_then, to_was};
 
@@ -66,6 +66,9 @@ pub fn on_move(part: &mut Partition, from: &Page, to: &Page, blocks: &Move) -> U
     requires hash { CanMove blocks.now from.now to.now }
     requires covered { AreBothCovered blocks.now from.now to.now part.old.nodes }
     ensures answer { IsMoveAnswer blocks.now from.now to.now part.old result }
+    ensures room { LacksIfDropped result part.new.spare
+        (length (entries_if (from_then blocks.now from.now.head.level) from.now.rows)
+        + length (entries_if (to_then blocks.now) to.now.rows)) }
     ensures part { RenewsBoth blocks.now.from
         (kept_entries result (entries_if (from_then blocks.now from.now.head.level) from.now.rows))
         blocks.now.to (kept_entries result (entries_if (to_then blocks.now) to.now.rows))

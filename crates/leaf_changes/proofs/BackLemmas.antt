@@ -15,7 +15,7 @@ use Rattle.hash_maintain.specs.Leaves.{kept_frame}
 use Rattle.call_law.specs.Spoken.{View}
 use Rattle.leaf_rows.specs.Changing.{hashed_as}
 use Rattle.leaf_changes.specs.Commits.{IsFullThen}
-use Rattle.leaf_changes.specs.Hashed.{HoldsAtRest, HoldsRowBack, HoldsRowCame, IsBack, RowIsKept, Settles}
+use Rattle.leaf_changes.specs.Hashed.{HoldsAtRest, HoldsRowBack, HoldsRowCame, IsBack, RowIsKept, Settles, MayDrop}
 use Rattle.leaf_changes.specs.Holds.{HoldsLeaf, IsLeafOf, KeepsNumber}
 use Rattle.engine_law.specs.Says.{OnlyLooks, SaysOnce, SeesFull}
 use Rattle.leaf_changes.specs.Says.{AnswersHolding}
@@ -38,7 +38,7 @@ module _ (p : TreePass) (b place : ℕ) (held : HoldsRowBack p b place) where
     hash = held.hash;
   }
 
-  module _ (p1 : TreePass) (kept : RowIsKept p held.index b held.known held.now (λ h. h) p1) where
+  module _ (p1 : TreePass) (kept : RowIsKept p held.index b held.known held.now (λ h. h) MayDrop p1) where
     abbrev leaf : Frame
     leaf = kept_frame kept.answer held.now
 

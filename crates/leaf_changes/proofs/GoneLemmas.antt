@@ -22,6 +22,8 @@ use Rattle.leaf_changes.proofs.HashedLemmas.{hash_again, part_block, tidy_withou
 use Rattle.leaf_changes.proofs.HoldLemmas.{frame_again}
 use Rattle.leaf_changes.proofs.RehashLemmas.{del_kept, has_row, kept_as, stands_kept}
 use Rattle.leaf_changes.proofs.RowLemmas.{del_makes}
+use Rattle.forest_law.specs.HashStays.{IsHashedWith}
+use Rattle.leaf_changes.proofs.StayLemmas.{alike_stays}
 
 -- an answer of a pass is one of it before its hand changed
 pub answers_earlier : (p p1 q : TreePass) (b i : ℕ) (ask : Ask) (told : Told) (row : Pair)
@@ -55,6 +57,9 @@ module _ (p : TreePass) (b i place : ℕ) (key : FieldList) (next : Frame)
     was = held.hash.was;
     is = held.hash.is;
     tidy = λ t. subst IsTidy (without_block place now) (tidy_without place now (held.hash.tidy t));
+    stays = alike_stays p b f (frame_without place now) (λ index params was. let is = subst
+        (λ a. IsHashedWith index params (kept_frame a f)) (sym held.stays) was in
+        record { hashed = is.hashed; built = is.built });
     room = held.hash.room;
   })
 

@@ -1,5 +1,5 @@
 -- A leaf is built while its frame is out of its place, on the partition in hand.
-use Rattle.std.proofs.Common.{◌≡◌, ◌≢◌, inl, inr, ℕ, ◌<◌, sym, ap, subst, ◌∙◌, refl, arith}
+use Rattle.std.proofs.Common.{◌≡◌, ◌≢◌, inl, inr, ℕ, ◌<◌, length, sym, ap, subst, ◌∙◌, refl, arith}
 use Rattle.std.proofs.lemmas.Nat.{mod_below}
 use Rattle.list_facts.proofs.Places.{none_is_not}
 use Rattle.latch_law.specs.declared.knows.Holding.{Holding}
@@ -13,7 +13,8 @@ use Rattle.hash_partition.specs.Part.{Part, KeepsShape}
 use Rattle.hash_law.specs.Blocks.{AskFew, HasLeafOf, IsTidy, part_for}
 use Rattle.hash_law.specs.Entries.{NodesAt}
 use Rattle.hash_upkeep.specs.declared.built.Build.{Build}
-use Rattle.hash_upkeep.specs.Build.{BuildsAnew}
+use Rattle.hash_upkeep.specs.Build.{BuildsAnew, LacksIfFull}
+use Rattle.hash_upkeep.specs.Hashing.{row_entries}
 use Rattle.index_law.specs.Shape.{Shape}
 use Rattle.forest_law.specs.declared.objects.Frame.{Frame}
 use Rattle.forest_law.specs.declared.objects.Object.{Object}
@@ -224,6 +225,18 @@ module _ (p q : TreePass) (b i : ℕ) (figures : BlockFigures) (h : HoldsToBuild
           (builds.told h.teach.leaf.is.page
           (ap (λ (z : Frame). z.page) frame_is ∙ h.teach.leaf.is.paged)))
 
+      room_then : LacksIfFull answer keeps.now.spare
+          (length (row_entries (hashing_as p b i figures.advice) h.teach.leaf.is.page.rows))
+      room_then = subst (λ (z : Shape). LacksIfFull answer keeps.now.spare
+          (length (row_entries (record {
+            index = i;
+            block = b;
+            params = figures.advice;
+            bits = z.fold_bits;
+          }) h.teach.leaf.is.page.rows))) shape_q
+          (builds.room h.teach.leaf.is.page
+          (ap (λ (z : Frame). z.page) frame_is ∙ h.teach.leaf.is.paged))
+
       frame_apart : (j : ℕ) (z : Shape) → z ≡ shape_of_pass p
           → j ≢ frame_id (shape_of_pass p) b → j ≢ frame_id z b
       frame_apart j z same differs e = differs (e ∙ ap (λ (u : Shape). frame_id u b) same)
@@ -244,6 +257,7 @@ module _ (p q : TreePass) (b i : ℕ) (figures : BlockFigures) (h : HoldsToBuild
             keeps.others;
         shape = subst (λ (z : Part). KeepsShape z keeps.now) found_so.2 keeps.shape;
         told = told_then;
+        room = room_then;
         beside = λ j differs apart.
             (back.hand.others j (frame_apart j (shape_of_pass r) (shape_r ∙ shape_q) differs)).1
             ∙ ((keeps.beside j (part_apart j apart)).1 ∙ (out.hand.others j differs).1);

@@ -1,5 +1,5 @@
 -- How a frame is hashed once its leaf was built, and that it stays tidy.
-use Rattle.std.proofs.Common.{◌≡◌, ℕ, sym, ap, subst, ◌∙◌, refl, arith, Some, None}
+use Rattle.std.proofs.Common.{◌≡◌, ◌<◌, ℕ, inl, inr, length, sym, ap, subst, ◌∙◌, refl, arith, Some, None}
 use Rattle.std.specs.Prelude.{is_some}
 use Rattle.list_facts.proofs.Places.{same_some}
 use Rattle.key_tuple.specs.declared.mode.Params.{Params}
@@ -9,8 +9,12 @@ use Rattle.hash_law.specs.Blocks.{AskFew, HasLeafOf, IsTidy}
 use Rattle.hash_upkeep.specs.declared.built.Build.{Build}
 use Rattle.hash_upkeep.specs.declared.built.Build.TheVariants.{Built, NotNeeded, ArenaFull}
 use Rattle.hash_upkeep.specs.declared.hashing.Hashing.{Hashing}
+use Rattle.hash_upkeep.specs.Build.{LacksIfFull}
+use Rattle.hash_upkeep.specs.Hashing.{row_entries}
+use Rattle.index_law.specs.Shape.{Shape}
 use Rattle.forest_law.specs.declared.objects.Frame.{Frame}
 use Rattle.forest_law.specs.Hashed.{hash_block}
+use Rattle.forest_law.specs.HashStays.{page_needs, IsHashedAnew}
 use Rattle.forest_law.specs.Steps.{FrameRests}
 use Rattle.hash_maintain.specs.Leaves.{frame_built}
 use Rattle.buffer_pool.specs.Pages.{HasTreePage}
@@ -59,6 +63,29 @@ built_tidy answer how f leaf few tidy = record {
   };
   built = λ params e. subst (AskFew f.page) (sym (built_params answer how f params e)) few;
   advice = tidy.advice;
+}
+
+-- it is hashed anew, as is advised, or there was no room for that
+pub built_anew : (shape : Shape) (answer : Build) (b i : ℕ) (f : Frame) (figures : BlockFigures)
+    (page : PageRows) (spare : ℕ) → f.page ≡ Some page
+    → LacksIfFull answer spare (length (row_entries (record {
+      index = i;
+      block = b;
+      params = figures.advice;
+      bits = shape.fold_bits;
+    }) page.rows)) → IsHashedAnew shape spare b i f (frame_built answer (record {
+      index = i;
+      block = b;
+      params = figures.advice;
+      bits = shape.fold_bits;
+    }) (with_figures f figures))
+built_anew shape (Built nodes) b i f figures page spare paged room =
+    record { stays = refl; as_advised = inl (record { hashed = refl; built = refl }) }
+built_anew shape NotNeeded b i f figures page spare paged room =
+    record { stays = refl; as_advised = inl (record { hashed = refl; built = refl }) }
+built_anew shape (ArenaFull need was) b i f figures page spare paged room = record {
+  stays = refl;
+  as_advised = inr (subst (λ o. spare < page_needs shape b i figures.advice o) (sym paged) room);
 }
 
 -- a tidy frame with a leaf of an index is hashed for that alone

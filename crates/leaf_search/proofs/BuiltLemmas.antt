@@ -1,5 +1,5 @@
 -- A partition was taken, a leaf was built on it, both are known, and the partition is given back.
-use Rattle.std.proofs.Common.{◌≡◌, ◌≢◌, ℕ, ◌<◌, ◌≤◌, ◌+◌, List, [], ◌∷◌, sym, ap, subst, ◌∙◌, arith, Some, None}
+use Rattle.std.proofs.Common.{◌≡◌, ◌≢◌, inl, inr, ℕ, ◌<◌, ◌≤◌, ◌+◌, List, [], ◌∷◌, sym, ap, subst, ◌∙◌, arith, Some, None}
 use lib.ListN.{get_elem?}
 use Rattle.atomic_table.proofs.Lists.{set_here}
 use Rattle.list_facts.proofs.Places.{inside}
@@ -22,8 +22,12 @@ use Rattle.forest_law.specs.declared.objects.Frame.{Frame}
 use Rattle.forest_law.specs.declared.objects.Object.{Object}
 use Rattle.forest_law.specs.declared.objects.Object.TheVariants as object
 use Rattle.forest_law.specs.Hashed.{hash_block, IsExactFor}
+use Rattle.forest_law.specs.HashStays.{IsRehashed, StaysHashed}
 use Rattle.forest_law.specs.Law.{Follows}
 use Rattle.forest_law.specs.Numbers.{part_id, frame_id, frames_of}
+use Rattle.forest_law.specs.Objects.{Becomes}
+use Rattle.forest_world.proofs.HandLemmas.{becomes_of}
+use Rattle.key_tuple.specs.declared.mode.Params.{Params}
 use Rattle.forest_law.specs.State.{fields_for, page_within}
 use Rattle.forest_law.specs.Steps.{FrameRests, Rests}
 use Rattle.forest_world.specs.Held.{TreePass, shape_of_pass, HasPart}
@@ -50,7 +54,7 @@ use Rattle.buffer_pool.proofs.VictimLemmas.{tries_shape}
 use Rattle.leaf_search.specs.Builds.{HoldsToTeach, HoldsToBuild, BuiltInHand, EndsBuild}
 use Rattle.leaf_search.specs.Lessons.{with_figures}
 use Rattle.leaf_search.proofs.AdviceLemmas.{suited_tidy}
-use Rattle.leaf_search.proofs.BuiltFrameLemmas.{built_index, built_rests, built_tidy, tidy_index}
+use Rattle.leaf_search.proofs.BuiltFrameLemmas.{built_anew, built_index, built_rests, built_tidy, tidy_index}
 use Rattle.leaf_search.proofs.ChangedLemmas.{IsAtRest, known_else, changed_whole, changed_follows, changed_known, changed_shape, changed_does, changed_frame, changed_other, changed_count}
 
 -- what was added, where nothing was said
@@ -220,6 +224,27 @@ module _ {p0 p1 : TreePass} {b i k : ℕ} {figures : BlockFigures}
         → IsHashedIn (shape_of_pass p2) k2 x
     hashed_in x only index e = ap (part_for (shape_of_pass p2).parts) (only index e)
 
+    -- where the leaf was hashed, it is hashed anew, or there was no room for that
+    rehashed : (params : Params)
+        → IsRehashed (shape_of_pass p1) (known_values p2) (values p2) b i params f g
+    rehashed params = record {
+      old = took.part;
+      new = built.now;
+      becomes = subst
+          (λ m. Becomes (known_values p2) (values p2) m (object.Part took.part)
+          (object.Part built.now)) n2_is
+          (becomes_of p2 (part_id (shape_of_pass p2) k1) (object.Part took.part)
+          (object.Part built.now) part1);
+      cause = inr (inr (built_anew (shape_of_pass p1) answer b i f figures h.leaf.is.page
+          built.now.spare h.leaf.is.paged built.room));
+    }
+
+    stays : StaysHashed (shape_of_pass p2) (known_values p2) (values p2) b f g
+    stays = subst (λ (s : Shape). StaysHashed s (known_values p2) (values p2) b f g) (sym shape2)
+        (λ index params was leaf. inr (inl (subst
+        (λ j. IsRehashed (shape_of_pass p1) (known_values p2) (values p2) b j params f g)
+        (sym (tidy_index f i index tidy h.leaf.is was.hashed)) (rehashed params))))
+
     keeps : UpkeepKeepsTheHash → HandKeepsHash p2
     keeps law = law.keeps p2 k2 b (record {
       known = took.part;
@@ -239,6 +264,7 @@ module _ {p0 p1 : TreePass} {b i k : ℕ} {figures : BlockFigures}
           built.exact;
       others = built.others;
       shape = built.shape;
+      stays = stays;
       beyond = λ j o away held. known_else p1 p2 b n1 f g taken_known built.view built.frame rests
           at_part built.beside j o
           (λ e. away.1.0 (e ∙ ap (λ (s : Shape). frame_id s b) (sym shape2)))

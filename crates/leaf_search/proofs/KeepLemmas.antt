@@ -86,6 +86,10 @@ module _ (p q r : TreePass) (b index : ℕ) (figures : BlockFigures)
         (record {
           tidy = suited_tidy f figures h.suits;
           asks = λ k. suited_asks (shape_of_pass r) k b f figures h.suits;
+          alike = λ index params was. record {
+            hashed = was.hashed;
+            built = h.suits.built ∙ was.built;
+          };
         })
         (λ j o apart holds. known_else p r b own f x known same has (figures_rest f figures) at_own
         beside j o (not_own j apart.1.0) (not_own j apart.1.0) holds))

@@ -1,5 +1,5 @@
 -- The parts of a lesson: what may be written to a leaf's frame, and the build in hand.
-use Rattle.std.specs.Prelude.{ℕ, ◌≡◌, ◌≢◌, Some, List}
+use Rattle.std.specs.Prelude.{ℕ, ◌≡◌, ◌≢◌, Some, List, length}
 use lib.ListN.{get_elem?}
 use Rattle.latch_law.specs.declared.knows.Reference.{Reference}
 use Rattle.latch_space.specs.Passes.{view, count, values}
@@ -10,7 +10,8 @@ use Rattle.chain_arena.specs.Bag.{SameOutsideBlock}
 use Rattle.hash_partition.specs.Part.{Part, KeepsShape}
 use Rattle.hash_law.specs.Blocks.{AskFew, part_for}
 use Rattle.hash_upkeep.specs.declared.built.Build.{Build}
-use Rattle.hash_upkeep.specs.Build.{BuildsAnew}
+use Rattle.hash_upkeep.specs.Build.{BuildsAnew, LacksIfFull}
+use Rattle.hash_upkeep.specs.Hashing.{row_entries}
 use Rattle.forest_law.specs.declared.objects.Frame.{Frame}
 use Rattle.forest_law.specs.declared.objects.Object.{Object}
 use Rattle.forest_law.specs.Hashed.{IsExactFor}
@@ -57,6 +58,8 @@ pub record BuiltInHand (p : TreePass) (b i : ℕ) (figures : BlockFigures) (f : 
   pub others : SameOutsideBlock now.nodes was.nodes b
   pub shape : KeepsShape was now
   pub told : BuildsAnew (hashing_as p b i figures.advice) page.rows was now answer
+  pub room : LacksIfFull answer now.spare
+      (length (row_entries (hashing_as p b i figures.advice) page.rows))
   pub beside : (j : ℕ) → j ≢ frame_id (shape_of_pass p) b
       → j ≢ part_id (shape_of_pass p) (part_for (shape_of_pass p).parts i)
       → get_elem? (values q) j ≡ get_elem? (values p) j

@@ -115,8 +115,10 @@ module _ {m : TreePass} {o : Option ℕ} {a b : ℕ} {f x g y : Frame}
               has = has_remade m q ks r (part_id sh k) (no_part k (omega (arith, parts)))
                   (object.Part u.known) (object.Part u.now) u.has;
               keeps = u.keeps;
+              apart = u.apart;
               gave = u.gave;
               took = u.took;
+              empty = u.empty;
             }),
           )
 
@@ -142,6 +144,8 @@ module _ {m : TreePass} {o : Option ℕ} {a b : ℕ} {f x g y : Frame}
             took_old = g;
             took_new = y;
             part = k.has;
+            apart = k.apart;
+            empty = k.empty;
             gave = record { below = pair.gave_below; frame = pair.gave; stays = k.gave };
             took = record { below = pair.took_below; frame = pair.took; stays = k.took };
             bits = refl;

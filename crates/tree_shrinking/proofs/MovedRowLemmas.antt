@@ -1,5 +1,5 @@
 -- All rows of a page that moved to another, as the hash sees them: by a merge, or by a lift.
-use Rattle.std.proofs.Common.{◌≡◌, ℕ, List, [], ◌++◌, sym, ap, subst, ◌∙◌, refl, Option, Some, None}
+use Rattle.std.proofs.Common.{◌≡◌, inr, ℕ, List, [], ◌++◌, sym, ap, subst, ◌∙◌, refl, Option, Some, None}
 use Rattle.list_facts.proofs.Places.{same_some}
 use Rattle.index_page.specs.declared.head.PageHead.{PageHead}
 use Rattle.index_page.specs.Page.{PageRows}
@@ -96,6 +96,7 @@ module _ {l l' r r' u u' : Frame} (c : MergesUnder l l' r r' u u') (gave : Keeps
         let same = same_some leaf.page m.page (sym leaf.page_is ∙ m.had) in
         ap (λ (h : PageHead). h.level) m.merges.head
         ∙ (ap (λ (p : PageRows). p.head.level) (sym same) ∙ leaf.leaf));
+    empty = inr (ap (λ (p : PageRows). p.rows) m.merges.is_gone);
     covered = λ move nodes built exact. rows_covered move nodes m.other m.page m.gone m.whole
         m.merges.moved m.merges.behind m.merges.same exact;
   }
@@ -171,6 +172,7 @@ lift_moves c gave took none unbuilt index fields = record {
   took = took;
   level = ap (λ (h : PageHead). h.level) c.lifts.head;
   leaf = λ i is. absurd (none_some i (sym none ∙ is));
+  empty = inr (ap (λ (p : PageRows). p.rows) c.lifts.is_gone);
   covered = λ move nodes built exact. rows_covered move nodes c.under (record c.page { rows = [] })
       c.gone c.top c.top.rows refl c.lifts.go (record {
         gave = exact.gave;

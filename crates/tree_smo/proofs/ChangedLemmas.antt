@@ -309,6 +309,8 @@ module _ (p : TreePass) (plan : SplitPlan) (right : ℕ) (c : SplitCall p plan r
                         tt,
                       ) (object.Part e.2.known) (object.Part e.2.now) e.2.has;
                       keeps = e.2.keeps;
+                      apart = e.2.apart;
+                      empty = e.2.empty;
                       gave = e.2.gave;
                       took = e.2.took;
                     },

@@ -22,6 +22,7 @@ use Rattle.forest_law.specs.declared.objects.Object.TheVariants as object
 use Rattle.forest_law.specs.Hashed.{hash_block}
 use Rattle.forest_law.specs.HashLaws.{BlocksAskTheSame}
 use Rattle.forest_law.specs.HashSteps.{KeepsHashing}
+use Rattle.forest_law.specs.HashStays.{IsHashedAlike, IsHashedWith}
 use Rattle.forest_law.specs.Numbers.{part_id, frame_id}
 use Rattle.forest_law.specs.Objects.{Becomes}
 use Rattle.forest_law.specs.Steps.{Rests}
@@ -32,6 +33,13 @@ use Rattle.forest_world.specs.HashHands.{FrameRestsHash}
 
 none_some : {A : Type 0} (x : A) → None ≡ Some x → ⊥
 none_some x e = absurd cc
+
+-- a frame that is hashed as before stays so
+kept_alike : (x y : Frame) → KeepsHashing x y → IsHashedAlike x y
+kept_alike x y hash index params was = record {
+  hashed = hash.hashed ∙ was.hashed;
+  built = ap (λ (z : BlockFigures). z.built) hash.figures ∙ was.built;
+}
 
 -- a frame with an inner page isn't hashed
 pub inner_unhashed : (f : Frame) (page : PageRows) (level : ℕ) → f.page ≡ Some page
@@ -84,6 +92,7 @@ module _ (x y : Frame) (page new : PageRows) (hash : KeepsHashing x y) (paged : 
     unhashed_rests none = record {
       tidy = stays_tidy (λ i e. absurd (none_some i (sym none ∙ e)));
       asks = λ k. ask.unhashed shape k b x y none (hash.hashed ∙ none);
+      alike = kept_alike x y hash;
     }
 
     -- and so it does with the same rows
@@ -93,6 +102,7 @@ module _ (x y : Frame) (page new : PageRows) (hash : KeepsHashing x y) (paged : 
       tidy = stays_tidy (λ i e. (level, index));
       asks = λ k. ask.same_rows shape k b x y page new paged got rows hash.hashed
           (ap (λ (z : BlockFigures). z.built) hash.figures);
+      alike = kept_alike x y hash;
     }
 
 module _ (m : TreePass) where
@@ -136,6 +146,7 @@ module _ (m : TreePass) where
           tidy = λ t. subst (λ (z : Frame). IsTidy (hash_block z)) (sym same) t;
           asks = λ k. ask.alike (shape_of_pass m) k b x y (ap (λ (z : Frame). z.page) same)
               (ap (λ (z : Frame). z.hashed) same) (ap (λ (z : Frame). z.figures.built) same);
+          alike = λ index params was. subst (IsHashedWith index params) (sym same) was;
         }
 
   -- a partition in hand at the number

@@ -326,8 +326,10 @@ module _ (law : MovesKeepTheHash) (p : TreePass) (a b : ℕ) (h : HasMovedRows p
                 keeps = subst
                     (λ z. KeepsUpBoth (move_of (shape_of_pass r) i a b h.gave_new h.took_new) g' t' z
                     m.now) (same.1 ∙ sym same.0) m.keeps;
+                apart = h.apart;
                 gave = stay.0;
                 took = stay.1;
+                empty = stay.2;
               })
 
           gave_rest : (w : Option ℕ) → first_hashed h.gave_new h.took_new ≡ w

@@ -1,5 +1,5 @@
 -- Rows that a split or a raise moved, as the hash sees them.
-use Rattle.std.proofs.Common.{◌≡◌, ℕ, List, [], ◌∷◌, ◌++◌, sym, ap, subst, ◌∙◌, refl, Some, None}
+use Rattle.std.proofs.Common.{◌≡◌, inl, ℕ, List, [], ◌∷◌, ◌++◌, sym, ap, subst, ◌∙◌, refl, Some, None}
 use Rattle.key_tuple.specs.Order.{FieldList}
 use Rattle.index_page.specs.declared.head.PageHead.{PageHead}
 use Rattle.index_page.specs.Moves.{MovesTail}
@@ -86,6 +86,7 @@ module _ (covered : (m : Move) (nodes : List Node) → MovesAreCovered m nodes) 
     took = took;
     level = ap (λ (z : PageHead). z.level) c.cuts.new_head ∙ c.blank.level;
     leaf = λ i e. absurd (none_some i (sym none ∙ e));
+    empty = inl c.blank.empty;
     covered = λ m nodes built exact.
         (let tail = tail_moved c.page c.fresh c.cuts.lower c.cuts.upper c.new.rows at c.cuts.was
         c.cuts.go c.cuts.begins in
@@ -124,6 +125,7 @@ module _ (covered : (m : Move) (nodes : List Node) → MovesAreCovered m nodes) 
     took = took;
     level = ap (λ (z : PageHead). z.level) c.raises.new_head ∙ c.blank.level;
     leaf = λ i e. absurd (none_some i (sym none ∙ e));
+    empty = inl c.blank.empty;
     covered = λ m nodes built exact.
         covered_rows m c.top (record c.fresh { rows = c.new.rows }) c.top c.new nodes refl refl
         ((covered m nodes).all c.page (record c.page { rows = [] }) c.fresh

@@ -139,6 +139,8 @@ module _ {p : TreePass} {i b under : ℕ} {c : RaiseCall p i b under} {m0 : Tree
                     ((λ z. omega (arith, c.below, z)), tt) (object.Part e.2.known)
                     (object.Part e.2.now) e.2.has;
                 keeps = e.2.keeps;
+                apart = e.2.apart;
+                empty = e.2.empty;
                 gave = e.2.gave;
                 took = e.2.took;
               }),
@@ -239,6 +241,8 @@ module _ {p : TreePass} {i b under : ℕ} {c : RaiseCall p i b under} {m0 : Tree
               took_old = was.fresh;
               took_new = raised.low;
               part = k.has;
+              apart = k.apart;
+              empty = k.empty;
               gave = record {
                 below = subst (λ (z : Shape). b < z.blocks) here
                     (block_below p c.fitted b old_root was.can.knows_root);

@@ -250,6 +250,8 @@ module _ (p : TreePass) (plan : SplitPlan) (right : ℕ) (c : SplitCall p plan r
           took_old = hands.right;
           took_new = halves.now.right;
           part = k.has;
+          apart = k.apart;
+          empty = k.empty;
           gave = record {
             below = subst (λ (z : Shape). plan.child < z.blocks) shapes
                 (block_below p c.fitted plan.child hands.left c.held.can.knows_low);

@@ -11,7 +11,7 @@ use Rattle.forest_law.specs.Numbers.{part_id, frame_id}
 use Rattle.forest_law.specs.Hashed.{hash_block, IsExactFor}
 use Rattle.forest_world.specs.Held.{TreePass, shape_of_pass, HasFrame, HasPart}
 use Rattle.hash_maintain.specs.Moves.{KeepsUpBoth, first_hashed}
-use Rattle.hash_maintain.specs.MoveLaws.{MovesRows, StaysTidyIn}
+use Rattle.hash_maintain.specs.MoveLaws.{MovesRows, OneIsEmpty, StaysTidyIn}
 use Rattle.buffer_pool.specs.Parts.{part_of_index, part_ids}
 use Rattle.tree_smo.specs.Remakes.{Remakes}
 
@@ -56,15 +56,18 @@ move_of shape index from_block to_block from to = record {
 }
 
 -- the partition of the index is in hand and exact of both blocks, whose frames were known to be f and
--- g, were x and y once rows had moved, and are x' and y'; both stay tidy, hashed in no other partition
+-- g, were x and y once rows had moved, and are x' and y'; both stay tidy, hashed in no other partition,
+-- and one page had no rows, or has none
 pub record KeepsPart (shape : Shape) (q : TreePass) (i a b : ℕ) (f x x' g y y' : Frame) : Type 0
   where
     pub known : Part
     pub now : Part
     pub has : Has q (part_id shape (part_for shape.parts i)) (object.Part known) (object.Part now)
     pub keeps : KeepsUpBoth (move_of shape i a b x y) x' y' known now
-    pub gave : StaysTidyIn shape (part_for shape.parts i) f x'
-    pub took : StaysTidyIn shape (part_for shape.parts i) g y'
+    pub apart : a ≢ b
+    pub gave : StaysTidyIn shape i x.figures.built f x'
+    pub took : StaysTidyIn shape i y.figures.built g y'
+    pub empty : OneIsEmpty x' g
 
 -- the numbers of the two frames, and of the partition of the index, if there is one
 abbrev pub moved_ids : Shape → (a b : ℕ) → Option ℕ → List ℕ

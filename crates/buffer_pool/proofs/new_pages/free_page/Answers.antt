@@ -1,11 +1,16 @@
+use Rattle.std.proofs.Common.{inr}
 use Rattle.forest_law.specs.declared.objects.Object.TheVariants as object
 use Rattle.hash_maintain.specs.Leaves.{unhashed}
-use Rattle.buffer_pool.proofs.FreePageLemmas.{freed_both, may_free, pool_freed, frame_freed, frees_page}
+use Rattle.buffer_pool.proofs.FreePageLemmas.{outside_page_is, freed_both, may_free, pool_freed, frame_freed, frees_page}
 use Rattle.buffer_pool.proofs.GivingLemmas.{unhashed_table}
 use Rattle.buffer_pool.proofs.new_pages.free_page.Goals as goal
 
 pub unhash_block-requires-clause-held : goal.unhash_block-requires-clause-held
 unhash_block-requires-clause-held g c = let h = c.requires.held in (h.frame, h.knows)
+
+pub unhash_block-requires-clause-may : goal.unhash_block-requires-clause-may
+unhash_block-requires-clause-may g c = λ f knows.
+    inr (outside_page_is c.args.pass.now c.args.block c.requires.held f knows)
 
 pub unhash_block-requires-clause-parts : goal.unhash_block-requires-clause-parts
 unhash_block-requires-clause-parts g c = c.requires.tables.parts

@@ -72,8 +72,9 @@ settle-requires g c = let at = goal.at.settle-requires g c in
     let done = unhashed g at.After-frame_back held (dropped g at.After-drop_frame held) in
     record {
       own = search rules;
-      whole = unhash_whole done;
-      rule = unhash_follows done c.hands_keep_the_hash.ensures c.upkeep_keeps_the_hash.ensures;
+      whole = unhash_whole c.requires.known done;
+      rule = unhash_follows c.requires.known done c.hands_keep_the_hash.ensures c.upkeep_keeps_the_hash.ensures
+          (c.requires.may c.requires.held.0 c.requires.held.1);
     }
 
 pub give_part_if-requires : goal.give_part_if-requires
@@ -82,8 +83,8 @@ give_part_if-requires g c = let at = goal.at.give_part_if-requires g c in
     let done = unhashed g at.After-frame_back held (dropped g at.After-drop_frame held) in
     record {
       own = search rules;
-      known = settled_known done c.settle.ensures.did;
-      held = settled_part done c.settle.ensures.did;
+      known = settled_known c.requires.known done c.settle.ensures.did;
+      held = settled_part c.requires.known done c.settle.ensures.did;
     }
 
 pub returns-clause-did : goal.returns-clause-did
@@ -91,5 +92,5 @@ returns-clause-did g c = let at = goal.at.returns-clause-did g c in
     let held = held g at.After-hold_part_for-part in
     let done = unhashed g at.After-frame_back held (dropped g at.After-drop_frame held) in
     let told = c.settle.ensures.did in
-    unhashes_block c.requires.held.1 c.requires.parts held (settled_frame done told)
-    (settled_does done told) (settled_count done told) c.give_part_if.ensures.gave
+    unhashes_block c.requires.held.1 c.requires.parts held (settled_frame c.requires.known done told)
+    (settled_does c.requires.known done told) (settled_count c.requires.known done told) c.give_part_if.ensures.gave

@@ -1,4 +1,4 @@
-use Rattle.std.proofs.Common.{ap, ◌∙◌, refl}
+use Rattle.std.proofs.Common.{ap, inl, ◌∙◌, refl}
 use Rattle.hash_maintain.specs.Leaves.{unhashed}
 use Rattle.buffer_pool.proofs.CallLemmas.{frame_has, pool_has}
 use Rattle.buffer_pool.proofs.EvictLemmas.{unloaded_place, unloaded_image, may_evict, evict_turns, evict_empty, evict_clears}
@@ -73,6 +73,10 @@ turn-requires-clause-may g c = let h = c.requires.both in
 
 pub unhash_block-requires-clause-held : goal.unhash_block-requires-clause-held
 unhash_block-requires-clause-held g c = let h = c.requires.both in (h.2, h.4.frame)
+
+pub unhash_block-requires-clause-may : goal.unhash_block-requires-clause-may
+unhash_block-requires-clause-may g c = λ f knows. let h = c.requires.both in
+    inl (h.0, h.1, h.4.pool)
 
 pub unhash_block-requires-clause-known : goal.unhash_block-requires-clause-known
 unhash_block-requires-clause-known g c = c.requires.both.4.known

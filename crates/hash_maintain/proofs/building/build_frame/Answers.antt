@@ -58,4 +58,4 @@ returns-clause-builds g c = λ isnt.
     part_is bits_are c.requires.leaf same c.hold_part_out-partition.new.pass
     c.part_back.new.pass c.hold_part_out-partition.result c.rehash-answer.new.part
     c.rehash-answer.new.frame c.rehash-answer.result c.hold_part_out-partition.ensures.out
-    c.part_back.ensures.back c.rehash-answer.ensures.part (c.rehash-answer.ensures.anew isnt))
+    c.part_back.ensures.back c.rehash-answer.ensures.part (c.rehash-answer.ensures.anew isnt) c.rehash-answer.ensures.room)

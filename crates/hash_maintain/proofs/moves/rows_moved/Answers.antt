@@ -62,4 +62,4 @@ returns-clause-part c = let m = c.args.blocks.now in
     (c.hash_as-2.ensures
     ∙ ap (λ h. frame_hashed h c.args.to.now)
     (c.kept_how-2.ensures ∙ ap (how_then c.on_move-answer.result) c.to_then.ensures))
-    c.on_move-answer.ensures.part
+    c.on_move-answer.ensures.part c.on_move-answer.ensures.room

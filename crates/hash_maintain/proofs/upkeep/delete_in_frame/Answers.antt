@@ -1,9 +1,10 @@
-use Rattle.std.proofs.Common.{ap, refl}
+use Rattle.std.proofs.Common.{ap, length, refl}
 use Rattle.latch_law.specs.declared.knows.Terms.{Terms}
 use Rattle.index_law.specs.Shape.{Shape}
+use Rattle.hash_upkeep.specs.Hashing.{row_entries}
 use Rattle.hash_upkeep.specs.Upkeep.{upkeep_of}
 use Rattle.hash_maintain.specs.Leaves.{without_row}
-use Rattle.hash_maintain.proofs.UpkeepLemmas.{IsCall, is_call, hashed_so, was_so, row_keeps}
+use Rattle.hash_maintain.proofs.UpkeepLemmas.{IsCall, is_call, hashed_so, was_so, row_keeps, kept_lacks}
 use Rattle.hash_maintain.proofs.upkeep.delete_in_frame.Goals as goal
 
 pub row_goes-answer-requires-clause-exact : goal.row_goes-answer-requires-clause-exact
@@ -31,4 +32,6 @@ returns-in-Some-clause-keeps g c = λ how e. let p = c.args.pass.now in
     c.row_goes-answer.new.part (without_row c.args.place c.row_goes-answer.new.frame) c.args.place
     (λ spare brought driven. upkeep_of spare brought driven) c.row_goes-answer.result
     c.hold_part_out-partition.ensures.out c.part_back.ensures.back c.row_goes-answer.ensures.part
-    c.row_goes-answer.ensures.answer how e
+    c.row_goes-answer.ensures.answer
+    (λ page paged. kept_lacks c.row_goes-answer.result c.row_goes-answer.new.part.spare
+    (length (row_entries c.in-Some.how page.rows)) c.row_goes-answer.ensures.kept) how e

@@ -36,4 +36,4 @@ returns-in-Some-clause-keeps g c = λ how e. let p = c.args.pass.now in
     c.row_came-answer.new.part c.row_came-answer.new.frame c.args.place
     (λ spare brought driven. upkeep_of spare driven brought) c.row_came-answer.result
     c.hold_part_out-partition.ensures.out c.part_back.ensures.back c.row_came-answer.ensures.part
-    c.row_came-answer.ensures.answer how e
+    c.row_came-answer.ensures.answer c.row_came-answer.ensures.room how e

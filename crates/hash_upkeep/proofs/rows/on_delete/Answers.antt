@@ -1,8 +1,10 @@
 use Rattle.index_page.specs.Changes.{rows_without}
-use Rattle.hash_upkeep.specs.Hashing.{row_entries}
+use Rattle.hash_law.specs.Changes.{leader, follower}
+use Rattle.hash_upkeep.specs.Hashing.{row_entries, row_node, row_nodes}
 use Rattle.hash_upkeep.specs.Change.{few_nodes}
 use Rattle.hash_upkeep.proofs.ChangeLemmas.{row_exchange}
 use Rattle.hash_upkeep.proofs.KeepLemmas.{Swaps, swaps, own_entries, renews_kept, exact_covers}
+use Rattle.hash_upkeep.proofs.RoomLemmas.{goes_kept}
 use Rattle.hash_upkeep.proofs.rows.on_delete.Goals as goal
 use Rattle.hash_upkeep.proofs.rows.on_delete.Goals.{After-row_change_at-change}
 
@@ -36,6 +38,14 @@ swap_nodes-requires-clause-goes c =
 pub swap_nodes-requires-clause-comes : goal.swap_nodes-requires-clause-comes
 swap_nodes-requires-clause-comes c =
     (swap (goal.at.swap_nodes-requires-clause-comes c).After-row_change_at-change).comes_own
+
+pub returns-clause-kept : goal.returns-clause-kept
+returns-clause-kept c = let how = c.args.how.now in let s = c.swap_nodes in
+    let change = c.row_change_at-change.result in let is = c.row_change_at-change.ensures in
+    let xs = row_nodes how is.left in let ys = row_nodes how is.right in
+    goes_kept s.result c.args.part.now.spare (leader how.params.left xs ys) (row_node how is.row)
+    (follower how.params.left xs ys) (few_nodes change.brought) (few_nodes change.driven) is.brought
+    is.driven s.ensures.answer
 
 pub returns-clause-part : goal.returns-clause-part
 returns-clause-part c = let p = (goal.at.returns-clause-part c).After-row_change_at-change in

@@ -1,10 +1,12 @@
 use Rattle.std.proofs.Common.{subst}
 use Rattle.index_page.specs.Changes.{rows_without}
+use Rattle.hash_law.specs.Changes.{Exchanges}
 use Rattle.hash_upkeep.specs.Hashing.{row_nodes, row_entries}
 use Rattle.hash_upkeep.specs.Cover.{AreCovered}
 use Rattle.hash_upkeep.specs.Change.{few_nodes}
 use Rattle.hash_upkeep.proofs.ChangeLemmas.{row_exchange, without_at}
 use Rattle.hash_upkeep.proofs.KeepLemmas.{Swaps, swaps, own_entries, renews_kept, exact_covers, more_cover}
+use Rattle.hash_upkeep.proofs.RoomLemmas.{room_after}
 use Rattle.hash_upkeep.proofs.rows.on_insert.Goals as goal
 use Rattle.hash_upkeep.proofs.rows.on_insert.Goals.{After-row_change_at-change}
 
@@ -43,6 +45,19 @@ swap_nodes-requires-clause-goes c =
 pub swap_nodes-requires-clause-comes : goal.swap_nodes-requires-clause-comes
 swap_nodes-requires-clause-comes c =
     (swap (goal.at.swap_nodes-requires-clause-comes c).After-row_change_at-change).comes_own
+
+pub returns-clause-room : goal.returns-clause-room
+returns-clause-room c = let how = c.args.how.now in let rows = c.args.page.now.rows in
+    let rest = rows_without c.args.place rows in let s = c.swap_nodes in
+    let change = c.row_change_at-change in
+    let exchange =
+    row_exchange how rows c.args.place change.result c.is_in_order.ensures.places change.ensures in
+    room_after s.result how.block (few_nodes change.result.driven) (few_nodes change.result.brought)
+    (row_entries how rest) (row_entries how rows) c.args.part.now s.new.part
+    (Exchanges c.args.part.now.nodes (few_nodes change.result.driven)
+    (few_nodes change.result.brought) s.new.part.nodes)
+    s.ensures.answer exchange.comes.number (own_entries how rest) c.requires.exact s.ensures.nodes
+    s.ensures.others s.ensures.shape
 
 pub returns-clause-part : goal.returns-clause-part
 returns-clause-part c = let p = (goal.at.returns-clause-part c).After-row_change_at-change in
