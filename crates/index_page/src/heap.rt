@@ -8,6 +8,7 @@ ghost use Rattle.index_page.specs.Page.{PlacesDiffer};
 ghost use Rattle.index_page.specs.Store.{beside_by, rows_in, IsStore, IsSpare, Appends, HasValueAt, Rewrites};
 
 use crate::body::Beside;
+use crate::heads::Heads;
 use crate::places::Places;
 use crate::record::Record;
 use crate::spot::Place;
@@ -22,6 +23,7 @@ pub(crate) struct Heap {
     alloc: Global,
     slots: Vec<Record>,
     places: Places,
+    heads: Heads,
 }
 
 impl Model for Heap {
@@ -44,6 +46,7 @@ impl Heap {
             alloc,
             slots: Vec::new(alloc),
             places: Places::new(alloc),
+            heads: Heads::new(alloc),
         }
     }
 
@@ -53,6 +56,7 @@ impl Heap {
     {
         self.slots.clear();
         self.places.clear();
+        self.heads.clear();
     }
 
     /// How many rows there are.
@@ -70,6 +74,11 @@ impl Heap {
     {
         let place = self.places.live()[i];
         (place, &self.slots[place as usize])
+    }
+
+    /// The number of the row that a search for a tuple looks at first, or so.
+    pub(crate) fn likely<A: Fields>(&self, tuple: &A) -> usize {
+        self.heads.below(tuple)
     }
 
     /// The row at that place.
@@ -100,6 +109,7 @@ impl Heap {
         let slot = &mut self.slots[place as usize];
         slot.fill(key, beside)?;
         self.places.claim(at, place)?;
+        self.heads.insert(at, key);
         Ok(place)
     }
 
@@ -151,6 +161,7 @@ impl Heap {
     {
         let place = self.places.live()[at];
         self.places.release(at);
+        self.heads.remove(at);
         let slot = &mut self.slots[place as usize];
         slot.clear();
     }
@@ -173,6 +184,7 @@ impl Heap {
             alloc: self.alloc,
             slots: self.slots.clone()?,
             places: self.places.copy(self.alloc)?,
+            heads: self.heads.copy()?,
         })
     }
 }

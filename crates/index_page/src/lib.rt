@@ -8,6 +8,7 @@ mod charges;
 mod copy;
 mod error;
 mod head;
+mod heads;
 mod heap;
 mod laws;
 mod loads;

@@ -4,6 +4,7 @@ ghost use Rattle.key_tuple.specs.KeyPlace.{cut_of};
 ghost use Rattle.index_page.specs.Rows.{IsAt};
 ghost use Rattle.index_page.specs.Search.{AllOut, AllIn, agreement, Finds, nth_row};
 
+use crate::heads::next_look;
 use crate::page::Page;
 use crate::spot::{Place, Spot};
 use key_tuple::{Fields, Match, Mode, is_past, matches};
@@ -41,8 +42,9 @@ impl Page {
     {
         let mut low = 0;
         let mut high = self.rows.len();
+        let likely = self.rows.likely(tuple);
         while low < high {
-            let middle = low + (high - low) / 2;
+            let middle = next_look(low, high, likely);
             if is_past(mode, tuple, self.rows.stored(middle).1) {
                 high = middle;
             } else {

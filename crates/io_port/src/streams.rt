@@ -9,7 +9,7 @@ use std::alloc::Global;
 use std::io::{BufWriter, ErrorKind, Read, Write};
 
 // How many bytes one read asks for at most.
-const PIECE: usize = 4096;
+const PIECE: usize = 16_384;
 
 /// Reads to the end, which is a read that gives nothing, and at most one byte past the limit.
 pub(crate) fn read_within<R: Read>(

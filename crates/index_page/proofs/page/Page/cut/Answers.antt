@@ -1,4 +1,4 @@
-use Rattle.std.proofs.Common.{suc, ◌+◌, ◌-◌, ◌/◌, add-one, sym, ap, ◌∙◌, subst, arith, take, drop, List}
+use Rattle.std.proofs.Common.{suc, add-one, sym, ap, ◌∙◌, subst, arith, take, drop, List}
 use Rattle.key_tuple.specs.KeyPlace.{At, cut_of}
 use Rattle.index_page.specs.Rows.{Row}
 use Rattle.index_page.specs.Page.{PageRows}
@@ -10,11 +10,11 @@ pub loop-low-preserved-then-is_past : goal.loop-low-preserved-then-is_past
 loop-low-preserved-then-is_past g c =
     let tuple = g.A.Fields.fields_of c.args.tuple.now in
     let p = cut_of c.args.mode tuple in
-    let middle = c.loop-low.low + (c.loop-low.high - c.loop-low.low) / 2 in
+    let middle = c.next_look-middle.result in
     let admitted = in_from p (mode_cuts c.args.mode tuple) c.self.inside.rows middle _ c.self.invariant.ascend c.stored.ensures (sym {b = p (At c.stored.result.1.now.key)} c.is_past.ensures ∙ c.if-is_past.true) in
     record {
-      ordered = omega arith;
-      within = omega arith;
+      ordered = omega (arith, c.next_look-middle.ensures.from, c.next_look-middle.ensures.below);
+      within = omega (arith, c.next_look-middle.ensures.from, c.next_look-middle.ensures.below, c.loop-low.invariant.within);
       out = c.loop-low.invariant.out;
       past = subst (λ (rows : List Row). AllIn p (drop middle rows)) (ap (λ (q : PageRows). q.rows) c.self.view_is) admitted;
     }
@@ -23,10 +23,10 @@ pub loop-low-preserved : goal.loop-low-preserved
 loop-low-preserved g c =
     let tuple = g.A.Fields.fields_of c.args.tuple.now in
     let p = cut_of c.args.mode tuple in
-    let middle = c.loop-low.low + (c.loop-low.high - c.loop-low.low) / 2 in
+    let middle = c.next_look-middle.result in
     let left_out = out_upto p (mode_cuts c.args.mode tuple) c.self.inside.rows middle _ c.self.invariant.ascend c.stored.ensures (sym {b = p (At c.stored.result.1.now.key)} c.is_past.ensures ∙ c.if-is_past.false) in
     record {
-      ordered = omega arith;
+      ordered = omega (arith, c.next_look-middle.ensures.from, c.next_look-middle.ensures.below);
       within = c.loop-low.invariant.within;
       out = rw add-one (subst (λ (rows : List Row). AllOut p (take (suc middle) rows)) (ap (λ (q : PageRows). q.rows) c.self.view_is) left_out);
       past = c.loop-low.invariant.past;
