@@ -20,7 +20,7 @@ use Rattle.tree_descent.specs.declared.descending.Leaf.{Leaf}
 use Rattle.tree_descent.specs.Leaves.{IsLeafFor}
 use Rattle.tree_growth.specs.Growing.{GrowsSilently}
 use Rattle.leaf_changes.specs.Holds.{KeepsNumber}
-use Rattle.leaf_changes.specs.Says.{SaysBeside, LooksBeside}
+use Rattle.leaf_changes.specs.Says.{AnswersAndLeaves, SaysBeside, LooksBeside}
 use Rattle.index_engine.specs.Traces.{Finding, IsFullLeaf, HasLightPage, SeesEach}
 
 -- the leaf with the key's position is held besides, and was found so by the references that were
