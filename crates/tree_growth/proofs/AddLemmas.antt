@@ -17,18 +17,7 @@ use Rattle.buffer_pool.proofs.AddedLemmas.{none_added, held_adds}
 use Rattle.tree_growth.specs.declared.looking.PageInHand.{PageInHand}
 use Rattle.tree_growth.specs.Growing.{HadRoom}
 use Rattle.tree_growth.specs.Ways.{GoesOn, SaysFull, SaysError, StopsOnWay, ArrivesAt}
-
--- an element of one of two lists
-pub in_first : {A : Type 0} (x : A) (xs ys : List A) → In x xs → In x (xs ++ ys)
-in_first x [] ys among = absurd among
-in_first x (y ∷ xs) ys among = elim among [
-  | inl is ↦ inl is
-  | inr later ↦ inr (in_first x xs ys later)
-]
-
-pub in_second : {A : Type 0} (x : A) (xs ys : List A) → In x ys → In x (xs ++ ys)
-in_second x [] ys among = among
-in_second x (y ∷ xs) ys among = inr (in_second x xs ys among)
+use Rattle.tree_law.proofs.ListLemmas.{In-append_left, In-append_right}
 
 -- the space has its shape
 pub same_shape : (p q : TreePass) (a : Added) → Adds (view p) (view q) a
@@ -42,11 +31,7 @@ goes_silently p q ks silently =
 
 -- no call
 pub goes_nowhere : (p : TreePass) → GoesOn p p
-goes_nowhere p = record {
-  added = none_added;
-  adds = held_adds (view p) (view p) (view p).held refl;
-  silent = refl;
-}
+goes_nowhere p = search (none_added, held_adds (view p) (view p) (view p).held refl)
 
 module _ (p q r : TreePass) where
   -- one call behind the other
@@ -62,14 +47,7 @@ module _ (p q r : TreePass) where
       (second : GoesOn q r) → HadRoom (shape_of_pass p) i key need first.added
       → HadRoom (shape_of_pass p) i key need (goes_both first second).added
   unfolding goes_both
-  room_first i key need first second had = record {
-    block = had.block;
-    taken = had.taken;
-    leaf = had.leaf;
-    among = in_first _ first.added.references second.added.references had.among;
-    page = had.page;
-    room = had.room;
-  }
+  room_first i key need first second had = search (In-append_left _ first.added.references second.added.references had.among)
 
   pub room_second : (i : ℕ) (key : FieldList) (need : ℕ) (first : GoesOn p q)
       (second : GoesOn q r) → HadRoom (shape_of_pass q) i key need second.added
@@ -81,7 +59,7 @@ module _ (p q r : TreePass) where
         block = had.block;
         taken = had.taken;
         leaf = had.leaf;
-        among = in_second _ first.added.references second.added.references had.among;
+        among = In-append_right _ first.added.references second.added.references had.among;
         page = had.page;
         room = had.room;
       }
@@ -100,7 +78,7 @@ module _ (p q r : TreePass) where
     pool = second.pool;
     held = record {
       now = second.held.now;
-      among = in_second _ first.added.references second.added.references second.held.among;
+      among = In-append_right _ first.added.references second.added.references second.held.among;
     };
     none = second.none;
   }
@@ -119,7 +97,7 @@ module _ (p q r : TreePass) where
         pool = first.pool;
         held = record {
           now = first.held.now;
-          among = in_first _ first.added.references second.added.references first.held.among;
+          among = In-append_left _ first.added.references second.added.references first.held.among;
         };
         none = first.none;
       }
@@ -146,17 +124,7 @@ module _ (p q r : TreePass) where
 
 -- a call that found no number free
 pub says_none_free : (p q : TreePass) (i : ℕ) → FindsNoneFree p i q → SaysFull p i q
-says_none_free p q i finds = record {
-  added = finds.full.added;
-  adds = finds.full.does.adds;
-  given = finds.full.given;
-  silent = finds.full.silent;
-  places = finds.full.places;
-  full = finds.full.full;
-  pool = finds.pool;
-  held = finds.held;
-  none = finds.none;
-}
+says_none_free p q i finds = search
 
 -- what the error of a split or a raise tells
 pub says_refused : (p q : TreePass) (i : ℕ) (e : PoolError)

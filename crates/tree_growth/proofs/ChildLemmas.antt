@@ -22,7 +22,8 @@ use Rattle.tree_growth.specs.Ways.{IsGoingDown, GoesOn}
 use Rattle.tree_growth.proofs.AddLemmas.{same_shape, goes_silently}
 use Rattle.tree_growth.proofs.HandLemmas.{frames_apart, way_more}
 use Rattle.tree_growth.proofs.PageLemmas.{HasKey}
-use Rattle.tree_growth.proofs.KnownLemmas.{frame_one, level_one, lacked_apart}
+use Rattle.tree_growth.proofs.KnownLemmas.{level_one, lacked_apart}
+use Rattle.tree_descent.proofs.InnerLemmas.{one_known}
 
 -- a page above the leaves is in hand
 module _ (v : View) (i : ℕ) (key : FieldList) (need : ℕ) (at : PageInHand)
@@ -38,7 +39,7 @@ module _ (v : View) (i : ℕ) (key : FieldList) (need : ℕ) (at : PageInHand)
 
   module _ (inner : HoldsInner v at.block i mode.Ge key) where
     same_frame : is.frame ≡ inner.frame
-    same_frame = frame_one v at.block is.frame inner.frame is.knows inner.knows
+    same_frame = one_known v at.block is.frame inner.frame is.knows inner.knows
 
     -- its level
     pub level_above : suc inner.level ≡ at.level

@@ -34,10 +34,6 @@ use Rattle.buffer_pool.proofs.SpaceLemmas.{objects_of}
 use Rattle.tree_growth.specs.Ways.{HoldsOnly, IsGoingDown, GoesOn}
 use Rattle.tree_growth.proofs.AddLemmas.{same_shape}
 
--- it is the same pass over two calls
-pub same_pass : (p q r : TreePass) → IsSamePass p q → IsSamePass q r → IsSamePass p r
-same_pass p q r first second = (second.0 ∙ first.0, second.1 ∙ first.1)
-
 -- frames of different blocks are different objects
 pub frames_apart : (s : Shape) (c b : ℕ) → c ≢ b → frame_id s c ≢ frame_id s b
 frames_apart s c b ne e = ne (omega (arith, e))

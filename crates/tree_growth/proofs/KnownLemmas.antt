@@ -22,6 +22,7 @@ use Rattle.call_law.specs.Spoken.{View}
 use Rattle.buffer_pool.specs.Forests.{IsFittedTree}
 use Rattle.buffer_pool.specs.Hands.{LacksFrame}
 use Rattle.buffer_pool.specs.Pages.{HasTreePage}
+use Rattle.tree_descent.proofs.InnerLemmas.{one_known}
 
 -- the frame that an object is, if it is one
 abbrev frame_of : Frame → Object → Frame
@@ -34,10 +35,6 @@ abbrev frame_held : Frame → maybe.Option (Option (Holding Object)) → Frame
 frame_held d (some (Some h)) = frame_of d h.known
 frame_held d (some None) = d
 frame_held d maybe.none = d
-
--- what a frame is known to be is one
-pub frame_one : (v : View) (b : ℕ) (f g : Frame) → KnowsFrame v b f → KnowsFrame v b g → f ≡ g
-frame_one v b f g a c = ap (frame_held f) (sym a.1 ∙ c.1)
 
 -- and so is the level of its page
 pub level_one : (i j l m : ℕ) (f : Frame) → HasTreePage f i l → HasTreePage f j m → l ≡ m
@@ -57,7 +54,7 @@ lacked_apart p b c f lacks knows e =
 pub levels_apart : (v : View) (b c i l : ℕ) (f g : Frame) → KnowsFrame v b f → KnowsFrame v c g
     → HasTreePage f i (suc l) → HasTreePage g i l → c ≢ b
 levels_apart v b c i l f g knows_b knows_c above below e =
-    let same : g ≡ f = frame_one v b g f (subst (λ n. KnowsFrame v n g) e knows_c) knows_b in
+    let same : g ≡ f = one_known v b g f (subst (λ n. KnowsFrame v n g) e knows_c) knows_b in
     let one = level_one i i l (suc l) f (subst (λ h. HasTreePage h i l) same below) above in
     absurd (omega (arith, one))
 

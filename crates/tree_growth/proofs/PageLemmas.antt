@@ -52,14 +52,7 @@ module _ (v : View) (i : ℕ) (key : FieldList) (need b level : ℕ) (at : PageI
       order = page.order;
       within = page.within;
     };
-    tells = record {
-      is_block = refl;
-      is_level = tells.is_level;
-      order = tells.order;
-      room = tells.room;
-      full = tells.full;
-      two = tells.two;
-    };
+    tells = assumption;
   }
 
   pub its_level : at.level ≡ level

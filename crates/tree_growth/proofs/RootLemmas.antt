@@ -33,8 +33,9 @@ use Rattle.tree_growth.specs.Ways.{IsGoingDown, GoesOn, ArrivesAt}
 use Rattle.tree_growth.proofs.AddLemmas.{goes_silently}
 use Rattle.tree_growth.proofs.HandLemmas.{way_more}
 use Rattle.tree_growth.proofs.HalvesLemmas.{Looks}
-use Rattle.tree_growth.proofs.KnownLemmas.{frame_one, known_tells}
+use Rattle.tree_growth.proofs.KnownLemmas.{known_tells}
 use Rattle.tree_growth.proofs.PageLemmas.{HasKey, in_hand}
+use Rattle.tree_descent.proofs.InnerLemmas.{one_known}
 
 -- the position of a key cuts the keys
 pub key_cuts : (s : Shape) (i : ℕ) (key : FieldList) → IsCut (cut_in s i mode.Ge key)
@@ -61,14 +62,7 @@ module _ (w : ForestState) (law : IsLawful w) (s : Shape) (same : w.shape ≡ s)
       let is : page_within page f.low f.high ≡ root.page =
       same_some (page_within page f.low f.high) root.page
       (sym tells.is ∙ (ap (pages_of w.shape w.objects) number ∙ root.at)) in record {
-        is = record {
-          page = page;
-          paged = paged;
-          tree = ap (λ n. is_own n page.head.prev) number
-              ∙ (ap (λ (x : Page). is_own i x.prev) is ∙ root.tree);
-          index = ap (λ (x : Page). x.index) is ∙ root.index;
-          at_level = ap (λ (x : Page). x.level) is ∙ root.at_level;
-        };
+        is = search (page, paged, ap (λ n. is_own n page.head.prev) number ∙ (ap (λ (x : Page). is_own i x.prev) is ∙ root.tree), ap (λ (x : Page). x.index) is ∙ root.index, ap (λ (x : Page). x.level) is ∙ root.at_level);
         order = subst (λ (t : Shape). IsOrderly (fields_for t) (page_within page f.low f.high))
             same tells.order;
         within = record {
@@ -141,7 +135,7 @@ pub can_raise : (v : View) (i : ℕ) (key : FieldList) (need : ℕ) (at : PageIn
     → IsPageInHand v i key need at → HoldsRoot v at.block i → (t : Tree) → KnowsTree v i t
     → at.is_full ≡ true → CanRaise v i at.block
 can_raise v i key need at is root t knows full =
-    let same : is.frame ≡ root.frame = frame_one v at.block is.frame root.frame is.knows root.knows in
+    let same : is.frame ≡ root.frame = one_known v at.block is.frame root.frame is.knows root.knows in
     let one : is.page.is.page ≡ root.has.page = same_some is.page.is.page root.has.page
     (sym is.page.is.paged ∙ (ap (λ (f : Frame). f.page) same ∙ root.has.paged)) in record {
       tree = t;

@@ -28,7 +28,8 @@ use Rattle.tree_growth.specs.Ways.{IsGoingDown, GoesOn, GrowsChild, KeepsHalf}
 use Rattle.tree_growth.proofs.AddLemmas.{same_shape, goes_silently, goes_both, reaches_after}
 use Rattle.tree_growth.proofs.HandLemmas.{way_more, way_less, goes_gave, still_gave}
 use Rattle.tree_growth.proofs.RoomLemmas.{halves_roomy}
-use Rattle.tree_growth.proofs.KnownLemmas.{frame_one, level_one, lacked_apart, levels_apart, known_tells, numbers_apart}
+use Rattle.tree_growth.proofs.KnownLemmas.{level_one, lacked_apart, levels_apart, known_tells, numbers_apart}
+use Rattle.tree_descent.proofs.InnerLemmas.{one_known}
 
 module _ (p q : TreePass) (i : ℕ) (key : FieldList) (parent child right : ℕ)
     (way : IsGoingDown p i key (parent ∷ child ∷ [])) (splits : SplitsChild p parent child i right q) where
@@ -67,7 +68,7 @@ module _ (p q : TreePass) (i : ℕ) (key : FieldList) (parent child right : ℕ)
   module _ (held : HoldsChild (view p) parent child i key) where
     -- the frame of the child, as it was
     same_low : held.low ≡ splits.was.low
-    same_low = frame_one (view p) child held.low splits.was.low held.knows_low splits.was.knows_low
+    same_low = one_known (view p) child held.low splits.was.low held.knows_low splits.was.knows_low
 
     pub same_level : splits.was.level ≡ held.level
     same_level = level_one i i splits.was.level held.level splits.was.low splits.was.below

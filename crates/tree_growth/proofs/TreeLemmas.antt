@@ -110,11 +110,7 @@ module _ (p q : TreePass) (i : ℕ) (key : FieldList) (below : i < (shape_of_pas
     all_goes goes = goes_both p r s (goes_both p q r goes_tree goes) goes_back
 
     pub grows_silently : GoesOn q r → GrowsSilently p s
-    grows_silently goes = let all = all_goes goes in record {
-      added = all.added;
-      grows = grows_of p s all.added all.adds none none_left;
-      silent = all.silent;
-    }
+    grows_silently goes = let all = all_goes goes in search (grows_of p s all.added all.adds none none_left)
 
     pub makes_room : (need : ℕ) → WalksDown q i key need r → MakesRoom p i key need s
     unfolding all_goes grows_silently
@@ -126,17 +122,7 @@ module _ (p q : TreePass) (i : ℕ) (key : FieldList) (below : i < (shape_of_pas
 
     pub finds_no_room : SaysFull q i r → FindsNoRoom p i s
     finds_no_room says =
-        let all = full_before p r s i (full_after p q r i goes_tree says) goes_back in record {
-          added = all.added;
-          grows = grows_of p s all.added all.adds none none_left;
-          given = all.given;
-          silent = all.silent;
-          places = all.places;
-          full = all.full;
-          pool = all.pool;
-          held = all.held;
-          none = all.none;
-        }
+        let all = full_before p r s i (full_after p q r i goes_tree says) goes_back in search (grows_of p s all.added all.adds none none_left)
 
 -- the tree alone is in hand, whatever was answered
 pub way_either : {A : Type 0} (r : Result A PoolError) (q s : TreePass) (i : ℕ) (key : FieldList)

@@ -18,9 +18,10 @@ use Rattle.tree_restructure.specs.Charges.{most_for_pointer}
 use Rattle.tree_growth.specs.declared.looking.PageInHand.{PageInHand}
 use Rattle.tree_growth.specs.Growing.{HadRoom}
 use Rattle.tree_growth.specs.Ways.{GoesOn, ArrivesAt, WalksDown}
-use Rattle.tree_growth.proofs.AddLemmas.{in_second, same_shape, goes_both}
+use Rattle.tree_growth.proofs.AddLemmas.{same_shape, goes_both}
 use Rattle.tree_growth.proofs.HandLemmas.{way_less, goes_gave}
-use Rattle.tree_growth.proofs.KnownLemmas.{frame_one}
+use Rattle.tree_law.proofs.ListLemmas.{In-append_right}
+use Rattle.tree_descent.proofs.InnerLemmas.{one_known}
 
 module _ (p q r : TreePass) (i : ℕ) (key : FieldList) (need : ℕ) (at : PageInHand)
     (reaches : ArrivesAt p i key need at q) (gave : GivesFrame q at.block r) where
@@ -33,7 +34,7 @@ module _ (p q r : TreePass) (i : ℕ) (key : FieldList) (need : ℕ) (at : PageI
 
   -- the frame went out as it was looked at
   same_leaf : reaches.is.frame ≡ gave.frame
-  same_leaf = frame_one (view q) at.block reaches.is.frame gave.frame reaches.is.knows
+  same_leaf = one_known (view q) at.block reaches.is.frame gave.frame reaches.is.knows
       (gave.taken, gave.held)
 
   had_room : at.level ≡ 0 → at.is_full ≡ false
@@ -43,17 +44,11 @@ module _ (p q r : TreePass) (i : ℕ) (key : FieldList) (need : ℕ) (at : PageI
     block = at.block;
     taken = gave.taken;
     leaf = is.frame;
-    among = in_second _ reaches.goes.added.references _
+    among = In-append_right _ reaches.goes.added.references _
         (inl (λ k. reference (frame_id (sym shape_is k) at.block) gave.taken
         (object.Frame (same_leaf k))));
     page = record {
-      is = record {
-        page = is.page.is.page;
-        paged = is.page.is.paged;
-        tree = is.page.is.tree;
-        index = is.page.is.index;
-        at_level = is.page.is.at_level ∙ bottom;
-      };
+      is = search (is.page.is.at_level ∙ bottom);
       order = subst
           (λ (s : Shape). IsOrderly (fields_for s)
           (page_within is.page.is.page is.frame.low is.frame.high)) shape_is is.page.order;

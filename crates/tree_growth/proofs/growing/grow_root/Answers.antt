@@ -14,11 +14,7 @@ pub returns-then-not-root-clause-ok : goal.returns-then-not-root-clause-ok
 returns-then-not-root-clause-ok g c =
     let not_full : c.args.root.is_full ≡ false = let so = c.if-not-root.true in grind arith in
     record {
-      reaches = record {
-        goes = goes_nowhere c.args.pass.now;
-        way = c.requires.way;
-        is = c.requires.held;
-      };
+      reaches = assumption (goes_nowhere c.args.pass.now);
       fits = not_full;
     }
 

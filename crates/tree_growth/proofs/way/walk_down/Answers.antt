@@ -2,10 +2,10 @@ use Rattle.std.proofs.Common.{rules, arith}
 use Rattle.tree_descent.proofs.PageLemmas.{may_give_back}
 use Rattle.tree_growth.specs.Ways.{StopsOnWay}
 use Rattle.tree_growth.proofs.AddLemmas.{reaches_after, stops_after}
-use Rattle.tree_growth.proofs.HandLemmas.{same_pass}
 use Rattle.tree_growth.proofs.AnswerLemmas.{err_more}
 use Rattle.tree_growth.proofs.WalkLemmas.{walks_down}
 use Rattle.tree_growth.proofs.way.walk_down.Goals as goal
+use Rattle.buffer_pool.proofs.AgainLemmas.{passes_both}
 
 pub returns-in_err-at-clause-err : goal.returns-in_err-at-clause-err
 returns-in_err-at-clause-err g c =
@@ -18,7 +18,7 @@ pub loop-at-init : goal.loop-at-init
 loop-at-init g c =
     let p = c.args.pass.now in let q = c.take_root-root.new.pass in let r = c.grow_root.new.pass in
     record {
-      same = same_pass p q r c.take_root-root.ensures.own.0 c.grow_root.ensures.own.0;
+      same = passes_both p q r c.take_root-root.ensures.own.0 c.grow_root.ensures.own.0;
       own = c.grow_root.ensures.own.1;
       reaches = reaches_after p q r c.args.index c.args.key.now.tuple c.args.need c.in_ok-at.at
           c.take_root-root.ensures.took.goes c.in_ok-at.ensures.ok.reaches;
@@ -41,7 +41,7 @@ pub loop-at-preserved : goal.loop-at-preserved
 loop-at-preserved g c =
     let p = c.args.pass.now in let q = c.loop-at.pass in let r = c.grow_below.new.pass in
     record {
-      same = same_pass p q r c.loop-at.invariant.same c.grow_below.ensures.own.0;
+      same = passes_both p q r c.loop-at.invariant.same c.grow_below.ensures.own.0;
       own = c.grow_below.ensures.own.1;
       reaches = reaches_after p q r c.args.index c.args.key.now.tuple c.args.need c.in_ok-at-2.at
           c.loop-at.invariant.reaches.goes c.in_ok-at-2.ensures.ok.reaches;
