@@ -35,7 +35,8 @@ pub record CutsRows (rows : List Row) (p : KeyPlace → Bool) (before : ℕ) : T
   pub past : AllIn p right
 
 -- the mode's cut is there, and so far the tuple agrees with the rows around it
-pub record FindsCut (rows : List Row) (mode : Mode) (tuple : FieldList) (found : CutPlace) : Type 0 where
+pub record FindsCut (rows : List Row) (mode : Mode) (tuple : FieldList) (found : CutPlace)
+    : Type 0 where
   pub cuts : CutsRows rows (cut_of mode tuple) found.before
   pub low : found.low ≡ agreement tuple (last_of_rows cuts.left)
   pub up : found.up ≡ agreement tuple (first_of_rows cuts.right)
