@@ -26,7 +26,6 @@ use Rattle.page_rows.proofs.DifferLemmas.{rows_differ}
 use Rattle.page_search.specs.Cuts.{CutsRows, IsBehindRows}
 use Rattle.page_search.proofs.NextLemmas.{before_rows}
 use Rattle.byte_page.specs.Form.{page_in_bytes, IsBytePage}
-use Rattle.byte_page.specs.Searching.{row_at_place}
 
 -- each row stands behind infimum and supremum
 rows_high : (p : PageParts) (hs : List ℕ) → AllByRecursion (λ h. 120 < origin_of p.mirror h) hs → AllByRecursion (λ (y : Row). 120 < y.place) (map (row_of p) hs)
@@ -84,11 +83,7 @@ after_is_at {bytes} {fields} {left} {right} next b leads = go (before_rows b).hi
         subst (λ (l : List Row). IsAt (rows_in_bytes bytes fields) (told next) (first_of_rows l)) rows
         (ap told leads ∙ e, subst (λ (l : List Row). find_row (origin_of b.page.parts.mirror k) l ≡ Some (row_of b.page.parts k)) (sym shape) found)
 
--- the row at its place
-pub at_row : (rows : List Row) (place : Option ℕ) (row : Option Row) → IsAt rows place row → row_at_place place rows ≡ row
-at_row rows place None a = rw a refl
-at_row rows place (Some row) a = rw a.0 a.1
-
+-- a row stands at its place
 pub row_is_there : (rows : List Row) (place : Option ℕ) (row : Option Row) → IsAt rows place row → IfSome place (λ p. IsSome (find_row p rows))
 row_is_there rows place None a = subst (λ (o : Option ℕ). IfSome o (λ p. IsSome (find_row p rows))) (sym a) tt
 row_is_there rows place (Some row) a = subst (λ (o : Option ℕ). IfSome o (λ p. IsSome (find_row p rows))) (sym a.0) (subst (λ (o : Option Row). IsSome o) (sym a.1) refl)

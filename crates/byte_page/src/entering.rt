@@ -18,7 +18,7 @@ use compact_record::RecordKind;
 use index_page::Place;
 use key_tuple::{Fields, Mode};
 use page_rows::insert_row;
-use page_search::find_before;
+use page_search::find_cut;
 
 impl BytePage {
     /// Puts a record of a kind in, where there is room for so many bytes.
@@ -77,6 +77,6 @@ impl BytePage {
         requires { length (A.fields_of key.now) ≤ self.now.page.head.fields }
         ensures { CutsRows self.now.page.rows (not_below (A.fields_of key.now)) result }
     {
-        find_before(&self.bytes, self.fields, key, Mode::Ge)
+        find_cut(&self.bytes, self.fields, key, Mode::Ge).before
     }
 }

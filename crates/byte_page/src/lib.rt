@@ -9,16 +9,12 @@ mod entering;
 mod front;
 mod inserting;
 mod laws;
-#[cfg(test)]
-mod long_tests;
 mod moving;
 mod page;
 mod reorganising;
 mod replacing;
 mod search;
 mod setting;
-#[cfg(test)]
-mod tests;
 mod walks;
 
 pub use copy::ByteCopy;

@@ -5,6 +5,7 @@ ghost use Rattle.index_page.specs.Rows.{find_row};
 ghost use Rattle.index_page.specs.Page.{IsNeighbour, IsPageInOrder, linked};
 ghost use Rattle.index_page.specs.Loads.{load_of};
 ghost use Rattle.page_rows.specs.Reading.{row_of_record};
+ghost use Rattle.byte_page.specs.Form.{form_in_bytes, IsBytePage};
 
 use crate::PAGE_BYTES;
 use crate::front::{put_links, read_front, write_front};
@@ -113,6 +114,14 @@ impl BytePage {
         ensures { result ≡ self.now.garbage }
     {
         garbage(&self.bytes)
+    }
+
+    /// The page's bytes, lent.
+    pub fn bytes(&self) -> &[u8]
+        ensures form { form_in_bytes result.now self.now.page.head.fields ≡ self.now }
+        ensures sound { IsBytePage result.now self.now.page.head.fields }
+    {
+        self.bytes.as_slice()
     }
 
     /// The row at a place, lent: its key's fields, and what it carries as the tail. `first` and

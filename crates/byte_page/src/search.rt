@@ -1,16 +1,14 @@
 //! Searches in a page.
-ghost use Rattle.std.specs.Prelude.{◌≡◌, ◌≤◌, ℕ, length, IfSome, IsSome, Some, None, nat_eq, if◌then◌else◌};
-ghost use Rattle.index_page.specs.Rows.{find_row};
-ghost use Rattle.index_page.specs.Search.{Finds, agreement};
-ghost use Rattle.byte_page.specs.Searching.{spot_with, row_at_place};
+ghost use Rattle.std.specs.Prelude.{◌≡◌, ◌≤◌, ℕ, length, Some, None, nat_eq, if◌then◌else◌};
+ghost use Rattle.index_page.specs.Search.{Finds};
+ghost use Rattle.byte_page.specs.Searching.{spot_with};
 
 use crate::page::BytePage;
 use crate::walks::{INFIMUM, row_place};
-use compact_record::view;
 use index_page::Place;
-use key_tuple::{Fields, Match, Mode, matches};
+use key_tuple::{Fields, Match, Mode};
 use page_mirror::next_of;
-use page_search::find_before;
+use page_search::find_cut;
 
 /// The rows around a cut: their places, and how far the tuple agrees with each of them, (0, 0)
 /// where there is none.
@@ -34,29 +32,12 @@ impl BytePage {
         ensures { (cut : ℕ) × Finds mode (A.fields_of tuple.now) self.now.page.rows
             (spot_with result cut) }
     {
-        let cut = find_before(&self.bytes, self.fields, tuple, mode);
-        let before = place_left(cut);
-        let after = row_place(next_of(&self.bytes, cut));
+        let cut = find_cut(&self.bytes, self.fields, tuple, mode);
         ByteSpot {
-            before,
-            after,
-            low: self.agreement(tuple, before),
-            up: self.agreement(tuple, after),
-        }
-    }
-
-    /// How far the tuple agrees with the row at a place.
-    fn agreement<A: Fields>(&self, tuple: &A, place: Option<Place>) -> Match
-        requires fields { length (A.fields_of tuple.now) ≤ self.now.page.head.fields }
-        requires there { IfSome place (λ p. IsSome (find_row p self.now.page.rows)) }
-        ensures { result ≡ agreement (A.fields_of tuple.now) (row_at_place place self.now.page.rows) }
-    {
-        match place {
-            Some(place) => matches(tuple, &view(&self.bytes, place, self.fields)),
-            None => Match {
-                fields: 0,
-                bytes: 0,
-            },
+            before: place_left(cut.before),
+            after: row_place(next_of(&self.bytes, cut.before)),
+            low: cut.low,
+            up: cut.up,
         }
     }
 }

@@ -7,7 +7,7 @@ use crate::page::BytePage;
 use crate::search::place_left;
 use key_tuple::{Blank, Mode};
 use page_mirror::next_of;
-use page_search::find_before;
+use page_search::find_cut;
 
 /// Where infimum stands, which leads to the first row.
 pub(crate) const INFIMUM: u16 = 99;
@@ -28,7 +28,7 @@ impl BytePage {
         ensures { IsAt self.now.page.rows result (last_of_rows self.now.page.rows) }
     {
         let no_fields = Blank { count: 0 };
-        place_left(find_before(&self.bytes, self.fields, &no_fields, Mode::Le))
+        place_left(find_cut(&self.bytes, self.fields, &no_fields, Mode::Le).before)
     }
 
     /// The place of the next row, none at the last one.
@@ -45,7 +45,7 @@ impl BytePage {
         ensures { PrevIs self.now.page.rows place result }
     {
         let row = self.row(place);
-        place_left(find_before(&self.bytes, self.fields, &row, Mode::Ge))
+        place_left(find_cut(&self.bytes, self.fields, &row, Mode::Ge).before)
     }
 }
 

@@ -9,8 +9,6 @@ mod laws;
 mod lengths;
 mod reading;
 mod record_ref;
-#[cfg(test)]
-mod tests;
 mod writing;
 
 pub use bytes::{get_bytes, get_u16, put_bytes, put_u16};

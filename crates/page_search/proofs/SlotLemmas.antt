@@ -1,5 +1,5 @@
 -- The rows up to a slot's owner, and those from it on.
-use Rattle.std.proofs.Common.{◌≡◌, ℕ, zero, suc, ◌+◌, ◌<◌, ◌≤◌, Bool, true, false, List, [], ◌∷◌, ◌++◌, map, length, slice_index, get_or, refl, sym, ap, subst, ◌∙◌, arith, length-append}
+use Rattle.std.proofs.Common.{◌≡◌, ℕ, zero, suc, ◌+◌, ◌<◌, ◌≤◌, Bool, true, false, List, [], ◌∷◌, ◌++◌, map, length, slice_index, get_or, refl, sym, ap, ap₂, subst, ◌∙◌, arith, length-append}
 use Rattle.std.proofs.lemmas.List.{append_assoc, map-append, length-map}
 use Rattle.std.proofs.lemmas.Grind.{flat_map-append}
 use Rattle.std.proofs.lemmas.Bool.{false≢true}
@@ -22,7 +22,6 @@ use Rattle.page_rows.specs.Reading.{rows_in_bytes}
 use Rattle.page_rows.specs.Spelling.{StandsAsRow, PageParts, SpellsRows}
 use Rattle.page_rows.specs.Inserting.{place_before}
 use Rattle.page_rows.proofs.SpellingLemmas.{row_of, rows_are, whole_list, infimum_at}
-use Rattle.page_search.specs.Cuts.{NarrowsRows}
 use Rattle.page_search.proofs.NextLemmas.{all_in, place_before_more}
 
 -- how many records the first slots have, so many
@@ -40,11 +39,11 @@ reach_owner (x ∷ low) g high (suc s) is =
     let r = reach_owner low g high s (omega arith) in
     omega (arith, r, length-append x.front (x.owner ∷ []), length-append (members x) (records low), length-append (records low) g.front, length-append (members x ++ records low) g.front)
 
-reach_all : (gs : List Group) → reach gs (length gs) ≡ length (records gs)
+pub reach_all : (gs : List Group) → reach gs (length gs) ≡ length (records gs)
 reach_all [] = refl
 reach_all (g ∷ gs) = omega (arith, reach_all gs, length-append g.front (g.owner ∷ []), length-append (members g) (records gs))
 
-reach_step : (gs : List Group) (s : ℕ) → s < length gs → reach gs (suc s) ≡ reach gs s + get_or (group_sizes gs) s 0
+pub reach_step : (gs : List Group) (s : ℕ) → s < length gs → reach gs (suc s) ≡ reach gs s + get_or (group_sizes gs) s 0
 reach_step [] s w = absurd (omega arith)
 reach_step (g ∷ []) zero w = omega arith
 reach_step (g ∷ x ∷ gs) zero w = omega arith
@@ -151,7 +150,7 @@ pub record InFrom (bytes : List ℕ) (fields : ℕ) (p : KeyPlace → Bool) (par
   pub past : AllIn p right
 
 -- the rows up to one that is left out are left out
-all_out : (p : KeyPlace → Bool) → IsCut p → (xs : List Row) (row : Row) (ys : List Row) → RowsAscend (xs ++ row ∷ ys) → p (At row.key) ≡ false → AllOut p (xs ++ row ∷ [])
+pub all_out : (p : KeyPlace → Bool) → IsCut p → (xs : List Row) (row : Row) (ys : List Row) → RowsAscend (xs ++ row ∷ ys) → p (At row.key) ≡ false → AllOut p (xs ++ row ∷ [])
 all_out p cut [] row ys a here = (here, tt)
 all_out p cut (x ∷ xs) row ys a here =
     (go (p (At x.key)) refl, all_out p cut xs row ys a.1 here)
@@ -164,7 +163,7 @@ all_out p cut (x ∷ xs) row ys a here =
     go true e = absurd (false≢true (sym here ∙ cut.rises (At x.key) (At row.key) below e))
 
 -- where the cut leaves the owner out
-pub owner_out : {bytes : List ℕ} {fields : ℕ} {parts : PageParts} {s : ℕ} (p : KeyPlace → Bool) → IsCut p → RowsAscend (rows_in_bytes bytes fields)
+abbrev pub owner_out : {bytes : List ℕ} {fields : ℕ} {parts : PageParts} {s : ℕ} (p : KeyPlace → Bool) → IsCut p → RowsAscend (rows_in_bytes bytes fields)
     → (o : OwnerRow bytes fields parts s) → p (At (parts.of o.here).key) ≡ false → OutTo bytes fields p parts s
 owner_out {parts = parts} p cut ascend o here =
     let row = row_of parts o.here in
@@ -178,7 +177,7 @@ owner_out {parts = parts} p cut ascend o here =
     }
 
 -- where the cut admits it
-pub owner_in : {bytes : List ℕ} {fields : ℕ} {parts : PageParts} {s : ℕ} (p : KeyPlace → Bool) → IsCut p → RowsAscend (rows_in_bytes bytes fields)
+abbrev pub owner_in : {bytes : List ℕ} {fields : ℕ} {parts : PageParts} {s : ℕ} (p : KeyPlace → Bool) → IsCut p → RowsAscend (rows_in_bytes bytes fields)
     → (o : OwnerRow bytes fields parts s) → p (At (parts.of o.here).key) ≡ true → InFrom bytes fields p parts s
 owner_in {parts = parts} p cut ascend o here =
     let row = row_of parts o.here in
@@ -202,12 +201,12 @@ first_owner g gs xs sized list = go g.front refl
         let alone : get_or (group_sizes (g ∷ gs)) 0 0 ≡ 1 = (sized.each 0 (omega (arith, sized.two))).alone refl in
         absurd (omega (arith, alone, ap length e))
 
-first_slot : (slots : List ℕ) (gs : List Group) {xs : List ℕ} → IsSized (group_sizes gs) → records gs ≡ 0 ∷ xs → slots ≡ owners gs → slice_index slots 0 ≡ 0
+pub first_slot : (slots : List ℕ) (gs : List Group) {xs : List ℕ} → IsSized (group_sizes gs) → records gs ≡ 0 ∷ xs → slots ≡ owners gs → slice_index slots 0 ≡ 0
 first_slot slots [] sized list is = absurd (omega (arith, sized.two))
 first_slot slots (g ∷ gs) {xs} sized list is = ap (λ (ys : List ℕ). slice_index ys 0) is ∙ first_owner g gs xs sized list
 
 -- infimum stands before all rows, and supremum behind them
-pub first_out : {bytes : List ℕ} {fields : ℕ} {parts : PageParts} (p : KeyPlace → Bool) → SpellsRows bytes fields parts [] → OutTo bytes fields p parts 0
+abbrev pub first_out : {bytes : List ℕ} {fields : ℕ} {parts : PageParts} (p : KeyPlace → Bool) → SpellsRows bytes fields parts [] → OutTo bytes fields p parts 0
 first_out {bytes} {fields} {parts} p r = record {
   left = [];
   right = rows_in_bytes bytes fields;
@@ -217,7 +216,7 @@ first_out {bytes} {fields} {parts} p r = record {
   out = tt;
 }
 
-pub last_in : {bytes : List ℕ} {fields : ℕ} {parts : PageParts} (p : KeyPlace → Bool) (s : ℕ) → SpellsRows bytes fields parts [] → s + 1 ≡ length parts.groups → InFrom bytes fields p parts s
+abbrev pub last_in : {bytes : List ℕ} {fields : ℕ} {parts : PageParts} (p : KeyPlace → Bool) (s : ℕ) → SpellsRows bytes fields parts [] → s + 1 ≡ length parts.groups → InFrom bytes fields p parts s
 last_in {bytes} {fields} {parts} p s r last =
     let rows = rows_in_bytes bytes fields in
     let all : reach parts.groups (suc s) ≡ length (records parts.groups) = ap (reach parts.groups) (let e : suc s ≡ length parts.groups = omega arith in e) ∙ reach_all parts.groups in
@@ -234,46 +233,17 @@ last_in {bytes} {fields} {parts} p s r last =
     append_none (x ∷ xs) = ap (λ (ys : List Row). x ∷ ys) (append_none xs)
 
 -- what stands between two cuts of a list
-pub record Between (right left' right' : List Row) (n : ℕ) : Type 0 where
+pub record Between (left right left' right' : List Row) (n : ℕ) : Type 0 where
   pub middle : List Row
   pub is : right ≡ middle ++ right'
+  pub low : left' ≡ left ++ middle
   pub count : n + length middle ≡ length left'
 
-between : (left right left' right' : List Row) → left ++ right ≡ left' ++ right' → length left ≤ length left' → Between right left' right' (length left)
-between [] right left' right' e w = record { middle = left'; is = e; count = omega arith }
+pub between : (left right left' right' : List Row) → left ++ right ≡ left' ++ right' → length left ≤ length left' → Between left right left' right' (length left)
+between [] right left' right' e w = record { middle = left'; is = e; low = refl; count = omega arith }
 between (x ∷ left) right [] right' e w = absurd (omega arith)
 between (x ∷ left) right (y ∷ left') right' e w =
     let tail : left ++ right ≡ left' ++ right' = cc in
+    let first : x ≡ y = cc in
     let r = between left right left' right' tail (omega arith) in
-    record { middle = r.middle; is = r.is; count = omega (arith, r.count) }
-
--- between neighbouring slots there are few rows
-pub narrowed : {bytes : List ℕ} {fields : ℕ} {parts : PageParts} (p : KeyPlace → Bool) (low high at : ℕ) → SpellsRows bytes fields parts []
-    → OutTo bytes fields p parts low → InFrom bytes fields p parts high → low + 1 ≡ high → high < length parts.groups
-    → HasOrigin bytes parts.mirror (slice_index parts.mirror.slots low) at → NarrowsRows bytes fields p at
-narrowed {bytes} {fields} {parts} p low high at r out past next within placed =
-    let e : suc low ≡ high = omega arith in
-    let count : length past.left + 2 ≡ reach parts.groups (suc (suc low)) = past.count ∙ ap (λ (s : ℕ). reach parts.groups (suc s)) (sym e) in
-    let few = reach_next parts.groups (suc low) r.sizes (omega arith) in
-    let more = reach_step parts.groups (suc low) (omega arith) in
-    let b = between out.left out.right past.left past.right (sym out.rows ∙ past.rows) (omega (arith, out.count, count, more, (r.sizes.each (suc low) (omega (arith, count_sizes parts.groups))).some)) in
-    record {
-      left = out.left;
-      middle = b.middle;
-      right = past.right;
-      rows = out.rows ∙ ap (λ (xs : List Row). out.left ++ xs) b.is;
-      before_is = sym (out.place ∙ placed.placed);
-      out = out.out;
-      past = past.past;
-      few = omega (arith, b.count, count, out.count, few);
-    }
-
--- the next row is one of those between, where the cut leaves it out
-pub row_between : (p : KeyPlace → Bool) (middle right : List Row) (row : Row) (rest : List Row) → middle ++ right ≡ row ∷ rest → AllIn p right → p (At row.key) ≡ false
-    → (more : List Row) × (rest ≡ more ++ right) × (length more + 1 ≡ length middle)
-row_between p [] right row rest e past here =
-    let admitted : AllIn p (row ∷ rest) = subst (AllIn p) e past in
-    absurd (false≢true (sym here ∙ admitted.0))
-row_between p (x ∷ middle) right row rest e past here =
-    let tail : middle ++ right ≡ rest = cc in
-    (middle, sym tail, omega arith)
+    record { middle = r.middle; is = r.is; low = ap₂ (λ (z : Row) (zs : List Row). z ∷ zs) (sym first) r.low; count = omega (arith, r.count) }

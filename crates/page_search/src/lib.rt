@@ -2,7 +2,10 @@
 //! It never copies a key, nor writes to a page.
 #![tactic(auto)]
 
+mod comparing;
+mod cut;
 mod slots;
 mod walk;
 
-pub use walk::find_before;
+pub use cut::CutPlace;
+pub use walk::find_cut;

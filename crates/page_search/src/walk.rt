@@ -1,13 +1,15 @@
 //! From a slot's owner on, row by row, up to a cut.
 ghost use Rattle.std.specs.Prelude.{◌≡◌, ◌≤◌, List, length};
-ghost use Rattle.key_tuple.specs.KeyPlace.{cut_of};
 ghost use Rattle.index_page.specs.Rows.{Row};
 ghost use Rattle.index_page.specs.Page.{RowsAscend};
 ghost use Rattle.page_rows.specs.Reading.{rows_in_bytes};
 ghost use Rattle.page_rows.specs.Spelling.{IsPageOfRows};
-ghost use Rattle.page_search.specs.Cuts.{CutsRows, IsBehindRows, LeavesOut};
+ghost use Rattle.page_search.specs.Cuts.{FindsCut, IsOnTheWay};
+ghost use Rattle.page_search.specs.Steps.{StepsOn};
 
-use crate::slots::{admits, owner_before};
+use crate::comparing::lesser;
+use crate::cut::CutPlace;
+use crate::slots::{judge, owner_before};
 use key_tuple::{Fields, Mode};
 use page_mirror::next_of;
 
@@ -17,37 +19,56 @@ const SUPREMUM: u16 = 112;
 /// As many rows an owner owns beside itself, at most.
 const BESIDE_OWNER: u8 = 7;
 
-/// The place of the last row that the mode's cut leaves out, or that of infimum.
-pub fn find_before<A: Fields>(page: &[u8], fields: u8, tuple: &A, mode: Mode) -> u16
+/// What a step told.
+pub(crate) enum Step {
+    /// The cut is here.
+    Here(CutPlace),
+    /// The cut leaves out the row that was passed.
+    On(CutPlace),
+}
+
+/// Where the mode's cut parts the rows, and how far the tuple agrees with those around it. A
+/// comparison begins behind what the row has in common with the tuple, as told by rows around it.
+pub fn find_cut<A: Fields>(page: &[u8], fields: u8, tuple: &A, mode: Mode) -> CutPlace
     requires page { IsPageOfRows page.now fields }
     requires ascend { RowsAscend (rows_in_bytes page.now fields) }
     requires tuple { length (A.fields_of tuple.now) ≤ fields }
-    ensures { CutsRows (rows_in_bytes page.now fields) (cut_of mode (A.fields_of tuple.now)) result }
+    ensures { FindsCut (rows_in_bytes page.now fields) mode (A.fields_of tuple.now) result }
 {
-    let mut before = owner_before(page, fields, tuple, mode);
+    let mut found = owner_before(page, fields, tuple, mode);
     for _ in 0..BESIDE_OWNER {
-        match next_out(page, fields, before, tuple, mode) {
-            Some(next) => before = next,
-            None => return before,
+        match go_on(page, fields, found, tuple, mode) {
+            Step::On(next) => found = next,
+            Step::Here(cut) => return cut,
         }
     }
-    before
+    found
 }
 
-/// The place of the next row, if it is one that the cut leaves out.
-fn next_out<A: Fields>(page: &[u8], fields: u8, before: u16, tuple: &A, mode: Mode) -> Option<u16>
+/// Goes on to the next row, if the cut leaves it out.
+fn go_on<A: Fields>(page: &[u8], fields: u8, found: CutPlace, tuple: &A, mode: Mode) -> Step
     requires tuple { length (A.fields_of tuple.now) ≤ fields }
-    requires behind { (left : List Row) × (right : List Row)
-        × IsBehindRows page.now fields left right before }
-    ensures { (left right : List Row) → IsBehindRows page.now fields left right before
-        → LeavesOut (cut_of mode (A.fields_of tuple.now)) right result }
+    requires way { (left : List Row) × (middle : List Row) × (right : List Row)
+        × IsOnTheWay page.now fields mode (A.fields_of tuple.now) left middle right found }
+    ensures { (left middle right : List Row)
+        → IsOnTheWay page.now fields mode (A.fields_of tuple.now) left middle right found
+        → StepsOn page.now fields mode (A.fields_of tuple.now) left middle right result }
 {
-    let next = next_of(page, before);
+    let next = next_of(page, found.before);
     if next == SUPREMUM {
-        return None;
+        return Step::Here(found);
     }
-    if admits(page, fields, next, tuple, mode) {
-        return None;
+    let verdict = judge(page, fields, next, tuple, mode, lesser(found.low, found.up));
+    if verdict.admitted {
+        return Step::Here(CutPlace {
+            before: found.before,
+            low: found.low,
+            up: verdict.figures,
+        });
     }
-    Some(next)
+    Step::On(CutPlace {
+        before: next,
+        low: verdict.figures,
+        up: found.up,
+    })
 }

@@ -2,6 +2,12 @@
 #![tactic(auto)]
 
 #[cfg(test)]
+mod dumps;
+#[cfg(test)]
+mod long_dumps;
+#[cfg(test)]
+mod records;
+#[cfg(test)]
 mod room;
 #[cfg(test)]
 mod rows;

@@ -4,7 +4,7 @@ ghost use Rattle.index_page.specs.Rows.{find_row};
 
 use crate::setup::{charged, first, key_of, next, page_of, place_of, put, value_of};
 use byte_page::{ByteCopy, BytePage};
-use index_page::{Body, Gaps, Page, PageError, PageHead, Place, spots_tell_keys};
+use index_page::{Body, Gaps, Page, PageError, PageHead, Place};
 use key_tuple::{Fields, Key, Mode, Value};
 use std::alloc::Global;
 
@@ -46,10 +46,8 @@ fn put_in_bytes(page: &mut BytePage, key: &Key, value: &Value) -> Option<Result<
     if spot.up.fields == key.count() {
         return None;
     }
-    page.is_in_order();
     key.tuple().is_within_limits();
-    spots_tell_keys();
-    Some(page.insert(key, Body::Value(value)))
+    Some(page.insert_at(&spot, key, Body::Value(value)))
 }
 
 /// The place of the row with that key, if it is there.

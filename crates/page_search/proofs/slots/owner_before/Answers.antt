@@ -1,10 +1,18 @@
-use Rattle.std.proofs.Common.{◌∙◌, ◌+◌, ◌-◌, ◌/◌, sym, ap, arith}
+use Rattle.std.proofs.Common.{◌∙◌, ◌+◌, ◌-◌, ◌/◌, ◌∷◌, sym, ap, subst, arith}
 use Rattle.key_tuple.specs.KeyPlace.{At, cut_of}
 use Rattle.compact_record.specs.Record.{PlacedRecord}
 use Rattle.compact_record.proofs.LawLemmas.{record_there, record_read}
 use Rattle.page_directory.proofs.OwnerLemmas.{slots_counted, count_sizes}
 use Rattle.index_page.proofs.CutLemmas.{mode_cuts}
-use Rattle.page_search.proofs.SlotLemmas.{owner_row, owner_there, owner_out, owner_in, first_out, last_in, narrowed}
+use Rattle.index_page.specs.Page.{RowsAscend}
+use Rattle.index_page.proofs.RowLemmas.{ascends_right}
+use Rattle.key_tuple.specs.Figures.{matching}
+use Rattle.page_rows.specs.Reading.{rows_in_bytes}
+use Rattle.page_rows.proofs.SpellingLemmas.{row_of}
+use Rattle.page_search.specs.Agreeing.{AgreesTo, lesser_match}
+use Rattle.page_search.proofs.FigureLemmas.{none_low, none_up, low_at, up_at}
+use Rattle.page_search.proofs.SlotLemmas.{owner_row, owner_there, owner_out, owner_in, first_out, last_in}
+use Rattle.page_search.proofs.WayLemmas.{owner_agrees, narrowed}
 use Rattle.page_search.proofs.slots.owner_before.Goals as goal
 
 pub overflow_sub-high : goal.overflow_sub-high
@@ -21,7 +29,9 @@ loop-low-init g c =
     let slots = slots_counted s.page.groups in
     let sizes = count_sizes page.parts.groups in
     let two = s.sizes.two in
-    (page, omega arith, omega arith, first_out p s, last_in p _ s (omega arith))
+    let rows = rows_in_bytes c.args.page.now c.args.fields in
+    let t = g.A.Fields.fields_of c.args.tuple.now in
+    (page, omega arith, omega arith, first_out p s, last_in p _ s (omega arith), none_low t rows, none_up t rows)
 
 pub slot_owner-owner-requires : goal.slot_owner-owner-requires
 slot_owner-owner-requires g c =
@@ -30,8 +40,8 @@ slot_owner-owner-requires g c =
     let within = inv.2 in
     (inv.0.parts.mirror, s.page.is, omega (arith, slots_counted s.page.groups))
 
-pub admits-requires-clause-there : goal.admits-requires-clause-there
-admits-requires-clause-there g c =
+pub judge-verdict-requires-clause-there : goal.judge-verdict-requires-clause-there
+judge-verdict-requires-clause-there g c =
     let inv = c.loop-low.invariant in
     let s = inv.0.spells in
     let m = inv.0.parts.mirror in
@@ -42,8 +52,23 @@ admits-requires-clause-there g c =
     let o = owner_row middle s (omega arith) (omega arith) in
     record_there c.args.page.now c.slot_owner-owner.result c.args.fields (inv.0.parts.of o.here) (owner_there o at)
 
-pub loop-low-preserved-then-admits : goal.loop-low-preserved-then-admits
-loop-low-preserved-then-admits g c =
+pub judge-verdict-requires-clause-agrees : goal.judge-verdict-requires-clause-agrees
+judge-verdict-requires-clause-agrees g c =
+    let inv = c.loop-low.invariant in
+    let s = inv.0.spells in
+    let m = inv.0.parts.mirror in
+    let middle = c.loop-low.low + (c.loop-low.high - c.loop-low.low) / 2 in
+    let below = c.loop-low-test.true in
+    let within = inv.2 in
+    let tuple = g.A.Fields.fields_of c.args.tuple.now in
+    let at = c.slot_owner-owner.ensures m s.page.is (omega (arith, slots_counted s.page.groups)) in
+    let o = owner_row middle s (omega arith) (omega arith) in
+    let read = record_read c.args.page.now c.slot_owner-owner.result c.args.fields (inv.0.parts.of o.here) (owner_there o at) in
+    let agrees = owner_agrees tuple c.loop-low.below c.loop-low.above inv.3 inv.4 o (omega arith) (omega arith) within inv.5 inv.6 in
+    rw (c.lesser.ensures) (subst (λ (x : PlacedRecord). AgreesTo tuple x.key (lesser_match c.loop-low.below c.loop-low.above)) (sym read) agrees)
+
+pub loop-low-preserved-then-verdict : goal.loop-low-preserved-then-verdict
+loop-low-preserved-then-verdict g c =
     let inv = c.loop-low.invariant in
     let s = inv.0.spells in
     let m = inv.0.parts.mirror in
@@ -55,8 +80,10 @@ loop-low-preserved-then-admits g c =
     let at = c.slot_owner-owner.ensures m s.page.is (omega (arith, slots_counted s.page.groups)) in
     let o = owner_row middle s (omega arith) (omega arith) in
     let read = record_read c.args.page.now c.slot_owner-owner.result c.args.fields (inv.0.parts.of o.here) (owner_there o at) in
-    let admitted = ap (λ (x : PlacedRecord). p (At x.key)) (sym read) ∙ sym c.admits.ensures ∙ c.if-admits.true in
-    (inv.0, omega arith, omega arith, inv.3, owner_in p (mode_cuts c.args.mode tuple) c.requires.ascend o admitted)
+    let admitted = ap (λ (x : PlacedRecord). p (At x.key)) (sym read) ∙ sym c.judge-verdict.ensures.admitted ∙ c.if-verdict.true in
+    let figures = c.judge-verdict.ensures.figures ∙ ap (λ (x : PlacedRecord). matching tuple x.key) read in
+    let row = row_of inv.0.parts o.here in
+    (inv.0, omega arith, omega arith, inv.3, owner_in p (mode_cuts c.args.mode tuple) c.requires.ascend o admitted, inv.5, up_at tuple o.left row o.right c.judge-verdict.result.figures figures (subst RowsAscend o.rows c.requires.ascend))
 
 pub loop-low-preserved : goal.loop-low-preserved
 loop-low-preserved g c =
@@ -71,8 +98,11 @@ loop-low-preserved g c =
     let at = c.slot_owner-owner.ensures m s.page.is (omega (arith, slots_counted s.page.groups)) in
     let o = owner_row middle s (omega arith) (omega arith) in
     let read = record_read c.args.page.now c.slot_owner-owner.result c.args.fields (inv.0.parts.of o.here) (owner_there o at) in
-    let left_out = ap (λ (x : PlacedRecord). p (At x.key)) (sym read) ∙ sym c.admits.ensures ∙ c.if-admits.false in
-    (inv.0, omega arith, inv.2, owner_out p (mode_cuts c.args.mode tuple) c.requires.ascend o left_out, inv.4)
+    let left_out = ap (λ (x : PlacedRecord). p (At x.key)) (sym read) ∙ sym c.judge-verdict.ensures.admitted ∙ c.if-verdict.false in
+    let figures = c.judge-verdict.ensures.figures ∙ ap (λ (x : PlacedRecord). matching tuple x.key) read in
+    let row = row_of inv.0.parts o.here in
+    let ascend = ascends_right o.left (row ∷ o.right) (subst RowsAscend o.rows c.requires.ascend) in
+    (inv.0, omega arith, inv.2, owner_out p (mode_cuts c.args.mode tuple) c.requires.ascend o left_out, inv.4, low_at tuple o.left row o.right c.judge-verdict.result.figures figures ascend, inv.6)
 
 pub slot_owner-requires : goal.slot_owner-requires
 slot_owner-requires g c =
@@ -90,4 +120,4 @@ returns g c =
     let within = inv.2 in
     let last = c.loop-low-test.false in
     let at = c.slot_owner.ensures inv.0.parts.mirror s.page.is (omega (arith, slots_counted s.page.groups)) in
-    narrowed (cut_of c.args.mode (g.A.Fields.fields_of c.args.tuple.now)) c.loop-low.low c.loop-low.high c.slot_owner.result s inv.3 inv.4 (omega arith) within at
+    narrowed c.args.mode (g.A.Fields.fields_of c.args.tuple.now) c.loop-low.low c.loop-low.high (record { before = c.slot_owner.result; low = c.loop-low.below; up = c.loop-low.above }) inv.0 c.requires.ascend s inv.3 inv.4 (omega arith) within at inv.5 inv.6

@@ -1,8 +1,8 @@
 //! The bytes of a page with long rows, full and scattered, against what the format says.
 ghost use Rattle.std.specs.Prelude.{◌≡◌, ◌<◌, length, IfSome};
 
-use crate::BytePage;
-use crate::tests::{EIGHT, line_at, offer, page_three, put};
+use crate::dumps::{EIGHT, line_at, offer, page_three, put};
+use byte_page::BytePage;
 use index_page::{PageError, Place};
 use key_tuple::Value;
 use std::alloc::Global;
@@ -184,7 +184,7 @@ fn is_full(asked: &Asked) -> bool {
         need: 2010,
         free: 172,
     };
-    asked.told == Err(full) && is_long_dump(&asked.page.bytes, false)
+    asked.told == Err(full) && is_long_dump(asked.page.bytes(), false)
 }
 
 /// The page was scattered, and has the bytes that it had, without the first row or with it.
@@ -193,7 +193,7 @@ fn is_scattered(asked: &Asked, gone: bool) -> bool {
         need: 2011,
         run: 178,
     };
-    asked.told == Err(scattered) && is_long_dump(&asked.page.bytes, gone)
+    asked.told == Err(scattered) && is_long_dump(asked.page.bytes(), gone)
 }
 
 #[test]

@@ -1,5 +1,5 @@
 use Rattle.std.proofs.Common.{◌≡◌}
-use Rattle.byte_page.proofs.tests.page_with_eight.Given as goal
+use Rattle.page_tests.proofs.long_dumps.page_with_long.Given as goal
 
 -- the page stays a leaf for keys of one field
 abbrev pub invariant-loop-byte : goal.invariant-loop-byte

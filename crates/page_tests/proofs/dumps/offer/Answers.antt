@@ -1,6 +1,6 @@
 use Rattle.std.proofs.Common.{◌∷◌, [], sym, arith}
 use Rattle.byte_page.specs.Searching.{spot_with}
-use Rattle.byte_page.proofs.tests.offer.Goals as goal
+use Rattle.page_tests.proofs.dumps.offer.Goals as goal
 
 pub insert-requires-clause-absent : goal.insert-requires-clause-absent
 insert-requires-clause-absent c =

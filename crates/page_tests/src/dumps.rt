@@ -1,9 +1,10 @@
 //! The bytes of a page against a dump.
-ghost use Rattle.std.specs.Prelude.{◌≡◌, ◌∷◌, [], length, IfSome};
+ghost use Rattle.std.specs.Prelude.{◌≡◌, [], length, IfSome};
 
-use crate::BytePage;
+use crate::records::OneByte;
+use byte_page::BytePage;
 use index_page::{Body, PageError, PageHead, Place, spots_tell_keys};
-use key_tuple::{Fields, Mode, Value};
+use key_tuple::{Mode, Value};
 use std::alloc::Global;
 
 /// A line of a dump: where sixteen bytes stand, and which they are.
@@ -57,24 +58,6 @@ pub(crate) const EIGHT: [(u8, Place); 8] = [
     (b'g', 181),
     (b'h', 190),
 ];
-
-/// A key of one byte.
-#[derive(Drop)]
-struct OneByte {
-    bytes: [u8; 1],
-}
-
-impl Fields for OneByte {
-    ghost fields_of = { λ k. k.bytes ∷ [] };
-
-    fn count(&self) -> u8 {
-        1
-    }
-
-    fn field(&self, _i: u8) -> &[u8] {
-        &self.bytes
-    }
-}
 
 /// The sixteen bytes at a place of the dump.
 pub(crate) fn line_at(at: usize) -> [u8; 16] {
@@ -239,39 +222,39 @@ fn has_shorter(bytes: &[u8]) -> bool
 
 #[test]
 fn a_page_without_rows_has_the_bytes_of_the_dump(rt: HostRuntime) {
-    let same = page_three(rt.alloc()).map_or(false, |page| is_dump(&page.bytes));
+    let same = page_three(rt.alloc()).map_or(false, |page| is_dump(page.bytes()));
     assert!(rt; same);
 }
 
 #[test]
 fn a_page_with_a_row_has_the_bytes_of_the_dump(rt: HostRuntime) {
-    let same = page_with_row(rt.alloc()).map_or(false, |page| is_row_dump(&page.bytes));
+    let same = page_with_row(rt.alloc()).map_or(false, |page| is_row_dump(page.bytes()));
     assert!(rt; same);
 }
 
 #[test]
 fn a_value_is_written_in_place(rt: HostRuntime) {
     let page = page_with_set_row(rt.alloc(), b"y", 127);
-    let same = page.map_or(false, |page| page.bytes[0x80] == b'y');
+    let same = page.map_or(false, |page| page.bytes()[0x80] == b'y');
     assert!(rt; same);
 }
 
 #[test]
 fn a_longer_value_goes_behind(rt: HostRuntime) {
     let page = page_with_set_row(rt.alloc(), b"xyz", 136);
-    let same = page.map_or(false, |page| has_longer(&page.bytes));
+    let same = page.map_or(false, |page| has_longer(page.bytes()));
     assert!(rt; same);
 }
 
 #[test]
 fn a_shorter_value_takes_the_bytes_of_the_one_before(rt: HostRuntime) {
     let page = page_with_set_row(rt.alloc(), b"", 127);
-    let same = page.map_or(false, |page| has_shorter(&page.bytes));
+    let same = page.map_or(false, |page| has_shorter(page.bytes()));
     assert!(rt; same);
 }
 
 #[test]
 fn a_page_with_eight_rows_has_three_slots(rt: HostRuntime) {
-    let same = page_with_eight(rt.alloc()).map_or(false, |page| has_eight(&page.bytes));
+    let same = page_with_eight(rt.alloc()).map_or(false, |page| has_eight(page.bytes()));
     assert!(rt; same);
 }

@@ -1,13 +1,13 @@
 //! The bytes of records against a page's dump.
-ghost use Rattle.std.specs.Prelude.{◌∷◌, [], ◌<◌, length};
+ghost use Rattle.std.specs.Prelude.{◌∷◌, []};
 
-use crate::{CHILD_BYTES, RecordHead, RecordKind, write};
+use compact_record::{CHILD_BYTES, RecordHead, RecordKind, write};
 use key_tuple::{Blank, Fields};
 
 /// A key of one byte.
 #[derive(Drop)]
-struct OneByte {
-    bytes: [u8; 1],
+pub(crate) struct OneByte {
+    pub(crate) bytes: [u8; 1],
 }
 
 impl Fields for OneByte {
