@@ -14,7 +14,8 @@ use Rattle.forest_law.specs.Numbers.{frame_id}
 use Rattle.forest_world.specs.Held.{TreePass, shape_of_pass}
 use Rattle.buffer_pool.specs.Frames.{GivesFrame}
 use Rattle.tree_growth.specs.Ways.{IsGoingDown}
-use Rattle.tree_growth.proofs.AddLemmas.{in_first, in_second, goes_both}
+use Rattle.tree_law.proofs.ListLemmas.{In-append_left, In-append_right}
+use Rattle.tree_growth.proofs.AddLemmas.{goes_both}
 use Rattle.tree_growth.proofs.HandLemmas.{goes_gave}
 use Rattle.tree_shrinking.specs.declared.families.Family.{Family}
 use Rattle.tree_shrinking.specs.Pairs.{GoesTo}
@@ -104,13 +105,13 @@ module _ {p q r : TreePass} {i : ℕ} {key : FieldList} {bs cs : List ℕ} (firs
   pub among_first : AreAmong first.goes.added.references
       (to_both first second).goes.added.references
   unfolding to_both goes_both
-  among_first x among = in_first x first.goes.added.references second.goes.added.references among
+  among_first x among = In-append_left x first.goes.added.references second.goes.added.references among
 
   pub among_second : AreAmong second.goes.added.references
       (to_both first second).goes.added.references
   unfolding to_both goes_both
   among_second x among =
-      in_second x first.goes.added.references second.goes.added.references among
+      In-append_right x first.goes.added.references second.goes.added.references among
 
   pub freed_both : pages_freed (to_both first second).goes.added.references
       ≡ pages_freed first.goes.added.references + pages_freed second.goes.added.references

@@ -19,7 +19,7 @@ use Rattle.tree_growth.specs.declared.looking.PageInHand.{PageInHand}
 use Rattle.tree_growth.specs.Pages.{HoldsRoot}
 use Rattle.tree_growth.specs.Ways.{ArrivesAt}
 use Rattle.tree_growth.proofs.AddLemmas.{same_shape}
-use Rattle.tree_growth.proofs.KnownLemmas.{frame_one}
+use Rattle.tree_descent.proofs.InnerLemmas.{one_known}
 use Rattle.tree_shrinking.specs.declared.families.Family.{Family}
 use Rattle.tree_shrinking.specs.declared.pairs.Pair.{Pair}
 use Rattle.tree_shrinking.specs.declared.pairs.Siblings.{Siblings}
@@ -125,10 +125,10 @@ module _ {p q : TreePass} {i : ℕ} {key : FieldList} {at : PageInHand}
       let given : WasGiven (shape_of_pass p) at.block gave.frame to.goes.added.references =
       given_more (among_second (arrived reaches) back) shape_is
       (gave_among [] reaches.way gave (λ k ne each. (ne, tt)) refl) in
-      let same = frame_one (view q) at.block gave.frame reaches.is.frame (gave.taken, gave.held)
+      let same = one_known (view q) at.block gave.frame reaches.is.frame (gave.taken, gave.held)
       reaches.is.knows in
       let page = reaches.is.page.is in
-      let one_frame = frame_one (view q) at.block reaches.is.frame root.frame reaches.is.knows
+      let one_frame = one_known (view q) at.block reaches.is.frame root.frame reaches.is.knows
       root.knows in
       let one_page = same_some page.page root.has.page
       (sym page.paged ∙ (ap (λ (f : Frame). f.page) one_frame ∙ root.has.paged)) in
@@ -160,7 +160,7 @@ module _ {p q : TreePass} {i : ℕ} {key : FieldList} {at : PageInHand}
         let given : WasGiven (shape_of_pass p) at.block gave.frame to.goes.added.references =
         given_more (among_second way (back c)) (shape_to c.to ∙ shape_is)
         (gave_among [] c.to.way gave (λ k ne each. (ne, tt)) refl) in
-        let same = frame_one (view r) at.block gave.frame held.frame (gave.taken, gave.held)
+        let same = one_known (view r) at.block gave.frame held.frame (gave.taken, gave.held)
         (leaves.still held.frame held.knows) in
         let page = held.page in
         record {

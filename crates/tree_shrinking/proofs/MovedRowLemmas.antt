@@ -54,12 +54,10 @@ lost : (f g h : Frame) → g ≡ record f {
   figures = h.figures;
   hashed = h.hashed;
 }
-lost f g h is rest = rest ∙ (λ i. (let z = is i in record z {
-  page = (sym (ap (λ (x : Frame). x.page) rest)) i;
-  clock = (sym (ap (λ (x : Frame). x.clock) rest)) i;
-  figures = h.figures;
-  hashed = h.hashed;
-}))
+lost f g h is rest = λ i. record h {
+  low = (ap (λ (x : Frame). x.low) rest ∙ ap (λ (x : Frame). x.low) is) i;
+  high = (ap (λ (x : Frame). x.high) rest ∙ ap (λ (x : Frame). x.high) is) i;
+}
 
 module _ {l l' r r' u u' : Frame} (c : MergesUnder l l' r r' u u') (gave : KeepsHashing r r')
     (took : KeepsHashing l l') (tidy : IsTidy (hash_block l)) where
@@ -121,13 +119,9 @@ rehashed_merge {l} {m} {m'} {r} {n} {n'} under left right = let c = under.merge 
     rises = subst (ClockRises l.clock) (sym (ap (λ (f : Frame). f.clock) left)) c.rises;
     right_rises = subst (ClockRises r.clock) (sym (ap (λ (f : Frame). f.clock) right))
         c.right_rises;
-    left = left ∙ (λ i. (let z = c.left i in record z {
-      page = (sym (ap (λ (f : Frame). f.page) left)) i;
-      high = (sym (ap (λ (f : Frame). f.high) left)) i;
-      clock = (sym (ap (λ (f : Frame). f.clock) left)) i;
-      figures = m'.figures;
-      hashed = m'.hashed;
-    }));
+    left = λ i. record m' {
+      low = (ap (λ (f : Frame). f.low) left ∙ ap (λ (f : Frame). f.low) c.left) i;
+    };
     right = lost r n n' c.right right;
   };
   pointer = under.pointer;
@@ -195,11 +189,9 @@ rehashed_lift {t} {m} {m'} {b} {n} {n'} c root child = record {
   lifts = c.lifts;
   rises = subst (ClockRises t.clock) (sym (ap (λ (f : Frame). f.clock) root)) c.rises;
   under_rises = subst (ClockRises b.clock) (sym (ap (λ (f : Frame). f.clock) child)) c.under_rises;
-  root = root ∙ (λ i. (let z = c.root i in record z {
-    page = (sym (ap (λ (f : Frame). f.page) root)) i;
-    clock = (sym (ap (λ (f : Frame). f.clock) root)) i;
-    figures = m'.figures;
-    hashed = m'.hashed;
-  }));
+  root = λ i. record m' {
+    low = (ap (λ (f : Frame). f.low) root ∙ ap (λ (f : Frame). f.low) c.root) i;
+    high = (ap (λ (f : Frame). f.high) root ∙ ap (λ (f : Frame). f.high) c.root) i;
+  };
   child = lost b n n' c.child child;
 }

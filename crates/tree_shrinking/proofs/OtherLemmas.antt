@@ -19,7 +19,7 @@ use Rattle.buffer_pool.proofs.AddedLemmas.{frame_no_tree}
 use Rattle.buffer_pool.proofs.SpaceLemmas.{known_below}
 use Rattle.tree_growth.specs.Ways.{IsGoingDown}
 use Rattle.tree_growth.proofs.HandLemmas.{frames_apart}
-use Rattle.tree_growth.proofs.KnownLemmas.{frame_one}
+use Rattle.tree_descent.proofs.InnerLemmas.{one_known}
 
 -- each frame that is known is one of these blocks
 abbrev pub KnowsOnly : View → List ℕ → Type 0
@@ -52,7 +52,7 @@ pub has_other : (v : View) (n b : ℕ) (f : Frame) (page : PageRows) → KnowsFr
 has_other v n b f page knows paged ne g other that has =
     subst (λ (r : PageRows). r.head.number ≢ n)
     (same_some page other
-    (sym paged ∙ (ap (λ (z : Frame). z.page) (frame_one v b f g knows that) ∙ has))) ne
+    (sym paged ∙ (ap (λ (z : Frame). z.page) (one_known v b f g knows that) ∙ has))) ne
 
 -- none has where none of these has
 pub holds_others : (v : View) (n : ℕ) (bs : List ℕ) → KnowsOnly v bs

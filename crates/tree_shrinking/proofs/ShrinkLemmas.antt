@@ -10,7 +10,8 @@ use Rattle.buffer_pool.specs.Trees.{TakesTree, GivesTree}
 use Rattle.buffer_pool.proofs.AddedLemmas.{only_given}
 use Rattle.buffer_pool.proofs.CallLemmas.{gave_tree}
 use Rattle.tree_growth.specs.Ways.{GoesOn}
-use Rattle.tree_growth.proofs.AddLemmas.{in_first, in_second, same_shape, goes_both}
+use Rattle.tree_law.proofs.ListLemmas.{In-append_left, In-append_right}
+use Rattle.tree_growth.proofs.AddLemmas.{same_shape, goes_both}
 use Rattle.tree_growth.proofs.TreeLemmas.{goes_tree, grows_of}
 use Rattle.tree_shrinking.specs.Shrinking.{Shrinks}
 use Rattle.tree_shrinking.specs.Joins.{WalksUp}
@@ -57,8 +58,8 @@ module _ {p q r s : TreePass} {i : ℕ} {key : FieldList} (below : i < (shape_of
           top = walks.ends.top;
           freed = omega (arith, sum, part, many);
           rests = rests_more rs all.added.references
-              (λ x among. in_first x (first.added.references ++ rs) end
-              (in_second x first.added.references rs among)) (shape_of_pass q) (shape_of_pass p)
+              (λ x among. In-append_left x (first.added.references ++ rs) end
+              (In-append_right x first.added.references rs among)) (shape_of_pass q) (shape_of_pass p)
               (same_shape p q first.added first.adds) i walks.ends.top key walks.ends.rests;
         };
       }

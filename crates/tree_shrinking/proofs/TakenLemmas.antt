@@ -22,7 +22,7 @@ use Rattle.tree_shrinking.specs.declared.pairs.Siblings.{Siblings}
 use Rattle.tree_shrinking.specs.Merging.{CanMerge}
 use Rattle.tree_shrinking.specs.Pairs.{HoldsAbovePair, HoldsPair, AreToJoin, GoesTo, StillKnows, pair_in, TakesPair}
 use Rattle.tree_growth.proofs.AddLemmas.{same_shape}
-use Rattle.tree_growth.proofs.KnownLemmas.{frame_one}
+use Rattle.tree_descent.proofs.InnerLemmas.{one_known}
 use Rattle.tree_shrinking.specs.Shrinking.{WasGiven}
 use Rattle.tree_shrinking.specs.Joins.{GivesPair}
 use Rattle.tree_shrinking.proofs.GivenLemmas.{given_more, among_first, among_second, gave_among}
@@ -167,12 +167,12 @@ module _ {p q : TreePass} {pair : Pair} {i : ℕ} {key : FieldList}
       to = pair_back;
       still = parent_still;
       right = λ f knows. subst (λ g. WasGiven (shape_of_pass p) pair.right g all)
-          (frame_one (view p) pair.right first.frame f (first.taken, first.held) knows)
+          (one_known (view p) pair.right first.frame f (first.taken, first.held) knows)
           (given_more (among_first gave_right gave_left) refl
           (gave_among (pair.parent ∷ pair.left ∷ []) way first
           (λ k ne each. (each.0, (each.1.0, (ne, tt)))) refl));
       left = λ f knows. subst (λ g. WasGiven (shape_of_pass p) pair.left g all)
-          (frame_one (view q) pair.left second.frame f (second.taken, second.held)
+          (one_known (view q) pair.left second.frame f (second.taken, second.held)
           (still_gave p q pair.right way.known first pair.left f (λ e. apart_both (sym e)) knows))
           (given_more (among_second gave_right gave_left)
           (same_shape p q gave_right.goes.added gave_right.goes.adds)

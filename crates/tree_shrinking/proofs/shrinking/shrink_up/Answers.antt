@@ -1,6 +1,6 @@
 use Rattle.std.proofs.Common.{ℕ, ◌≡◌, ◌+◌, Option, IfSome, subst, Ok, ap, refl, arith}
 use Rattle.tree_growth.proofs.AddLemmas.{goes_nowhere}
-use Rattle.tree_growth.proofs.HandLemmas.{same_pass}
+use Rattle.buffer_pool.proofs.AgainLemmas.{passes_both}
 use Rattle.tree_shrinking.proofs.LeaveLemmas.{frees_more, walks_up}
 use Rattle.tree_shrinking.proofs.WayLemmas.{to_both}
 use Rattle.tree_shrinking.proofs.shrinking.shrink_up.Goals as goal
@@ -29,7 +29,7 @@ returns-in-None-2-clause-ok g c =
 
 pub loop-preserved : goal.loop-preserved
 loop-preserved g c = record {
-  same = same_pass c.args.pass.now c.loop.pass c.join_level.new.pass c.loop.invariant.same
+  same = passes_both c.args.pass.now c.loop.pass c.join_level.new.pass c.loop.invariant.same
       c.join_level.ensures.own.0;
   own = c.join_level.ensures.own.1;
   many = frees_more c.loop.invariant.many
