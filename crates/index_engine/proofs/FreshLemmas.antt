@@ -2,33 +2,22 @@
 use Rattle.std.proofs.Common.{◌≡◌, ℕ, ◌+◌, ◌<◌, true, length, sym, ap, subst, ◌∙◌, arith, Option, Some, None}
 use lib.ListN.{get_elem?}
 use Rattle.key_tuple.specs.Order.{FieldList}
-use Rattle.key_tuple.specs.KeyPlace.{At, within}
-use Rattle.key_tuple.specs.Position.{IsOfFields}
 use Rattle.key_tuple.specs.declared.mode.Mode.TheVariants as mode
-use Rattle.key_tuple.proofs.PositionLemmas.{has_key}
 use Rattle.latch_law.specs.declared.knows.Holding.{Holding}
 use Rattle.latch_law.specs.declared.knows.Terms.{Terms}
 use Rattle.latch_law.specs.Views.{holding}
 use Rattle.latch_space.specs.Has.{Has, SameHands}
 use Rattle.latch_space.specs.Passes.{view, count}
-use Rattle.latch_space.proofs.Pointwise.{has_again}
-use Rattle.tree_law.specs.Pages.{low_place, high_place, HasFields}
 use Rattle.index_law.specs.Shape.{Shape}
 use Rattle.forest_law.specs.declared.objects.Frame.{Frame}
 use Rattle.forest_law.specs.declared.objects.Object.{Object}
 use Rattle.forest_law.specs.declared.objects.Object.TheVariants as object
 use Rattle.forest_law.specs.Numbers.{frame_id, part_id}
-use Rattle.forest_law.specs.Objects.{IsFrameOf}
 use Rattle.forest_law.specs.State.{ForestState, fields_for}
-use Rattle.forest_law.proofs.ObjectLemmas.{same_frame}
 use Rattle.forest_world.specs.Held.{TreePass, shape_of_pass, HasFrame}
 use Rattle.call_law.specs.Hands.{KnowsFrame, LacksObject}
 use Rattle.call_law.specs.Spoken.{View}
-use Rattle.buffer_pool.specs.Forests.{FitsTrees}
-use Rattle.buffer_pool.specs.Frames.{GivesFrame}
 use Rattle.buffer_pool.proofs.CallLemmas.{frame_has}
-use Rattle.buffer_pool.proofs.FrameLemmas.{one_held}
-use Rattle.tree_facts.specs.TreeFrames.{low_of, high_of}
 use Rattle.tree_descent.specs.declared.descending.Leaf.{Leaf}
 use Rattle.tree_descent.specs.Leaves.{cut_in, IsPageFor, IsLeafFor}
 use Rattle.leaf_changes.specs.Holds.{IsLeafOf, HoldsLeaf, HoldsFreshAlone}

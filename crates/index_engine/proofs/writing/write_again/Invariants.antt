@@ -6,7 +6,7 @@ use Rattle.index_engine.proofs.writing.write_again.Given as goal
 
 abbrev pub invariant-loop : goal.invariant-loop
 invariant-loop g l = record {
-  own : IsSamePass l.initial.pass l.pass × IsPassOf l.self.space.now l.pass;
+  own : IsSamePass l.initial.pass l.pass × IsPassOf l.call.space.now l.pass;
   nothing : count l.pass ≡ 0;
-  quiet : IsQuiet (view l.initial.pass) (view l.pass) l.self.index;
+  quiet : IsQuiet (view l.initial.pass) (view l.pass) l.call.index;
 }
