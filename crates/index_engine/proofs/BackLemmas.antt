@@ -15,7 +15,7 @@ use Rattle.hash_maintain.specs.Leaves.{kept_frame}
 use Rattle.call_law.specs.Spoken.{View}
 use Rattle.leaf_rows.specs.Changing.{hashed_as}
 use Rattle.index_engine.specs.Commits.{IsFullThen}
-use Rattle.index_engine.specs.Hashed.{HoldsAtRest, HoldsRowBack, HoldsRowCame, IsBack, RowIsKept, Settles}
+use Rattle.index_engine.specs.Hashed.{HoldsAtRest, HoldsRowBack, HoldsRowCame, IsBack, RowIsKept, Settles, MayDrop}
 use Rattle.index_engine.specs.Holds.{HoldsLeaf, IsLeafOf, KeepsNumber}
 use Rattle.index_engine.specs.Says.{AnswersHolding, OnlyLooks, SaysOnce, SeesFull}
 use Rattle.index_engine.proofs.HoldLemmas.{frame_again, leaf_again}
@@ -36,7 +36,7 @@ module _ (p : TreePass) (b place : ℕ) (held : HoldsRowBack p b place) where
     hash = held.hash;
   }
 
-  module _ (p1 : TreePass) (kept : RowIsKept p held.index b held.known held.now (λ h. h) p1) where
+  module _ (p1 : TreePass) (kept : RowIsKept p held.index b held.known held.now (λ h. h) MayDrop p1) where
     abbrev leaf : Frame
     leaf = kept_frame kept.answer held.now
 

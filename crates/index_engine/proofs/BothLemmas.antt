@@ -28,6 +28,7 @@ use Rattle.leaf_rows.specs.Finding.{HasSpot}
 use Rattle.index_engine.specs.Hashed.{HoldsLeafAndPart, HoldsHashed, HoldsPartKept, KeepsHashed, GivesPartOf, count_with_part}
 use Rattle.index_engine.specs.Holds.{IsLeafOf, HoldsFreshAlone, HoldsStill, StaysKnown}
 use Rattle.index_engine.proofs.HashedLemmas.{part_no_frame}
+use Rattle.index_engine.proofs.StayLemmas.{alike_stays}
 use Rattle.index_engine.proofs.UpkeepLemmas.{none_hashed}
 
 -- the partition of an index is one of all
@@ -50,6 +51,7 @@ module _ (p q : TreePass) (b i : ℕ) (key : FieldList) (spot : Spot)
       was = none_hashed None f e;
       is = none_hashed None f e;
       tidy = λ t. t;
+      stays = alike_stays p b f f (λ index params was. was);
       room = (let one = alone.one in omega (arith, one));
     });
   }
@@ -111,6 +113,7 @@ module _ (p q : TreePass) (b i : ℕ) (key : FieldList) (spot : Spot)
         was = λ n is. sym e ∙ is;
         is = λ n is. sym e ∙ is;
         tidy = λ t. t;
+        stays = alike_stays q b f f (λ index params was. was);
         room = (let one = alone.one in let more = took.count in omega (arith, one, more));
       });
     }

@@ -21,6 +21,8 @@ use Rattle.index_engine.proofs.HashedLemmas.{hash_again, part_block, tidy_withou
 use Rattle.index_engine.proofs.HoldLemmas.{frame_again}
 use Rattle.index_engine.proofs.RehashLemmas.{del_kept, has_row, kept_as, stands_kept}
 use Rattle.index_engine.proofs.RowLemmas.{del_makes}
+use Rattle.forest_law.specs.HashStays.{IsHashedWith}
+use Rattle.index_engine.proofs.StayLemmas.{alike_stays}
 
 -- an answer of a pass is one of it before its hand changed
 pub answers_earlier : (p p1 q : TreePass) (b i : ℕ) (ask : Ask) (told : Told) (row : Pair)
@@ -54,6 +56,9 @@ module _ (p : TreePass) (b i place : ℕ) (key : FieldList) (next : Frame)
     was = held.hash.was;
     is = held.hash.is;
     tidy = λ t. subst IsTidy (without_block place now) (tidy_without place now (held.hash.tidy t));
+    stays = alike_stays p b f (frame_without place now) (λ index params was. let is = subst
+        (λ a. IsHashedWith index params (kept_frame a f)) (sym held.stays) was in
+        record { hashed = is.hashed; built = is.built });
     room = held.hash.room;
   })
 

@@ -20,7 +20,7 @@ use Rattle.leaf_rows.specs.Changing.{HasRowOf, hashed_as}
 use Rattle.leaf_rows.specs.Setting.{IsLongerValue, SetsValue, MovesRowTo, value_refusal, frame_before}
 use Rattle.index_engine.specs.Changes.{HoldsRowOf, KnowsAsMuch, KnowsSame, RefusesHolding}
 use Rattle.index_engine.specs.Lengthening.{GrowsRow, HoldsGrownRow, HoldsGrownRowAt, HoldsRowToGrow, HoldsSomePage, IsRestored, RowGrew, StaysUngrown}
-use Rattle.index_engine.specs.Hashed.{HoldsRowBack, HoldsRowCame, HoldsRowToGo, IsBack, KeepsHashed, KeepsRowThatCame, RowIsKept}
+use Rattle.index_engine.specs.Hashed.{HoldsRowBack, HoldsRowCame, HoldsRowToGo, IsBack, KeepsHashed, KeepsRowThatCame, RowIsKept, MayDrop, MayNotDrop}
 use Rattle.index_engine.specs.Holds.{HoldsLeaf, IsLeafOf, KeepsNumber}
 use Rattle.index_engine.specs.Says.{OnlyLooks}
 use Rattle.index_engine.proofs.BackLemmas.{back_earlier, leaf_back}
@@ -28,6 +28,10 @@ use Rattle.index_engine.proofs.HashedLemmas.{hash_moves, part_block, tidy_rows}
 use Rattle.index_engine.proofs.KnownLemmas.{number_stays}
 use Rattle.index_engine.proofs.RehashLemmas.{before_kept, has_grown, has_row, keeps_rehashed, kept_as, kept_paged, longer_kept, moves_paged, sets_kept, sets_rehashed, stands_kept}
 use Rattle.index_engine.proofs.SettleLemmas.{parts_same, stays_both}
+use Rattle.forest_law.specs.HashStays.{IsHashedAlike, IsHashedWith}
+use Rattle.learning.specs.declared.event.BlockFigures.{BlockFigures}
+use Rattle.map_history.specs.Map.{Set}
+use Rattle.index_engine.proofs.StayLemmas.{alike_stays, lacks_undone, stays_moved}
 
 -- a row moved from a place of the frame f to one of the frame g, which is hashed as f is
 module _ (f g : Frame) (place other : ℕ) (moves : MovesRowTo f g place other)
@@ -63,9 +67,14 @@ module _ (p : TreePass) (b i place : ℕ) (key : FieldList) (value : List ℕ)
   }
 
   module _ (p1 : TreePass)
-      (gone : RowIsKept p held.index b held.known held.known (without_row place) p1) where
+      (gone : RowIsKept p held.index b held.known held.known (without_row place) MayNotDrop p1) where
     abbrev now : Frame
     now = kept_frame gone.answer held.known
+
+    -- it is hashed as it was
+    stays_now : IsHashedAlike held.known now
+    stays_now index params was =
+        subst (λ a. IsHashedWith index params (kept_frame a held.known)) (sym gone.may_be) was
 
     row_now : HasRowOf now place key
     row_now = stands_kept gone.answer held.known place key held.row.has
@@ -106,6 +115,11 @@ module _ (p : TreePass) (b i place : ℕ) (key : FieldList) (value : List ℕ)
             (λ index e. gone.hash.is index (sym grew.hash.hashed ∙ e))
             (λ t. moved_tidy now grew.made place grown.place grew.moves grew.hash.figures
             grew.hash.hashed (gone.hash.tidy t))
+            (alike_stays p2 b held.known grew.made (λ index params was. let is = stays_now index params
+            was in record {
+              hashed = grew.hash.hashed ∙ is.hashed;
+              built = ap (λ (z : BlockFigures). z.built) grew.hash.figures ∙ is.built;
+            }))
 
         -- so its entry may come
         pub comes_grown : HoldsRowCame p2 b grown.place
@@ -123,7 +137,7 @@ module _ (p : TreePass) (b i place : ℕ) (key : FieldList) (value : List ℕ)
         }
 
         module _ (p3 : TreePass) (keeps : KeepsRowThatCame p2 b grown.place p3) where
-          kept : RowIsKept p2 held.index b held.known grew.made (λ h. h) p3
+          kept : RowIsKept p2 held.index b held.known grew.made (λ h. h) MayDrop p3
           kept = keeps held.index held.known grew.made grew.has grown_hash
 
           pub grown_row : HoldsGrownRow p3 b i place key value grown
@@ -166,7 +180,8 @@ module _ (p : TreePass) (b i place : ℕ) (key : FieldList) (value : List ℕ)
           row = has_row now place key row_now;
           same = kept_as gone.answer held.known;
           hash = hash_moves p1 p2 b same held.index held.known now (without_row place now) now
-              (without_row place now) gone.hash gone.hash.part gone.hash.is gone.hash.tidy;
+              (without_row place now) gone.hash gone.hash.part gone.hash.is gone.hash.tidy
+              (alike_stays p2 b held.known now stays_now);
         }
 
         -- where there is no room, the load and the charge are more than the room
@@ -220,7 +235,7 @@ module _ (p : TreePass) (b place : ℕ) (grown : GrownRow)
   }
 
   module _ (p1 : TreePass)
-      (gone : RowIsKept p held.index b held.known held.now (without_row grown.place) p1) where
+      (gone : RowIsKept p held.index b held.known held.now (without_row grown.place) MayNotDrop p1) where
     abbrev left : Frame
     left = kept_frame gone.answer held.now
 
@@ -267,7 +282,17 @@ module _ (p : TreePass) (b place : ℕ) (grown : GrownRow)
             (part_block p1 b (without_row grown.place left) (without_row place again) held.index
             (sym (moved_block again left place grown.place moved_again refl refl)) gone.hash.part)
             gone.hash.is
-            (λ t. tidy_moved again left place grown.place moved_again refl refl (gone.hash.tidy t));
+            (λ t. tidy_moved again left place grown.place moved_again refl refl (gone.hash.tidy t))
+            (stays_moved p1 p2 b same held.index held.known (without_row grown.place left) left again
+            gone.hash.was gone.hash.part (record {
+              alike = λ index params is. record { hashed = is.hashed; built = is.built };
+              bare = λ none. none;
+              lacks = λ s spare index params. lacks_undone s spare b index params held.known left
+                  again held.sets.page held.sets.new (Set held.key held.value) held.known.clock
+                  held.now.clock held.sets.had (kept_paged gone.answer held.now
+                  ∙ ap (λ (z : Frame). z.page) held.sets.kept)
+                  (ap (λ (z : Frame). z.page) was) (inr (inl held.sets.sets));
+            }) gone.hash.stays);
       }
 
       pub shrunk : (i : ℕ) (q : TreePass) → IsBack p2 i b q → IsBack p i b q

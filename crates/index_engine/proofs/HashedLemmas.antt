@@ -24,7 +24,7 @@ use Rattle.forest_law.specs.declared.objects.Object.{Object}
 use Rattle.forest_law.specs.declared.objects.Object.TheVariants as object
 use Rattle.forest_law.specs.Hashed.{folds_for, hash_block, IsExactFor}
 use Rattle.forest_law.specs.HashSteps.{AsksSame}
-use Rattle.forest_law.specs.Numbers.{part_id, frame_id}
+use Rattle.forest_law.specs.Numbers.{part_id}
 use Rattle.forest_law.proofs.ObjectLemmas.{same_part}
 use Rattle.index_law.specs.Shape.{Shape}
 use Rattle.forest_world.specs.Held.{TreePass, shape_of_pass, HasPart, HoldsPart, IsKnownBeyond}
@@ -35,7 +35,9 @@ use Rattle.hash_maintain.specs.Upkeep.{AreInPlace, IsExactIn, IsExactWhereHashed
 use Rattle.call_law.specs.Spoken.{View}
 use Rattle.leaf_rows.specs.Changing.{frame_without}
 use Rattle.index_engine.specs.Changes.{KnowsSame}
-use Rattle.index_engine.specs.Hashed.{IsHashedFor, HoldsPartKept, HoldsPartOf, KeepsHashed, ids_held}
+use Rattle.index_engine.specs.Hashed.{IsHashedFor, HoldsPartKept, HoldsPartOf, KeepsHashed, StaysOrLacks, ids_held}
+pub use Rattle.index_engine.proofs.StayLemmas.{part_no_frame}
+use Rattle.index_engine.proofs.StayLemmas.{part_stays, stays_again}
 
 -- a frame without a row, by the one word and by the other
 page_is : (place : ℕ) (o : Option PageRows)
@@ -154,26 +156,8 @@ pub not_lacked : (p : TreePass) (k : ℕ) (x y : Part) → HasPart p k x y → L
 not_lacked p k x y has lacks = none_is_not (holding has.held.0 (object.Part x))
     (sym lacks ∙ has.held.1)
 
--- a partition's number is no frame's
-pub part_no_frame : (s : Shape) (k b : ℕ) → k < s.parts → part_id s k ≢ frame_id s b
-part_no_frame s k b below e = omega (arith, below, e)
-
 module _ (p q : TreePass) (held : (view q).held ≡ (view p).held)
     (terms : (view q).terms ≡ (view p).terms) where
-  -- a partition whose place in hand stays is held still
-  part_stays : (k : ℕ) (x y : Part)
-      → get_elem? (values q) (part_id (shape_of_pass p) k)
-      ≡ get_elem? (values p) (part_id (shape_of_pass p) k)
-      → HasPart p k x y → HasPart q k x y
-  part_stays k x y stays has = record {
-    held = (
-      has.held.0,
-      (λ i. get_elem? (held i) (part_id (terms i).shape k)) ∙ has.held.1,
-    );
-    value = ap (λ (t : Terms Shape). get_elem? (values q) (part_id t.shape k)) terms
-        ∙ (stays ∙ has.value);
-  }
-
   kept_stays : (k b : ℕ) (h : Frame)
       → get_elem? (values q) (part_id (shape_of_pass p) k)
       ≡ get_elem? (values p) (part_id (shape_of_pass p) k)
@@ -182,7 +166,7 @@ module _ (p q : TreePass) (held : (view q).held ≡ (view p).held)
     below = subst (λ (t : Terms Shape). k < t.shape.parts) (sym terms) kept.below;
     known = kept.known;
     now = kept.now;
-    has = part_stays k kept.known kept.now stays kept.has;
+    has = part_stays p q held terms k kept.known kept.now stays kept.has;
     exact = subst (λ (t : Terms Shape). IsExactFor t.shape k b kept.now h) (sym terms) kept.exact;
     others = kept.others;
     shape = kept.shape;
@@ -239,14 +223,16 @@ hash_again p q same terms o b f g h hash = let counted = same.count in let room 
   was = hash.was;
   is = hash.is;
   tidy = hash.tidy;
+  stays = stays_again p q same terms b f g hash.stays;
   room = omega (arith, counted, room);
 }
 
 -- and where the leaf's frame alone is another
 pub hash_moves : (p q : TreePass) (b : ℕ) → KnowsSame p q b → (o : Option ℕ) (f g h g' h' : Frame)
     → KeepsHashed p o b f g h → HoldsPartOf p o b h' → IsHashedFor o g'
-    → (IsTidy (hash_block f) → IsTidy (hash_block g')) → KeepsHashed q o b f g' h'
-hash_moves p q b same o f g h g' h' hash part is tidy =
+    → (IsTidy (hash_block f) → IsTidy (hash_block g')) → StaysOrLacks q b f g'
+    → KeepsHashed q o b f g' h'
+hash_moves p q b same o f g h g' h' hash part is tidy stays =
     let counted = same.count in let room = hash.room in record {
       rest = rest_still p q same.view o b (λ j apart. (same.others j apart.0).1) hash.rest;
       part = of_still p q same.view o b h'
@@ -255,6 +241,7 @@ hash_moves p q b same o f g h g' h' hash part is tidy =
       was = hash.was;
       is = is;
       tidy = tidy;
+      stays = stays;
       room = omega (arith, counted, room);
     }
 

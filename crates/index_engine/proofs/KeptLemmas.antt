@@ -25,22 +25,23 @@ use Rattle.forest_law.specs.Steps.{Rests}
 use Rattle.forest_law.proofs.HashLemmas.{rests_keep, keeps_up}
 use Rattle.forest_law.proofs.ObjectLemmas.{same_frame, same_part}
 use Rattle.index_law.specs.Shape.{Shape}
-use Rattle.forest_world.specs.Held.{TreePass, shape_of_pass, HasFrame}
+use Rattle.forest_world.specs.Held.{TreePass, shape_of_pass, HasFrame, HasPart}
 use Rattle.forest_world.proofs.HandLemmas.{rests_itself}
 use Rattle.buffer_pool.specs.Parts.{part_of_index, part_ids}
 use Rattle.index_engine.specs.Hashed.{IsHashedFor, HoldsPartKept, HoldsPartOf, KeepsHashed}
+use Rattle.forest_law.specs.HashStays.{IsHashedWith, StaysHashed}
 
 -- an object is of one kind
 part_or_frame : (x : Frame) (r : Part) → object.Frame x ≡ object.Part r → ⊥
 part_or_frame x r e = absurd cc
 
+none_some : (index : ℕ) → None ≡ Some index → ⊥
+none_some index e = absurd cc
+
 -- a frame that is hashed for an index of none isn't hashed
 for_none : (f : Frame) → IsHashedFor None f → f.hashed ≡ None
 for_none f is = go f.hashed refl
   where
-    none_some : (index : ℕ) → None ≡ Some index → ⊥
-    none_some index e = absurd cc
-
     go : (h : Option ℕ) → f.hashed ≡ h → f.hashed ≡ None
     go None e = e
     go (Some index) e = absurd (none_some index (is index e))
@@ -142,6 +143,18 @@ module _ (p : TreePass) (o : Option ℕ) (b : ℕ) (f g x h : Frame) (has : HasF
         (one_at (known_values p) leaf (object.Frame f) (object.Part r) leaf_known
         (ap (get_elem? (known_values p)) (sym e) ∙ becomes.0))
 
+    -- a partition that is held becomes what it is in hand
+    part_becomes : (k : ℕ) (r s : Part) → HasPart p k r s
+        → Becomes (known_values p) vs (part_id sh k) (object.Part r) (object.Part s)
+    part_becomes k r s has =
+        let known = known_at (view p).held (part_id sh k) (holding has.held.0 (object.Part r))
+        has.held.1 in (
+          known,
+          same (part_id sh k) (λ e. part_or_frame f r
+              (one_at (known_values p) leaf (object.Frame f) (object.Part r) leaf_known
+              (ap (get_elem? (known_values p)) (sym e) ∙ known))) ∙ has.value,
+        )
+
     stays_tidy : (c : ℕ) (y z : Frame)
         → Becomes (known_values p) vs (frame_id sh c) (object.Frame y) (object.Frame z)
         → IsTidy (hash_block y) → IsTidy (hash_block z)
@@ -149,6 +162,29 @@ module _ (p : TreePass) (o : Option ℕ) (b : ℕ) (f g x h : Frame) (has : HasF
       | inl lead ↦ subst (λ u. IsTidy (hash_block u)) (sym lead.2)
           (hash.tidy (subst (λ u. IsTidy (hash_block u)) lead.1 tidy))
       | inr stays ↦ subst (λ u. IsTidy (hash_block u)) (sym stays) tidy
+    ]
+
+    -- a leaf that was hashed stays so, or lacks room
+    leaf_stays : StaysHashed sh (known_values p) vs b f g
+    leaf_stays index params was page = elim (hash.stays index params was) [
+      | inl is ↦ inl is
+      | inr dropped ↦ inr (inl (record {
+        old = dropped.known;
+        new = dropped.now;
+        becomes = part_becomes (part_for (shape_of_pass p).parts index) dropped.known dropped.now
+            dropped.has;
+        cause = inl dropped.lacks;
+      }))
+    ]
+
+    stays_hashed : (c : ℕ) (y z : Frame)
+        → Becomes (known_values p) vs (frame_id sh c) (object.Frame y) (object.Frame z)
+        → StaysHashed sh (known_values p) vs c y z
+    stays_hashed c y z becomes = elim (frame_leads c y z becomes) [
+      | inl lead ↦ subst (λ u. StaysHashed sh (known_values p) vs c y u) (sym lead.2)
+          (subst (λ u. StaysHashed sh (known_values p) vs c u g) (sym lead.1)
+          (subst (λ n. StaysHashed sh (known_values p) vs n f g) (sym lead.0) leaf_stays))
+      | inr stays ↦ (λ index params was leaf. inl (subst (IsHashedWith index params) (sym stays) was))
     ]
 
     module _ (ask : BlocksAskTheSame) (below : b < frames_of sh) where
@@ -165,6 +201,11 @@ module _ (p : TreePass) (o : Option ℕ) (b : ℕ) (f g x h : Frame) (has : HasF
               (subst (λ u. AsksSame sh k c u g) (sym lead.1)
               (ask.unhashed sh k c f g (for_none f was) (for_none g is)))
           | inr stays ↦ (λ r s. ap (due_for sh k c s) stays)
+        ];
+        stays = λ c y z becomes. elim (frame_leads c y z becomes) [
+          | inl lead ↦ (λ index params hashed. absurd (none_some index (sym (for_none f was)
+              ∙ (ap (λ (u : Frame). u.hashed) (sym lead.1) ∙ hashed.hashed))))
+          | inr stays ↦ (λ index params hashed. subst (IsHashedWith index params) (sym stays) hashed)
         ];
       })
 
@@ -203,15 +244,7 @@ module _ (p : TreePass) (o : Option ℕ) (b : ℕ) (f g x h : Frame) (has : HasF
 
         up : KeepsUp sh (known_values p) vs this kept.known kept.now (λ c. c == b)
         up = record {
-          becomes = (
-            known_at (view p).held (part_id sh this)
-                (holding kept.has.held.0 (object.Part kept.known)) kept.has.held.1,
-            same (part_id sh this) (λ e. part_or_frame f kept.known
-                (one_at (known_values p) leaf (object.Frame f) (object.Part kept.known) leaf_known
-                (ap (get_elem? (known_values p)) (sym e) ∙ known_at (view p).held (part_id sh this)
-                (holding kept.has.held.0 (object.Part kept.known)) kept.has.held.1)))
-                ∙ kept.has.value,
-          );
+          becomes = part_becomes this kept.known kept.now kept.has;
           sound = λ sound. record {
             room = kept.shape.room ∙ sound.room;
             known = λ n among. nodes_known sound n among;
@@ -231,6 +264,7 @@ module _ (p : TreePass) (o : Option ℕ) (b : ℕ) (f g x h : Frame) (has : HasF
           });
           others = λ c e n here. kept.others n (λ same. not_true (sym e ∙ eq-eqb c b (sym here ∙ same)));
           asks = asks_of;
+          stays = stays_hashed;
         }
           where
             not_true : false ≡ true → ⊥

@@ -1,5 +1,6 @@
 pub mod KnownLemmas
 pub mod HoldLemmas
+mod StayLemmas
 pub mod HashedLemmas
 pub mod UpkeepLemmas
 pub mod KeptLemmas

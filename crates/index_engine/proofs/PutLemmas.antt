@@ -1,5 +1,5 @@
 -- A row that was put in and kept up with, and one that was taken out again.
-use Rattle.std.proofs.Common.{◌≡◌, ℕ, List, sym, ap, subst, ◌∙◌, refl, IsSome}
+use Rattle.std.proofs.Common.{◌≡◌, ℕ, List, sym, ap, subst, ◌∙◌, refl, IsSome, inl}
 use Rattle.key_tuple.specs.Order.{FieldList}
 use Rattle.latch_space.specs.Passes.{view, count}
 use Rattle.index_page.specs.declared.spot.Spot.{Spot}
@@ -14,13 +14,16 @@ use Rattle.call_law.specs.Spoken.{View}
 use Rattle.leaf_rows.specs.Changing.{PutsRow, hashed_as}
 use Rattle.leaf_rows.proofs.ChangeLemmas.{taken_back}
 use Rattle.index_engine.specs.Changes.{HoldsInserted, HoldsNewRow, HoldsNewRowAt, HoldsPutRow, HoldsToPut, KnowsSame, TookBack}
-use Rattle.index_engine.specs.Hashed.{HoldsRowCame, HoldsRowToGo, HoldsAtRest, IsBack, KeepsHashed, RowIsKept, Settles}
+use Rattle.index_engine.specs.Hashed.{HoldsRowCame, HoldsRowToGo, HoldsAtRest, IsBack, KeepsHashed, RowIsKept, Settles, MayDrop, MayNotDrop}
 use Rattle.index_engine.specs.Holds.{IsLeafOf}
 use Rattle.index_engine.specs.Says.{OnlyLooks}
 use Rattle.index_engine.proofs.HashedLemmas.{hash_moves, part_block, tidy_rows, tidy_without, without_is}
 use Rattle.index_engine.proofs.KnownLemmas.{one_frame}
 use Rattle.index_engine.proofs.RehashLemmas.{puts_kept, rests_rehashed}
 use Rattle.index_engine.proofs.SettleLemmas.{stays_both, parts_same}
+use Rattle.learning.specs.declared.event.BlockFigures.{BlockFigures}
+use Rattle.map_history.specs.Map.{Put}
+use Rattle.index_engine.proofs.StayLemmas.{alike_stays, lacks_undone, stays_moved}
 
 -- a row that was put in is there
 put_at : (f g : Frame) (place : ℕ) (key : FieldList) (value : List ℕ)
@@ -66,6 +69,10 @@ module _ (p p1 : TreePass) (b i place : ℕ) (key : FieldList) (spot : Spot) (va
       (λ index e. held.hash.was index (sym hashing.hashed ∙ e))
       (tidy_rows f ins.made puts.page puts.new puts.had (ap (λ (z : Frame). z.page) puts.kept)
       puts.head hashing.figures hashing.hashed)
+      (alike_stays p1 b f ins.made (λ index params is. record {
+        hashed = hashing.hashed ∙ is.hashed;
+        built = ap (λ (z : BlockFigures). z.built) hashing.figures ∙ is.built;
+      }))
 
   -- so it may be kept up with
   pub row_came_held : HoldsRowCame p1 b place
@@ -81,7 +88,7 @@ module _ (p p1 : TreePass) (b i place : ℕ) (key : FieldList) (spot : Spot) (va
   -- and is then a new row
   pub new_row : (p2 : TreePass)
       → ((o : _) (x y : Frame) → HasFrame p1 b x y → KeepsHashed p1 o b x y (without_row place y)
-      → RowIsKept p1 o b x y (λ h. h) p2) → HoldsNewRow p2 b i place key value
+      → RowIsKept p1 o b x y (λ h. h) MayDrop p2) → HoldsNewRow p2 b i place key value
   new_row p2 keeps = let kept = keeps held.index f ins.made has came in record {
     index = held.index;
     known = f;
@@ -97,7 +104,7 @@ module _ (p p1 : TreePass) (b i place : ℕ) (key : FieldList) (spot : Spot) (va
 
   pub new_view : (p2 : TreePass)
       → ((o : _) (x y : Frame) → HasFrame p1 b x y → KeepsHashed p1 o b x y (without_row place y)
-      → RowIsKept p1 o b x y (λ h. h) p2) → (view p2 ≡ view p) × (count p2 ≡ count p)
+      → RowIsKept p1 o b x y (λ h. h) MayDrop p2) → (view p2 ≡ view p) × (count p2 ≡ count p)
   new_view p2 keeps = let kept = keeps held.index f ins.made has came in
       (kept.view ∙ same.view, kept.count ∙ same.count)
 
@@ -114,7 +121,7 @@ module _ (p : TreePass) (b place : ℕ) (held : HoldsNewRowAt p b place) where
   }
 
   module _ (p1 : TreePass)
-      (kept : RowIsKept p held.index b held.known held.now (without_row place) p1) where
+      (kept : RowIsKept p held.index b held.known held.now (without_row place) MayNotDrop p1) where
     abbrev now : Frame
     now = kept_frame kept.answer held.now
 
@@ -151,7 +158,16 @@ module _ (p : TreePass) (b place : ℕ) (held : HoldsNewRowAt p b place) where
             kept.hash.part)
             kept.hash.is
             (λ t. subst (λ z. IsTidy (hash_block z)) without
-            (tidy_without place now (kept.hash.tidy t)));
+            (tidy_without place now (kept.hash.tidy t)))
+            (stays_moved p1 p2 b same held.index held.known (without_row place now) now leaf
+            kept.hash.was kept.hash.part (record {
+              alike = λ index params is. record { hashed = is.hashed; built = is.built };
+              bare = λ none. none;
+              lacks = λ s spare index params. lacks_undone s spare b index params held.known now
+                  leaf puts_then.page puts_then.new (Put held.key held.value) held.known.clock
+                  now.clock puts_then.had (ap (λ (z : Frame). z.page) puts_then.kept) refl
+                  (inl puts_then.inserts);
+            }) kept.hash.stays);
       }
 
       -- and then it is what it was, but for how it is hashed

@@ -28,6 +28,7 @@ use Rattle.index_engine.proofs.HashedLemmas.{part_asks, tidy_rows}
 use Rattle.index_engine.proofs.KnownLemmas.{number_later}
 use Rattle.index_engine.proofs.SettleLemmas.{parts_same, stays_both}
 use Rattle.index_engine.proofs.TellLemmas.{looks_both, looks_then_says}
+use Rattle.index_engine.proofs.StayLemmas.{alike_stays}
 
 module _ (place : ℕ) (value : List ℕ) where
   -- a row that gets a value in its place has the node that it had
@@ -70,6 +71,8 @@ module _ (place : ℕ) (value : List ℕ) where
     is = hash.is;
     tidy = tidy_rows f next row.page (page_with place value row.page) row.paged
         (ap (option_map (page_with place value)) row.paged) refl refl refl;
+    stays = alike_stays p b f next
+        (λ index params was. record { hashed = was.hashed; built = was.built });
     room = hash.room;
   }
 

@@ -1,12 +1,12 @@
 -- What is in hand once the leaf's partition kept up with it.
-use Rattle.std.proofs.Common.{◌≡◌, ◌≢◌, ◌+◌, ◌<◌, ℕ, true, inl, inr, sym, ap, subst, ◌∙◌, refl, arith, Option, Some, None, is_some, length}
+use Rattle.std.proofs.Common.{◌≡◌, ◌≢◌, ◌+◌, ◌<◌, ℕ, true, inl, inr, sym, ap, subst, ◌∙◌, refl, arith, Option, Some, None, is_some, length, ◌⊎◌}
 use Rattle.std.specs.List.{AllByRecursion}
 use Rattle.list_facts.proofs.Places.{same_some}
 use lib.ListN.{get_elem?}
 use Rattle.latch_space.specs.Passes.{view, values, count}
 use Rattle.chain_arena.specs.Bag.{count_of}
 use Rattle.hash_partition.specs.Part.{Part, KeepsShape}
-use Rattle.hash_law.specs.Blocks.{part_for, IsTidy}
+use Rattle.hash_law.specs.Blocks.{part_for, IsTidy, HasLeafOf}
 use Rattle.hash_upkeep.specs.declared.hashing.Hashing.{Hashing}
 use Rattle.hash_upkeep.specs.declared.upkeep.Upkeep.{Upkeep}
 use Rattle.hash_upkeep.specs.declared.upkeep.Upkeep.TheVariants.{Kept, Dropped}
@@ -26,9 +26,16 @@ use Rattle.buffer_pool.specs.Forests.{IsFittedTree}
 use Rattle.buffer_pool.specs.Frames.{TakesOut, PutsBack}
 use Rattle.buffer_pool.specs.Hands.{HasOut}
 use Rattle.buffer_pool.specs.Parts.{part_of_index, part_ids}
-use Rattle.index_engine.specs.Hashed.{IsHashedFor, HoldsPartKept, HoldsPartOf, KeepsHashed, RowIsKept, ids_held}
+use Rattle.index_engine.specs.Hashed.{IsHashedFor, HoldsPartKept, HoldsPartOf, KeepsHashed, RowIsKept, ids_held, IsDropped, StaysOrLacks}
 use Rattle.index_engine.proofs.HashedLemmas.{part_asks, one_part, not_lacked, part_no_frame, of_still, rest_still, exact_where, in_place}
 use Rattle.index_engine.proofs.HoldLemmas.{frame_there}
+use Rattle.forest_law.specs.HashStays.{IsHashedWith, page_needs}
+use Rattle.key_tuple.specs.declared.mode.Params.{Params}
+use Rattle.index_page.specs.Page.{PageRows}
+use Rattle.hash_upkeep.specs.Hashing.{row_entries}
+use Rattle.hash_upkeep.specs.Upkeep.{LacksIfDropped}
+use Rattle.index_engine.proofs.RehashLemmas.{kept_paged}
+use Rattle.index_engine.proofs.StayLemmas.{dropped_stays, hashed_below, lacks_paged, part_stays}
 
 -- a test that is there
 there : {A : Type 0} (o : Option A) → is_some o ≡ true → (x : A) × (o ≡ Some x)
@@ -224,9 +231,9 @@ part_below p (Some index) b h held k e = subst (λ n. n < (shape_of_pass p).part
 pub kept_hash : (p p1 p2 q : TreePass) (b : ℕ) (frame now : Frame) → TakesOut p b frame p1
     → PutsBack p2 b now q → (o : Option ℕ) (f g w h : Frame) → HasFrame p b f g
     → KeepsHashed p o b f g w → KeptUp p1 o b h p2 → IsHashedFor o now
-    → (IsTidy (hash_block g) → IsTidy (hash_block now))
+    → (IsTidy (hash_block g) → IsTidy (hash_block now)) → StaysOrLacks q b f now
     → HasFrame q b f now × KeepsHashed q o b f now h × (view q ≡ view p) × (count q ≡ count p)
-kept_hash p p1 p2 q b frame now out back o f g w h has hash up is tidy =
+kept_hash p p1 p2 q b frame now out back o f g w h has hash up is tidy stays =
     let below = part_below p o b w hash.part in
     let counted = kept_count p p1 b frame out p2 o h up below q now back in
     let room = hash.room in (
@@ -237,6 +244,7 @@ kept_hash p p1 p2 q b frame now out back o f g w h has hash up is tidy =
         was = hash.was;
         is = is;
         tidy = λ t. tidy (hash.tidy t);
+        stays = stays;
         room = omega (arith, counted, room);
       },
       kept_view p p1 b frame out p2 o h up below q now back,
@@ -309,17 +317,128 @@ module _ (ask : BlocksAskTheSame) (p p1 p2 : TreePass) (b : ℕ) (frame now : Fr
   )
 
   module _ (law : (a : Upkeep) (x : Frame) → IsTidy (hash_block x)
-      → IsTidy (hash_block (kept_frame a x))) (q : TreePass) (back : PutsBack p2 b now q) where
+      → IsTidy (hash_block (kept_frame a x))) (q : TreePass) (back : PutsBack p2 b now q)
+      (room : (how : Hashing) (at : hashing_in p1 b frame ≡ Some how) (page : PageRows)
+      → frame.page ≡ Some page
+      → LacksIfDropped answer (keeps how at).now.spare (length (row_entries how page.rows)))
+      (may : Upkeep → Type 0) (may_be : may answer) where
+    shape_taken : shape_of_pass p1 ≡ shape_of_pass p
+    shape_taken = ap (λ (v : View). v.terms.shape) out.view
+
+    paged : now.page ≡ frame.page
+    paged = ap (λ (z : Frame). z.page) is ∙ kept_paged answer frame
+
+    module _ (index : ℕ) (params : Params) (hashed : IsHashedWith index params f) where
+      abbrev k : ℕ
+      k = part_for (shape_of_pass p).parts index
+
+      below : part_for (shape_of_pass p).parts index < (shape_of_pass p).parts
+      below = hashed_below p o b index f (w frame) kept.was kept.part hashed.hashed
+
+      -- where the leaf isn't hashed any more, nothing was done
+      dropped_still : IsDropped p b index params f frame → IsDropped q b index params f now
+      dropped_still dropped = dropped_stays p q (ap (λ (v : View). v.held) same)
+          (ap (λ (v : View). v.terms) same) b index params f frame now values_same
+          (λ none. ap (λ (z : Frame). z.hashed) is ∙ kept_none answer frame none)
+          (λ s spare. lacks_paged s spare b index params f frame now paged) dropped
+        where
+          same : view q ≡ view p
+          same = kept_view p p1 b frame out p2 o (seen now) up (part_below p o b (w frame) kept.part)
+              q now back
+
+          none : p2 ≡ p1
+          none = rests dropped.bare
+
+          shape_then : shape_of_pass p2 ≡ shape_of_pass p
+          shape_then = ap shape_of_pass none ∙ shape_taken
+
+          apart : part_id (shape_of_pass p) k ≢ frame_id (shape_of_pass p2) b
+          apart e = part_no_frame (shape_of_pass p) k b below
+              (e ∙ ap (λ (s : Shape). frame_id s b) shape_then)
+
+          values_same : get_elem? (values q) (part_id (shape_of_pass p) k)
+              ≡ get_elem? (values p) (part_id (shape_of_pass p) k)
+          values_same = (back.hand.others (part_id (shape_of_pass p) k) apart).1
+              ∙ (ap (λ (z : TreePass). get_elem? (values z) (part_id (shape_of_pass p) k)) none
+              ∙ (out.hand.others (part_id (shape_of_pass p) k)
+              (part_no_frame (shape_of_pass p) k b below)).1)
+
+      -- where it is, its partition kept up, or there was no room
+      module _ (so : IsHashedWith index params frame) where
+        abbrev how : Hashing
+        how = record {
+          index = index;
+          block = b;
+          params = params;
+          bits = (shape_of_pass p1).fold_bits;
+        }
+
+        at : hashing_in p1 b frame ≡ Some how
+        at i = hashing_by b (shape_of_pass p1).fold_bits (so.hashed i) (so.built i)
+
+        abbrev k1 : ℕ
+        k1 = part_for (shape_of_pass p1).parts index
+
+        shape_up : shape_of_pass p2 ≡ shape_of_pass p1
+        shape_up = ap (λ (v : View). v.terms.shape) up.view
+
+        shape_back : shape_of_pass q ≡ shape_of_pass p1
+        shape_back = ap (λ (v : View). v.terms.shape) back.view ∙ shape_up
+
+        below_up : k1 < (shape_of_pass p2).parts
+        below_up = subst (λ (s : Shape). k1 < s.parts) (sym shape_up)
+            (subst (λ (s : Shape). part_for s.parts index < s.parts) (sym shape_taken) below)
+
+        has_then : HasPart q k1 (keeps how at).known (keeps how at).now
+        has_then = part_stays p2 q (ap (λ (v : View). v.held) back.view)
+            (ap (λ (v : View). v.terms) back.view) k1 (keeps how at).known (keeps how at).now
+            (back.hand.others (part_id (shape_of_pass p2) k1)
+            (part_no_frame (shape_of_pass p2) k1 b below_up)).1 (keeps how at).has
+
+        leaf : HasLeafOf (hash_block frame) index
+        leaf = (kept.tidy (tidy_known (view p) b f fitted has.held)).leaf index so.hashed
+
+        dropped_now : (need spare : ℕ) → answer ≡ Dropped need spare
+            → IsDropped q b index params f now
+        dropped_now need spare dropped = record {
+          bare = ap (λ (z : Frame). z.hashed) is
+              ∙ ap (λ a. (kept_frame a frame).hashed) dropped;
+          known = (keeps how at).known;
+          now = (keeps how at).now;
+          has = subst (λ (s : Shape). HasPart q (part_for s.parts index) (keeps how at).known
+              (keeps how at).now) (sym shape_back) has_then;
+          lacks = inl (subst (λ (s : Shape). (keeps how at).now.spare
+              < page_needs s b index params now.page) (sym shape_back)
+              (subst (λ z. (keeps how at).now.spare
+              < page_needs (shape_of_pass p1) b index params z) (sym (paged ∙ leaf.page_is))
+              (subst (λ a. LacksIfDropped a (keeps how at).now.spare
+              (length (row_entries how leaf.page.rows))) dropped
+              (room how at leaf.page leaf.page_is))));
+        }
+
+        kept_or_dropped : (a : Upkeep) → answer ≡ a
+            → IsHashedWith index params now ⊎ IsDropped q b index params f now
+        kept_or_dropped Kept same = inl (subst (IsHashedWith index params)
+            (sym (is ∙ ap (λ a. kept_frame a frame) same)) so)
+        kept_or_dropped (Dropped need spare) same = inr (dropped_now need spare same)
+
+    stays_then : StaysOrLacks q b f now
+    stays_then index params hashed = elim (kept.stays index params hashed) [
+      | inl so ↦ kept_or_dropped index params hashed so answer refl
+      | inr dropped ↦ inr (dropped_still index params hashed dropped)
+    ]
+
     -- and then the hash is kept
     pub kept_now : HasFrame q b f now × KeepsHashed q o b f now (seen now) × (view q ≡ view p)
         × (count q ≡ count p)
     kept_now = kept_hash p p1 p2 q b frame now out back o f frame (w frame) (seen now) was kept up
         (subst (IsHashedFor o) (sym is) (kept_hashed o answer frame kept.is))
-        (λ t. subst (λ z. IsTidy (hash_block z)) (sym is) (law answer frame t))
+        (λ t. subst (λ z. IsTidy (hash_block z)) (sym is) (law answer frame t)) stays_then
 
-    pub row_is_kept : RowIsKept p o b f g seen q
-    row_is_kept = subst (λ z. RowIsKept p o b f z seen q) same_frame (record {
+    pub row_is_kept : RowIsKept p o b f g seen may q
+    row_is_kept = subst (λ z. RowIsKept p o b f z seen may q) same_frame (record {
       answer = answer;
+      may_be = may_be;
       has = subst (HasFrame q b f) is kept_now.0;
       hash = subst (λ z. KeepsHashed q o b f z (seen z)) is kept_now.1;
       view = kept_now.2;

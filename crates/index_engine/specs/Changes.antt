@@ -22,6 +22,7 @@ use Rattle.leaf_rows.specs.Setting.{frame_with, IsNoLonger, SetsValue, value_ref
 use Rattle.index_engine.specs.Hashed.{KeepsHashed}
 use Rattle.index_engine.specs.Holds.{HoldsLeaf, KeepsNumber, StaysKnown}
 use Rattle.index_engine.specs.Says.{OnlyLooks}
+use Rattle.hash_upkeep.specs.declared.upkeep.Upkeep.TheVariants.{Kept}
 
 -- the frame has a leaf, on which the key belongs at the spot
 pub record HasSpotIn (f : Frame) (key : FieldList) (spot : Spot) : Type 0 where
@@ -122,6 +123,7 @@ pub record HoldsOldRow (p : TreePass) (b i place : ℕ) (key : FieldList)
   pub index : Option ℕ
   pub known : Frame
   pub answer : Upkeep
+  pub stays : answer ≡ Kept
   pub holds : HoldsLeaf p b i key known (kept_frame answer known)
   pub row : HasOldRow known key place
   pub next_is : next ≡ frame_without place (kept_frame answer known)

@@ -1,5 +1,6 @@
 -- How the leaf in hand is kept hashed, by the partition that is held besides.
-use Rattle.std.specs.Prelude.{ℕ, ◌≡◌, ◌≢◌, ◌<◌, Option, Some, None, List, ◌∷◌}
+use Rattle.std.specs.Prelude.{ℕ, ◌≡◌, ◌≢◌, ◌<◌, ◌⊎◌, Option, Some, None, List, ◌∷◌}
+use Rattle.key_tuple.specs.declared.mode.Params.{Params}
 use Rattle.key_tuple.specs.Order.{FieldList}
 use Rattle.latch_space.specs.Has.{IsKnown}
 use Rattle.latch_space.specs.Passes.{view, count}
@@ -8,9 +9,11 @@ use Rattle.chain_arena.specs.Bag.{SameOutsideBlock}
 use Rattle.hash_partition.specs.Part.{Part, KeepsShape}
 use Rattle.hash_law.specs.Blocks.{part_for, IsTidy}
 use Rattle.hash_upkeep.specs.declared.upkeep.Upkeep.{Upkeep}
+use Rattle.hash_upkeep.specs.declared.upkeep.Upkeep.TheVariants.{Kept}
 use Rattle.index_law.specs.Shape.{Shape}
 use Rattle.forest_law.specs.declared.objects.Frame.{Frame}
 use Rattle.forest_law.specs.Hashed.{hash_block, IsExactFor}
+use Rattle.forest_law.specs.HashStays.{IsHashedWith, LacksRoom}
 use Rattle.forest_law.specs.Numbers.{frame_id}
 use Rattle.forest_law.specs.Outside.{HasNoOutside}
 use Rattle.forest_law.specs.Steps.{FrameRests}
@@ -51,15 +54,29 @@ HoldsPartOf p (Some index) b h = HoldsPartKept p (part_for (shape_of_pass p).par
 abbrev pub ids_held : Shape → Option ℕ → ℕ → List ℕ
 ids_held shape o b = frame_id shape b ∷ part_ids shape (part_of_index shape o)
 
+-- the frame g isn't hashed, and the partition of the index is in hand, with no room for the leaf
+pub record IsDropped (p : TreePass) (b index : ℕ) (params : Params) (f g : Frame) : Type 0 where
+  pub bare : g.hashed ≡ None
+  pub known : Part
+  pub now : Part
+  pub has : HasPart p (part_for (shape_of_pass p).parts index) known now
+  pub lacks : LacksRoom (shape_of_pass p) now.spare b index params f g
+
+-- where the frame f was hashed, g is hashed as it was, or there is no room
+abbrev pub StaysOrLacks : TreePass → ℕ → Frame → Frame → Type 0
+StaysOrLacks p b f g = (index : ℕ) (params : Params) → IsHashedWith index params f
+    → IsHashedWith index params g ⊎ IsDropped p b index params f g
+
 -- the block's frame, known as f, becomes g, and the partition of the index is exact of the block
 -- with h. All else in hand is what it is known to be, neither frame is hashed for another index,
--- and g is tidy where f is
+-- g is tidy where f is, and a leaf that was hashed stays so, unless there is no room
 pub record KeepsHashed (p : TreePass) (o : Option ℕ) (b : ℕ) (f g h : Frame) : Type 0 where
   pub rest : IsKnownBeyond p (ids_held (shape_of_pass p) o b)
   pub part : HoldsPartOf p o b h
   pub was : IsHashedFor o f
   pub is : IsHashedFor o g
   pub tidy : IsTidy (hash_block f) → IsTidy (hash_block g)
+  pub stays : StaysOrLacks p b f g
   pub room : count p < 16
 
 -- the block's frame in hand has a row at the place, and the partition is exact of it without that
@@ -84,22 +101,31 @@ pub record HoldsRowToGo (p : TreePass) (b place : ℕ) : Type 0 where
 -- the partition kept up with the block, whose frame f is now g, or dropped it: it is exact of what
 -- the frame is seen as then
 pub record RowIsKept (p : TreePass) (o : Option ℕ) (b : ℕ) (f g : Frame) (seen : Frame → Frame)
-    (q : TreePass) : Type 0 where
+    (may : Upkeep → Type 0) (q : TreePass) : Type 0 where
   pub answer : Upkeep
+  pub may_be : may answer
   pub has : HasFrame q b f (kept_frame answer g)
   pub hash : KeepsHashed q o b f (kept_frame answer g) (seen (kept_frame answer g))
   pub view : view q ≡ view p
   pub count : count q ≡ count p
 
+-- a row that came may find no room
+abbrev pub MayDrop : Upkeep → Type 0
+MayDrop answer = Unit {0}
+
+-- one that goes finds room
+abbrev pub MayNotDrop : Upkeep → Type 0
+MayNotDrop answer = answer ≡ Kept
+
 -- so it is with a row that came
 abbrev pub KeepsRowThatCame : TreePass → (b place : ℕ) → TreePass → Type 0
 KeepsRowThatCame p b place q = (o : Option ℕ) (f g : Frame) → HasFrame p b f g
-    → KeepsHashed p o b f g (without_row place g) → RowIsKept p o b f g (λ h. h) q
+    → KeepsHashed p o b f g (without_row place g) → RowIsKept p o b f g (λ h. h) MayDrop q
 
 -- and with one that is to go
 abbrev pub KeepsRowToGo : TreePass → (b place : ℕ) → TreePass → Type 0
 KeepsRowToGo p b place q = (o : Option ℕ) (f g : Frame) → HasFrame p b f g
-    → KeepsHashed p o b f g g → RowIsKept p o b f g (without_row place) q
+    → KeepsHashed p o b f g g → RowIsKept p o b f g (without_row place) MayNotDrop q
 
 -- the block's frame in hand has a row at the place, and the partition is exact of it without that
 -- row; but for how it is hashed the frame is what it is known to be

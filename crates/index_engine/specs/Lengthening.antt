@@ -70,7 +70,10 @@ pub record HoldsGrownRowAt (p : TreePass) (b place : ℕ) (grown : GrownRow) : T
   pub index : Option ℕ
   pub known : Frame
   pub now : Frame
+  pub key : FieldList
+  pub value : List ℕ
   pub has : HasFrame p b known now
+  pub sets : SetsValue known now key value
   pub grew : HasGrown known now place grown
   pub hash : KeepsHashed p index b known now now
 

@@ -34,6 +34,9 @@ shrink_row-requires-clause-held g c = let held = c.requires.held in
       index = held.index;
       known = held.known;
       now = held.made;
+      key = c.args.self.now.key.now.tuple;
+      value = c.args.value.now;
+      sets = held.sets;
       has = frame_again p q b held.known held.made full.same terms held.holds.has;
       grew = held.grew;
       hash = hash_again p q full.same terms held.index b held.known held.made held.made held.hash;

@@ -44,6 +44,7 @@ del_row-requires-clause-held g c = let held = c.requires.held.fresh in
       index = held.frame.hashed;
       known = held.frame;
       answer = kept.answer;
+      stays = kept.may_be;
       holds = record {
         has = kept.has;
         leaf = subst (λ v. IsLeafOf v.terms.shape call.index key held.frame) (sym kept.view)

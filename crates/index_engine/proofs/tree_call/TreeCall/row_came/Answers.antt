@@ -1,5 +1,6 @@
 use Rattle.std.proofs.Common.{refl, sym, subst}
 use Rattle.hash_maintain.specs.Leaves.{without_row, HasRowInFrame}
+use Rattle.index_engine.specs.Hashed.{MayDrop}
 use Rattle.index_engine.proofs.UpkeepLemmas.{asks_tidy, asks_exact, asks_place, asks_room, goes_back, row_is_kept}
 use Rattle.index_engine.proofs.tree_call.TreeCall.row_came.Goals as goal
 
@@ -47,4 +48,4 @@ returns-clause-kept g c o f h has hash =
     (λ x. refl) (λ x. refl) c.insert_in_frame.result c.insert_in_frame.ensures.frame
     (λ none. (c.insert_in_frame.ensures.rests none).0) (λ how is. (c.insert_in_frame.ensures.keeps how is).keeps)
     o f h has hash c.upkeep_keeps_the_hash.ensures.tidy c.frame_back.new.pass
-    c.frame_back.ensures.back
+    c.frame_back.ensures.back (λ how is. (c.insert_in_frame.ensures.keeps how is).room) MayDrop tt
