@@ -55,8 +55,8 @@ pub record MergesLater (leaf : Frame) (i : ℕ) (told : Told) (p q : TreePass) :
   pub seen : SeesEach (view p) i
   pub merged : GrowsSilently p q
 
--- a del was answered by the leaf in hand, which then was given back; nothing was done after that, or
--- light pages were merged
+-- a del was answered by the leaf in hand, which then was given back; nothing was done after that,
+-- or light pages were merged
 pub record AnswersDel (p : TreePass) (b i : ℕ) (key : FieldList) (told : Told)
     (q : TreePass) : Type 0 where
   pub between : TreePass

@@ -57,13 +57,13 @@ pub fn seek_row<R: Wait>(
             ..
         } => {
             let note = note_of_hit(&learn);
-            seek_call(space, index, mode, tuple, How::Hit, note, wait)
-                .end_on_hit(pass, block, place, out)
+            seek_call(space, index, mode, tuple, How::Hit, note, wait).end_on_hit(
+                pass, block, place, out,
+            )
         }
         Guess::Miss { cause, .. } => {
             let (pair, note) = find_pair(space, pass, learner, learn, index, mode, tuple, wait);
-            seek_call(space, index, mode, tuple, how_of(&cause), note, wait)
-                .seek(pass, &pair, out)
+            seek_call(space, index, mode, tuple, how_of(&cause), note, wait).seek(pass, &pair, out)
         }
     }
 }

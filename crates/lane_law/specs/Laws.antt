@@ -82,8 +82,8 @@ MergedLogsAreEntries = (run : Run) (report : Report) (w : ForestState) (v : View
 
 -- and the joined pass of the lanes tells that what is printed is what it did
 abbrev pub PassesAreTrails : Type 0
-PassesAreTrails = (run : Run) (report : Report) (w : ForestState) (v : View) → RunsAll run report w v
-    → AreEntries run report w → IsTrail run report v
+PassesAreTrails = (run : Run) (report : Report) (w : ForestState) (v : View)
+    → RunsAll run report w v → AreEntries run report w → IsTrail run report v
 
 -- in a state that fits such a pass each entry of a list is a change that it made, and is printed
 abbrev pub TrailsAreWhole : Type 0

@@ -45,13 +45,7 @@ impl<R> TreeCall<'_, R> {
     }
 
     /// Reads the key's row, which stands at the place of its leaf in hand, and gives that back.
-    pub fn read(
-        &self,
-        pass: &mut ForestPass,
-        block: u32,
-        place: Place,
-        out: &mut RowBuf,
-    ) -> Told
+    pub fn read(&self, pass: &mut ForestPass, block: u32, place: Place, out: &mut RowBuf) -> Told
         requires own { IsPassOf self.now.space.now pass.old }
         requires held { HoldsKeyRow pass.old block self.now.index place self.now.key.now.tuple }
         ensures own { IsSamePass pass.old pass.new × IsPassOf self.now.space.now pass.new }

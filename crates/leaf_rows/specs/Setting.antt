@@ -31,8 +31,10 @@ clock_with as_long clock = if as_long then clock else raised clock
 
 -- the frame with that page and that clock
 abbrev pub frame_with : ℕ → List ℕ → Bool → Frame → Frame
-frame_with place value as_long f =
-    record f { page = option_map (page_with place value) f.page; clock = clock_with as_long f.clock }
+frame_with place value as_long f = record f {
+  page = option_map (page_with place value) f.page;
+  clock = clock_with as_long f.clock;
+}
 
 -- the value is no longer than that of the row at the place
 abbrev pub IsNoLonger : Frame → ℕ → List ℕ → Type 0

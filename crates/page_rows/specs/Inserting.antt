@@ -91,8 +91,8 @@ pub record IsTaken (bytes : List ℕ) (fields : ℕ) (p : PageParts) (kind : Rec
       (taken_parts p h (record_from start h kind key tail) count top first garbage free) (h ∷ [])
   pub apart : AllByRecursion (λ k. k ≡ h → ⊥) (records p.groups ++ free)
   pub new_at : HasOrigin bytes
-      (taken_mirror p.mirror h (cell_of (record_from start h kind key tail)) count top first garbage)
-      h at
+      (taken_mirror p.mirror h (cell_of (record_from start h kind key tail)) count top first
+      garbage) h at
   pub room : top + 2 * length p.mirror.slots + 2 ≤ 16376
 
 -- the place of the last of some rows, and that of infimum where there is none

@@ -54,7 +54,8 @@ pub record HoldsLow (p : TreePass) (b : ℕ) (key : FieldList) : Type 0 where
   pub fields : length key ≡ length at
 
 -- a page of the index is in hand, in whose bounds the key is, and this is known of its room
-pub record IsPageInHand (v : View) (i : ℕ) (key : FieldList) (need : ℕ) (at : PageInHand) : Type 0 where
+pub record IsPageInHand (v : View) (i : ℕ) (key : FieldList) (need : ℕ)
+    (at : PageInHand) : Type 0 where
   pub frame : Frame
   pub knows : KnowsFrame v at.block frame
   pub page : IsPageFor v.terms.shape frame i at.level (cut_in v.terms.shape i mode.Ge key)

@@ -31,5 +31,5 @@ siblings_before family =
 
 -- the child, which may be the light one, and the page after it
 abbrev pub siblings_after : Family → Option Siblings
-siblings_after family =
-    option_map (λ (n : ℕ). record { left = family.child; right = n; right_asks = false }) family.right
+siblings_after family = option_map
+    (λ (n : ℕ). record { left = family.child; right = n; right_asks = false }) family.right

@@ -49,7 +49,8 @@ pub record LeavesChild (p : TreePass) (parent i : ℕ) (key : FieldList)
   pub still : StillKnows p parent q
   pub family : Family
   pub tells : TellsFamily held.page.is.page.rows family
-  pub picks : PicksChild (cut_in (shape_of_pass p) i mode.Ge key) held.page.is.page.rows family.child
+  pub picks : PicksChild (cut_in (shape_of_pass p) i mode.Ge key) held.page.is.page.rows
+      family.child
   pub alone : StaysAlone (shape_of_pass p) i family back.to.goes.added.references
 
 -- a page was freed on the way back to the page above
