@@ -25,7 +25,7 @@ use Rattle.map_history.specs.Lines.{line_text, line_texts}
 use Rattle.index_engine.specs.declared.engine.Engine.{Engine}
 use Rattle.index_engine.specs.declared.engine.EnginePass.{EnginePass}
 use Rattle.index_engine.specs.Engines.{known, lessons_of, IsOf, IsSame, indexes_of}
-use Rattle.index_engine.specs.Tells.{TellsOnce}
+use Rattle.engine_law.specs.Tells.{TellsOnce}
 use Rattle.leaf_search.specs.Tries.{TriesAfter}
 use Rattle.report_text.specs.Texts.{answer_line_text}
 use Rattle.lane_law.specs.Merged.{notes_of}

@@ -10,7 +10,7 @@ use Rattle.map_history.specs.Map.{Pair, MapChange}
 use Rattle.map_history.specs.Operation.{Make}
 use Rattle.map_history.specs.Report.{Answer}
 use Rattle.call_law.specs.Spoken.{View}
-use Rattle.index_engine.specs.Tells.{IsTold, TellsOnce}
+use Rattle.engine_law.specs.Tells.{IsTold, TellsOnce}
 use Rattle.index_engine.specs.Traces.{TellsOfWrite}
 
 any_row : (c : MapChange) (reply : Reply) (point : Option ℕ) (how : How) (note : Note) (row other : Pair) (answer : Answer) → IsTold (Make c) (record { reply = reply; point = point; how = how; note = note }) row answer → IsTold (Make c) (record { reply = reply; point = point; how = how; note = note }) other answer

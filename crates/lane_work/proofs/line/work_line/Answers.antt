@@ -4,7 +4,7 @@ use Rattle.map_history.specs.Operation.{operation_of}
 use Rattle.map_history.specs.declared.op.Op.{Op}
 use Rattle.index_law.specs.Meanings.{lent_row}
 use Rattle.index_engine.specs.Engines.{known}
-use Rattle.index_engine.specs.Tells.{TellsOnce}
+use Rattle.engine_law.specs.Tells.{TellsOnce}
 use Rattle.lane_work.proofs.RowLemmas.{result_shows_no_row}
 use Rattle.lane_work.proofs.line.work_line.Goals as goal
 
