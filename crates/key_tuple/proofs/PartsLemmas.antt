@@ -1,7 +1,7 @@
 -- Parts of a list: how many, which, and after one more; how long those of a buffer are.
-use Rattle.std.proofs.Common.{◌≡◌, ℕ, zero, suc, ◌+◌, ◌-◌, ◌<◌, ◌≤◌, List, [], ◌∷◌, ◌++◌, length, take, drop, get_or, refl, ap, ◌∙◌, arith, length-take, length-drop, map}
+use Rattle.std.proofs.Common.{◌≡◌, ℕ, zero, suc, ◌+◌, ◌-◌, ◌<◌, ◌≤◌, List, [], ◌∷◌, ◌++◌, length, take, drop, get_or, set, refl, ap, ◌∙◌, arith, length-take, length-drop, map}
 use Rattle.std.proofs.lemmas.List.Sums.{sum_by-cons}
-use Rattle.std.proofs.lemmas.List.{take-append-le, drop-append-le}
+use Rattle.std.proofs.lemmas.List.{take-append-le, drop-append-le, take_more_set}
 use Rattle.std.proofs.Math.Seq.{drop-append_seam, take-length}
 use Rattle.std.specs.List.{slice_range}
 use Rattle.key_tuple.specs.Order.{byte_count}
@@ -20,13 +20,13 @@ RiseTo-push from [] to more h le = (omega (arith, h), refl)
 RiseTo-push from (end ∷ ends) to more h le = (h.0, RiseTo-push end ends to more h.1 le)
 
 -- what stands before the end, cut out of a longer list
-range_kept : {A : Type 0} (xs more : List A) (from to : ℕ) → from ≤ to → to ≤ length xs → slice_range (xs ++ more) from to ≡ slice_range xs from to
+pub range_kept : {A : Type 0} (xs more : List A) (from to : ℕ) → from ≤ to → to ≤ length xs → slice_range (xs ++ more) from to ≡ slice_range xs from to
 range_kept xs more from to rises fits =
     let start : from ≤ length xs = omega arith in
     let rest : to - from ≤ length (drop from xs) = omega (arith, length-drop from xs) in
     ap (λ ys. take (to - from) ys) (drop-append-le from xs more start) ∙ take-append-le (to - from) (drop from xs) more rest
 
-range_added : {A : Type 0} (xs more : List A) (from to : ℕ) → from ≡ length xs → to ≡ length xs + length more → slice_range (xs ++ more) from to ≡ more
+pub range_added : {A : Type 0} (xs more : List A) (from to : ℕ) → from ≡ length xs → to ≡ length xs + length more → slice_range (xs ++ more) from to ≡ more
 range_added xs more from to e f =
     let whole : to - from ≡ length more = omega arith in
     rw (whole, e, drop-append_seam xs more) (take-length more)
@@ -38,6 +38,13 @@ parts-push xs more from (end ∷ ends) to h e =
     let kept = range_kept xs more from end h.0 (RiseTo-le end ends (length xs) h.1) in
     let rest = parts-push xs more end ends to h.1 e in
     cc
+
+-- the same of offsets that are kept in an array
+pub rises_after : (bytes more ends : List ℕ) (count to : ℕ) → count < length ends → to ≡ length bytes + length more → RiseTo 0 (take count ends) (length bytes) → RiseTo 0 (take (count + 1) (set ends count to)) to
+rises_after bytes more ends count to lt e rises = rw (take_more_set ends count to lt) (RiseTo-push 0 (take count ends) (length bytes) to rises (omega arith))
+
+pub parts_after : (bytes more ends : List ℕ) (count to : ℕ) → count < length ends → to ≡ length bytes + length more → RiseTo 0 (take count ends) (length bytes) → parts (bytes ++ more) 0 (take (count + 1) (set ends count to)) ≡ parts bytes 0 (take count ends) ++ more ∷ []
+parts_after bytes more ends count to lt e rises = rw (take_more_set ends count to lt) (parts-push bytes more 0 (take count ends) to rises e)
 
 -- all fields together have the bytes from the first one's beginning to the last one's end
 pub byte_count-parts : (bytes : List ℕ) (from : ℕ) (ends : List ℕ) (to : ℕ) → RiseTo from ends to → to ≤ length bytes → byte_count (parts bytes from ends) + from ≡ to

@@ -9,7 +9,7 @@ use crate::fields::Fields;
 use std::alloc::{AllocError, Global};
 use std::marker::Model;
 
-/// Fields that lie one after another in one buffer: at most 16, and below 65,536 bytes together.
+/// Fields that lie one after another in one buffer: at most 4, and below 65,536 bytes together.
 #[derive(Debug, Drop)]
 pub struct FieldBuffer {
     bytes: Vec<u8>,
@@ -117,7 +117,7 @@ impl Clone for FieldBuffer {
 }
 
 /// The part of the bytes with that number.
-fn part<'a>(bytes: &'a [u8], ends: &[u16], i: usize) -> &'a [u8]
+pub(crate) fn part<'a>(bytes: &'a [u8], ends: &[u16], i: usize) -> &'a [u8]
     requires at { i < length ends.now }
     requires rise { RiseTo 0 ends.now (length bytes.now) }
     ensures bytes { result.now ≡ slice_index_or (parts bytes.now 0 ends.now) i [] }

@@ -8,6 +8,7 @@ mod fields;
 mod folding;
 mod key;
 mod laws;
+mod lent;
 mod mode;
 mod order;
 mod sizes;
@@ -23,6 +24,7 @@ pub use laws::{
     folds_follow_prefixes, keys_are_ordered, largest_sizes, places_are_ordered, sizes_are_limited,
     sizes_follow_lengths, tuples_cut, tuples_follow_keys,
 };
+pub use lent::LentFields;
 pub use mode::{Match, Mode, Params};
 pub use order::{compare, compare_whole, is_past, matches};
 pub use sizes::{pointer_size, row_size};
@@ -44,5 +46,5 @@ pub const MAX_ROW_SIZE: u16 = 2830;
 /// The most bytes that a pointer takes on a page.
 pub const MAX_POINTER_SIZE: u16 = 784;
 
-/// How many fields a buffer has offsets for.
-pub const FIELD_ROOM: usize = 16;
+/// How many fields a buffer has offsets for: as many as a key may have.
+pub const FIELD_ROOM: usize = 4;

@@ -1,17 +1,10 @@
-use Rattle.std.proofs.Common.{◌≡◌, ◌+◌, ◌<◌, ℕ, List, ◌∷◌, [], ◌++◌, length, take, set, ap, ◌∙◌, sym, arith, length-append}
+use Rattle.std.proofs.Common.{◌≡◌, ◌+◌, ◌<◌, ◌∷◌, [], ◌++◌, length, ap, ◌∙◌, sym, arith, length-append}
 use Rattle.std.proofs.Math.ListN.{length-set}
-use Rattle.std.proofs.lemmas.List.{take_more_set}
 use Rattle.key_tuple.specs.Order.{byte_count}
 use Rattle.std.specs.Vec.{vec_capacity}
-use Rattle.key_tuple.specs.Parts.{parts, RiseTo, Buffered}
-use Rattle.key_tuple.proofs.PartsLemmas.{parts-push, RiseTo-push, length-view, byte_count-view}
+use Rattle.key_tuple.specs.Parts.{Buffered}
+use Rattle.key_tuple.proofs.PartsLemmas.{rises_after, parts_after, length-view, byte_count-view}
 use Rattle.key_tuple.proofs.buffer.FieldBuffer.push.Goals as goal
-
-rises_after : (bytes more ends : List ℕ) (count to : ℕ) → count < length ends → to ≡ length bytes + length more → RiseTo 0 (take count ends) (length bytes) → RiseTo 0 (take (count + 1) (set ends count to)) to
-rises_after bytes more ends count to lt e rises = rw (take_more_set ends count to lt) (RiseTo-push 0 (take count ends) (length bytes) to rises (omega arith))
-
-parts_after : (bytes more ends : List ℕ) (count to : ℕ) → count < length ends → to ≡ length bytes + length more → RiseTo 0 (take count ends) (length bytes) → parts (bytes ++ more) 0 (take (count + 1) (set ends count to)) ≡ parts bytes 0 (take count ends) ++ more ∷ []
-parts_after bytes more ends count to lt e rises = rw (take_more_set ends count to lt) (parts-push bytes more 0 (take count ends) to rises e)
 
 pub returns-in_err-extend_from_slice-clause-fits : goal.returns-in_err-extend_from_slice-clause-fits
 returns-in_err-extend_from_slice-clause-fits c fits =
