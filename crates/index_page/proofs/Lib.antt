@@ -2,6 +2,7 @@ pub mod RowLemmas
 pub mod CutLemmas
 pub mod KeyLemmas
 pub mod StoreLemmas
+pub mod SlotLemmas
 pub mod OrderLemmas
 pub mod BesideLemmas
 pub mod SpotLemmas

@@ -4,7 +4,7 @@ use Rattle.std.proofs.lemmas.Bool.Decides.{nat_tests}
 use Rattle.std.proofs.lemmas.List.{get_or-set_same, get_or-set_other, get_or_append_left, take-append-drop, take-map, drop-map, map-append, length_push, length-set, length-map, same_from_push}
 use Rattle.std.proofs.lemmas.List.Edits.{length-insert, length-remove}
 use Rattle.std.specs.List.{AllByRecursion, slice_get, insert, remove}
-use Rattle.index_page.specs.Rows.{Row, Bytes, placed_row, find_row}
+use Rattle.index_page.specs.Rows.{Row, RowBody, Bytes, placed_row, find_row}
 use Rattle.index_page.specs.Page.{PlacesDiffer}
 use Rattle.index_page.specs.Store.{PlaceLists, Content, stored_row, rows_in, AllDiffer, IsStore, IsSpare, HasValueAt, Rewrites}
 use Rattle.list_facts.proofs.Places.{same_some}
@@ -232,10 +232,10 @@ module _ (slots : List Content) (places : PlaceLists) (p : ℕ) (s : IsStore slo
       inserted : {rows rows' : List Row} {r r' : Row} → rows ≡ rows' → r ≡ r' → insert rows at r ≡ insert rows' at r'
       inserted e f = cc
 
-pub get_or_get : (xs : List ℕ) (i d : ℕ) → i < length xs → slice_get xs i ≡ Some (get_or xs i d)
-get_or_get [] i d h = absurd (omega arith)
-get_or_get (x ∷ xs) zero d h = refl
-get_or_get (x ∷ xs) (suc i) d h = get_or_get xs i d (omega arith)
+pub get_elem : {A : Type 0} (xs : List A) (i : ℕ) (d : A) → i < length xs → slice_get xs i ≡ Some (get_or xs i d)
+get_elem [] i d h = absurd (omega arith)
+get_elem (x ∷ xs) zero d h = refl
+get_elem (x ∷ xs) (suc i) d h = get_elem xs i d (omega arith)
 
 module _ (slots : List Content) (places new : PlaceLists) (at p : ℕ) (s : IsStore slots places) (there : slice_get places.live at ≡ Some p) (live : new.live ≡ remove places.live at) where
   left : Spread (length slots) p (remove places.live at ++ places.free)
@@ -262,7 +262,7 @@ module _ (slots : List Content) (places new : PlaceLists) (at p : ℕ) (s : IsSt
 pub live_at : (slots : List Content) (live xs : List ℕ) (rows : List Row) (at : ℕ) → rows_in slots live ≡ rows → at < length rows → xs ≡ live → slice_get live at ≡ Some (get_or xs at 0)
 live_at slots live xs rows at view below same =
     let long : length (rows_in slots live) ≡ length live = length-map live (stored_row slots) in
-    get_or_get live at 0 (omega (arith, ap length view)) ∙ ap (λ (l : List ℕ). Some (get_or l at 0)) (sym same)
+    get_elem live at 0 (omega (arith, ap length view)) ∙ ap (λ (l : List ℕ). Some (get_or l at 0)) (sym same)
 
 -- stored rows stand at different places
 pub stored_differ : (slots : List Content) (places : PlaceLists) → IsStore slots places → PlacesDiffer (rows_in slots places.live)
@@ -306,8 +306,16 @@ module _ (slots : List Content) (places : PlaceLists) (at p : ℕ) (s : IsStore 
     is = written_row x ∙ ap (λ (z : Content). take at (rows_in slots places.live) ++ placed_row p z.key z.body ∷ drop (suc at) (rows_in slots places.live)) (e ∙ ap (λ (z : Content). record { key = z.key; body = Bytes bytes }) read);
   }
 
-  -- and the value that it had
-  pub value_stored : (slot : Content) → slot ≡ get_or slots p (record { key = []; body = Bytes [] }) → (has : HasValueAt (rows_in slots places.live) at) → slot.body ≡ Bytes has.value
-  value_stored slot read has =
+  -- and what is stored there carries the value that it had
+  pub carried : (has : HasValueAt (rows_in slots places.live) at) → slice_get slots p ≡ Some (record { key = (get_or slots p (record { key = []; body = Bytes [] })).key; body = Bytes has.value })
+  carried has =
+      let found = get_or slots p (record { key = []; body = Bytes [] }) in
       let same = same_some (stored_row slots p) has.row (sym (get_stored slots places.live at p there) ∙ has.there) in
-      ap (λ (z : Content). z.body) read ∙ ap (λ (r : Row). r.body) same ∙ has.is
+      let body : found.body ≡ Bytes has.value = ap (λ (r : Row). r.body) same ∙ has.is in
+      get_elem slots p (record { key = []; body = Bytes [] }) row_below ∙ ap (λ (b : RowBody). Some (record { key = found.key; body = b })) body
+
+-- what is stored at a place, read from the list
+pub read_at : {A : Type 0} (xs : List A) (i : ℕ) (x d : A) → slice_get xs i ≡ Some x → get_or xs i d ≡ x
+read_at [] i x d e = absurd cc
+read_at (y ∷ ys) zero x d e = same_some y x e
+read_at (y ∷ ys) (suc i) x d e = read_at ys i x d e

@@ -4,6 +4,7 @@ pub mod Search
 pub mod Changes
 pub mod Laws
 pub mod Store
+pub mod Slots
 pub mod Loads
 pub mod LoadLaws
 pub mod Moves

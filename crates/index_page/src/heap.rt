@@ -11,6 +11,7 @@ use crate::body::Beside;
 use crate::heads::Heads;
 use crate::places::Places;
 use crate::record::Record;
+use crate::records::Records;
 use crate::spot::Place;
 use key_tuple::Fields;
 use std::alloc::{AllocError, Global};
@@ -21,7 +22,7 @@ use std::marker::Model;
 #[derive(Debug, Drop)]
 pub(crate) struct Heap {
     alloc: Global,
-    slots: Vec<Record>,
+    slots: Records,
     places: Places,
     heads: Heads,
 }
@@ -33,9 +34,9 @@ impl Model for Heap {
 
     ghost Value = { List Row };
 
-    ghost view = { λ h. rows_in h.slots.items h.places.live };
+    ghost view = { λ h. rows_in h.slots h.places.live };
 
-    ghost invariant = { λ h. IsStore h.slots.items h.places };
+    ghost invariant = { λ h. IsStore h.slots h.places };
 }
 
 impl Heap {
@@ -44,7 +45,7 @@ impl Heap {
     {
         Heap {
             alloc,
-            slots: Vec::new(alloc),
+            slots: Records::new(alloc),
             places: Places::new(alloc),
             heads: Heads::new(alloc),
         }
@@ -67,13 +68,13 @@ impl Heap {
     }
 
     /// The row with that number, from 0.
-    pub(crate) fn stored(&self, i: usize) -> (Place, &Record)
+    pub(crate) fn stored(&self, i: usize) -> (Place, Record<'_>)
         requires { i < length self.now }
         ensures { slice_get self.now i
-            ≡ Some (placed_row result.0 result.1.now.key result.1.now.body) }
+            ≡ Some (placed_row result.0 result.1.key result.1.body) }
     {
         let place = self.places.live()[i];
-        (place, &self.slots[place as usize])
+        (place, self.slots.get(usize::from(place)))
     }
 
     /// The number of the row that a search for a tuple looks at first, or so.
@@ -82,11 +83,11 @@ impl Heap {
     }
 
     /// The row at that place.
-    pub(crate) fn record(&self, place: Place) -> &Record
+    pub(crate) fn record(&self, place: Place) -> Record<'_>
         requires { IsSome (find_row place self.now) }
-        ensures { find_row place self.now ≡ Some (placed_row place result.now.key result.now.body) }
+        ensures { find_row place self.now ≡ Some (placed_row place result.key result.body) }
     {
-        &self.slots[place as usize]
+        self.slots.get(usize::from(place))
     }
 
     /// Puts a row before the one with that number, at a place at which none stands.
@@ -105,9 +106,8 @@ impl Heap {
         ensures differ { OnOk result (PlacesDiffer self.new) }
         ensures err { OnErr result (self.new ≡ self.old) }
     {
-        let place = vacancy(self.alloc, &mut self.slots, &mut self.places)?;
-        let slot = &mut self.slots[place as usize];
-        slot.fill(key, beside)?;
+        let place = vacancy(&mut self.slots, &mut self.places)?;
+        self.slots.fill(usize::from(place), key, beside)?;
         self.places.claim(at, place)?;
         self.heads.insert(at, key);
         Ok(place)
@@ -122,8 +122,7 @@ impl Heap {
         ensures err { OnErr result (self.new ≡ self.old) }
     {
         let place = self.places.live()[at];
-        let slot = &mut self.slots[place as usize];
-        Ok(slot.rewrite(bytes)?)
+        Ok(self.slots.rewrite(usize::from(place), bytes)?)
     }
 
     /// Puts the same rows as the others from a number on behind these.
@@ -138,7 +137,7 @@ impl Heap {
         let count = self.len();
         for i in 0..others.len() - first {
             let record = others.stored(first + i).1;
-            if let Err(e) = self.insert_at(self.len(), record, record.beside()) {
+            if let Err(e) = self.insert_at(self.len(), &record, record.beside()) {
                 self.keep_first(count);
                 return Err(e);
             }
@@ -162,8 +161,7 @@ impl Heap {
         let place = self.places.live()[at];
         self.places.release(at);
         self.heads.remove(at);
-        let slot = &mut self.slots[place as usize];
-        slot.clear();
+        self.slots.blank(usize::from(place));
     }
 
     /// Takes out all rows but the first ones, so many.
@@ -182,30 +180,30 @@ impl Heap {
     {
         Ok(Heap {
             alloc: self.alloc,
-            slots: self.slots.clone()?,
+            slots: self.slots.copy()?,
             places: self.places.copy(self.alloc)?,
             heads: self.heads.copy()?,
         })
     }
 }
 
-/// A vacant place with a slot: one that is there, or a further one.
-fn vacancy(alloc: Global, slots: &mut Vec<Record>, places: &mut Places) -> Result<Place, AllocError>
-    requires store { IsStore slots.old.items places.old }
+/// A vacant place with a record of nothing: one that is there, or a further one.
+fn vacancy(slots: &mut Records, places: &mut Places) -> Result<Place, AllocError>
+    requires store { IsStore slots.old places.old }
     requires room { length places.old.live ≤ PAGE_ROOM }
     ensures spare { IfOk result (IsSpare places.new) }
-    ensures store { IsStore slots.new.items places.new }
+    ensures store { IsStore slots.new places.new }
     ensures live { places.new.live ≡ places.old.live }
-    ensures rows { rows_in slots.new.items places.new.live
-        ≡ rows_in slots.old.items places.old.live }
+    ensures rows { rows_in slots.new places.new.live ≡ rows_in slots.old places.old.live }
 {
     if let Some(place) = places.spare() {
         return Ok(place);
     }
     let place = slots.len() as Place;
-    slots.reserve(1)?;
-    let blank = Record::blank(alloc)?;
-    places.add(place)?;
-    slots.push_reserved(blank);
+    slots.add_blank()?;
+    if let Err(e) = places.add(place) {
+        slots.drop_last();
+        return Err(e);
+    }
     Ok(place)
 }

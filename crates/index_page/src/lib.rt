@@ -2,6 +2,7 @@
 //! It never looks at another page but those to which its rows go.
 #![tactic(auto)]
 
+mod appending;
 mod body;
 mod change;
 mod charges;
@@ -16,9 +17,11 @@ mod moves;
 mod page;
 mod places;
 mod record;
+mod records;
 mod room;
 mod row_ref;
 mod search;
+mod slot;
 mod spot;
 mod walks;
 

@@ -12,7 +12,7 @@ use std::marker::Model;
 /// A row of a page, seen as the row and the level of its page. Its fields are those of its key.
 #[derive(Debug, Drop)]
 pub struct RowRef<'a> {
-    record: &'a Record,
+    record: Record<'a>,
     place: Place,
     level: u16,
 }
@@ -25,19 +25,19 @@ impl<'a> Model for RowRef<'a> {
 
     ghost view = { λ r. record {
       level = r.level;
-      row = placed_row r.place r.record.now.key r.record.now.body;
+      row = placed_row r.place r.record.key r.record.body;
     } };
 
     ghost invariant = { λ r.
-        FitsLevel r.level r.record.now.body × HasShortValue r.record.now.body };
+        FitsLevel r.level r.record.body × HasShortValue r.record.body };
 }
 
 impl<'a> RowRef<'a> {
-    pub(crate) fn new(stored: &'a Record, place: Place, level: u16) -> RowRef<'a>
-        requires level { FitsLevel level stored.now.body }
-        requires short { HasShortValue stored.now.body }
+    pub(crate) fn new(stored: Record<'a>, place: Place, level: u16) -> RowRef<'a>
+        requires level { FitsLevel level stored.body }
+        requires short { HasShortValue stored.body }
         ensures level { result.level ≡ level }
-        ensures row { result.row ≡ placed_row place stored.now.key stored.now.body }
+        ensures row { result.row ≡ placed_row place stored.entry.key stored.entry.body }
     {
         RowRef {
             record: stored,

@@ -45,7 +45,7 @@ impl Page {
         let likely = self.rows.likely(tuple);
         while low < high {
             let middle = next_look(low, high, likely);
-            if is_past(mode, tuple, self.rows.stored(middle).1) {
+            if is_past(mode, tuple, &self.rows.stored(middle).1) {
                 high = middle;
             } else {
                 low = middle + 1;
@@ -65,7 +65,7 @@ impl Page {
         match number {
             Some(i) => {
                 let (place, record) = self.rows.stored(i);
-                (Some(place), matches(tuple, record))
+                (Some(place), matches(tuple, &record))
             }
             None => (
                 None,

@@ -64,7 +64,7 @@ impl Page {
         ensures row { IsPosition self.now.rows place result }
         ensures few { result ≤ PAGE_ROOM }
     {
-        self.cut(self.rows.record(place), Mode::Ge)
+        self.cut(&self.rows.record(place), Mode::Ge)
     }
 
     /// The same, with a look at the row of a number first.

@@ -13,8 +13,8 @@ insert_at-requires-clause-room c =
 pub loop-i-preserved : goal.loop-i-preserved
 loop-i-preserved c =
     let rest = drop c.args.first c.args.others.now in
-    let x = placed_row c.stored.result.0 c.stored.result.1.now.key c.stored.result.1.now.body in
-    let y = placed_row c.in_default.field-0 c.stored.result.1.now.key (beside_by c.beside.result) in
+    let x = placed_row c.stored.result.0 c.stored.result.1.key c.stored.result.1.body in
+    let y = placed_row c.in_default.field-0 c.stored.result.1.key (beside_by c.beside.result) in
     let there = get-drop c.args.others.now c.args.first c.loop-i.i ∙ c.stored.ensures in
     let behind = subst (λ n. c.insert_at.new.self ≡ insert c.loop-i.self n y) c.len-in-loop-i.ensures c.in_default.ensures.ok in
     appends_more c.args.self.now c.loop-i.self c.insert_at.new.self rest c.loop-i.i x y c.loop-i.invariant behind there refl (sym c.beside.ensures) c.in_default.ensures.differ

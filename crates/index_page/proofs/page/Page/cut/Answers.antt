@@ -11,7 +11,7 @@ loop-low-preserved-then-is_past g c =
     let tuple = g.A.Fields.fields_of c.args.tuple.now in
     let p = cut_of c.args.mode tuple in
     let middle = c.next_look-middle.result in
-    let admitted = in_from p (mode_cuts c.args.mode tuple) c.self.inside.rows middle _ c.self.invariant.ascend c.stored.ensures (sym {b = p (At c.stored.result.1.now.key)} c.is_past.ensures ∙ c.if-is_past.true) in
+    let admitted = in_from p (mode_cuts c.args.mode tuple) c.self.inside.rows middle _ c.self.invariant.ascend c.stored.ensures (sym {b = p (At c.stored.result.1.key)} c.is_past.ensures ∙ c.if-is_past.true) in
     record {
       ordered = omega (arith, c.next_look-middle.ensures.from, c.next_look-middle.ensures.below);
       within = omega (arith, c.next_look-middle.ensures.from, c.next_look-middle.ensures.below, c.loop-low.invariant.within);
@@ -24,7 +24,7 @@ loop-low-preserved g c =
     let tuple = g.A.Fields.fields_of c.args.tuple.now in
     let p = cut_of c.args.mode tuple in
     let middle = c.next_look-middle.result in
-    let left_out = out_upto p (mode_cuts c.args.mode tuple) c.self.inside.rows middle _ c.self.invariant.ascend c.stored.ensures (sym {b = p (At c.stored.result.1.now.key)} c.is_past.ensures ∙ c.if-is_past.false) in
+    let left_out = out_upto p (mode_cuts c.args.mode tuple) c.self.inside.rows middle _ c.self.invariant.ascend c.stored.ensures (sym {b = p (At c.stored.result.1.key)} c.is_past.ensures ∙ c.if-is_past.false) in
     record {
       ordered = omega (arith, c.next_look-middle.ensures.from, c.next_look-middle.ensures.below);
       within = c.loop-low.invariant.within;

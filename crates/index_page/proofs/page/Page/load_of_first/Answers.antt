@@ -2,14 +2,18 @@ use Rattle.std.proofs.Common.{◌≡◌, ◌+◌, ◌≤◌, Some, take, arith, 
 use Rattle.std.proofs.lemmas.List.Sums.{sum_by-take-le}
 use Rattle.std.specs.List.{slice_get}
 use Rattle.index_page.specs.Rows.{placed_row}
-use Rattle.index_page.specs.Page.{PageRows}
+use Rattle.index_page.specs.Page.{PageRows, IsRowOf}
+use Rattle.list_facts.proofs.Each.{each_get}
 use Rattle.index_page.specs.Loads.{load_of}
 use Rattle.index_page.proofs.LoadLemmas.{row_charge, load_with}
 use Rattle.index_page.proofs.page.Page.load_of_first.Goals as goal
 
+pub charge-load-requires-clause-short : goal.charge-load-requires-clause-short
+charge-load-requires-clause-short c = (each_get (IsRowOf c.self.inside.head) c.self.inside.rows c.loop-i.i _ c.self.invariant.each c.stored.ensures).short
+
 pub loop-i-preserved : goal.loop-i-preserved
 loop-i-preserved c =
-    let row = placed_row c.stored.result.0 c.stored.result.1.now.key c.stored.result.1.now.body in
+    let row = placed_row c.stored.result.0 c.stored.result.1.key c.stored.result.1.body in
     let there = subst (λ (p : PageRows). slice_get p.rows c.loop-i.i ≡ Some row) c.self.view_is c.stored.ensures in
     load_with c.args.self.now.rows c.loop-i.i row c.loop-i.load c.charge-load.result there c.loop-i.invariant c.charge-load.ensures.charge
 

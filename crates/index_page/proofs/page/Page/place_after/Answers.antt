@@ -8,7 +8,7 @@ use Rattle.index_page.proofs.page.Page.place_after.Goals as goal
 pub returns-then-count-len : goal.returns-then-count-len
 returns-then-count-len c =
     let order = subst IsPageInOrder c.self.view_is c.self.invariant in
-    let row = placed_row c.stored.result.0 c.stored.result.1.now.key c.stored.result.1.now.body in
+    let row = placed_row c.stored.result.0 c.stored.result.1.key c.stored.result.1.body in
     let there = subst (λ (p : PageRows). slice_get p.rows c.args.count ≡ Some row) c.self.view_is c.stored.ensures in
     after_some c.args.self.now.rows c.args.count row order.places there
 

@@ -14,7 +14,7 @@ cut-requires c =
 pub returns-clause-row : goal.returns-clause-row
 returns-clause-row c =
     let order = subst IsPageInOrder c.self.view_is c.self.invariant in
-    let found = subst (λ (p : PageRows). find_row c.args.place p.rows ≡ Some (placed_row c.args.place c.record.result.now.key c.record.result.now.body)) c.self.view_is c.record.ensures in
+    let found = subst (λ (p : PageRows). find_row c.args.place p.rows ≡ Some (placed_row c.args.place c.record.result.key c.record.result.body)) c.self.view_is c.record.ensures in
     position_of c.args.self.now c.args.place _ c.cut.result order found c.cut.ensures.out c.cut.ensures.past
 
 pub returns-clause-few : goal.returns-clause-few

@@ -2,7 +2,8 @@ use Rattle.std.proofs.Common.{◌≡◌, ◌+◌, ◌-◌, ◌≤◌, Some, take
 use Rattle.std.proofs.lemmas.List.Sums.{sum_by-take-le}
 use Rattle.std.specs.List.{slice_get}
 use Rattle.index_page.specs.Rows.{placed_row}
-use Rattle.index_page.specs.Page.{PageRows}
+use Rattle.index_page.specs.Page.{PageRows, IsRowOf}
+use Rattle.list_facts.proofs.Each.{each_get}
 use Rattle.index_page.specs.Loads.{load_of, larger_part}
 use Rattle.index_page.proofs.LoadLemmas.{row_charge, load_with}
 use Rattle.index_page.proofs.AppendLemmas.{rows_within_load}
@@ -10,10 +11,13 @@ use Rattle.index_page.proofs.HalvesLemmas.{IsBest, load_of-parts, best_new, best
 use Rattle.index_page.proofs.page.Page.split_point.Goals.{then-larger-least, else-larger-least}
 use Rattle.index_page.proofs.page.Page.split_point.Goals as goal
 
+pub charge-left-requires-clause-short : goal.charge-left-requires-clause-short
+charge-left-requires-clause-short c = (each_get (IsRowOf c.self.inside.head) c.self.inside.rows c.loop-i.i _ c.self.invariant.each c.stored.ensures).short
+
 pub overflow_sub-self-inside : goal.overflow_sub-self-inside
 overflow_sub-self-inside c =
     let rows = c.args.self.now.rows in
-    let row = placed_row c.stored.result.0 c.stored.result.1.now.key c.stored.result.1.now.body in
+    let row = placed_row c.stored.result.0 c.stored.result.1.key c.stored.result.1.body in
     let there = subst (λ (p : PageRows). slice_get p.rows c.loop-i.i ≡ Some row) c.self.view_is c.stored.ensures in
     let sum = load_with rows c.loop-i.i row c.loop-i.left c.charge-left.result there c.loop-i.invariant.sum c.charge-left.ensures.charge in
     let part : load_of (take (c.loop-i.i + 1) rows) ≤ load_of rows = sum_by-take-le row_charge rows (c.loop-i.i + 1) in
@@ -25,7 +29,7 @@ overflow_add-left c = omega (arith, overflow_sub-self-inside c, c.self.invariant
 pub loop-i-preserved : goal.loop-i-preserved
 loop-i-preserved c =
     let rows = c.args.self.now.rows in
-    let row = placed_row c.stored.result.0 c.stored.result.1.now.key c.stored.result.1.now.body in
+    let row = placed_row c.stored.result.0 c.stored.result.1.key c.stored.result.1.body in
     let there = subst (λ (p : PageRows). slice_get p.rows c.loop-i.i ≡ Some row) c.self.view_is c.stored.ensures in
     let sum = load_with rows c.loop-i.i row c.loop-i.left c.charge-left.result there c.loop-i.invariant.sum c.charge-left.ensures.charge in
     let rest : c.self.inside.load - (c.loop-i.left + c.charge-left.result) ≡ load_of (drop (c.loop-i.i + 1) rows) = omega (arith, sum, c.self.inside.charged, ap (λ (p : PageRows). load_of p.rows) c.self.view_is, load_of-parts rows (c.loop-i.i + 1)) in

@@ -1,0 +1,16 @@
+use Rattle.std.proofs.Common.{◌≡◌, map, set, ap, ◌∙◌, List}
+use Rattle.std.proofs.lemmas.List.{map-set}
+use Rattle.index_page.specs.Store.{Content}
+use Rattle.index_page.specs.Slots.{content_in, no_content}
+use Rattle.index_page.proofs.SlotLemmas.{blank_put}
+use Rattle.index_page.proofs.records.Records.blank.Goals as goal
+
+pub invariant_of-self : goal.invariant_of-self
+invariant_of-self c = blank_put c.self.inside.bytes.items c.self.inside.slots.items c.blank.result c.self.invariant (c.blank.ensures.is c.self.inside.bytes.items) c.blank.ensures.nowhere c.args.number
+
+pub returns : goal.returns
+returns c =
+    let bytes = c.self.inside.bytes.items in
+    let says = c.blank.ensures.says bytes in
+    let view = c.self.view_is in
+    c.leave.ensures ∙ map-set (content_in bytes) c.self.inside.slots.items c.args.number c.blank.result ∙ ap (λ (x : Content). set (map (content_in bytes) c.self.inside.slots.items) c.args.number x) says ∙ ap (λ (xs : List Content). set xs c.args.number no_content) view

@@ -1,0 +1,135 @@
+//! Records that are put behind others.
+ghost use Rattle.std.specs.Prelude.{◌≡◌, ◌≤◌, ◌+◌, ◌++◌, length, take, drop, IfOk, OnErr};
+ghost use Rattle.key_tuple.specs.Limits.{IsWithinLimits};
+ghost use Rattle.index_page.specs.Store.{body_from, beside_by};
+ghost use Rattle.index_page.specs.Slots.{content_in, IsSlot, GrewFrom, PutsFields, PutsBeside, PutsRecord};
+
+use crate::body::Beside;
+use crate::slot::Slot;
+use key_tuple::{FIELD_ROOM, Fields};
+use std::alloc::AllocError;
+
+/// Puts a row's record behind the bytes, and tells where it lies.
+pub(crate) fn append_row<A: Fields>(
+    bytes: &mut Vec<u8>,
+    key: &A,
+    beside: Beside<'_>,
+) -> Result<Slot, AllocError>
+    requires { IsWithinLimits (A.fields_of key.now) }
+    ensures ok { IfOk result (λ slot. PutsRecord bytes.old.items bytes.new.items slot
+        (record { key = A.fields_of key.now; body = beside_by beside.entry })) }
+    ensures err { OnErr result (GrewFrom bytes.old.items bytes.new.items) }
+{
+    let start = offset_of(bytes)?;
+    let ends = append_fields(bytes, key)?;
+    let middle = offset_of(bytes)?;
+    let child = append_beside(bytes, beside)?;
+    let stop = offset_of(bytes)?;
+    Ok(Slot {
+        start,
+        middle,
+        stop,
+        child,
+        ends,
+        count: key.count(),
+    })
+}
+
+/// Puts the record of a slot that lies in other bytes behind these.
+pub(crate) fn append_copy(bytes: &mut Vec<u8>, from: &[u8], slot: &Slot) -> Result<Slot, AllocError>
+    requires { IsSlot from.now slot.now }
+    ensures ok { IfOk result (λ moved.
+        PutsRecord bytes.old.items bytes.new.items moved (content_in from.now slot.now)) }
+    ensures err { OnErr result (GrewFrom bytes.old.items bytes.new.items) }
+{
+    let start = offset_of(bytes)?;
+    bytes.extend_from_slice(&from[slot.start as usize..slot.middle as usize])?;
+    let middle = offset_of(bytes)?;
+    bytes.extend_from_slice(&from[slot.middle as usize..slot.stop as usize])?;
+    let stop = offset_of(bytes)?;
+    Ok(Slot {
+        start,
+        middle,
+        stop,
+        ..*slot
+    })
+}
+
+/// Puts the key of a slot's record once more behind the bytes, with another value.
+pub(crate) fn append_again(
+    bytes: &mut Vec<u8>,
+    slot: &Slot,
+    value: &[u8],
+) -> Result<Slot, AllocError>
+    requires { IsSlot bytes.old.items slot.now }
+    ensures ok { IfOk result (λ moved. PutsRecord bytes.old.items bytes.new.items moved (record {
+      key = (content_in bytes.old.items slot.now).key;
+      body = body_from value.now slot.now.child;
+    })) }
+    ensures err { OnErr result (GrewFrom bytes.old.items bytes.new.items) }
+{
+    let start = offset_of(bytes)?;
+    bytes.extend_from_within(slot.start as usize..slot.middle as usize)?;
+    let middle = offset_of(bytes)?;
+    bytes.extend_from_slice(value)?;
+    let stop = offset_of(bytes)?;
+    Ok(Slot {
+        start,
+        middle,
+        stop,
+        ..*slot
+    })
+}
+
+/// Puts the fields one behind another, and tells where they end.
+fn append_fields<A: Fields>(
+    bytes: &mut Vec<u8>,
+    fields: &A,
+) -> Result<[u16; FIELD_ROOM], AllocError>
+    requires { IsWithinLimits (A.fields_of fields.now) }
+    ensures ok { IfOk result (PutsFields bytes.old.items bytes.new.items
+        (A.fields_of fields.now)) }
+    ensures err { OnErr result (GrewFrom bytes.old.items bytes.new.items) }
+{
+    let start = bytes.len();
+    let mut ends = [0; FIELD_ROOM];
+    for i in 0..fields.count() {
+        bytes.extend_from_slice(fields.field(i))?;
+        ends[usize::from(i)] = (bytes.len() - start) as u16;
+    }
+    Ok(ends)
+}
+
+/// Puts a value's bytes, or tells the child.
+fn append_beside(bytes: &mut Vec<u8>, beside: Beside<'_>) -> Result<Option<u32>, AllocError>
+    ensures ok { IfOk result (λ child.
+        PutsBeside bytes.old.items bytes.new.items child (beside_by beside.entry)) }
+    ensures err { OnErr result (bytes.new.items ≡ bytes.old.items) }
+{
+    match beside {
+        Beside::Value(value) => {
+            bytes.extend_from_slice(value)?;
+            Ok(None)
+        }
+        Beside::Child(number) => Ok(Some(number)),
+    }
+}
+
+/// Writes over so many bytes from `at` on.
+pub(crate) fn put_bytes(bytes: &mut Vec<u8>, at: usize, part: &[u8])
+    requires { at + length part.now ≤ length bytes.old.items }
+    ensures { bytes.new.items ≡ take at bytes.old.items
+        ++ (part.now ++ drop (at + length part.now) bytes.old.items) }
+{
+    bytes[at..at + part.len()].copy_from_slice(part);
+}
+
+/// Where the next byte comes. There is no room behind 4 GiB.
+fn offset_of(bytes: &[u8]) -> Result<u32, AllocError>
+    ensures { IfOk result (λ n. n ≡ length bytes.now) }
+{
+    if bytes.len() > u32::MAX as usize {
+        return Err(AllocError);
+    }
+    Ok(bytes.len() as u32)
+}
