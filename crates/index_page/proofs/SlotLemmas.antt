@@ -1,9 +1,9 @@
 -- Records in one run of bytes: what stays, what comes behind, and what is written over.
-use Rattle.std.proofs.Common.{◌≡◌, ◌⊎◌, ℕ, zero, suc, ◌+◌, ◌-◌, ◌<◌, ◌≤◌, Some, None, Option, List, [], ◌∷◌, ◌++◌, length, take, drop, map, set, refl, sym, ap, ◌∙◌, subst, arith, inl, inr, ⊎_elim, get_or, length-append, length-take, length-drop, append_assoc}
+use Rattle.std.proofs.Common.{◌≡◌, ℕ, zero, suc, ◌+◌, ◌-◌, ◌<◌, ◌≤◌, Some, None, Option, List, [], ◌∷◌, ◌++◌, length, take, drop, map, set, refl, sym, ap, ◌∙◌, subst, arith, inl, inr, ⊎_elim, get_or, length-append, length-take, length-drop, append_assoc}
 use Rattle.std.proofs.lemmas.List.{map-append, map-set, take-append-drop, length_push, length-set, length-map, map_more}
 use Rattle.std.proofs.lemmas.List.Sums.{sum_by-cons}
 use Rattle.std.specs.List.{AllByRecursion, slice_get, slice_range}
-use Rattle.key_tuple.specs.Parts.{parts, RiseTo}
+use Rattle.key_tuple.specs.Parts.{parts}
 use Rattle.key_tuple.specs.declared.TheConstants.{FIELD_ROOM}
 use Rattle.key_tuple.specs.Order.{FieldList, byte_count}
 use Rattle.key_tuple.proofs.PartsLemmas.{range_kept, range_added, rises_after, parts_after, byte_count-view}

@@ -1,5 +1,5 @@
 -- Records that lie one behind another in one run of bytes.
-use Rattle.std.specs.Prelude.{ℕ, ◌≡◌, ◌≤◌, ◌<◌, ◌⊎◌, ◌-◌, ◌++◌, Option, None, Some, List, [], ◌∷◌, length, take, slice_get, slice_range}
+use Rattle.std.specs.Prelude.{ℕ, ◌≡◌, ◌≤◌, ◌<◌, ◌⊎◌, ◌-◌, ◌++◌, Option, Some, List, [], ◌∷◌, length, take, slice_get, slice_range}
 use Rattle.std.specs.List.{AllByRecursion}
 use Rattle.key_tuple.specs.declared.TheConstants.{FIELD_ROOM}
 use Rattle.key_tuple.specs.Order.{FieldList}

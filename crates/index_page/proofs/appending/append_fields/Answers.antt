@@ -1,8 +1,8 @@
-use Rattle.std.proofs.Common.{◌≡◌, ◌+◌, ◌-◌, ◌≤◌, ◌<◌, ◌++◌, ◌∷◌, [], ℕ, List, length, take, set, get_or, refl, sym, ap, ◌∙◌, subst, arith, append-nil, length-append, length-take}
+use Rattle.std.proofs.Common.{◌≡◌, ◌+◌, ◌-◌, ◌<◌, ◌++◌, ◌∷◌, [], ℕ, List, length, take, set, refl, sym, ap, ◌∙◌, subst, arith, append-nil, length-append, length-take}
 use Rattle.std.proofs.lemmas.List.{take_more}
 use Rattle.std.proofs.Math.Seq.{take-length}
-use Rattle.key_tuple.specs.Order.{FieldList, byte_count}
-use Rattle.index_page.specs.Slots.{GrewFrom, PutsFields}
+use Rattle.key_tuple.specs.Order.{FieldList}
+use Rattle.index_page.specs.Slots.{PutsFields}
 use Rattle.list_facts.proofs.Outcomes.{when_err}
 use Rattle.index_page.proofs.SlotLemmas.{puts_more, first_fields, added_long}
 use Rattle.index_page.proofs.appending.append_fields.Goals as goal

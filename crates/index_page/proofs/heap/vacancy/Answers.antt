@@ -1,4 +1,4 @@
-use Rattle.std.proofs.Common.{◌≡◌, ◌<◌, ◌++◌, ◌∷◌, [], length, ap, ◌∙◌, ℕ}
+use Rattle.std.proofs.Common.{◌<◌, ◌++◌, ◌∷◌, [], length, ap, ◌∙◌, ℕ}
 use Rattle.index_page.specs.Slots.{no_content}
 use Rattle.list_facts.proofs.Each.{each_left}
 use Rattle.index_page.proofs.StoreLemmas.{grows, rows_in-append}

@@ -1,4 +1,4 @@
-use Rattle.std.proofs.Common.{◌≡◌, ◌≤◌, None, length, set, ap, sym, ◌∙◌, subst, arith, List}
+use Rattle.std.proofs.Common.{◌≡◌, ◌≤◌, None, length, set, ap, ◌∙◌, subst, arith, List}
 use Rattle.std.proofs.lemmas.List.{length-map}
 use Rattle.index_page.specs.Rows.{Row, find_row}
 use Rattle.index_page.specs.Store.{Content, stored_row, rows_in, beside_by}

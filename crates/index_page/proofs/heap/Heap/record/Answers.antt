@@ -1,4 +1,4 @@
-use Rattle.std.proofs.Common.{Some, [], sym, ap, ◌∙◌, ℕ}
+use Rattle.std.proofs.Common.{Some, [], sym, ap, ◌∙◌}
 use Rattle.std.specs.List.{slice_get}
 use Rattle.index_page.specs.Rows.{Bytes, placed_row}
 use Rattle.index_page.specs.Store.{Content}

@@ -1,10 +1,10 @@
 use Rattle.std.proofs.Common.{◌≡◌, true, false, Some, List, [], set, get_or, is_ok, refl, sym, ap, ◌∙◌, subst, ℕ}
 use Rattle.std.specs.List.{slice_get}
 use Rattle.index_page.specs.Rows.{Row, Bytes}
-use Rattle.index_page.specs.Store.{Content, rows_in, HasValueAt, Rewrites}
+use Rattle.index_page.specs.Store.{Content, rows_in, Rewrites}
 use Rattle.index_page.specs.Slots.{CarriesAt}
 use Rattle.index_page.proofs.RowLemmas.{get_below}
-use Rattle.index_page.proofs.StoreLemmas.{live_at, written_store, rewritten, carried, read_at}
+use Rattle.index_page.proofs.StoreLemmas.{live_at, written_store, rewritten, carried}
 use Rattle.index_page.proofs.heap.Heap.rewrite_at.Goals as goal
 
 pub rewrite-requires : goal.rewrite-requires

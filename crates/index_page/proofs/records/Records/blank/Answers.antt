@@ -1,4 +1,4 @@
-use Rattle.std.proofs.Common.{◌≡◌, map, set, ap, ◌∙◌, List}
+use Rattle.std.proofs.Common.{map, set, ap, ◌∙◌, List}
 use Rattle.std.proofs.lemmas.List.{map-set}
 use Rattle.index_page.specs.Store.{Content}
 use Rattle.index_page.specs.Slots.{content_in, no_content}

@@ -1,4 +1,3 @@
-use Rattle.std.specs.Option.{option_to_list}
 use Rattle.index_page.proofs.SlotLemmas.{first_slots}
 use Rattle.index_page.proofs.records.Records.drop_last.Goals as goal
 

@@ -1,4 +1,4 @@
-use Rattle.std.proofs.Common.{◌≡◌, set, ap, sym, ◌∙◌, List}
+use Rattle.std.proofs.Common.{set, ap, ◌∙◌, List}
 use Rattle.index_page.specs.Store.{Content, beside_by}
 use Rattle.list_facts.proofs.Outcomes.{when_err}
 use Rattle.index_page.proofs.SlotLemmas.{same_contents, put_slots, put_contents}

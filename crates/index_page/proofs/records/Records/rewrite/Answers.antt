@@ -1,6 +1,6 @@
-use Rattle.std.proofs.Common.{◌≡◌, map, set, ap, sym, ◌∙◌, arith, List}
+use Rattle.std.proofs.Common.{◌∙◌, arith}
 use Rattle.list_facts.proofs.Outcomes.{when_err}
-use Rattle.index_page.proofs.SlotLemmas.{Stands, stands, same_contents, put_slots, put_contents, with_value}
+use Rattle.index_page.proofs.SlotLemmas.{stands, same_contents, put_slots, put_contents, with_value}
 use Rattle.index_page.proofs.records.Records.rewrite.Goals as goal
 
 pub returns-in_err-moved-clause-err : goal.returns-in_err-moved-clause-err

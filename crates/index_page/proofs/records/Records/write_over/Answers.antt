@@ -1,6 +1,5 @@
-use Rattle.std.proofs.Common.{◌≡◌, map, set, ap, ◌∙◌, arith, List}
-use Rattle.index_page.specs.Rows.{Bytes}
-use Rattle.index_page.proofs.SlotLemmas.{Stands, stands, over_contents, over_slots, with_value}
+use Rattle.std.proofs.Common.{◌∙◌, arith}
+use Rattle.index_page.proofs.SlotLemmas.{stands, over_contents, over_slots, with_value}
 use Rattle.index_page.proofs.records.Records.write_over.Goals as goal
 
 pub overflow_cast-value : goal.overflow_cast-value
