@@ -2,7 +2,11 @@
 #![tactic(auto)]
 
 #[cfg(test)]
+mod busy_leaf;
+#[cfg(test)]
 mod calls;
+#[cfg(test)]
+mod guesses;
 #[cfg(test)]
 mod hashed;
 #[cfg(test)]
@@ -12,9 +16,13 @@ mod limits;
 #[cfg(test)]
 mod merges;
 #[cfg(test)]
+mod names;
+#[cfg(test)]
 mod neighbours;
 #[cfg(test)]
 mod pairs;
+#[cfg(test)]
+mod plot;
 #[cfg(test)]
 mod recount;
 #[cfg(test)]

@@ -1,6 +1,7 @@
 //! Two leaves beside each other, of which the right one is hashed by the first of two fields, with the
 //! first row of each group: what a seek is told of the hash.
-use crate::pairs::{Name, Pairs, SIZES};
+use crate::names::{Name, SIZES};
+use crate::pairs::Pairs;
 use crate::recount::{Counted, recount};
 use key_tuple::Mode;
 use map_history::{How, Reply};

@@ -1,0 +1,132 @@
+//! Rows of a space of one index, by calls on a pass that holds nothing between two of them.
+ghost use Rattle.std.specs.Prelude.{◌≡◌, ◌≤◌, ◌<◌, length, OnSome};
+ghost use Rattle.latch_space.specs.Passes.{count, IsSamePass};
+ghost use Rattle.latch_space.specs.Spaces.{IsPassOf};
+ghost use Rattle.search_info.specs.Passes.{HasUnique, IsLearnPassOf};
+ghost use Rattle.forest_law.specs.State.{fields_for};
+ghost use Rattle.buffer_pool.specs.Forests.{IsForest};
+ghost use Rattle.leaf_changes.specs.Holds.{HoldsFreshAlone};
+
+use buffer_pool::{PoolError, give_back};
+use engine_law::Found;
+use forest_world::{ForestPass, ForestSpace};
+use index_page::MAX_CHARGE;
+use key_tuple::{Key, Mode, Value};
+use leaf_changes::TreeCall;
+use leaf_search::{KeySearch, search_key};
+use map_history::{How, Note, Reply};
+use search_info::{LearnPass, Learner};
+use std::alloc::Global;
+use std::sync::Wait;
+use tree_descent::{Leaf, descend};
+use tree_growth::make_room;
+
+/// A call about a key of the index.
+pub(crate) fn call_of<'a, R>(
+    alloc: Global,
+    space: &'a ForestSpace,
+    key: &'a Key,
+    wait: &'a R,
+) -> TreeCall<'a, R>
+    requires forest { IsForest space.now }
+    requires few { space.now.terms.shape.pages ≤ 65536 }
+    requires there { 0 < space.now.terms.shape.indexes }
+    requires fits { length key.now.tuple ≡ fields_for space.now.terms.shape 0 }
+    ensures space { result.space.now ≡ space.now }
+{
+    let found = Found {
+        how: How::Cold,
+        note: Note::No,
+    };
+    TreeCall {
+        space,
+        alloc,
+        index: 0,
+        key,
+        found,
+        wait,
+    }
+}
+
+/// Goes down from the root, and holds the leaf.
+fn hold_leaf<R: Wait>(call: &TreeCall<'_, R>, pass: &mut ForestPass) -> Leaf
+    requires own { IsPassOf call.now.space.now pass.old }
+    requires nothing { count pass.old ≡ 0 }
+    ensures own { IsSamePass pass.old pass.new × IsPassOf call.now.space.now pass.new }
+    ensures held { HoldsFreshAlone pass.new result.block call.now.index call.now.key.now.tuple
+        result.spot }
+{
+    descend(call.space, pass, call.index, call.key, Mode::Ge, call.wait)
+}
+
+/// Whether the row is put, of at most so many changes.
+pub(crate) fn puts<R: Wait>(
+    call: &TreeCall<'_, R>,
+    pass: &mut ForestPass,
+    most: u64,
+    value: &Value,
+) -> bool
+    requires own { IsPassOf call.now.space.now pass.old }
+    requires most { most ≡ call.now.space.now.terms.max_changes }
+    requires nothing { count pass.old ≡ 0 }
+    ensures own { IsSamePass pass.old pass.new × IsPassOf call.now.space.now pass.new }
+    ensures nothing { count pass.new ≡ 0 }
+{
+    let leaf = hold_leaf(call, pass);
+    let part = call.hold_to_change(pass, &leaf);
+    let told = call.put_held(pass, &leaf, most, value);
+    call.let_both_go(pass, leaf.block, part);
+    match told {
+        Ok(told) => told.reply == Reply::Ok,
+        Err(_) => false,
+    }
+}
+
+/// Whether the leaf of the key has room then for the largest row.
+pub(crate) fn makes_room<R: Wait>(call: &TreeCall<'_, R>, pass: &mut ForestPass) -> bool
+    requires own { IsPassOf call.now.space.now pass.old }
+    requires nothing { count pass.old ≡ 0 }
+    ensures own { IsSamePass pass.old pass.new × IsPassOf call.now.space.now pass.new }
+    ensures nothing { count pass.new ≡ 0 }
+{
+    let need = MAX_CHARGE;
+    let room = make_room(
+        call.alloc, call.space, pass, call.index, call.key, need, call.wait,
+    );
+    match room {
+        Ok(()) => true,
+        Err(refusal) => match refusal {
+            PoolError::SpaceFull => false,
+            PoolError::NoMemory => false,
+        },
+    }
+}
+
+/// Whether a search that goes down to the leaf of the key has it hashed.
+pub(crate) fn hashes<R: Wait>(
+    space: &ForestSpace,
+    pass: &mut ForestPass,
+    learner: &Learner,
+    learn: &mut LearnPass,
+    key: &Key,
+    wait: &R,
+) -> Option<bool>
+    requires forest { IsForest space.now }
+    requires own { IsPassOf space.now pass.old }
+    requires there { 0 < space.now.terms.shape.indexes }
+    requires two { fields_for space.now.terms.shape 0 ≡ 2 }
+    requires fields { length key.now.tuple ≡ fields_for space.now.terms.shape 0 }
+    requires nothing { count pass.old ≡ 0 }
+    requires learner { IsLearnPassOf learner.now learn.old }
+    requires unique { HasUnique learner.now 0 2 }
+    ensures own { IsPassOf space.now pass.new }
+    ensures nothing { OnSome result (count pass.new ≡ 0) }
+{
+    match search_key(space, pass, learner, learn, 0, key, Mode::Ge, wait) {
+        KeySearch::Leaf(searched) => {
+            give_back(space, pass, searched.leaf.block);
+            Some(searched.note == Note::Built)
+        }
+        KeySearch::Row { .. } => None,
+    }
+}
