@@ -1,5 +1,5 @@
 -- Comparisons and agreements of fields, one field at a time.
-use Rattle.std.proofs.Common.{◌≡◌, ℕ, ◌+◌, ◌<◌, Bool, true, false, not, List, [], ◌∷◌, length, drop, get_or, refl, sym, ap, ◌∙◌, arith, drop-cons, add-one, cond, ◌-◌, min, ◌⊎◌, inl, inr, length-drop, Ordering, Less, Equal, Greater}
+use Rattle.std.proofs.Common.{◌≡◌, ◌≢◌, ℕ, ◌+◌, ◌<◌, Bool, true, false, not, List, [], ◌∷◌, length, drop, get_or, refl, sym, ap, ◌∙◌, arith, drop-cons, add-one, cond, ◌-◌, min, ◌⊎◌, inl, inr, length-drop, Ordering, Less, Equal, Greater}
 use Rattle.std.proofs.lemmas.Bool.{cases_lt}
 use Rattle.std.proofs.lemmas.Bool.Decides.{nat_tests}
 use Rattle.std.specs.Ordering.{nat_cmp, ordering_then, ordering_index}
@@ -43,22 +43,38 @@ module _ (D : FieldList → FieldList → Ordering)
   pub field_passes : false ≡ not (ordering_index o == 1) → D s t ≡ D (drop (i + 1) s) (drop (i + 1) t)
   field_passes same = next_field ∙ passes o (D (drop (i + 1) s) (drop (i + 1) t)) same
 
--- where one key is used up, the shorter comes first
-used_up : (xs ys : FieldList) (p q n : ℕ) → length xs + n ≡ p → length ys + n ≡ q → (length xs ≡ 0) ⊎ (length ys ≡ 0) → key_cmp xs ys ≡ nat_cmp p q
-used_up [] [] p q n e f short = let same : p ≡ q = omega arith in grind (arith, nat_tests)
-used_up [] (y ∷ ys) p q n e f short = let less : p < q = omega arith in grind (arith, nat_tests)
-used_up (x ∷ xs) [] p q n e f short = let less : q < p = omega arith in grind (arith, nat_tests)
-used_up (x ∷ xs) (y ∷ ys) p q n e f short = absurd (elim short [ inl h ↦ omega (arith, h) | inr h ↦ omega (arith, h) ])
+-- where one list is used up, the shorter comes first
+used_up : {A : Type 0} (R : A → A → Ordering) (xs ys : List A) (p q n : ℕ) → length xs + n ≡ p → length ys + n ≡ q → (length xs ≡ 0) ⊎ (length ys ≡ 0) → slice_cmp R xs ys ≡ nat_cmp p q
+used_up R [] [] p q n e f short = let same : p ≡ q = omega arith in grind (arith, nat_tests)
+used_up R [] (y ∷ ys) p q n e f short = let less : p < q = omega arith in grind (arith, nat_tests)
+used_up R (x ∷ xs) [] p q n e f short = let less : q < p = omega arith in grind (arith, nat_tests)
+used_up R (x ∷ xs) (y ∷ ys) p q n e f short = absurd (elim short [ inl h ↦ omega (arith, h) | inr h ↦ omega (arith, h) ])
 
 short_side : (n p q a b : ℕ) → n ≡ min p q → a ≡ p - n → b ≡ q - n → (a ≡ 0) ⊎ (b ≡ 0)
 short_side n p q a b e f g = elim (cases_lt p q) [ inl less ↦ inl (omega arith) | inr more ↦ inr (omega arith) ]
 
-pub key_cmp-end : (j k : FieldList) → key_cmp (drop (min (length j) (length k)) j) (drop (min (length j) (length k)) k) ≡ nat_cmp (length j) (length k)
-key_cmp-end j k =
+slice_cmp-end : {A : Type 0} (R : A → A → Ordering) (j k : List A) → slice_cmp R (drop (min (length j) (length k)) j) (drop (min (length j) (length k)) k) ≡ nat_cmp (length j) (length k)
+slice_cmp-end R j k =
     let n : ℕ = min (length j) (length k) in
     let left : length (drop n j) ≡ length j - n = length-drop n j in
     let right : length (drop n k) ≡ length k - n = length-drop n k in
-    used_up (drop n j) (drop n k) (length j) (length k) n (omega arith) (omega arith) (short_side n (length j) (length k) _ _ refl left right)
+    used_up R (drop n j) (drop n k) (length j) (length k) n (omega arith) (omega arith) (short_side n (length j) (length k) _ _ refl left right)
+
+pub key_cmp-end : (j k : FieldList) → key_cmp (drop (min (length j) (length k)) j) (drop (min (length j) (length k)) k) ≡ nat_cmp (length j) (length k)
+key_cmp-end j k = slice_cmp-end (slice_cmp nat_cmp) j k
+
+pub byte_cmp-end : (x y : List ℕ) → slice_cmp nat_cmp (drop (min (length x) (length y)) x) (drop (min (length x) (length y)) y) ≡ nat_cmp (length x) (length y)
+byte_cmp-end x y = slice_cmp-end nat_cmp x y
+
+-- one byte more of two fields
+pub byte_cmp-drop : (x y : List ℕ) (i : ℕ) → i < length x → i < length y → slice_cmp nat_cmp (drop i x) (drop i y) ≡ ordering_then (nat_cmp (get_or x i 0) (get_or y i 0)) (slice_cmp nat_cmp (drop (i + 1) x) (drop (i + 1) y))
+byte_cmp-drop x y i below_x below_y = rw (add-one i, drop-cons x i 0, drop-cons y i 0)
+
+pub bytes_decide : (a b : ℕ) (rest : Ordering) → a ≢ b → ordering_then (nat_cmp a b) rest ≡ nat_cmp a b
+bytes_decide a b rest differ = grind (arith, nat_tests)
+
+pub bytes_pass : (a b : ℕ) (rest : Ordering) → a ≡ b → ordering_then (nat_cmp a b) rest ≡ rest
+bytes_pass a b rest same = grind (arith, nat_tests)
 
 pub equal_fields-drop : (t k : FieldList) (i : ℕ) → i < length t → i < length k → equal_fields (drop i t) (drop i k) ≡ cond (pointwise nat_eq (get_or t i []) (get_or k i [])) (equal_fields (drop (i + 1) t) (drop (i + 1) k) + 1) 0
 equal_fields-drop t k i below_t below_k = rw (add-one i, drop-cons t i [], drop-cons k i [])

@@ -10,8 +10,8 @@ returns-then-ne g c =
     let right = g.B.Fields.fields_of c.args.key.now in
     let in_left : c.loop-i.i < length left = omega (arith, c.count-i-end.ensures, c.loop-i-test.true, c.requires) in
     let in_right : c.loop-i.i < length right = omega (arith, c.count-i-end.ensures, c.loop-i-test.true, c.requires) in
-    field_decides tuple_cmp tuple_cmp-drop left right c.loop-i.i c.field.result.now c.field-in-loop-i.result.now c.cmp-order.result in_left in_right
-    c.loop-i.invariant c.field.ensures.bytes c.field-in-loop-i.ensures.bytes c.cmp-order.ensures c.if-ne.ensures
+    field_decides tuple_cmp tuple_cmp-drop left right c.loop-i.i c.field.result.now c.field-in-loop-i.result.now c.compare_bytes-order.result in_left in_right
+    c.loop-i.invariant c.field.ensures.bytes c.field-in-loop-i.ensures.bytes c.compare_bytes-order.ensures c.if-ne.ensures
 
 pub loop-i-preserved : goal.loop-i-preserved
 loop-i-preserved g c =
@@ -19,5 +19,5 @@ loop-i-preserved g c =
     let right = g.B.Fields.fields_of c.args.key.now in
     let in_left : c.loop-i.i < length left = omega (arith, c.count-i-end.ensures, c.loop-i-test.true, c.requires) in
     let in_right : c.loop-i.i < length right = omega (arith, c.count-i-end.ensures, c.loop-i-test.true, c.requires) in
-    field_passes tuple_cmp tuple_cmp-drop left right c.loop-i.i c.field.result.now c.field-in-loop-i.result.now c.cmp-order.result in_left in_right
-    c.loop-i.invariant c.field.ensures.bytes c.field-in-loop-i.ensures.bytes c.cmp-order.ensures c.if-ne.ensures
+    field_passes tuple_cmp tuple_cmp-drop left right c.loop-i.i c.field.result.now c.field-in-loop-i.result.now c.compare_bytes-order.result in_left in_right
+    c.loop-i.invariant c.field.ensures.bytes c.field-in-loop-i.ensures.bytes c.compare_bytes-order.ensures c.if-ne.ensures

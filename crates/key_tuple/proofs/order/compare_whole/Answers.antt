@@ -9,8 +9,8 @@ returns-then-ne g c =
     let right = g.B.Fields.fields_of c.args.right.now in
     let in_left : c.loop-i.i < length left = omega (arith, c.count.ensures, c.count-2.ensures, c.min-i-end.ensures, c.loop-i-test.true) in
     let in_right : c.loop-i.i < length right = omega (arith, c.count.ensures, c.count-2.ensures, c.min-i-end.ensures, c.loop-i-test.true) in
-    field_decides key_cmp key_cmp-drop left right c.loop-i.i c.field.result.now c.field-in-loop-i.result.now c.cmp-order.result in_left in_right
-    c.loop-i.invariant c.field.ensures.bytes c.field-in-loop-i.ensures.bytes c.cmp-order.ensures c.if-ne.ensures
+    field_decides key_cmp key_cmp-drop left right c.loop-i.i c.field.result.now c.field-in-loop-i.result.now c.compare_bytes-order.result in_left in_right
+    c.loop-i.invariant c.field.ensures.bytes c.field-in-loop-i.ensures.bytes c.compare_bytes-order.ensures c.if-ne.ensures
 
 pub loop-i-preserved : goal.loop-i-preserved
 loop-i-preserved g c =
@@ -18,8 +18,8 @@ loop-i-preserved g c =
     let right = g.B.Fields.fields_of c.args.right.now in
     let in_left : c.loop-i.i < length left = omega (arith, c.count.ensures, c.count-2.ensures, c.min-i-end.ensures, c.loop-i-test.true) in
     let in_right : c.loop-i.i < length right = omega (arith, c.count.ensures, c.count-2.ensures, c.min-i-end.ensures, c.loop-i-test.true) in
-    field_passes key_cmp key_cmp-drop left right c.loop-i.i c.field.result.now c.field-in-loop-i.result.now c.cmp-order.result in_left in_right
-    c.loop-i.invariant c.field.ensures.bytes c.field-in-loop-i.ensures.bytes c.cmp-order.ensures c.if-ne.ensures
+    field_passes key_cmp key_cmp-drop left right c.loop-i.i c.field.result.now c.field-in-loop-i.result.now c.compare_bytes-order.result in_left in_right
+    c.loop-i.invariant c.field.ensures.bytes c.field-in-loop-i.ensures.bytes c.compare_bytes-order.ensures c.if-ne.ensures
 
 pub returns : goal.returns
 returns g c =
