@@ -13,11 +13,12 @@ use key_tuple::{Fields, LentFields};
 use std::alloc::{AllocError, Global};
 use std::marker::Model;
 
-/// How many bytes of records that went are left before the others are put anew.
+/// How many bytes are left behind before the records are put anew.
 const SPARE_BYTES: usize = 4096;
 
 /// Records by their numbers, seen as the list of what they say. They lie in one run of bytes, in
-/// which a record that goes, or moves since its value grew, leaves its bytes behind.
+/// which a record that goes, or moves since its value grew, leaves its bytes behind, and one whose
+/// value gets shorter leaves some.
 #[derive(Debug, Drop)]
 pub(crate) struct Records {
     alloc: Global,
@@ -127,15 +128,13 @@ impl Records {
             → length value.now ≤ length carries.value → IsOk result }
         ensures err { OnErr result (self.new ≡ self.old) }
     {
-        let slot = self.slots[number];
+        let slot = &self.slots[number];
         if value.len() <= (slot.stop - slot.middle) as usize {
             self.write_over(number, value);
             return Ok(());
         }
-        let moved = append_again(&mut self.bytes, &slot, value)?;
-        self.slots[number] = moved;
-        self.leave(&slot);
-        Ok(())
+        self.put_anew();
+        self.write_behind(number, value)
     }
 
     /// The same of a value that is no longer.
@@ -148,10 +147,26 @@ impl Records {
     {
         let slot = self.slots[number];
         put_bytes(&mut self.bytes, slot.middle as usize, value);
-        self.slots[number] = Slot {
+        let cut = Slot {
             stop: slot.middle + value.len() as u32,
             ..slot
         };
+        self.slots[number] = cut;
+        self.leave(cut.stop, slot.stop);
+    }
+
+    /// Puts the record once more behind all others, with another value.
+    fn write_behind(&mut self, number: usize, value: &[u8]) -> Result<(), AllocError>
+        requires { CarriesAt self.old number }
+        ensures ok { (carries : CarriesAt self.old number) → OnOk result (self.new
+            ≡ set self.old number (record { key = carries.key; body = Bytes value.now })) }
+        ensures err { OnErr result (self.new ≡ self.old) }
+    {
+        let slot = self.slots[number];
+        let moved = append_again(&mut self.bytes, &slot, value)?;
+        self.slots[number] = moved;
+        self.leave(slot.start, slot.stop);
+        Ok(())
     }
 
     /// Takes out what the record says.
@@ -161,7 +176,7 @@ impl Records {
     {
         let slot = self.slots[number];
         self.slots[number] = Slot::blank();
-        self.leave(&slot);
+        self.leave(slot.start, slot.stop);
     }
 
     /// The same records, with nothing between them.
@@ -192,11 +207,11 @@ impl Records {
         Ok(())
     }
 
-    /// Notes the bytes that a record leaves behind.
-    fn leave(&mut self, slot: &Slot)
+    /// Notes that the bytes between two places are left behind.
+    fn leave(&mut self, start: u32, stop: u32)
         ensures { self.new ≡ self.old }
     {
-        let bytes = slot.stop.wrapping_sub(slot.start) as usize;
+        let bytes = stop.wrapping_sub(start) as usize;
         self.left = self.left.saturating_add(bytes);
     }
 

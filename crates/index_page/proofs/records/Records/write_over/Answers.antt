@@ -2,15 +2,15 @@ use Rattle.std.proofs.Common.{◌∙◌, arith}
 use Rattle.index_page.proofs.SlotLemmas.{stands, over_contents, over_slots, with_value}
 use Rattle.index_page.proofs.records.Records.write_over.Goals as goal
 
-pub overflow_cast-value : goal.overflow_cast-value
-overflow_cast-value c =
+pub overflow_cast-cut : goal.overflow_cast-cut
+overflow_cast-cut c =
     let st = stands c.self.inside.bytes.items c.self.inside.slots.items c.args.self.now c.args.number c.index-slot.result.now c.self.invariant c.self.view_is c.index-slot.ensures c.requires.there in
-    omega (arith, st.carries.long, c.requires.short c.requires.there, c.index-slot.type_inv)
+    omega (arith, st.carries.long, c.requires.short c.requires.there)
 
-pub overflow_add-slot : goal.overflow_add-slot
-overflow_add-slot c =
+pub overflow_add-cut : goal.overflow_add-cut
+overflow_add-cut c =
     let st = stands c.self.inside.bytes.items c.self.inside.slots.items c.args.self.now c.args.number c.index-slot.result.now c.self.invariant c.self.view_is c.index-slot.ensures c.requires.there in
-    omega (arith, st.carries.long, st.is.value, c.requires.short c.requires.there, c.index-slot.type_inv)
+    omega (arith, st.carries.long, st.is.value, c.requires.short c.requires.there)
 
 pub index_mut-requires : goal.index_mut-requires
 index_mut-requires c =
@@ -27,4 +27,4 @@ returns c = λ carries.
     let st = stands c.self.inside.bytes.items c.self.inside.slots.items c.args.self.now c.args.number c.index-slot.result.now c.self.invariant c.self.view_is c.index-slot.ensures carries in
     let put = over_contents c.self.inside.bytes.items c.args.value.now c.index-slot.result.now st.is (omega (arith, st.carries.long, c.requires.short carries)) c.self.inside.slots.items c.args.number st.there c.self.invariant.each c.self.invariant.apart in
     let same = with_value c.self.inside.bytes.items c.index-slot.result.now carries.key carries.value c.args.value.now _ c.args.self.now c.args.number c.self.view_is st.carries in
-    rw c.put_bytes.ensures (put ∙ same)
+    c.leave.ensures ∙ rw c.put_bytes.ensures (put ∙ same)
