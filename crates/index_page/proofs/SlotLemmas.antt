@@ -10,20 +10,20 @@ use Rattle.key_tuple.proofs.PartsLemmas.{range_kept, range_added, rises_after, p
 use Rattle.index_page.specs.declared.slot.Slot.{Slot}
 use Rattle.index_page.specs.Rows.{RowBody, Bytes}
 use Rattle.index_page.specs.Store.{Content, body_from}
-use Rattle.index_page.specs.Slots.{content_in, IsSlot, LieApart, AllApart, AreSlots, GrewFrom, PutsFields, PutsBeside, PutsRecord, CarriesAt}
+use Rattle.index_page.specs.Slots.{content_in, IsSlotIn, LieApart, AllApart, AreSlots, GrewFrom, PutsFields, PutsBeside, PutsRecord, CarriesAt}
 use Rattle.list_facts.proofs.Places.{same_some}
 use Rattle.list_facts.proofs.Elements.{map_get}
 use Rattle.index_page.proofs.RowLemmas.{get_below}
 use Rattle.list_facts.proofs.Each.{each_left, each_append, each_weaker, each_get, each_all}
 
 -- a record is as it was where more came behind
-kept : (bytes more : List ℕ) (slot : Slot) → IsSlot bytes slot → content_in (bytes ++ more) slot ≡ content_in bytes slot
+kept : (bytes more : List ℕ) (slot : Slot) → IsSlotIn bytes slot → content_in (bytes ++ more) slot ≡ content_in bytes slot
 kept bytes more slot is =
     let key = range_kept bytes more slot.start slot.middle is.key (omega (arith, is.value, is.within)) in
     let value = range_kept bytes more slot.middle slot.stop is.value is.within in
     cc (key, value)
 
-longer : (bytes more : List ℕ) (slot : Slot) → IsSlot bytes slot → IsSlot (bytes ++ more) slot
+longer : (bytes more : List ℕ) (slot : Slot) → IsSlotIn bytes slot → IsSlotIn (bytes ++ more) slot
 longer bytes more slot is = record {
   key = is.key;
   value = is.value;
@@ -34,18 +34,18 @@ longer bytes more slot is = record {
   within = omega (arith, is.within, length-append bytes more);
 }
 
-all_kept : (bytes more : List ℕ) (slots : List Slot) → AllByRecursion (IsSlot bytes) slots → map (content_in (bytes ++ more)) slots ≡ map (content_in bytes) slots
+all_kept : (bytes more : List ℕ) (slots : List Slot) → AllByRecursion (IsSlotIn bytes) slots → map (content_in (bytes ++ more)) slots ≡ map (content_in bytes) slots
 all_kept bytes more [] a = refl
 all_kept bytes more (x ∷ xs) a =
     let here = kept bytes more x a.0 in
     let rest = all_kept bytes more xs a.1 in
     cc (here, rest)
 
-pub same_contents : (old new : List ℕ) (slots : List Slot) → GrewFrom old new → AllByRecursion (IsSlot old) slots → map (content_in new) slots ≡ map (content_in old) slots
+pub same_contents : (old new : List ℕ) (slots : List Slot) → GrewFrom old new → AllByRecursion (IsSlotIn old) slots → map (content_in new) slots ≡ map (content_in old) slots
 same_contents old new slots grew each = rw grew.items (all_kept old grew.more slots each)
 
-each_longer : (old new : List ℕ) (slots : List Slot) → GrewFrom old new → AllByRecursion (IsSlot old) slots → AllByRecursion (IsSlot new) slots
-each_longer old new slots grew each = rw grew.items (each_weaker (IsSlot old) (IsSlot (old ++ grew.more)) (λ x is. longer old grew.more x is) slots each)
+each_longer : (old new : List ℕ) (slots : List Slot) → GrewFrom old new → AllByRecursion (IsSlotIn old) slots → AllByRecursion (IsSlotIn new) slots
+each_longer old new slots grew each = rw grew.items (each_weaker (IsSlotIn old) (IsSlotIn (old ++ grew.more)) (λ x is. longer old grew.more x is) slots each)
 
 pub same_slots : (old new : List ℕ) (slots : List Slot) → GrewFrom old new → AreSlots old slots → AreSlots new slots
 same_slots old new slots grew are = record { each = each_longer old new slots grew are.each; apart = are.apart }
@@ -74,11 +74,11 @@ apart_push (y ∷ ys) x a h = (each_append (LieApart y) ys (x ∷ []) a.0 (h.0, 
 -- a record that came behind lies apart from each that was there
 module _ (old new : List ℕ) (slots : List Slot) (slot : Slot) (content : Content) (are : AreSlots old slots) (put : PutsRecord old new slot content) where
   before : AllByRecursion (λ y. LieApart y slot) slots
-  before = each_weaker (IsSlot old) (λ y. LieApart y slot) (λ y is. inl (omega (arith, is.within, put.from))) slots are.each
+  before = each_weaker (IsSlotIn old) (λ y. LieApart y slot) (λ y is. inl (omega (arith, is.within, put.from))) slots are.each
 
   pub put_slots : (i : ℕ) → AreSlots new (set slots i slot)
   put_slots i = record {
-    each = each_set (IsSlot new) slots i slot (each_longer old new slots (put_grew old new slot content put) are.each) put.is;
+    each = each_set (IsSlotIn new) slots i slot (each_longer old new slots (put_grew old new slot content put) are.each) put.is;
     apart = apart_set slots i slot are.apart (each_weaker (λ y. LieApart y slot) (LieApart slot) (λ y h. flip y slot h) slots before);
   }
 
@@ -90,7 +90,7 @@ module _ (old new : List ℕ) (slots : List Slot) (slot : Slot) (content : Conte
 
   pub push_slots : AreSlots new (slots ++ slot ∷ [])
   push_slots = record {
-    each = each_append (IsSlot new) slots (slot ∷ []) (each_longer old new slots (put_grew old new slot content put) are.each) (put.is, tt);
+    each = each_append (IsSlotIn new) slots (slot ∷ []) (each_longer old new slots (put_grew old new slot content put) are.each) (put.is, tt);
     apart = apart_push slots slot are.apart before;
   }
 
@@ -101,16 +101,16 @@ module _ (old new : List ℕ) (slots : List Slot) (slot : Slot) (content : Conte
       map-append (content_in new) slots (slot ∷ []) ∙ cc (others, here)
 
 -- a record without bytes lies apart from each
-module _ (bytes : List ℕ) (slots : List Slot) (slot : Slot) (are : AreSlots bytes slots) (is : IsSlot bytes slot) (nowhere : slot.stop ≡ 0) where
+module _ (bytes : List ℕ) (slots : List Slot) (slot : Slot) (are : AreSlots bytes slots) (is : IsSlotIn bytes slot) (nowhere : slot.stop ≡ 0) where
   pub blank_pushed : AreSlots bytes (slots ++ slot ∷ [])
   blank_pushed = record {
-    each = each_append (IsSlot bytes) slots (slot ∷ []) are.each (is, tt);
+    each = each_append (IsSlotIn bytes) slots (slot ∷ []) are.each (is, tt);
     apart = apart_push slots slot are.apart (each_all (λ y. LieApart y slot) (λ y. inr (omega (arith, nowhere))) slots);
   }
 
   pub blank_put : (i : ℕ) → AreSlots bytes (set slots i slot)
   blank_put i = record {
-    each = each_set (IsSlot bytes) slots i slot are.each is;
+    each = each_set (IsSlotIn bytes) slots i slot are.each is;
     apart = apart_set slots i slot are.apart (each_all (LieApart slot) (λ y. inl (omega (arith, nowhere))) slots);
   }
 
@@ -122,7 +122,7 @@ first_apart (x ∷ xs) ys a = (each_left (LieApart x) xs ys a.0, first_apart xs 
 pub first_slots : (bytes : List ℕ) (all slots more : List Slot) → all ≡ slots ++ more → AreSlots bytes all → AreSlots bytes slots
 first_slots bytes all slots more e are =
     let both = subst (AreSlots bytes) e are in
-    record { each = each_left (IsSlot bytes) slots more both.each; apart = first_apart slots more both.apart }
+    record { each = each_left (IsSlotIn bytes) slots more both.each; apart = first_apart slots more both.apart }
 
 -- a value is written over another that is no shorter
 narrow_apart : (slots : List Slot) (i : ℕ) (old new : Slot) → slice_get slots i ≡ Some old → old.start ≤ new.start → new.stop ≤ old.stop → AllApart slots → AllApart (set slots i new)
@@ -161,7 +161,7 @@ cut_behind bytes part at from to low rises fits =
     ap (λ (xs : List ℕ). take (to - from) (drop from xs)) (sym (append_assoc (take at bytes) part rest)) ∙ ap (take (to - from)) (new ∙ sym old ∙ ap (drop from) whole)
 
 -- a value that is written over the one of a record, no longer than that
-module _ (bytes part : List ℕ) (old : Slot) (is : IsSlot bytes old) (fits : length part ≤ old.stop - old.middle) where
+module _ (bytes part : List ℕ) (old : Slot) (is : IsSlotIn bytes old) (fits : length part ≤ old.stop - old.middle) where
   abbrev pub over : List ℕ
   over = take old.middle bytes ++ (part ++ drop (old.middle + length part) bytes)
 
@@ -171,7 +171,7 @@ module _ (bytes part : List ℕ) (old : Slot) (is : IsSlot bytes old) (fits : le
   over_long : length over ≡ length bytes
   over_long = length-append (take old.middle bytes) (part ++ drop (old.middle + length part) bytes) ∙ omega (arith, is.value, is.within, length-take old.middle bytes, length-append part (drop (old.middle + length part) bytes), length-drop (old.middle + length part) bytes)
 
-  others_keep : (y : Slot) → IsSlot bytes y → LieApart old y → content_in over y ≡ content_in bytes y
+  others_keep : (y : Slot) → IsSlotIn bytes y → LieApart old y → content_in over y ≡ content_in bytes y
   others_keep y its = ⊎_elim
       (λ (h : old.stop ≤ y.start).
       let key = cut_behind bytes part old.middle y.start y.middle (omega (arith, is.value)) its.key (omega (arith, is.value, is.within)) in
@@ -183,10 +183,10 @@ module _ (bytes part : List ℕ) (old : Slot) (is : IsSlot bytes old) (fits : le
       let value = cut_before bytes part rest old.middle y.middle y.stop its.value (omega (arith, is.key)) (omega (arith, is.value, is.within)) in
       cc (key, value))
 
-  still : (y : Slot) → IsSlot bytes y → IsSlot over y
+  still : (y : Slot) → IsSlotIn bytes y → IsSlotIn over y
   still y its = record { key = its.key; value = its.value; offsets = its.offsets; few = its.few; short = its.short; rise = its.rise; within = omega (arith, its.within, over_long) }
 
-  its_slot : IsSlot over cut_slot
+  its_slot : IsSlotIn over cut_slot
   its_slot = record { key = is.key; value = omega arith; offsets = is.offsets; few = is.few; short = is.short; rise = is.rise; within = omega (arith, is.value, is.within, over_long) }
 
   its_content : content_in over cut_slot ≡ record { key = (content_in bytes old).key; body = body_from part old.child }
@@ -200,14 +200,14 @@ module _ (bytes part : List ℕ) (old : Slot) (is : IsSlot bytes old) (fits : le
       let value : slice_range over old.middle (old.middle + length part) ≡ part = ap (λ (xs : List ℕ). slice_range xs old.middle (old.middle + length part)) (sym (append_assoc (take old.middle bytes) part rest)) ∙ kept ∙ added in
       cc (key, value)
 
-  keep_all : (xs : List Slot) → AllByRecursion (IsSlot bytes) xs → AllByRecursion (LieApart old) xs → map (content_in over) xs ≡ map (content_in bytes) xs
+  keep_all : (xs : List Slot) → AllByRecursion (IsSlotIn bytes) xs → AllByRecursion (LieApart old) xs → map (content_in over) xs ≡ map (content_in bytes) xs
   keep_all [] a h = refl
   keep_all (x ∷ xs) a h =
       let here = others_keep x a.0 h.0 in
       let rest = keep_all xs a.1 h.1 in
       cc (here, rest)
 
-  pub over_contents : (slots : List Slot) (i : ℕ) → slice_get slots i ≡ Some old → AllByRecursion (IsSlot bytes) slots → AllApart slots → map (content_in over) (set slots i cut_slot) ≡ set (map (content_in bytes) slots) i (record { key = (content_in bytes old).key; body = body_from part old.child })
+  pub over_contents : (slots : List Slot) (i : ℕ) → slice_get slots i ≡ Some old → AllByRecursion (IsSlotIn bytes) slots → AllApart slots → map (content_in over) (set slots i cut_slot) ≡ set (map (content_in bytes) slots) i (record { key = (content_in bytes old).key; body = body_from part old.child })
   over_contents [] i e a h = refl
   over_contents (y ∷ ys) zero e a h =
       let same : y ≡ old = cc in
@@ -222,7 +222,7 @@ module _ (bytes part : List ℕ) (old : Slot) (is : IsSlot bytes old) (fits : le
 
   pub over_slots : (slots : List Slot) (i : ℕ) → slice_get slots i ≡ Some old → AreSlots bytes slots → AreSlots over (set slots i cut_slot)
   over_slots slots i e are = record {
-    each = each_set (IsSlot over) slots i cut_slot (each_weaker (IsSlot bytes) (IsSlot over) still slots are.each) its_slot;
+    each = each_set (IsSlotIn over) slots i cut_slot (each_weaker (IsSlotIn bytes) (IsSlotIn over) still slots are.each) its_slot;
     apart = narrow_apart slots i old cut_slot e (omega arith) (omega (arith, is.value)) are.apart;
   }
 
@@ -232,7 +232,7 @@ pub record Carries (bytes : List ℕ) (slot : Slot) (key : FieldList) (value : L
   pub childless : slot.child ≡ None
   pub long : length value ≡ slot.stop - slot.middle
 
-pub carries_by : (bytes : List ℕ) (slot : Slot) (key : FieldList) (value : List ℕ) → IsSlot bytes slot → content_in bytes slot ≡ record { key = key; body = Bytes value } → Carries bytes slot key value
+pub carries_by : (bytes : List ℕ) (slot : Slot) (key : FieldList) (value : List ℕ) → IsSlotIn bytes slot → content_in bytes slot ≡ record { key = key; body = Bytes value } → Carries bytes slot key value
 carries_by bytes slot key value is e = go slot.child refl
   where
     go : (child : Option ℕ) → slot.child ≡ child → Carries bytes slot key value
@@ -303,14 +303,14 @@ puts_row old mid new slot fields body a b start middle stop count few short =
 pub record Stands (bytes : List ℕ) (slots : List Slot) (number : ℕ) (slot : Slot) (key : FieldList) (value : List ℕ) : Type 0 where
   pub below : number < length slots
   pub there : slice_get slots number ≡ Some slot
-  pub is : IsSlot bytes slot
+  pub is : IsSlotIn bytes slot
   pub carries : Carries bytes slot key value
 
 pub stands : (bytes : List ℕ) (slots : List Slot) (contents : List Content) (number : ℕ) (slot : Slot) → AreSlots bytes slots → map (content_in bytes) slots ≡ contents → slot ≡ get_or slots number slot → (c : CarriesAt contents number) → Stands bytes slots number slot c.key c.value
 stands bytes slots contents number slot are view read c =
     let below : number < length slots = omega (arith, get_below contents number _ c.there, ap length view, length-map slots (content_in bytes)) in
     let there = got slots number slot below read in
-    let is = each_get (IsSlot bytes) slots number slot are.each there in
+    let is = each_get (IsSlotIn bytes) slots number slot are.each there in
     let says = map_get (content_in bytes) slots number slot there in
     let same = same_some _ _ (sym says ∙ ap (λ (xs : List Content). slice_get xs number) view ∙ c.there) in
     record { below = below; there = there; is = is; carries = carries_by bytes slot c.key c.value is same }

@@ -20,7 +20,7 @@ abbrev pub no_content : Content
 no_content = record { key = []; body = Bytes [] }
 
 -- a slot names a key within these bytes, and a value behind it
-pub record IsSlot (bytes : List ℕ) (slot : Slot) : Type 0 where
+pub record IsSlotIn (bytes : List ℕ) (slot : Slot) : Type 0 where
   pub key : slot.start ≤ slot.middle
   pub value : slot.middle ≤ slot.stop
   pub within : slot.stop ≤ length bytes
@@ -40,7 +40,7 @@ AllApart (x ∷ xs) = AllByRecursion (LieApart x) xs × AllApart xs
 
 -- each slot names a record within the bytes, and no two have a byte in common
 pub record AreSlots (bytes : List ℕ) (slots : List Slot) : Type 0 where
-  pub each : AllByRecursion (IsSlot bytes) slots
+  pub each : AllByRecursion (IsSlotIn bytes) slots
   pub apart : AllApart slots
 
 -- something may have come behind what was there
@@ -67,7 +67,7 @@ pub record PutsRecord (old new : List ℕ) (slot : Slot) (content : Content) : T
   pub more : List ℕ
   pub items : new ≡ old ++ more
   pub from : slot.start ≡ length old
-  pub is : IsSlot new slot
+  pub is : IsSlotIn new slot
   pub says : content_in new slot ≡ content
 
 -- the record with this number carries a value

@@ -2,7 +2,7 @@
 ghost use Rattle.std.specs.Prelude.{◌≡◌, ◌≤◌, ◌+◌, ◌++◌, length, take, drop, IfOk, OnErr};
 ghost use Rattle.key_tuple.specs.Limits.{IsWithinLimits};
 ghost use Rattle.index_page.specs.Store.{body_from, beside_by};
-ghost use Rattle.index_page.specs.Slots.{content_in, IsSlot, GrewFrom, PutsFields, PutsBeside, PutsRecord};
+ghost use Rattle.index_page.specs.Slots.{content_in, IsSlotIn, GrewFrom, PutsFields, PutsBeside, PutsRecord};
 
 use crate::body::Beside;
 use crate::slot::Slot;
@@ -37,7 +37,7 @@ pub(crate) fn append_row<A: Fields>(
 
 /// Puts the record of a slot that lies in other bytes behind these.
 pub(crate) fn append_copy(bytes: &mut Vec<u8>, from: &[u8], slot: &Slot) -> Result<Slot, AllocError>
-    requires { IsSlot from.now slot.now }
+    requires { IsSlotIn from.now slot.now }
     ensures ok { IfOk result (λ moved.
         PutsRecord bytes.old.items bytes.new.items moved (content_in from.now slot.now)) }
     ensures err { OnErr result (GrewFrom bytes.old.items bytes.new.items) }
@@ -61,7 +61,7 @@ pub(crate) fn append_again(
     slot: &Slot,
     value: &[u8],
 ) -> Result<Slot, AllocError>
-    requires { IsSlot bytes.old.items slot.now }
+    requires { IsSlotIn bytes.old.items slot.now }
     ensures ok { IfOk result (λ moved. PutsRecord bytes.old.items bytes.new.items moved (record {
       key = (content_in bytes.old.items slot.now).key;
       body = body_from value.now slot.now.child;

@@ -3,7 +3,7 @@ ghost use Rattle.std.specs.Prelude.{◌≡◌, ◌<◌, ◌≤◌, [], ◌∷◌
 ghost use Rattle.key_tuple.specs.Limits.{IsWithinLimits};
 ghost use Rattle.index_page.specs.Rows.{Bytes};
 ghost use Rattle.index_page.specs.Store.{Content, beside_by};
-ghost use Rattle.index_page.specs.Slots.{content_in, no_content, IsSlot, CarriesAt};
+ghost use Rattle.index_page.specs.Slots.{content_in, no_content, IsSlotIn, CarriesAt};
 
 use crate::appending::{append_again, append_copy, append_row, put_bytes};
 use crate::body::Beside;
@@ -198,7 +198,7 @@ impl Records {
 
     /// Adds the record of a slot that lies in other bytes.
     fn add_copy(&mut self, from: &[u8], slot: &Slot) -> Result<(), AllocError>
-        requires { IsSlot from.now slot.now }
+        requires { IsSlotIn from.now slot.now }
         ensures { OnOk result (self.new ≡ self.old ++ content_in from.now slot.now ∷ []) }
     {
         self.slots.reserve(1)?;

@@ -1,6 +1,6 @@
 //! Where a record lies.
 ghost use Rattle.std.specs.Prelude.{◌≡◌, ℕ, List};
-ghost use Rattle.index_page.specs.Slots.{content_in, no_content, IsSlot};
+ghost use Rattle.index_page.specs.Slots.{content_in, no_content, IsSlotIn};
 
 use key_tuple::FIELD_ROOM;
 
@@ -20,7 +20,7 @@ impl Slot {
     /// The slot of a record of nothing, which has no bytes.
     pub(crate) fn blank() -> Slot
         ensures says { (bytes : List ℕ) → content_in bytes result ≡ no_content }
-        ensures is { (bytes : List ℕ) → IsSlot bytes result }
+        ensures is { (bytes : List ℕ) → IsSlotIn bytes result }
         ensures nowhere { result.stop ≡ 0 }
     {
         Slot {
