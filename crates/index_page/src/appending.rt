@@ -1,5 +1,5 @@
 //! Records that are put behind others.
-ghost use Rattle.std.specs.Prelude.{◌≡◌, ◌≤◌, ◌+◌, ◌++◌, length, take, drop, IfOk, OnErr};
+ghost use Rattle.std.specs.Prelude.{◌≡◌, length, IfOk, OnErr};
 ghost use Rattle.key_tuple.specs.Limits.{IsWithinLimits};
 ghost use Rattle.index_page.specs.Store.{body_from, beside_by};
 ghost use Rattle.index_page.specs.Slots.{content_in, IsSlotIn, GrewFrom, PutsFields, PutsBeside, PutsRecord};
@@ -113,15 +113,6 @@ fn append_beside(bytes: &mut Vec<u8>, beside: Beside<'_>) -> Result<Option<u32>,
         }
         Beside::Child(number) => Ok(Some(number)),
     }
-}
-
-/// Writes over so many bytes from `at` on.
-pub(crate) fn put_bytes(bytes: &mut Vec<u8>, at: usize, part: &[u8])
-    requires { at + length part.now ≤ length bytes.old.items }
-    ensures { bytes.new.items ≡ take at bytes.old.items
-        ++ (part.now ++ drop (at + length part.now) bytes.old.items) }
-{
-    bytes[at..at + part.len()].copy_from_slice(part);
 }
 
 /// Where the next byte comes. There is no room behind 4 GiB.

@@ -18,6 +18,7 @@ mod page;
 mod places;
 mod record;
 mod records;
+mod rewriting;
 mod room;
 mod row_ref;
 mod search;

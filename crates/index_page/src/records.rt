@@ -1,11 +1,10 @@
 //! Records by their numbers.
-ghost use Rattle.std.specs.Prelude.{◌≡◌, ◌<◌, ◌≤◌, [], ◌∷◌, ◌++◌, length, set, slice_get, Some, IfOk, OnOk, OnErr, IsOk, List};
+ghost use Rattle.std.specs.Prelude.{◌≡◌, ◌<◌, [], ◌∷◌, ◌++◌, length, set, slice_get, Some, IfOk, OnOk, OnErr, List};
 ghost use Rattle.key_tuple.specs.Limits.{IsWithinLimits};
-ghost use Rattle.index_page.specs.Rows.{Bytes};
 ghost use Rattle.index_page.specs.Store.{Content, beside_by};
-ghost use Rattle.index_page.specs.Slots.{content_in, no_content, IsSlotIn, CarriesAt};
+ghost use Rattle.index_page.specs.Slots.{content_in, no_content, IsSlotIn};
 
-use crate::appending::{append_again, append_copy, append_row, put_bytes};
+use crate::appending::{append_copy, append_row};
 use crate::body::Beside;
 use crate::record::Record;
 use crate::slot::Slot;
@@ -22,8 +21,8 @@ const SPARE_BYTES: usize = 4096;
 #[derive(Debug, Drop)]
 pub(crate) struct Records {
     alloc: Global,
-    bytes: Vec<u8>,
-    slots: Vec<Slot>,
+    pub(crate) bytes: Vec<u8>,
+    pub(crate) slots: Vec<Slot>,
     /// How many bytes were left behind, or so: no clause speaks of it.
     left: usize,
 }
@@ -118,57 +117,6 @@ impl Records {
         Ok(())
     }
 
-    /// Writes another value in the place of the one before. It takes no memory where the value is
-    /// no longer than that.
-    pub(crate) fn rewrite(&mut self, number: usize, value: &[u8]) -> Result<(), AllocError>
-        requires { CarriesAt self.old number }
-        ensures ok { (carries : CarriesAt self.old number) → OnOk result (self.new
-            ≡ set self.old number (record { key = carries.key; body = Bytes value.now })) }
-        ensures in_place { (carries : CarriesAt self.old number)
-            → length value.now ≤ length carries.value → IsOk result }
-        ensures err { OnErr result (self.new ≡ self.old) }
-    {
-        let slot = &self.slots[number];
-        if value.len() <= (slot.stop - slot.middle) as usize {
-            self.write_over(number, value);
-            return Ok(());
-        }
-        self.put_anew();
-        self.write_behind(number, value)
-    }
-
-    /// The same of a value that is no longer.
-    fn write_over(&mut self, number: usize, value: &[u8])
-        requires there { CarriesAt self.old number }
-        requires short { (carries : CarriesAt self.old number)
-            → length value.now ≤ length carries.value }
-        ensures { (carries : CarriesAt self.old number) → self.new
-            ≡ set self.old number (record { key = carries.key; body = Bytes value.now }) }
-    {
-        let slot = self.slots[number];
-        put_bytes(&mut self.bytes, slot.middle as usize, value);
-        let cut = Slot {
-            stop: slot.middle + value.len() as u32,
-            ..slot
-        };
-        self.slots[number] = cut;
-        self.leave(cut.stop, slot.stop);
-    }
-
-    /// Puts the record once more behind all others, with another value.
-    fn write_behind(&mut self, number: usize, value: &[u8]) -> Result<(), AllocError>
-        requires { CarriesAt self.old number }
-        ensures ok { (carries : CarriesAt self.old number) → OnOk result (self.new
-            ≡ set self.old number (record { key = carries.key; body = Bytes value.now })) }
-        ensures err { OnErr result (self.new ≡ self.old) }
-    {
-        let slot = self.slots[number];
-        let moved = append_again(&mut self.bytes, &slot, value)?;
-        self.slots[number] = moved;
-        self.leave(slot.start, slot.stop);
-        Ok(())
-    }
-
     /// Takes out what the record says.
     pub(crate) fn blank(&mut self, number: usize)
         requires { number < length self.old }
@@ -208,7 +156,7 @@ impl Records {
     }
 
     /// Notes that the bytes between two places are left behind.
-    fn leave(&mut self, start: u32, stop: u32)
+    pub(crate) fn leave(&mut self, start: u32, stop: u32)
         ensures { self.new ≡ self.old }
     {
         let bytes = stop.wrapping_sub(start) as usize;
@@ -216,7 +164,7 @@ impl Records {
     }
 
     /// Puts the records anew where much is left behind, if there is memory.
-    fn put_anew(&mut self)
+    pub(crate) fn put_anew(&mut self)
         ensures { self.new ≡ self.old }
     {
         if self.left > SPARE_BYTES && self.left > self.bytes.len() / 2 {
