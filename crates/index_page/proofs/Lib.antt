@@ -12,6 +12,7 @@ pub mod RoomLemmas
 pub mod PartLemmas
 pub mod AppendLemmas
 pub mod SetLemmas
+pub mod CarriedLemmas
 pub mod WithoutLemmas
 pub mod RefusalLemmas
 pub mod RewriteLemmas
