@@ -15,7 +15,7 @@ use Rattle.forest_law.specs.Hashed.{hash_block}
 use Rattle.forest_world.specs.Held.{TreePass, shape_of_pass}
 use Rattle.hash_maintain.specs.Leaves.{IsExactSo, KeepsUpSo}
 use Rattle.hash_maintain.specs.Parting.{HoldsPartOut, PutsPartBack}
-use Rattle.hash_maintain.specs.Upkeep.{IsExactIn, IsLeafExactIn, BuildsInHand, hashing_as}
+use Rattle.hash_maintain.specs.Upkeep.{IsExactIn, IsLeafExactIn, BuildsInHand, CountsLeaf, hashing_as}
 use Rattle.hash_maintain.proofs.LeafLemmas.{exact_any}
 use Rattle.hash_maintain.proofs.HoldLemmas.{in_hand, keeps_in_hand}
 
@@ -35,6 +35,20 @@ pub page_index : (f : Frame) (i : ℕ) (page : PageRows) → HasLeafOf (hash_blo
     → f.page ≡ Some page → i ≡ page.head.index
 page_index f i page leaf paged = sym leaf.index_is
     ∙ ap (λ (z : PageRows). z.head.index) (same_some leaf.page page (sym leaf.page_is ∙ paged))
+
+-- entries are counted of the page that the frame has
+module _ (p : TreePass) (b index bits need : ℕ) (params : Params) (f : Frame) (page : PageRows)
+    (paged : f.page ≡ Some page) (index_is : index ≡ page.head.index)
+    (bits_are : bits ≡ (shape_of_pass p).fold_bits) where
+  -- so the entries of its rows are, hashed so
+  pub counted_so : CountsLeaf p b params f need → (other : PageRows) → f.page ≡ Some other
+      → need ≡ length (row_entries (cut_to b index params bits) other.rows)
+  counted_so counts other there = subst (λ (z : PageRows).
+      need ≡ length (row_entries (cut_to b index params bits) z.rows))
+      (same_some page other (sym paged ∙ there))
+      (subst (λ n. need ≡ length (row_entries (cut_to b index params n) page.rows)) (sym bits_are)
+      (subst (λ j. need ≡ length (row_entries (hashing_as p b j params) page.rows)) (sym index_is)
+      (counts page paged)))
 
 module _ (p : TreePass) (b k index bits : ℕ) (params : Params) (f : Frame)
     (part_is : k ≡ part_for (shape_of_pass p).parts index) (bits_are : bits ≡ (shape_of_pass p).fold_bits)

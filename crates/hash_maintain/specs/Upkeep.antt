@@ -87,6 +87,11 @@ hashing_as p b index params = record {
   bits = (shape_of_pass p).fold_bits;
 }
 
+-- the leaf of the block's frame has so many entries, if it is hashed with these parameters
+abbrev pub CountsLeaf : TreePass → (b : ℕ) → Params → Frame → (need : ℕ) → Type 0
+CountsLeaf p b params f need = (page : PageRows) → f.page ≡ Some page
+    → need ≡ length (row_entries (hashing_as p b page.head.index params) page.rows)
+
 -- of a block with a leaf of the index, its frame f and then g, the index's partition keeps up with a
 -- build, which tells by how many nodes were spare; where the arena was full there is no room
 pub record BuildsInHand (p : TreePass) (b index : ℕ) (params : Params) (f g : Frame)

@@ -47,14 +47,16 @@ pub fn unhash(part: &mut Partition, frame: &mut Frame, how: &Hashing)
     frame.figures.built = None;
 }
 
-/// Hashes the leaf of a frame anew, unless it is hashed so: the frame is hashed so then, or where
-/// there is no room not at all.
-pub fn rehash(part: &mut Partition, frame: &mut Frame, how: &Hashing) -> Build
+/// Hashes the leaf of a frame anew, which has so many entries, unless it is hashed so: the frame is
+/// hashed so then, or where there is no room not at all.
+pub fn rehash(part: &mut Partition, frame: &mut Frame, how: &Hashing, need: u32) -> Build
     requires bits { CutsFolds how.now }
     requires tidy { IsTidy (hash_block frame.old) }
     requires leaf { HasLeafOf (hash_block frame.old) how.now.index }
     requires fields { AskFew frame.old.page how.now.params }
     requires exact { IsExactSo how.now part.old frame.old }
+    requires need { (page : PageRows) → frame.old.page ≡ Some page
+        → need ≡ length (row_entries how.now page.rows) }
     ensures not_needed { frame.old.figures.built ≡ Some how.now.params
         → (result ≡ Build.NotNeeded) × (part.new ≡ part.old) }
     ensures anew { frame.old.figures.built ≢ Some how.now.params → (page : PageRows)
@@ -65,7 +67,7 @@ pub fn rehash(part: &mut Partition, frame: &mut Frame, how: &Hashing) -> Build
     ensures part { KeepsUpSo how.now frame.new part.old part.new }
 {
     entries_are_owed();
-    let answer = build(part, leaf_page(frame), frame.figures.built, how);
+    let answer = build(part, leaf_page(frame), frame.figures.built, how, need);
     frame.figures.built = answer.built_after(how.params);
     frame.hashed = match frame.figures.built {
         Some(_) => Some(how.index),

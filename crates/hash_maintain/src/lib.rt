@@ -9,7 +9,7 @@ mod moving;
 mod parting;
 mod upkeep;
 
-pub use building::build_frame;
+pub use building::{build_frame, count_leaf};
 pub use laws::{moves_keep_the_hash, upkeep_keeps_the_hash};
 pub use leaves::{hashing_of, rehash, row_came, row_goes, unhash};
 pub use moves::rows_moved;

@@ -6,19 +6,28 @@ ghost use Rattle.hash_upkeep.specs.Cover.{Renews};
 ghost use Rattle.hash_upkeep.specs.Build.{BuildsAnew, LacksIfFull, built_after};
 
 use crate::built::Build;
-use crate::entering::{count_entries, enter_all};
+use crate::entering::enter_all;
 use crate::hashing::{Hashing, hashing_if};
 use crate::leaving::leave_if;
 use hash_partition::Partition;
 use index_page::Page;
 use key_tuple::Params;
 
-/// Hashes a leaf anew, of a block that is hashed with `built`, if it is.
-pub fn build(part: &mut Partition, page: &Page, built: Option<Params>, how: &Hashing) -> Build
+/// Hashes a leaf anew, of a block that is hashed with `built`, if it is. It has `need` entries, as
+/// `count_entries` tells: they are counted before the partition is held, so that it is held for a
+/// short time.
+pub fn build(
+    part: &mut Partition,
+    page: &Page,
+    built: Option<Params>,
+    how: &Hashing,
+    need: u32,
+) -> Build
     requires hash { CanHash how.now page.now }
     requires was { CanHashIf (as_built how.now built) how.now.block page.now }
     requires exact { NodesAt how.now.block part.old.nodes
         (entries_if (as_built how.now built) page.now.rows) }
+    requires need { need ≡ length (row_entries how.now page.now.rows) }
     ensures not_needed { built ≡ Some how.now.params
         → (result ≡ Build.NotNeeded) × (part.new ≡ part.old) }
     ensures anew { built ≢ Some how.now.params
@@ -34,7 +43,6 @@ pub fn build(part: &mut Partition, page: &Page, built: Option<Params>, how: &Has
     }
     let was = hashing_if(how.index, how.block, how.bits, built);
     leave_if(part, page, &was, how.block);
-    let need = count_entries(page, how);
     let spare = part.spare();
     if spare < need {
         return Build::ArenaFull { need, spare };

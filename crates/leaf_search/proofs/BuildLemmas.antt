@@ -26,7 +26,7 @@ use Rattle.forest_law.proofs.HashLawLemmas.{same_asks}
 use Rattle.forest_law.proofs.ObjectLemmas.{same_part}
 use Rattle.forest_world.specs.Held.{TreePass, shape_of_pass, HasFrame, HasPart}
 use Rattle.hash_maintain.specs.Leaves.{frame_built}
-use Rattle.hash_maintain.specs.Upkeep.{AreInPlace, BuildsInHand, IsExactIn, IsLeafExactIn, KeepsUpInHand, hashing_as}
+use Rattle.hash_maintain.specs.Upkeep.{AreInPlace, BuildsInHand, CountsLeaf, IsExactIn, IsLeafExactIn, KeepsUpInHand, hashing_as}
 use Rattle.hash_maintain.proofs.PassLemmas.{knows_forest}
 use Rattle.call_law.specs.Hands.{KnowsFrame}
 use Rattle.buffer_pool.specs.Forests.{TreeView, IsFittedTree}
@@ -38,7 +38,7 @@ use Rattle.buffer_pool.proofs.HashRestLemmas.{known_tidy}
 use Rattle.buffer_pool.proofs.KeepLemmas.{out_kept}
 use Rattle.buffer_pool.proofs.PartLemmas.{part_has, part_kept}
 use Rattle.buffer_pool.proofs.UnhashLemmas.{in_place, taken_is, taken_out}
-use Rattle.leaf_search.specs.Builds.{SuitsLeaf, HoldsToBuild, BuiltInHand}
+use Rattle.leaf_search.specs.Builds.{SuitsLeaf, HoldsToBuild, IsCountedLeaf, BuiltInHand}
 use Rattle.leaf_search.specs.Lessons.{with_figures}
 use Rattle.leaf_search.proofs.AdviceLemmas.{suited_tidy}
 
@@ -63,6 +63,20 @@ pub leaf_of_index : (f : Frame) (i : ℕ) (figures : BlockFigures) → HasTreePa
     → HasLeafOf (hash_block (with_figures f figures)) i
 leaf_of_index f i figures is =
     record { page = is.page; page_is = is.paged; leaf = is.at_level; index_is = is.index }
+
+-- a leaf that was counted has as many entries while its frame is out, and with other figures
+pub out_counted : (p q : TreePass) (b need : ℕ) (figures : BlockFigures) (frame : Frame)
+    → IsKnown p → TakesOut p b frame q → IsCountedLeaf p b figures.advice need
+    → CountsLeaf q b figures.advice (with_figures frame figures) need
+out_counted p q b need figures frame known out counted = λ page paged.
+    subst (λ (s : Shape). need ≡ length (row_entries (record {
+      index = page.head.index;
+      block = b;
+      params = figures.advice;
+      bits = s.fold_bits;
+    }) page.rows)) (sym (ap (λ (v : TreeView). v.terms.shape) out.view))
+    (counted.counts page (ap (λ (z : Frame). z.page)
+    (sym (taken_is p q b frame counted.frame known counted.knows out)) ∙ paged))
 
 module _ (p q : TreePass) (b i : ℕ) (figures : BlockFigures) (h : HoldsToBuild p b i figures)
     (known : IsKnown p) (fitted : IsFittedTree (view p)) (frame : Frame)

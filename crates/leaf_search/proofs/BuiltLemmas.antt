@@ -1,5 +1,5 @@
 -- A partition was taken, a leaf was built on it, both are known, and the partition is given back.
-use Rattle.std.proofs.Common.{◌≡◌, ◌≢◌, inl, inr, ℕ, ◌<◌, ◌≤◌, ◌+◌, List, [], ◌∷◌, sym, ap, subst, ◌∙◌, arith, Some, None}
+use Rattle.std.proofs.Common.{◌≡◌, ◌≢◌, inl, inr, ℕ, ◌<◌, ◌≤◌, ◌+◌, List, [], ◌∷◌, length, sym, ap, subst, ◌∙◌, arith, Some, None}
 use lib.ListN.{get_elem?}
 use Rattle.atomic_table.proofs.Lists.{set_here}
 use Rattle.list_facts.proofs.Places.{inside}
@@ -16,6 +16,7 @@ use Rattle.hash_law.specs.Blocks.{HasLeafOf, IsTidy, part_for}
 use Rattle.hash_upkeep.specs.declared.built.Build.{Build}
 use Rattle.hash_upkeep.specs.declared.hashing.Hashing.{Hashing}
 use Rattle.hash_upkeep.specs.Build.{BuildsAnew}
+use Rattle.hash_upkeep.specs.Hashing.{row_entries}
 use Rattle.index_law.specs.Shape.{Shape}
 use Rattle.tree_law.specs.Pages.{IsOrderly}
 use Rattle.forest_law.specs.declared.objects.Frame.{Frame}
@@ -35,7 +36,7 @@ use Rattle.forest_world.specs.HashHands.{HandKeepsHash, IsHashedIn}
 use Rattle.hash_maintain.specs.Hands.{UpkeepKeepsTheHash}
 use Rattle.hash_maintain.specs.Leaves.{frame_built}
 use Rattle.hash_maintain.specs.Parting.{TakesPartition, GivesPart}
-use Rattle.hash_maintain.specs.Upkeep.{hashing_as}
+use Rattle.hash_maintain.specs.Upkeep.{CountsLeaf, hashing_as}
 use Rattle.hash_maintain.proofs.PassLemmas.{knows_forest}
 use Rattle.call_law.specs.Hands.{HoldsNoPart, KnowsFrame, KnowsPart}
 use Rattle.call_law.specs.Trace.{Added}
@@ -51,7 +52,7 @@ use Rattle.buffer_pool.proofs.HashRestLemmas.{known_tidy}
 use Rattle.buffer_pool.proofs.PartLemmas.{took_part, gave_part}
 use Rattle.buffer_pool.proofs.SpaceLemmas.{known_below}
 use Rattle.buffer_pool.proofs.VictimLemmas.{tries_shape}
-use Rattle.leaf_search.specs.Builds.{HoldsToTeach, HoldsToBuild, BuiltInHand, EndsBuild}
+use Rattle.leaf_search.specs.Builds.{HoldsToTeach, HoldsToBuild, IsCountedLeaf, BuiltInHand, EndsBuild}
 use Rattle.leaf_search.specs.Lessons.{with_figures}
 use Rattle.leaf_search.proofs.AdviceLemmas.{suited_tidy}
 use Rattle.leaf_search.proofs.BuiltFrameLemmas.{built_anew, built_index, built_rests, built_tidy, tidy_index}
@@ -146,6 +147,20 @@ module _ {p0 p1 : TreePass} {b i k : ℕ} {figures : BlockFigures}
     exact = subst (λ m. IsExactFor (shape_of_pass p1) m b took.part f) (sym k1_is)
         (subst (λ (s : Shape). IsExactFor s k b took.part f) (sym shape1)
         (took.comes.exact b f h.leaf.knows));
+  }
+
+  -- the leaf was counted before
+  pub taken_counted : (g : Frame) → g ≡ f → (need : ℕ) → CountsLeaf p0 b figures.advice g need
+      → IsCountedLeaf p1 b figures.advice need
+  taken_counted g is need counts = record {
+    frame = f;
+    knows = knows1;
+    counts = λ page paged. subst (λ (s : Shape). need ≡ length (row_entries (record {
+      index = page.head.index;
+      block = b;
+      params = figures.advice;
+      bits = s.fold_bits;
+    }) page.rows)) (sym shape1) (counts page (ap (λ (z : Frame). z.page) is ∙ paged));
   }
 
   module _ {p2 : TreePass} {answer : Build}

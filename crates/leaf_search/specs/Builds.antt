@@ -4,6 +4,7 @@ use lib.ListN.{get_elem?}
 use Rattle.latch_law.specs.declared.knows.Reference.{Reference}
 use Rattle.latch_space.specs.Passes.{view, count, values}
 use Rattle.map_history.specs.declared.columns.Note.{Note}
+use Rattle.key_tuple.specs.declared.mode.Params.{Params}
 use Rattle.learning.specs.declared.event.BlockFigures.{BlockFigures}
 use Rattle.index_page.specs.Page.{PageRows}
 use Rattle.chain_arena.specs.Bag.{SameOutsideBlock}
@@ -17,10 +18,10 @@ use Rattle.forest_law.specs.declared.objects.Object.{Object}
 use Rattle.forest_law.specs.Hashed.{IsExactFor}
 use Rattle.forest_law.specs.Numbers.{part_id, frame_id}
 use Rattle.forest_world.specs.Held.{TreePass, shape_of_pass, HasFrame, HasPart}
-use Rattle.call_law.specs.Hands.{KnowsPart}
+use Rattle.call_law.specs.Hands.{KnowsFrame, KnowsPart}
 use Rattle.call_law.specs.Spoken.{View}
 use Rattle.hash_maintain.specs.Leaves.{frame_built}
-use Rattle.hash_maintain.specs.Upkeep.{hashing_as}
+use Rattle.hash_maintain.specs.Upkeep.{CountsLeaf, hashing_as}
 use Rattle.tree_descent.specs.Ways.{HoldsPage}
 use Rattle.leaf_search.specs.Lessons.{with_figures, FrameBecomes, BuildsOnPart, HashesLeaf}
 
@@ -43,6 +44,12 @@ pub record HoldsToBuild (p : TreePass) (b i : ℕ) (figures : BlockFigures) : Ty
   pub knows : KnowsPart (view p) (part_for (shape_of_pass p).parts i) part
   pub exact : IsExactFor (shape_of_pass p) (part_for (shape_of_pass p).parts i) b part
       teach.leaf.frame
+
+-- the leaf that is known in the block's frame has so many entries, if it is hashed so
+pub record IsCountedLeaf (p : TreePass) (b : ℕ) (params : Params) (need : ℕ) : Type 0 where
+  pub frame : Frame
+  pub knows : KnowsFrame (view p) b frame
+  pub counts : CountsLeaf p b params frame need
 
 -- the leaf was built on the partition, and both are in hand so
 pub record BuiltInHand (p : TreePass) (b i : ℕ) (figures : BlockFigures) (f : Frame)

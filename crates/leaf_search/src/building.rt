@@ -7,12 +7,12 @@ ghost use Rattle.latch_space.specs.Spaces.{IsPassOf};
 ghost use Rattle.call_law.specs.Hands.{HoldsNoPart};
 ghost use Rattle.buffer_pool.specs.Forests.{IsForest, IsFittedTree};
 ghost use Rattle.leaf_search.specs.Builds.{BuiltInHand, HoldsToBuild, HoldsToTeach, EndsHashing};
-ghost use Rattle.leaf_search.specs.Builds.{EndsBuild};
+ghost use Rattle.leaf_search.specs.Builds.{EndsBuild, IsCountedLeaf};
 ghost use Rattle.leaf_search.specs.Lessons.{FrameBecomes, note_of_build, with_figures};
 
-use buffer_pool::{frame_back, frame_out};
+use buffer_pool::{frame, frame_back, frame_out};
 use forest_world::{ForestPass, ForestSpace, hands_keep_the_hash};
-use hash_maintain::{build_frame, give_part_back, hold_part, upkeep_keeps_the_hash};
+use hash_maintain::{build_frame, count_leaf, give_part_back, hold_part, upkeep_keeps_the_hash};
 use hash_upkeep::Build;
 use learning::BlockFigures;
 use map_history::Note;
@@ -73,7 +73,8 @@ pub(crate) fn keep_figures(
     space.settle(pass);
 }
 
-/// The same, and the leaf is hashed anew, on the partition of the index.
+/// The same, and the leaf is hashed anew, on the partition of the index. The leaf's entries are
+/// counted before the partition is taken.
 fn build_leaf<R: Wait>(
     space: &ForestSpace,
     pass: &mut ForestPass,
@@ -95,9 +96,11 @@ fn build_leaf<R: Wait>(
 {
     pass.fits();
     upkeep_keeps_the_hash();
+    let leaf = frame(space, pass, block);
+    let need = count_leaf(space, pass, leaf, block, figures.advice);
     let part = space.shape().part_for(index);
     hold_part(space, pass, part, wait);
-    let answer = build_in_hand(space, pass, index, block, figures, wait);
+    let answer = build_in_hand(space, pass, index, block, figures, need, wait);
     space.settle(pass);
     give_part_back(space, pass, part);
     pass.fits();
@@ -111,10 +114,12 @@ fn build_in_hand<R: Wait>(
     index: u32,
     block: u32,
     figures: &BlockFigures,
+    need: u32,
     wait: &R,
 ) -> Build
     requires own { IsForest space.now × IsPassOf space.now pass.old }
     requires build { HoldsToBuild pass.old block index figures.now }
+    requires counted { IsCountedLeaf pass.old block figures.now.advice need }
     requires known { IsKnown pass.old }
     requires room { count pass.old < MAX_HELD }
     ensures own { IsSamePass pass.old pass.new × IsPassOf space.now pass.new }
@@ -126,7 +131,7 @@ fn build_in_hand<R: Wait>(
     let _ = index;
     let mut frame = frame_out(space, pass, block);
     frame.figures = *figures;
-    let answer = build_frame(space, pass, &mut frame, block, figures.advice, wait);
+    let answer = build_frame(space, pass, &mut frame, block, figures.advice, need, wait);
     frame_back(space, pass, block, frame);
     answer
 }

@@ -7,7 +7,8 @@ ghost use Rattle.hash_upkeep.specs.Hashing.{CanHash, row_entries};
 use crate::lettered::{lettered, put_letter};
 use hash_partition::Partition;
 use hash_upkeep::{
-    Build, Hashing, Upkeep, build, drop_block, exact_nodes_are_covered, on_delete, on_insert,
+    Build, Hashing, Upkeep, build, count_entries, drop_block, exact_nodes_are_covered, on_delete,
+    on_insert,
 };
 use index_page::Page;
 use key_tuple::Params;
@@ -65,9 +66,10 @@ fn builds_twice(alloc: Global, nodes: u32) -> Option<(Build, Build)> {
     let page = lettered(alloc, b"abc")?;
     let mut part = Partition::new(alloc, 4, nodes, 8).ok()?;
     let how = hashing(64);
-    let first = build(&mut part, &page, None, &how);
+    let need = count_entries(&page, &how);
+    let first = build(&mut part, &page, None, &how, need);
     let built = first.built_after(how.params);
-    Some((first, build(&mut part, &page, built, &how)))
+    Some((first, build(&mut part, &page, built, &how, need)))
 }
 
 // Keeps up with the row of a letter that comes.
@@ -108,7 +110,7 @@ fn keeps_up(alloc: Global, nodes: u32) -> Option<(Upkeep, u32)> {
     let mut page = lettered(alloc, b"ace")?;
     let mut part = Partition::new(alloc, 4, nodes, 8).ok()?;
     let how = hashing(1);
-    match build(&mut part, &page, None, &how) {
+    match build(&mut part, &page, None, &how, count_entries(&page, &how)) {
         Build::Built { .. } => {
             let upkeep = comes(alloc, &mut part, &mut page, &how, b'b')?;
             Some((upkeep, part.spare()))
@@ -122,7 +124,7 @@ fn keeps_down(alloc: Global, nodes: u32) -> Option<(Upkeep, u32)> {
     let mut page = lettered(alloc, b"ace")?;
     let mut part = Partition::new(alloc, 4, nodes, 8).ok()?;
     let how = hashing(1);
-    match build(&mut part, &page, None, &how) {
+    match build(&mut part, &page, None, &how, count_entries(&page, &how)) {
         Build::Built { .. } => {
             let upkeep = comes_and_goes(alloc, &mut part, &mut page, &how, b'b')?;
             Some((upkeep, part.spare()))
@@ -137,7 +139,7 @@ fn drops(alloc: Global) -> Option<u32> {
     let mut part = Partition::new(alloc, 4, 5, 8).ok()?;
     let how = hashing(64);
     exact_nodes_are_covered();
-    match build(&mut part, &page, None, &how) {
+    match build(&mut part, &page, None, &how, count_entries(&page, &how)) {
         Build::Built { .. } => {
             drop_block(&mut part, &page, &how);
             Some(part.spare())

@@ -4,7 +4,7 @@ use Rattle.index_page.specs.declared.head.PageHead.{PageHead}
 use Rattle.hash_law.specs.Blocks.{part_for}
 use Rattle.index_law.specs.Shape.{Shape}
 use Rattle.forest_world.specs.Held.{shape_of_pass}
-use Rattle.hash_maintain.proofs.BuildLemmas.{page_index, leaf_of, build_so, builds}
+use Rattle.hash_maintain.proofs.BuildLemmas.{page_index, leaf_of, build_so, builds, counted_so}
 use Rattle.hash_maintain.proofs.building.build_frame.Goals as goal
 
 pub leaf_page-requires : goal.leaf_page-requires
@@ -24,6 +24,16 @@ rehash-answer-requires-clause-leaf g c =
     ∙ ap (λ (h : PageHead). h.index) (sym c.head.ensures) in
     leaf_of p c.args.block c.part_for-part.result c.head.result.now.index c.fold_bits.result c.args.params f
     part_is bits_are c.requires.leaf same
+
+pub rehash-answer-requires-clause-need : goal.rehash-answer-requires-clause-need
+rehash-answer-requires-clause-need g c =
+    let p = c.args.pass.now in
+    let layout = c.shape-layout.ensures ∙ ap (λ (t : Terms Shape). t.shape) (sym c.requires.own.1) in
+    counted_so p c.args.block c.head.result.now.index c.fold_bits.result c.args.need c.args.params
+    c.args.frame.now c.leaf_page.result.now c.leaf_page.ensures
+    (ap (λ (h : PageHead). h.index) c.head.ensures)
+    (c.fold_bits.ensures ∙ ap (λ (s : Shape). s.fold_bits) layout)
+    c.requires.need
 
 pub rehash-answer-requires-clause-exact : goal.rehash-answer-requires-clause-exact
 rehash-answer-requires-clause-exact g c =

@@ -14,6 +14,9 @@ build-answer-requires-clause-was c = was_can c.entries_are_owed.ensures c.args.h
     c.args.frame.now c.leaf_page.result.now c.leaf_page.ensures c.args.part.now c.requires.tidy
     c.requires.bits c.args.frame.now.figures.built refl
 
+pub build-answer-requires-clause-need : goal.build-answer-requires-clause-need
+build-answer-requires-clause-need c = c.requires.need c.leaf_page.result.now c.leaf_page.ensures
+
 pub build-answer-requires-clause-exact : goal.build-answer-requires-clause-exact
 build-answer-requires-clause-exact c = was_exact c.entries_are_owed.ensures c.args.how.now
     c.args.frame.now c.leaf_page.result.now c.leaf_page.ensures c.args.part.now c.requires.tidy

@@ -21,7 +21,7 @@ returns-then-spare-need-clause-anew c other = record {
   out = c.leave_if.new.part;
   empties = emptied (goal.at.returns-then-spare-need-clause-anew c).After-leave_if;
   is =
-      full_is _ _ _ _ c.count_entries-need.ensures.number c.spare-spare.ensures
+      full_is _ _ _ _ c.requires.need c.spare-spare.ensures
       c.if-spare-need.true;
 }
 
@@ -34,7 +34,7 @@ returns-clause-anew c other = record {
   out = c.leave_if.new.part;
   empties = emptied (goal.at.returns-clause-anew c).After-leave_if;
   is =
-      built_is _ _ _ _ c.count_entries-need.ensures.number c.spare-spare.ensures
+      built_is _ _ _ _ c.requires.need c.spare-spare.ensures
       c.if-spare-need.false;
 }
 

@@ -1,4 +1,4 @@
-use Rattle.leaf_search.proofs.BuildLemmas.{out_tidy, out_leaf, out_few, out_in_place, out_room, out_has_leaf, built_goes_back, built_in_hand}
+use Rattle.leaf_search.proofs.BuildLemmas.{out_tidy, out_leaf, out_few, out_counted, out_in_place, out_room, out_has_leaf, built_goes_back, built_in_hand}
 use Rattle.leaf_search.proofs.building.build_in_hand.Goals as goal
 
 pub build_frame-answer-requires-clause-tidy : goal.build_frame-answer-requires-clause-tidy
@@ -15,6 +15,11 @@ pub build_frame-answer-requires-clause-fields : goal.build_frame-answer-requires
 build_frame-answer-requires-clause-fields g c = out_few c.args.pass.now c.frame_out-frame.new.pass c.args.block
     c.args.index c.args.figures.now c.requires.build c.requires.known c.fits.ensures
     c.frame_out-frame.result c.frame_out-frame.ensures.out
+
+pub build_frame-answer-requires-clause-need : goal.build_frame-answer-requires-clause-need
+build_frame-answer-requires-clause-need g c = out_counted c.args.pass.now c.frame_out-frame.new.pass
+    c.args.block c.args.need c.args.figures.now c.frame_out-frame.result c.requires.known
+    c.frame_out-frame.ensures.out c.requires.counted
 
 pub build_frame-answer-requires-clause-place : goal.build_frame-answer-requires-clause-place
 build_frame-answer-requires-clause-place g c = out_in_place c.args.pass.now c.frame_out-frame.new.pass

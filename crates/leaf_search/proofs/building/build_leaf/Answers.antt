@@ -1,12 +1,14 @@
-use Rattle.std.proofs.Common.{◌≡◌, sym, ap, ◌∙◌, rules}
+use Rattle.std.proofs.Common.{◌≡◌, sym, ap, subst, ◌∙◌, rules}
 use Rattle.latch_law.specs.declared.knows.Terms.{Terms}
 use Rattle.latch_space.specs.Passes.{view}
-use Rattle.hash_law.specs.Blocks.{part_for}
+use Rattle.forest_law.specs.declared.objects.Frame.{Frame}
+use Rattle.hash_law.specs.Blocks.{AskFew, part_for}
 use Rattle.index_law.specs.Shape.{Shape}
 use Rattle.forest_world.specs.Held.{shape_of_pass}
 use Rattle.buffer_pool.proofs.PartLemmas.{part_below, took_free}
 use Rattle.leaf_search.specs.Builds.{HoldsToTeach}
-use Rattle.leaf_search.proofs.BuiltLemmas.{ReadyToBuild, taken_known, taken_room, to_build, built_whole, built_follows, built_part, ends_build}
+use Rattle.leaf_search.proofs.BuiltLemmas.{ReadyToBuild, taken_known, taken_room, taken_counted, to_build, built_whole, built_follows, built_part, ends_build}
+use Rattle.leaf_search.proofs.LessonLemmas.{leaf_is, leaf_paged}
 use Rattle.leaf_search.proofs.building.build_leaf.Given as given
 use Rattle.leaf_search.proofs.building.build_leaf.Goals as goal
 use Rattle.leaf_search.proofs.building.build_leaf.Goals.{After-hold_part}
@@ -35,6 +37,16 @@ ready g c teach =
       differs = c.requires.differs;
     }
 
+pub count_leaf-need-requires-clause-page : goal.count_leaf-need-requires-clause-page
+count_leaf-need-requires-clause-page g c = leaf_paged c.args.pass.now c.args.block c.args.index
+    c.requires.known c.frame-leaf.result.now c.frame-leaf.ensures c.requires.teach.leaf
+
+pub count_leaf-need-requires-clause-fields : goal.count_leaf-need-requires-clause-fields
+count_leaf-need-requires-clause-fields g c = subst (λ (f : Frame). AskFew f.page c.args.figures.now.advice)
+    (sym (leaf_is c.args.pass.now c.args.block c.args.index c.requires.known
+    c.frame-leaf.result.now c.frame-leaf.ensures c.requires.teach.leaf))
+    c.requires.teach.suits.advice
+
 pub build_in_hand-answer-requires : goal.build_in_hand-answer-requires
 build_in_hand-answer-requires g c =
     let at = goal.at.build_in_hand-answer-requires g c in
@@ -42,6 +54,9 @@ build_in_hand-answer-requires g c =
     record {
       own = search rules;
       build = to_build ready;
+      counted = taken_counted ready c.frame-leaf.result.now (leaf_is c.args.pass.now c.args.block
+          c.args.index c.requires.known c.frame-leaf.result.now c.frame-leaf.ensures
+          c.requires.teach.leaf) c.count_leaf-need.result c.count_leaf-need.ensures;
       known = taken_known ready;
       room = taken_room ready c.requires.room;
     }
