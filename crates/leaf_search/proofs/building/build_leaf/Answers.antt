@@ -48,6 +48,7 @@ count_leaf-need-requires-clause-fields g c = subst (λ (f : Frame). AskFew f.pag
     c.requires.teach.suits.advice
 
 pub build_in_hand-answer-requires : goal.build_in_hand-answer-requires
+unfolding ready
 build_in_hand-answer-requires g c =
     let at = goal.at.build_in_hand-answer-requires g c in
     let ready = ready g at.After-hold_part c.requires.teach in
@@ -56,7 +57,7 @@ build_in_hand-answer-requires g c =
       build = to_build ready;
       counted = taken_counted ready c.frame-leaf.result.now (leaf_is c.args.pass.now c.args.block
           c.args.index c.requires.known c.frame-leaf.result.now c.frame-leaf.ensures
-          c.requires.teach.leaf) c.count_leaf-need.result c.count_leaf-need.ensures;
+          c.requires.teach.leaf) c.count_leaf-need.result c.count_leaf-need.ensures.counts;
       known = taken_known ready;
       room = taken_room ready c.requires.room;
     }
