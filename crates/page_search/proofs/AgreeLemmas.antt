@@ -228,7 +228,7 @@ pub figures_at : (t k : FieldList) (i b : ℕ) → equal_fields t k ≡ i → b 
 figures_at t k i b e is =
     ap₂ (λ (n m : ℕ). let r : Match = record { fields = n; bytes = m } in r) (sym e) (is ∙ ap (λ (n : ℕ). equal_bytes (get_or t n []) (get_or k n [])) (sym e))
 
-fields_within : (t k : FieldList) → equal_fields t k ≤ length t
+pub fields_within : (t k : FieldList) → equal_fields t k ≤ length t
 fields_within [] k = omega arith
 fields_within (x ∷ xs) [] = omega arith
 fields_within (x ∷ xs) (y ∷ ys) = go (pointwise nat_eq x y) refl (fields_within xs ys)

@@ -13,7 +13,7 @@ same_byte x xs ys = let e : nat_eq x x ≡ true = grind (arith, nat_tests) in rw
 pub other_byte : (x y : ℕ) (xs ys : List ℕ) → (x ≡ y → ⊥) → equal_bytes (x ∷ xs) (y ∷ ys) ≡ 0
 other_byte x y xs ys other = let e : nat_eq x y ≡ false = grind (arith, nat_tests) in rw e refl
 
-nat_same : (x y : ℕ) → nat_cmp x y ≡ Equal → x ≡ y
+pub nat_same : (x y : ℕ) → nat_cmp x y ≡ Equal → x ≡ y
 nat_same x y e = grind (arith, nat_tests)
 
 nat_itself : (x : ℕ) → nat_cmp x x ≡ Equal
@@ -151,7 +151,7 @@ equal_below (x ∷ xs) (y ∷ ys) = elim (cases_eq x y) [
   | inr other ↦ omega (arith, other_byte x y xs ys other)
 ]
 
-stays_first : (x y : ℕ) (o : Ordering) → (x ≡ y → ⊥) → nat_cmp x y ≡ ordering_then (nat_cmp x y) o
+pub stays_first : (x y : ℕ) (o : Ordering) → (x ≡ y → ⊥) → nat_cmp x y ≡ ordering_then (nat_cmp x y) o
 stays_first x y o other = go (nat_cmp x y) refl
   where
     go : (p : Ordering) → nat_cmp x y ≡ p → p ≡ ordering_then p o

@@ -1,5 +1,5 @@
 -- How far a tuple agrees with rows behind one, and before one.
-use Rattle.std.proofs.Common.{◌≡◌, true, Option, Some, None, List, [], ◌∷◌, ◌++◌, refl, sym, ap, subst, ◌∙◌, arith, inl, Less, Greater}
+use Rattle.std.proofs.Common.{◌≡◌, ◌≤◌, length, true, Option, Some, None, List, [], ◌∷◌, ◌++◌, refl, sym, ap, subst, ◌∙◌, arith, inl, Less, Greater}
 use Rattle.std.specs.List.{AllByRecursion}
 use Rattle.list_facts.proofs.Each.{each_right, each_all, each_weaker}
 use Rattle.list_facts.proofs.Orders.{is_less}
@@ -12,7 +12,7 @@ use Rattle.index_page.specs.Page.{RowsAscend}
 use Rattle.index_page.specs.Search.{agreement}
 use Rattle.page_search.specs.Agreeing.{AgreesOr}
 use Rattle.page_search.specs.Cuts.{LowFigures, UpFigures}
-use Rattle.page_search.proofs.AgreeLemmas.{FitsField, low_fields, up_fields, matching_fits}
+use Rattle.page_search.proofs.AgreeLemmas.{FitsField, low_fields, up_fields, matching_fits, fields_within}
 
 agreement_fits : (tuple : FieldList) (row : Option Row) → FitsField tuple (agreement tuple row)
 agreement_fits tuple None = omega arith
@@ -20,6 +20,14 @@ agreement_fits tuple (Some row) = matching_fits tuple row.key
 
 pub figures_fit : (tuple : FieldList) (row : Option Row) (f : Match) → f ≡ agreement tuple row → FitsField tuple f
 figures_fit tuple row f is = subst (FitsField tuple) (sym is) (agreement_fits tuple row)
+
+-- they have no more fields than the tuple
+agreement_few : (tuple : FieldList) (row : Option Row) → (agreement tuple row).fields ≤ length tuple
+agreement_few tuple None = omega arith
+agreement_few tuple (Some row) = fields_within tuple row.key
+
+pub figures_few : (tuple : FieldList) (row : Option Row) (f : Match) → f ≡ agreement tuple row → f.fields ≤ length tuple
+figures_few tuple row f is = subst (λ (m : Match). m.fields ≤ length tuple) (sym is) (agreement_few tuple row)
 
 key_less : (j k : FieldList) → before (At j) (At k) ≡ true → key_cmp j k ≡ Less
 unfolding before

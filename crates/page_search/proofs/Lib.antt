@@ -2,6 +2,8 @@ pub mod AgreeLemmas
 pub mod ByteLemmas
 pub mod CutLemmas
 pub mod FigureLemmas
+pub mod JudgeLemmas
 pub mod NextLemmas
 pub mod SlotLemmas
 pub mod WayLemmas
+pub mod WordLemmas

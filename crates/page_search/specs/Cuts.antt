@@ -16,7 +16,8 @@ use Rattle.page_rows.specs.Reading.{rows_in_bytes}
 use Rattle.page_rows.specs.Spelling.{IsPageOfRows}
 use Rattle.page_rows.specs.Inserting.{place_before}
 use Rattle.page_search.specs.declared.cut.CutPlace.{CutPlace}
-use Rattle.page_search.specs.Agreeing.{AgreesOr}
+use Rattle.page_search.specs.declared.cut.Narrowed.{Narrowed}
+use Rattle.page_search.specs.Agreeing.{AgreesOr, agreed}
 
 -- the mode's cut admits a key to which the tuple stands like this
 abbrev pub admits_at : Mode → Ordering → Bool
@@ -24,6 +25,14 @@ admits_at Ge order = not (is_gt order)
 admits_at G order = is_lt order
 admits_at Le order = is_lt order
 admits_at L order = not (is_gt order)
+
+-- where a cut is, as far as it is known
+abbrev pub place_in : Narrowed → CutPlace
+place_in n = record {
+  before = n.before;
+  low = agreed n.low;
+  up = agreed n.up;
+}
 
 -- the cut leaves out the rows up to the place `before`, and admits those behind it
 pub record CutsRows (rows : List Row) (p : KeyPlace → Bool) (before : ℕ) : Type 0 where

@@ -1,3 +1,4 @@
 pub mod Agreeing
 pub mod Cuts
+pub mod Judging
 pub mod Steps

@@ -4,7 +4,7 @@ ghost use Rattle.std.specs.Ordering.{nat_cmp};
 ghost use Rattle.std.specs.Cmp.Lexicographic.{slice_cmp};
 ghost use Rattle.key_tuple.specs.Order.{tuple_cmp};
 ghost use Rattle.key_tuple.specs.Figures.{matching, equal_bytes};
-ghost use Rattle.page_search.specs.Agreeing.{AgreesTo, lesser_match};
+ghost use Rattle.page_search.specs.Agreeing.{AgreesTo};
 
 use key_tuple::{Fields, Match};
 use std::cmp::Ordering;
@@ -118,20 +118,4 @@ fn has_four(left: &[u8], right: &[u8], at: usize) -> bool
         return false;
     }
     left[at + 3] == right[at + 3]
-}
-
-/// The lesser of two agreements.
-#[inline(always)]
-pub(crate) fn lesser(low: Match, up: Match) -> Match
-    ensures { result ≡ lesser_match low up }
-{
-    if low.fields < up.fields {
-        low
-    } else if up.fields < low.fields {
-        up
-    } else if low.bytes < up.bytes {
-        low
-    } else {
-        up
-    }
 }

@@ -2,10 +2,13 @@
 //! It never copies a key, nor writes to a page.
 #![tactic(auto)]
 
+mod agreement;
 mod comparing;
 mod cut;
+mod judging;
 mod slots;
 mod walk;
+mod words;
 
 pub use cut::CutPlace;
 pub use walk::find_cut;

@@ -4,12 +4,14 @@ ghost use Rattle.index_page.specs.Rows.{Row};
 ghost use Rattle.index_page.specs.Page.{RowsAscend};
 ghost use Rattle.page_rows.specs.Reading.{rows_in_bytes};
 ghost use Rattle.page_rows.specs.Spelling.{IsPageOfRows};
-ghost use Rattle.page_search.specs.Cuts.{FindsCut, IsOnTheWay};
+ghost use Rattle.page_search.specs.Cuts.{FindsCut, IsOnTheWay, place_in};
+ghost use Rattle.page_search.specs.Judging.{IsFirst};
 ghost use Rattle.page_search.specs.Steps.{StepsOn};
 
-use crate::comparing::lesser;
-use crate::cut::CutPlace;
-use crate::slots::{judge, owner_before};
+use crate::agreement::lesser;
+use crate::cut::{CutPlace, Narrowed};
+use crate::judging::{first_field, judge};
+use crate::slots::owner_before;
 use key_tuple::{Fields, Mode};
 use page_mirror::next_of;
 
@@ -22,9 +24,9 @@ const BESIDE_OWNER: u8 = 7;
 /// What a step told.
 pub(crate) enum Step {
     /// The cut is here.
-    Here(CutPlace),
+    Here(Narrowed),
     /// The cut leaves out the row that was passed.
-    On(CutPlace),
+    On(Narrowed),
 }
 
 /// Where the mode's cut parts the rows, and how far the tuple agrees with those around it. A
@@ -35,38 +37,57 @@ pub fn find_cut<A: Fields>(page: &[u8], fields: u8, tuple: &A, mode: Mode) -> Cu
     requires tuple { length (A.fields_of tuple.now) ≤ fields }
     ensures { FindsCut (rows_in_bytes page.now fields) mode (A.fields_of tuple.now) result }
 {
-    let mut found = owner_before(page, fields, tuple, mode);
+    let first = first_field(tuple);
+    let mut found = owner_before(page, fields, tuple, first, mode);
     for _ in 0..BESIDE_OWNER {
-        match go_on(page, fields, found, tuple, mode) {
+        match go_on(page, fields, found, tuple, first, mode) {
             Step::On(next) => found = next,
-            Step::Here(cut) => return cut,
+            Step::Here(cut) => return cut.place(),
         }
     }
-    found
+    found.place()
 }
 
 /// Goes on to the next row, if the cut leaves it out.
-fn go_on<A: Fields>(page: &[u8], fields: u8, found: CutPlace, tuple: &A, mode: Mode) -> Step
+fn go_on<A: Fields>(
+    page: &[u8],
+    fields: u8,
+    found: Narrowed,
+    tuple: &A,
+    first: &[u8],
+    mode: Mode,
+) -> Step
     requires tuple { length (A.fields_of tuple.now) ≤ fields }
+    requires first { IsFirst (A.fields_of tuple.now) first.now }
     requires way { (left : List Row) × (middle : List Row) × (right : List Row)
-        × IsOnTheWay page.now fields mode (A.fields_of tuple.now) left middle right found }
+        × IsOnTheWay page.now fields mode (A.fields_of tuple.now) left middle right
+        (place_in found) }
     ensures { (left middle right : List Row)
-        → IsOnTheWay page.now fields mode (A.fields_of tuple.now) left middle right found
+        → IsOnTheWay page.now fields mode (A.fields_of tuple.now) left middle right
+        (place_in found)
         → StepsOn page.now fields mode (A.fields_of tuple.now) left middle right result }
 {
     let next = next_of(page, found.before);
     if next == SUPREMUM {
         return Step::Here(found);
     }
-    let verdict = judge(page, fields, next, tuple, mode, lesser(found.low, found.up));
+    let verdict = judge(
+        page,
+        fields,
+        next,
+        tuple,
+        first,
+        mode,
+        lesser(found.low, found.up),
+    );
     if verdict.admitted {
-        return Step::Here(CutPlace {
+        return Step::Here(Narrowed {
             before: found.before,
             low: found.low,
             up: verdict.figures,
         });
     }
-    Step::On(CutPlace {
+    Step::On(Narrowed {
         before: next,
         low: verdict.figures,
         up: found.up,

@@ -1,6 +1,8 @@
 use Rattle.std.proofs.Common.{◌∙◌, ◌+◌, ◌-◌, ◌/◌, ◌∷◌, sym, ap, subst, arith}
 use Rattle.key_tuple.specs.KeyPlace.{At, cut_of}
 use Rattle.compact_record.specs.Record.{PlacedRecord}
+use Rattle.compact_record.specs.Reading.{record_at}
+use Rattle.key_tuple.specs.declared.mode.Match.{Match}
 use Rattle.compact_record.proofs.LawLemmas.{record_there, record_read}
 use Rattle.page_directory.proofs.OwnerLemmas.{slots_counted, count_sizes}
 use Rattle.index_page.proofs.CutLemmas.{mode_cuts}
@@ -9,7 +11,7 @@ use Rattle.index_page.proofs.RowLemmas.{ascends_right}
 use Rattle.key_tuple.specs.Figures.{matching}
 use Rattle.page_rows.specs.Reading.{rows_in_bytes}
 use Rattle.page_rows.proofs.SpellingLemmas.{row_of}
-use Rattle.page_search.specs.Agreeing.{AgreesTo, lesser_match}
+use Rattle.page_search.specs.Agreeing.{AgreesTo, lesser_match, agreed}
 use Rattle.page_search.proofs.FigureLemmas.{none_low, none_up, low_at, up_at}
 use Rattle.page_search.proofs.SlotLemmas.{owner_row, owner_there, owner_out, owner_in, first_out, last_in}
 use Rattle.page_search.proofs.WayLemmas.{owner_agrees, narrowed}
@@ -64,8 +66,9 @@ judge-verdict-requires-clause-agrees g c =
     let at = c.slot_owner-owner.ensures m s.page.is (omega (arith, slots_counted s.page.groups)) in
     let o = owner_row middle s (omega arith) (omega arith) in
     let read = record_read c.args.page.now c.slot_owner-owner.result c.args.fields (inv.0.parts.of o.here) (owner_there o at) in
-    let agrees = owner_agrees tuple c.loop-low.below c.loop-low.above inv.3 inv.4 o (omega arith) (omega arith) within inv.5 inv.6 in
-    rw (c.lesser.ensures) (subst (λ (x : PlacedRecord). AgreesTo tuple x.key (lesser_match c.loop-low.below c.loop-low.above)) (sym read) agrees)
+    let agrees = owner_agrees tuple (agreed c.loop-low.below) (agreed c.loop-low.above) inv.3 inv.4 o (omega arith) (omega arith) within inv.5 inv.6 in
+    subst (λ (m : Match). AgreesTo tuple (record_at c.args.page.now c.slot_owner-owner.result c.args.fields).key m) (sym c.lesser.ensures)
+    (subst (λ (x : PlacedRecord). AgreesTo tuple x.key (lesser_match (agreed c.loop-low.below) (agreed c.loop-low.above))) (sym read) agrees)
 
 pub loop-low-preserved-then-verdict : goal.loop-low-preserved-then-verdict
 loop-low-preserved-then-verdict g c =
@@ -83,7 +86,7 @@ loop-low-preserved-then-verdict g c =
     let admitted = ap (λ (x : PlacedRecord). p (At x.key)) (sym read) ∙ sym c.judge-verdict.ensures.admitted ∙ c.if-verdict.true in
     let figures = c.judge-verdict.ensures.figures ∙ ap (λ (x : PlacedRecord). matching tuple x.key) read in
     let row = row_of inv.0.parts o.here in
-    (inv.0, omega arith, omega arith, inv.3, owner_in p (mode_cuts c.args.mode tuple) c.requires.ascend o admitted, inv.5, up_at tuple o.left row o.right c.judge-verdict.result.figures figures (subst RowsAscend o.rows c.requires.ascend))
+    (inv.0, omega arith, omega arith, inv.3, owner_in p (mode_cuts c.args.mode tuple) c.requires.ascend o admitted, inv.5, up_at tuple o.left row o.right (agreed c.judge-verdict.result.figures) figures (subst RowsAscend o.rows c.requires.ascend))
 
 pub loop-low-preserved : goal.loop-low-preserved
 loop-low-preserved g c =
@@ -102,7 +105,7 @@ loop-low-preserved g c =
     let figures = c.judge-verdict.ensures.figures ∙ ap (λ (x : PlacedRecord). matching tuple x.key) read in
     let row = row_of inv.0.parts o.here in
     let ascend = ascends_right o.left (row ∷ o.right) (subst RowsAscend o.rows c.requires.ascend) in
-    (inv.0, omega arith, inv.2, owner_out p (mode_cuts c.args.mode tuple) c.requires.ascend o left_out, inv.4, low_at tuple o.left row o.right c.judge-verdict.result.figures figures ascend, inv.6)
+    (inv.0, omega arith, inv.2, owner_out p (mode_cuts c.args.mode tuple) c.requires.ascend o left_out, inv.4, low_at tuple o.left row o.right (agreed c.judge-verdict.result.figures) figures ascend, inv.6)
 
 pub slot_owner-requires : goal.slot_owner-requires
 slot_owner-requires g c =
@@ -120,4 +123,4 @@ returns g c =
     let within = inv.2 in
     let last = c.loop-low-test.false in
     let at = c.slot_owner.ensures inv.0.parts.mirror s.page.is (omega (arith, slots_counted s.page.groups)) in
-    narrowed c.args.mode (g.A.Fields.fields_of c.args.tuple.now) c.loop-low.low c.loop-low.high (record { before = c.slot_owner.result; low = c.loop-low.below; up = c.loop-low.above }) inv.0 c.requires.ascend s inv.3 inv.4 (omega arith) within at inv.5 inv.6
+    narrowed c.args.mode (g.A.Fields.fields_of c.args.tuple.now) c.loop-low.low c.loop-low.high (record { before = c.slot_owner.result; low = agreed c.loop-low.below; up = agreed c.loop-low.above }) inv.0 c.requires.ascend s inv.3 inv.4 (omega arith) within at inv.5 inv.6

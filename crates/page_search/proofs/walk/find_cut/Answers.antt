@@ -1,5 +1,11 @@
-use Rattle.std.proofs.Common.{◌++◌, ◌∷◌, [], length, ap, arith}
+use Rattle.std.proofs.Common.{◌++◌, ◌∷◌, [], length, ap, sym, subst, arith}
 use Rattle.page_directory.proofs.ListLemmas.{none_left}
+use Rattle.index_page.specs.Rows.{first_of_rows, last_of_rows}
+use Rattle.page_rows.specs.Reading.{rows_in_bytes}
+use Rattle.page_search.specs.Agreeing.{agreed}
+use Rattle.page_search.specs.Cuts.{FindsCut}
+use Rattle.page_search.specs.declared.cut.CutPlace.{CutPlace}
+use Rattle.page_search.proofs.FigureLemmas.{figures_few}
 use Rattle.page_search.proofs.WayLemmas.{found_at}
 use Rattle.page_search.proofs.walk.find_cut.Goals as goal
 
@@ -14,10 +20,26 @@ go_on-requires-clause-way g c =
     let inv = c.loop.invariant in
     (inv.0, inv.1, inv.2, inv.3)
 
+pub place-requires-clause-low : goal.place-requires-clause-low
+place-requires-clause-low g c =
+    let inv = c.loop.invariant in
+    let tuple = g.A.Fields.fields_of c.args.tuple.now in
+    let finds = c.in-Here.ensures inv.0 inv.1 inv.2 inv.3 in
+    omega (arith, figures_few tuple (last_of_rows finds.cuts.left) (agreed c.in-Here.cut.low) finds.low, c.requires.tuple, c.ranges.fields.fits)
+
+pub place-requires-clause-up : goal.place-requires-clause-up
+place-requires-clause-up g c =
+    let inv = c.loop.invariant in
+    let tuple = g.A.Fields.fields_of c.args.tuple.now in
+    let finds = c.in-Here.ensures inv.0 inv.1 inv.2 inv.3 in
+    omega (arith, figures_few tuple (first_of_rows finds.cuts.right) (agreed c.in-Here.cut.up) finds.up, c.requires.tuple, c.ranges.fields.fits)
+
 pub returns-in-Here : goal.returns-in-Here
 returns-in-Here g c =
     let inv = c.loop.invariant in
-    c.in-Here.ensures inv.0 inv.1 inv.2 inv.3
+    let tuple = g.A.Fields.fields_of c.args.tuple.now in
+    let finds = c.in-Here.ensures inv.0 inv.1 inv.2 inv.3 in
+    subst (λ (cut : CutPlace). FindsCut (rows_in_bytes c.args.page.now c.args.fields) c.args.mode tuple cut) (sym c.place.ensures) finds
 
 pub loop-preserved : goal.loop-preserved
 loop-preserved g c =
@@ -25,7 +47,23 @@ loop-preserved g c =
     let n = c.in-On.ensures inv.0 inv.1 inv.2 inv.3 in
     (inv.0 ++ n.0 ∷ [], n.1, inv.2, n.3, omega (arith, ap length n.2, inv.4))
 
+pub place-requires-2-clause-low : goal.place-requires-2-clause-low
+place-requires-2-clause-low g c =
+    let inv = c.loop.invariant in
+    let tuple = g.A.Fields.fields_of c.args.tuple.now in
+    let way = inv.3 in
+    omega (arith, figures_few tuple (last_of_rows inv.0) (agreed c.loop.found.low) way.low.is, c.requires.tuple, c.ranges.fields.fits)
+
+pub place-requires-2-clause-up : goal.place-requires-2-clause-up
+place-requires-2-clause-up g c =
+    let inv = c.loop.invariant in
+    let tuple = g.A.Fields.fields_of c.args.tuple.now in
+    let way = inv.3 in
+    omega (arith, figures_few tuple (first_of_rows inv.2) (agreed c.loop.found.up) way.up.is, c.requires.tuple, c.ranges.fields.fits)
+
 pub returns : goal.returns
 returns g c =
     let inv = c.loop.invariant in
-    found_at inv.0 inv.1 inv.2 (none_left inv.1 (omega (arith, inv.4))) inv.3
+    let tuple = g.A.Fields.fields_of c.args.tuple.now in
+    let finds = found_at inv.0 inv.1 inv.2 (none_left inv.1 (omega (arith, inv.4))) inv.3 in
+    subst (λ (cut : CutPlace). FindsCut (rows_in_bytes c.args.page.now c.args.fields) c.args.mode tuple cut) (sym c.place-2.ensures) finds

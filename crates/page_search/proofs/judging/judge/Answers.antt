@@ -1,0 +1,52 @@
+use Rattle.std.proofs.Common.{◌≡◌, ◌∙◌, ◌≤◌, ◌+◌, ◌-◌, ◌/◌, ℕ, [], length, get_or, ap, ap₂, sym, arith, bit_xor, nat_lt, nat_cmp, is_lt, inl, inr}
+use Rattle.std.proofs.lemmas.Bool.{cases_lt}
+use Rattle.std.specs.Int.{w64, leading_zeros}
+use Rattle.std.specs.Cmp.Lexicographic.{slice_cmp}
+use Rattle.key_tuple.specs.Figures.{equal_bytes}
+use Rattle.compact_record.specs.Record.{PlacedRecord}
+use Rattle.compact_record.specs.Reading.{record_at}
+use Rattle.page_search.proofs.JudgeLemmas.{first_some, apart_judged, whole_judged}
+use Rattle.page_search.proofs.WordLemmas.{told_at, same_at, apart_at, all_same}
+use Rattle.page_search.proofs.judging.judge.Goals as goal
+
+pub returns-then-left-right : goal.returns-then-left-right
+returns-then-left-right g c =
+    let t = g.A.Fields.fields_of c.args.tuple.now in
+    let k = (record_at c.args.page.now c.args.at c.args.fields).key in
+    let first = c.args.first.now in
+    let other = c.field-other.result.now in
+    let place = c.first_apart-place.result in
+    let within = c.first_apart-place.ensures.within in
+    let there = c.requires.there.count in
+    let is = c.requires.first.is in
+    let other_is : other ≡ get_or k 0 [] = c.field-other.ensures.bytes ∙ ap (λ (x : PlacedRecord). get_or x.key 0 []) c.view-row.ensures in
+    let told = told_at first other place c.word-left.ensures.bytes c.word-right.ensures.bytes (omega arith) (omega arith) in
+    let apart = apart_at first other place c.first_apart-place.ensures.equal told (λ e. c.if-left-right.true (c.word-left.ensures.number ∙ e ∙ sym c.word-right.ensures.number)) in
+    let zeros = c.equal_in.ensures ∙ ap₂ (λ (a b : ℕ). leading_zeros w64 (bit_xor a b) / 8) c.word-left.ensures.number c.word-right.ensures.number in
+    apart_judged c.args.mode t k (nat_lt c.word-left.result c.word-right.result) c.new.result (first_some t first is (omega arith)) (omega (arith, there, c.requires.tuple))
+    (ap₂ nat_lt c.word-left.ensures.number c.word-right.ensures.number ∙ apart.0 ∙ (λ j. is_lt (slice_cmp nat_cmp (is j) (other_is j)))) c.new.ensures.fields
+    (c.new.ensures.bytes ∙ ap (λ (n : ℕ). place + n) zeros ∙ apart.1 ∙ (λ j. equal_bytes (is j) (other_is j)))
+    (λ e. apart.2 ((λ j. slice_cmp nat_cmp (is j) (other_is j)) ∙ e))
+
+pub returns : goal.returns
+returns g c =
+    let t = g.A.Fields.fields_of c.args.tuple.now in
+    let k = (record_at c.args.page.now c.args.at c.args.fields).key in
+    let first = c.args.first.now in
+    let other = c.field-other.result.now in
+    let place = c.first_apart-place.result in
+    let within = c.first_apart-place.ensures.within in
+    let there = c.requires.there.count in
+    let is = c.requires.first.is in
+    let some = first_some t first is (omega arith) in
+    let other_is : other ≡ get_or k 0 [] = c.field-other.ensures.bytes ∙ ap (λ (x : PlacedRecord). get_or x.key 0 []) c.view-row.ensures in
+    let told = told_at first other place c.word-left.ensures.bytes c.word-right.ensures.bytes (omega arith) (omega arith) in
+    let equal = sym c.word-left.ensures.number ∙ c.if-left-right.false ∙ c.word-right.ensures.number in
+    let more = same_at first other place c.first_apart-place.ensures.equal told equal in
+    let all : length first ≤ equal_bytes first other = elim (cases_lt place (length first - 8)) [
+      | inl less ↦ absurd (c.first_apart-place.ensures.apart less equal)
+      | inr end ↦ omega (arith, end, more)
+    ] in
+    let same = all_same first other all (omega arith) in
+    whole_judged c.args.mode t k c.is_admitted.result c.new-2.result c.new-2.ensures.fields c.new-2.ensures.bytes (omega (arith, some, c.count.ensures, c.if-count-gt1.false))
+    (omega (arith, some, there, c.requires.tuple)) (sym is ∙ same ∙ other_is) c.is_admitted.ensures
