@@ -30,13 +30,14 @@ pub(crate) fn owner_before<A: Fields>(
     requires first { IsFirst (A.fields_of tuple.now) first.now }
     ensures { NarrowsRows page.now fields mode (A.fields_of tuple.now) (place_in result) }
 {
+    let last = slot_count(page) - 1;
     let mut low = 0;
-    let mut high = slot_count(page) - 1;
+    let mut high = u32::from(last);
     let mut below = NOTHING;
     let mut above = NOTHING;
     while low + 1 < high {
-        let middle = low + (high - low) / 2;
-        let owner = slot_owner(page, middle);
+        let middle = (low + high) / 2;
+        let owner = slot_owner(page, middle as u16);
         let verdict = judge(
             page,
             fields,
@@ -55,7 +56,7 @@ pub(crate) fn owner_before<A: Fields>(
         }
     }
     Narrowed {
-        before: slot_owner(page, low),
+        before: slot_owner(page, low as u16),
         low: below,
         up: above,
     }

@@ -1,4 +1,4 @@
-use Rattle.std.proofs.Common.{◌∙◌, ◌+◌, ◌-◌, ◌/◌, ◌∷◌, sym, ap, subst, arith}
+use Rattle.std.proofs.Common.{◌∙◌, ◌+◌, ◌/◌, ◌∷◌, sym, ap, subst, arith}
 use Rattle.key_tuple.specs.KeyPlace.{At, cut_of}
 use Rattle.compact_record.specs.Record.{PlacedRecord}
 use Rattle.compact_record.specs.Reading.{record_at}
@@ -17,23 +17,24 @@ use Rattle.page_search.proofs.SlotLemmas.{owner_row, owner_there, owner_out, own
 use Rattle.page_search.proofs.WayLemmas.{owner_agrees, narrowed}
 use Rattle.page_search.proofs.slots.owner_before.Goals as goal
 
-pub overflow_sub-high : goal.overflow_sub-high
-overflow_sub-high g c =
+pub overflow_sub-last : goal.overflow_sub-last
+overflow_sub-last g c =
     let s = c.requires.page.spells in
-    omega (arith, c.slot_count-high.ensures c.requires.page.parts.mirror s.page.is, slots_counted s.page.groups, s.sizes.two, count_sizes c.requires.page.parts.groups)
+    omega (arith, c.slot_count-last.ensures c.requires.page.parts.mirror s.page.is, slots_counted s.page.groups, s.sizes.two, count_sizes c.requires.page.parts.groups)
 
 pub loop-low-init : goal.loop-low-init
 loop-low-init g c =
     let page = c.requires.page in
     let s = page.spells in
     let p = cut_of c.args.mode (g.A.Fields.fields_of c.args.tuple.now) in
-    let count = c.slot_count-high.ensures page.parts.mirror s.page.is in
+    let from = c.from-high.ensures in
+    let count = c.slot_count-last.ensures page.parts.mirror s.page.is in
     let slots = slots_counted s.page.groups in
     let sizes = count_sizes page.parts.groups in
     let two = s.sizes.two in
     let rows = rows_in_bytes c.args.page.now c.args.fields in
     let t = g.A.Fields.fields_of c.args.tuple.now in
-    (page, omega arith, omega arith, first_out p s, last_in p _ s (omega arith), none_low t rows, none_up t rows)
+    (page, omega arith, omega arith, first_out p s, last_in p _ s (omega arith), none_low t rows, none_up t rows, omega arith)
 
 pub slot_owner-owner-requires : goal.slot_owner-owner-requires
 slot_owner-owner-requires g c =
@@ -47,7 +48,7 @@ judge-verdict-requires-clause-there g c =
     let inv = c.loop-low.invariant in
     let s = inv.0.spells in
     let m = inv.0.parts.mirror in
-    let middle = c.loop-low.low + (c.loop-low.high - c.loop-low.low) / 2 in
+    let middle = (c.loop-low.low + c.loop-low.high) / 2 in
     let below = c.loop-low-test.true in
     let within = inv.2 in
     let at = c.slot_owner-owner.ensures m s.page.is (omega (arith, slots_counted s.page.groups)) in
@@ -59,7 +60,7 @@ judge-verdict-requires-clause-agrees g c =
     let inv = c.loop-low.invariant in
     let s = inv.0.spells in
     let m = inv.0.parts.mirror in
-    let middle = c.loop-low.low + (c.loop-low.high - c.loop-low.low) / 2 in
+    let middle = (c.loop-low.low + c.loop-low.high) / 2 in
     let below = c.loop-low-test.true in
     let within = inv.2 in
     let tuple = g.A.Fields.fields_of c.args.tuple.now in
@@ -75,7 +76,7 @@ loop-low-preserved-then-verdict g c =
     let inv = c.loop-low.invariant in
     let s = inv.0.spells in
     let m = inv.0.parts.mirror in
-    let middle = c.loop-low.low + (c.loop-low.high - c.loop-low.low) / 2 in
+    let middle = (c.loop-low.low + c.loop-low.high) / 2 in
     let below = c.loop-low-test.true in
     let within = inv.2 in
     let tuple = g.A.Fields.fields_of c.args.tuple.now in
@@ -86,14 +87,14 @@ loop-low-preserved-then-verdict g c =
     let admitted = ap (λ (x : PlacedRecord). p (At x.key)) (sym read) ∙ sym c.judge-verdict.ensures.admitted ∙ c.if-verdict.true in
     let figures = c.judge-verdict.ensures.figures ∙ ap (λ (x : PlacedRecord). matching tuple x.key) read in
     let row = row_of inv.0.parts o.here in
-    (inv.0, omega arith, omega arith, inv.3, owner_in p (mode_cuts c.args.mode tuple) c.requires.ascend o admitted, inv.5, up_at tuple o.left row o.right (agreed c.judge-verdict.result.figures) figures (subst RowsAscend o.rows c.requires.ascend))
+    (inv.0, omega arith, omega arith, inv.3, owner_in p (mode_cuts c.args.mode tuple) c.requires.ascend o admitted, inv.5, up_at tuple o.left row o.right (agreed c.judge-verdict.result.figures) figures (subst RowsAscend o.rows c.requires.ascend), omega (arith, inv.7, inv.1, c.loop-low-test.true))
 
 pub loop-low-preserved : goal.loop-low-preserved
 loop-low-preserved g c =
     let inv = c.loop-low.invariant in
     let s = inv.0.spells in
     let m = inv.0.parts.mirror in
-    let middle = c.loop-low.low + (c.loop-low.high - c.loop-low.low) / 2 in
+    let middle = (c.loop-low.low + c.loop-low.high) / 2 in
     let below = c.loop-low-test.true in
     let within = inv.2 in
     let tuple = g.A.Fields.fields_of c.args.tuple.now in
@@ -105,7 +106,7 @@ loop-low-preserved g c =
     let figures = c.judge-verdict.ensures.figures ∙ ap (λ (x : PlacedRecord). matching tuple x.key) read in
     let row = row_of inv.0.parts o.here in
     let ascend = ascends_right o.left (row ∷ o.right) (subst RowsAscend o.rows c.requires.ascend) in
-    (inv.0, omega arith, inv.2, owner_out p (mode_cuts c.args.mode tuple) c.requires.ascend o left_out, inv.4, low_at tuple o.left row o.right (agreed c.judge-verdict.result.figures) figures ascend, inv.6)
+    (inv.0, omega arith, inv.2, owner_out p (mode_cuts c.args.mode tuple) c.requires.ascend o left_out, inv.4, low_at tuple o.left row o.right (agreed c.judge-verdict.result.figures) figures ascend, inv.6, inv.7)
 
 pub slot_owner-requires : goal.slot_owner-requires
 slot_owner-requires g c =

@@ -15,6 +15,7 @@ invariant-loop-low g l =
     × (past : InFrom l.page l.fields (cut_of l.mode (g.A.Fields.fields_of l.tuple)) page.parts l.high)
     × LowFigures (g.A.Fields.fields_of l.tuple) out.left out.right (agreed l.below)
     × UpFigures (g.A.Fields.fields_of l.tuple) past.left past.right (agreed l.above)
+    × (l.high < 65536)
 
 abbrev pub decreases-loop-low : goal.decreases-loop-low
 decreases-loop-low g l = l.high - l.low
