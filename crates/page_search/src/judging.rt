@@ -104,7 +104,7 @@ fn judge_all<A: Fields>(
 
 /// Whether the mode's cut admits a row to which the tuple stands like this.
 #[inline(always)]
-pub(crate) fn is_admitted(mode: Mode, order: Ordering) -> bool
+fn is_admitted(mode: Mode, order: Ordering) -> bool
     ensures { result ≡ admits_at mode order }
 {
     match mode {
