@@ -57,6 +57,28 @@ pub fn write_over<A: Fields>(
         (cell_of (record_from old.start h kind (A.fields_of key.now) tail.now))) h result }
 {
     let start = measure(page, at, fields).start;
+    write_from(page, at, start, fields, kind, key, tail)
+}
+
+/// The same, where `start` tells where the one with this origin begins.
+pub fn write_from<A: Fields>(
+    page: &mut [u8],
+    at: u16,
+    start: u16,
+    fields: u8,
+    kind: RecordKind,
+    key: &A,
+    tail: &[u8],
+) -> u16
+    requires { (m : Mirror) × (h : ℕ) × (old : PlacedRecord) × HasOrigin page.old m h at
+        × FitsInPlace page.old m fields h old
+        (record_from start h kind (A.fields_of key.now) tail.now) }
+    ensures { (m : Mirror) (h : ℕ) (old : PlacedRecord) → HasOrigin page.old m h at
+        → FitsInPlace page.old m fields h old
+        (record_from start h kind (A.fields_of key.now) tail.now)
+        → HasOrigin page.new (rewritten m h
+        (cell_of (record_from start h kind (A.fields_of key.now) tail.now))) h result }
+{
     let heap_number = view(page, at, fields).heap_number();
     write(page, start, RecordHead { kind, heap_number }, key, tail)
 }
