@@ -16,7 +16,7 @@ use Rattle.index_page.specs.Loads.{load_of}
 use Rattle.index_page.specs.Refusals.{takes}
 use Rattle.page_rows.specs.Reading.{rows_in_bytes}
 use Rattle.page_rows.specs.Spelling.{free_origin, size_of_record, StandsAsRow, PageParts, SpellsRows}
-use Rattle.page_rows.specs.Inserting.{head_gap, gaps_in_bytes}
+use Rattle.page_rows.specs.Inserting.{head_gap, head_start, gaps_in_bytes}
 use Rattle.page_rows.proofs.SpellingLemmas.{rows_are, whole_list}
 use Rattle.page_rows.proofs.SumLemmas.{load_is, sizes_low}
 
@@ -71,6 +71,7 @@ pub record FreeThere (bytes : List ℕ) (fields : ℕ) (p : PageParts) (h : ℕ)
   pub stands : StandsAsRow fields p.mirror p.of h
   pub is : IsRecordAt bytes p.mirror.free fields (p.of h)
   pub gap : head_gap bytes fields p.mirror.free ≡ size_of_record (p.of h)
+  pub start : head_start bytes fields p.mirror.free ≡ (p.of h).start
 
 pub free_there : {bytes : List ℕ} {fields : ℕ} {p : PageParts} (h : ℕ) (rest : List ℕ) → SpellsRows bytes fields p [] → p.free ≡ h ∷ rest → FreeThere bytes fields p h
 free_there {bytes} {fields} {p} h rest r e =
@@ -89,6 +90,7 @@ free_there {bytes} {fields} {p} h rest r e =
       stands = s;
       is = is;
       gap = rw (some, read) (omega arith);
+      start = rw (some, read) refl;
     }
 
 pub no_gap : {bytes : List ℕ} {fields : ℕ} {p : PageParts} → SpellsRows bytes fields p [] → p.mirror.free ≡ 0 → head_gap bytes fields p.mirror.free ≡ 0

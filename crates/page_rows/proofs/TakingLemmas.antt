@@ -7,6 +7,7 @@ use Rattle.std.specs.List.{AllByRecursion}
 use Rattle.list_facts.proofs.Each.{each_left, each_right, each_append, each_weaker}
 use Rattle.key_tuple.specs.Order.{FieldList}
 use Rattle.compact_record.specs.declared.kind.RecordKind.{RecordKind}
+use Rattle.compact_record.specs.Bytes.{u16_at}
 use Rattle.compact_record.specs.Record.{IsRecord}
 use Rattle.compact_record.proofs.LawLemmas.{record_size}
 use Rattle.page_mirror.specs.Cells.{end_in}
@@ -17,7 +18,7 @@ use Rattle.page_heap.proofs.CellLemmas.{cell_end}
 use Rattle.page_directory.specs.Groups.{records}
 use Rattle.page_directory.proofs.OwnerLemmas.{origin_once}
 use Rattle.page_rows.specs.Spelling.{AreFree, free_origin, size_of_record, StandsAsRow, PageParts}
-use Rattle.page_rows.specs.Inserting.{gaps_in_bytes, taken_mirror, CanTake, CanTakeBehind, CanTakeFree, IsTaken}
+use Rattle.page_rows.specs.Inserting.{head_start, gaps_in_bytes, taken_mirror, CanTake, CanTakeBehind, CanTakeFree, IsTaken}
 use Rattle.page_rows.proofs.SumLemmas.{counts_itself, counts_more, size_of_some, sum_moved}
 use Rattle.page_rows.proofs.TakenLemmas.{TakenFrom, taken_spells}
 use Rattle.page_rows.proofs.UnledLemmas.{free_head}
@@ -120,6 +121,19 @@ record_free_fits {fields = fields} {p = p} {kind} {key} {tail} t =
       unled = head.unled;
       unnamed = head.unnamed;
     }
+
+-- where the record at the free list's head begins, as it was told
+pub told_start : {bytes : List ℕ} {fields : ℕ} {p : PageParts} {kind : RecordKind} {key : FieldList} {tail : List ℕ} {size start : ℕ}
+    → (t : CanTakeFree bytes fields p kind key tail size) → start ≡ head_start bytes fields (u16_at bytes 44) → start ≡ (p.of t.h).start
+told_start {bytes} {fields} t told =
+    let s = t.take.spells in
+    told ∙ ap (head_start bytes fields) s.page.is.head.first_free ∙ (free_there t.h t.rest s t.free).start
+
+pub told_fits : {bytes : List ℕ} {fields : ℕ} {p : PageParts} {kind : RecordKind} {key : FieldList} {tail : List ℕ} {size start : ℕ}
+    → (t : CanTakeFree bytes fields p kind key tail size) → start ≡ (p.of t.h).start
+    → FitsInPlace bytes p.mirror fields t.h (p.of t.h) (record_from start t.h kind key tail)
+told_fits {bytes} {fields} {p} {kind} {key} {tail} t e =
+    subst (λ (x : ℕ). FitsInPlace bytes p.mirror fields t.h (p.of t.h) (record_from x t.h kind key tail)) (sym e) (record_free_fits t)
 
 told_equal : (a b : ℕ) → a ≡ b → nat_eq a b ≡ true
 told_equal a b e = grind (arith, nat_tests)

@@ -23,6 +23,10 @@ head_gap bytes fields at =
     if nat_eq at 0 then 0
     else finish (record_at bytes at fields) - (record_at bytes at fields).start
 
+-- where the record at the free list's head begins, 0 where there is none
+abbrev pub head_start : List ℕ → ℕ → ℕ → ℕ
+head_start bytes fields at = if nat_eq at 0 then 0 else (record_at bytes at fields).start
+
 -- where the page has bytes for a record
 abbrev pub gaps_in_bytes : List ℕ → ℕ → Gaps
 gaps_in_bytes bytes fields = record {

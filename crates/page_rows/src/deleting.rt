@@ -7,7 +7,7 @@ ghost use Rattle.page_rows.specs.Slots.{sizes_in_bytes};
 ghost use Rattle.page_rows.specs.Spelling.{PageParts, SpellsRows};
 ghost use Rattle.page_rows.specs.Deleting.{CanDeleteRow, DeletesInBytes, IsLoose, freed_parts, origin_after, gaps_after};
 
-use crate::room::page_gaps;
+use crate::room::page_rest;
 use compact_record::measure;
 use index_page::Gaps;
 use page_list::{leave_list, loses_slot};
@@ -36,7 +36,7 @@ pub fn gaps_without(page: &[u8], fields: u8, place: u16) -> Gaps
         (length left) (charge_of row.key row.body - 1) }
 {
     let extent = measure(page, place, fields);
-    let rest = page_gaps(page, fields).rest;
+    let rest = page_rest(page);
     let goes = loses_slot(page, place);
     Gaps {
         head: extent.end - extent.start,

@@ -12,5 +12,5 @@ mod taking;
 pub use appending::append_row;
 pub use deleting::{delete_row, gaps_without};
 pub use inserting::insert_row;
-pub use room::{page_gaps, page_load};
+pub use room::{page_gaps, page_load, page_rest};
 pub use setting::set_value;

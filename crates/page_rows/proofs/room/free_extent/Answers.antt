@@ -2,10 +2,10 @@ use Rattle.std.proofs.Common.{◌∙◌, ℕ, sym, subst}
 use Rattle.compact_record.specs.Reading.{HasRecord}
 use Rattle.compact_record.proofs.LawLemmas.{record_there}
 use Rattle.page_rows.proofs.RoomLemmas.{free_some, free_there}
-use Rattle.page_rows.proofs.room.free_size.Goals as goal
+use Rattle.page_rows.proofs.room.free_extent.Goals as goal
 
-pub measure-extent-requires-clause-there : goal.measure-extent-requires-clause-there
-measure-extent-requires-clause-there c =
+pub measure-requires-clause-there : goal.measure-requires-clause-there
+measure-requires-clause-there c =
     let page = c.requires.page in
     let p = page.parts in
     let at = c.requires.head page in
