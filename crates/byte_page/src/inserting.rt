@@ -12,7 +12,7 @@ ghost use Rattle.index_page.specs.Page.{FitsLevel, HasShortValue};
 ghost use Rattle.index_page.specs.Changes.{Inserts};
 ghost use Rattle.index_page.specs.Search.{Finds};
 ghost use Rattle.index_page.specs.Loads.{charge_of, load_of};
-ghost use Rattle.index_page.specs.Refusals.{room_refusal, takes};
+ghost use Rattle.index_page.specs.Refusals.{free_of, room_refusal, takes};
 ghost use Rattle.page_rows.specs.Reading.{body_of_kind};
 ghost use Rattle.page_search.specs.Cuts.{CutsRows};
 ghost use Rattle.byte_page.specs.Form.{gap_refusal};
@@ -24,6 +24,7 @@ use crate::walks::INFIMUM;
 use compact_record::RecordKind;
 use index_page::{Body, Gaps, PageError, Place, charge};
 use key_tuple::Fields;
+use page_rows::page_rest;
 
 /// The bytes of a pointer beside its key's fields and their lengths, and one of the directory.
 const POINTER_CHARGE: u16 = 10;
@@ -98,7 +99,7 @@ impl BytePage {
         ensures err { OnErr result (self.new ≡ self.old) }
     {
         let need = charge(key, body);
-        if let Some(refusal) = refusal_by(need, self.free(), self.gaps()) {
+        if let Some(refusal) = self.refusal(need) {
             return Err(refusal);
         }
         match body {
@@ -111,6 +112,29 @@ impl BytePage {
                 Ok(self.enter(before, kind, key, &child_bytes(number), need - 1))
             }
         }
+    }
+}
+
+impl BytePage {
+    /// Why a row that needs so much isn't put in, if it isn't. Where the bytes behind all records
+    /// take its record, the free list isn't looked at.
+    fn refusal(&self, need: u16) -> Option<PageError>
+        requires some { 0 < need }
+        requires most { need ≤ MAX_CHARGE }
+        ensures { result ≡ room_refusal need (free_of self.now.page) self.now.gaps }
+    {
+        let free = self.free();
+        if need <= free && need < self.rest() {
+            return None;
+        }
+        refusal_by(need, free, self.gaps())
+    }
+
+    /// How many bytes are left behind all records.
+    fn rest(&self) -> u16
+        ensures { result ≡ self.now.gaps.rest }
+    {
+        page_rest(&self.bytes)
     }
 }
 
