@@ -4,4 +4,4 @@
 
 mod writing;
 
-pub use writing::{write_behind, write_from, write_over};
+pub use writing::{write_behind, write_over};

@@ -6,7 +6,7 @@ ghost use Rattle.page_mirror.specs.Mirror.{Mirror};
 ghost use Rattle.page_mirror.specs.Steps.{HasOrigin};
 ghost use Rattle.page_heap.specs.Heap.{cell_of, record_from, enlarged, rewritten, FitsBehind, FitsInPlace};
 
-use compact_record::{RecordHead, RecordKind, measure, put_u16, view, write};
+use compact_record::{RecordHead, RecordKind, put_u16, view, write};
 use key_tuple::Fields;
 use page_mirror::{heap_count, heap_top};
 
@@ -37,31 +37,9 @@ pub fn write_behind<A: Fields>(
     place
 }
 
-/// Writes a record where the one with this origin begins, under its heap number, and answers the
-/// new one's origin.
+/// Writes a record where the one with this origin begins, at `start`, under its heap number, and
+/// answers the new one's origin. Who has measured that one knows where it begins.
 pub fn write_over<A: Fields>(
-    page: &mut [u8],
-    at: u16,
-    fields: u8,
-    kind: RecordKind,
-    key: &A,
-    tail: &[u8],
-) -> u16
-    requires { (m : Mirror) × (h : ℕ) × (old : PlacedRecord) × HasOrigin page.old m h at
-        × FitsInPlace page.old m fields h old
-        (record_from old.start h kind (A.fields_of key.now) tail.now) }
-    ensures { (m : Mirror) (h : ℕ) (old : PlacedRecord) → HasOrigin page.old m h at
-        → FitsInPlace page.old m fields h old
-        (record_from old.start h kind (A.fields_of key.now) tail.now)
-        → HasOrigin page.new (rewritten m h
-        (cell_of (record_from old.start h kind (A.fields_of key.now) tail.now))) h result }
-{
-    let start = measure(page, at, fields).start;
-    write_from(page, at, start, fields, kind, key, tail)
-}
-
-/// The same, where `start` tells where the one with this origin begins.
-pub fn write_from<A: Fields>(
     page: &mut [u8],
     at: u16,
     start: u16,

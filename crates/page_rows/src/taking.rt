@@ -8,7 +8,7 @@ use crate::room::page_room;
 use compact_record::RecordKind;
 use index_page::Gaps;
 use key_tuple::Fields;
-use page_heap::{write_behind, write_from};
+use page_heap::{write_behind, write_over};
 use page_mirror::{first_free, garbage, next_of, set_first_free, set_garbage};
 
 /// Writes a record where some gap takes it, the free list's head first, and answers its origin. It
@@ -55,7 +55,7 @@ fn take_free<A: Fields>(
     let head = first_free(page);
     let next = next_of(page, head);
     let wasted = garbage(page);
-    let at = write_from(page, head, start, fields, kind, key, tail);
+    let at = write_over(page, head, start, fields, kind, key, tail);
     set_first_free(page, list_after(head, next));
     set_garbage(page, wasted - size);
     at

@@ -14,8 +14,8 @@ next_of-next-requires g c =
     let s = t.take.spells in
     (p.mirror, t.h, subst (λ (x : ℕ). HasOrigin c.args.page.now p.mirror t.h x) (sym (c.first_free-head.ensures p.mirror s.page.is)) (free_there t.h t.rest s t.free).at)
 
-pub write_from-at-requires : goal.write_from-at-requires
-write_from-at-requires g c =
+pub write_over-at-requires : goal.write_over-at-requires
+write_over-at-requires g c =
     let p = c.requires.there.0 in
     let t = c.requires.there.1 in
     let s = t.take.spells in (
@@ -33,8 +33,8 @@ set_first_free-requires g c =
     let s = t.take.spells in
     let head = subst (λ (x : ℕ). HasOrigin c.args.page.now p.mirror t.h x) (sym (c.first_free-head.ensures p.mirror s.page.is)) (free_there t.h t.rest s t.free).at in
     let start = told_start t c.requires.start in
-    let over = subst (λ (x : ℕ). HasOrigin c.write_from-at.new.page (rewritten p.mirror t.h (cell_of (record_from x t.h c.args.kind (g.A.Fields.fields_of c.args.key.now) c.args.tail.now))) t.h c.write_from-at.result) start
-    (c.write_from-at.ensures p.mirror t.h (p.of t.h) head (told_fits t start)) in (
+    let over = subst (λ (x : ℕ). HasOrigin c.write_over-at.new.page (rewritten p.mirror t.h (cell_of (record_from x t.h c.args.kind (g.A.Fields.fields_of c.args.key.now) c.args.tail.now))) t.h c.write_over-at.result) start
+    (c.write_over-at.ensures p.mirror t.h (p.of t.h) head (told_fits t start)) in (
       rewritten p.mirror t.h (cell_of (record_from (p.of t.h).start t.h c.args.kind (g.A.Fields.fields_of c.args.key.now) c.args.tail.now)),
       over.is,
     )
@@ -52,8 +52,8 @@ set_garbage-requires g c =
     let s = t.take.spells in
     let head = subst (λ (x : ℕ). HasOrigin c.args.page.now p.mirror t.h x) (sym (c.first_free-head.ensures p.mirror s.page.is)) (free_there t.h t.rest s t.free).at in
     let start = told_start t c.requires.start in
-    let over = subst (λ (x : ℕ). HasOrigin c.write_from-at.new.page (rewritten p.mirror t.h (cell_of (record_from x t.h c.args.kind (g.A.Fields.fields_of c.args.key.now) c.args.tail.now))) t.h c.write_from-at.result) start
-    (c.write_from-at.ensures p.mirror t.h (p.of t.h) head (told_fits t start)) in
+    let over = subst (λ (x : ℕ). HasOrigin c.write_over-at.new.page (rewritten p.mirror t.h (cell_of (record_from x t.h c.args.kind (g.A.Fields.fields_of c.args.key.now) c.args.tail.now))) t.h c.write_over-at.result) start
+    (c.write_over-at.ensures p.mirror t.h (p.of t.h) head (told_fits t start)) in
     let m1 = rewritten p.mirror t.h (cell_of (record_from (p.of t.h).start t.h c.args.kind (g.A.Fields.fields_of c.args.key.now) c.args.tail.now)) in (
       record m1 { free = c.list_after.result },
       c.set_first_free.ensures m1 over.is,
@@ -68,8 +68,8 @@ returns g c = λ p t.
     let cell = cell_of (record_from (p.of t.h).start t.h c.args.kind (g.A.Fields.fields_of c.args.key.now) c.args.tail.now) in
     let m1 = rewritten m t.h cell in
     let start = told_start t c.requires.start in
-    let over = subst (λ (x : ℕ). HasOrigin c.write_from-at.new.page (rewritten p.mirror t.h (cell_of (record_from x t.h c.args.kind (g.A.Fields.fields_of c.args.key.now) c.args.tail.now))) t.h c.write_from-at.result) start
-    (c.write_from-at.ensures p.mirror t.h (p.of t.h) head (told_fits t start)) in
+    let over = subst (λ (x : ℕ). HasOrigin c.write_over-at.new.page (rewritten p.mirror t.h (cell_of (record_from x t.h c.args.kind (g.A.Fields.fields_of c.args.key.now) c.args.tail.now))) t.h c.write_over-at.result) start
+    (c.write_over-at.ensures p.mirror t.h (p.of t.h) head (told_fits t start)) in
     let second = c.set_first_free.ensures m1 over.is in
     let third = c.set_garbage.ensures (record m1 { free = c.list_after.result }) second in
     let after : c.list_after.result ≡ after_head m.free c.next_of-next.result = c.list_after.ensures ∙ ap (λ (x : ℕ). after_head x c.next_of-next.result) first in
