@@ -8,7 +8,7 @@ use Rattle.page_search.specs.declared.judging.Verdict.{Verdict}
 use Rattle.page_search.specs.Agreeing.{agreed}
 
 -- the bytes are the tuple's first field, none where it has none
-pub record IsFirst (tuple : FieldList) (first : List ℕ) : Type 0 where
+pub record IsFirstField (tuple : FieldList) (first : List ℕ) : Type 0 where
   pub is : first ≡ slice_index_or tuple 0 []
   pub short : length first < 65536
 

@@ -3,7 +3,7 @@ ghost use Rattle.std.specs.Prelude.{◌≡◌, ◌≤◌, length};
 ghost use Rattle.compact_record.specs.Reading.{HasRecord, record_at};
 ghost use Rattle.page_search.specs.Agreeing.{AgreesTo, agreed};
 ghost use Rattle.page_search.specs.Cuts.{admits_at};
-ghost use Rattle.page_search.specs.Judging.{IsFirst, Judges};
+ghost use Rattle.page_search.specs.Judging.{IsFirstField, Judges};
 
 use crate::agreement::Agreement;
 use crate::comparing::compare_from;
@@ -24,7 +24,7 @@ pub(crate) struct Verdict {
 /// The first field, no bytes where there is none.
 #[inline(always)]
 pub(crate) fn first_field<A: Fields>(tuple: &A) -> &[u8]
-    ensures { IsFirst (A.fields_of tuple.now) result.now }
+    ensures { IsFirstField (A.fields_of tuple.now) result.now }
 {
     if tuple.count() == 0 {
         &[]
@@ -47,7 +47,7 @@ pub(crate) fn judge<A: Fields>(
 ) -> Verdict
     requires there { HasRecord page.now at fields }
     requires tuple { length (A.fields_of tuple.now) ≤ fields }
-    requires first { IsFirst (A.fields_of tuple.now) first.now }
+    requires first { IsFirstField (A.fields_of tuple.now) first.now }
     requires agrees { AgreesTo (A.fields_of tuple.now) (record_at page.now at fields).key
         (agreed from) }
     ensures { Judges mode (A.fields_of tuple.now) (record_at page.now at fields).key result }

@@ -4,7 +4,7 @@ ghost use Rattle.index_page.specs.Page.{RowsAscend};
 ghost use Rattle.page_rows.specs.Reading.{rows_in_bytes};
 ghost use Rattle.page_rows.specs.Spelling.{IsPageOfRows};
 ghost use Rattle.page_search.specs.Cuts.{NarrowsRows, place_in};
-ghost use Rattle.page_search.specs.Judging.{IsFirst};
+ghost use Rattle.page_search.specs.Judging.{IsFirstField};
 
 use crate::agreement::{Agreement, lesser};
 use crate::cut::Narrowed;
@@ -27,7 +27,7 @@ pub(crate) fn owner_before<A: Fields>(
     requires page { IsPageOfRows page.now fields }
     requires ascend { RowsAscend (rows_in_bytes page.now fields) }
     requires tuple { length (A.fields_of tuple.now) ≤ fields }
-    requires first { IsFirst (A.fields_of tuple.now) first.now }
+    requires first { IsFirstField (A.fields_of tuple.now) first.now }
     ensures { NarrowsRows page.now fields mode (A.fields_of tuple.now) (place_in result) }
 {
     let last = slot_count(page) - 1;

@@ -5,7 +5,7 @@ ghost use Rattle.index_page.specs.Page.{RowsAscend};
 ghost use Rattle.page_rows.specs.Reading.{rows_in_bytes};
 ghost use Rattle.page_rows.specs.Spelling.{IsPageOfRows};
 ghost use Rattle.page_search.specs.Cuts.{FindsCut, IsOnTheWay, place_in};
-ghost use Rattle.page_search.specs.Judging.{IsFirst};
+ghost use Rattle.page_search.specs.Judging.{IsFirstField};
 ghost use Rattle.page_search.specs.Steps.{StepsOn};
 
 use crate::agreement::lesser;
@@ -58,7 +58,7 @@ fn go_on<A: Fields>(
     mode: Mode,
 ) -> Step
     requires tuple { length (A.fields_of tuple.now) ≤ fields }
-    requires first { IsFirst (A.fields_of tuple.now) first.now }
+    requires first { IsFirstField (A.fields_of tuple.now) first.now }
     requires way { (left : List Row) × (middle : List Row) × (right : List Row)
         × IsOnTheWay page.now fields mode (A.fields_of tuple.now) left middle right
         (place_in found) }
