@@ -2,12 +2,15 @@ use Rattle.std.proofs.Common.{◌≡◌, ◌++◌, ◌∷◌, [], map, ap, ◌�
 use Rattle.index_page.specs.declared.slot.Slot.{Slot}
 use Rattle.index_page.specs.Store.{Content}
 use Rattle.index_page.specs.Slots.{content_in}
-use Rattle.index_page.proofs.SlotLemmas.{push_slots, push_contents}
+use Rattle.index_page.proofs.SlotLemmas.{same_slots, push_slots, push_contents}
 use Rattle.index_page.proofs.records.Records.add_copy.Goals as goal
 
 -- one slot more
 slots_after : (c : goal.After-push_reserved) → c.push_reserved.new.self.items ≡ c.self.inside.slots.items ++ c.in_ok-moved.moved ∷ []
 slots_after c = c.push_reserved.ensures.items ∙ ap (λ (xs : List Slot). xs ++ c.in_ok-moved.moved ∷ []) c.reserve.ensures.items
+
+pub invariant_of-self-in_err-moved : goal.invariant_of-self-in_err-moved
+invariant_of-self-in_err-moved c = rw c.reserve.ensures.items (same_slots c.self.inside.bytes.items c.append_copy.new.bytes.items c.self.inside.slots.items c.in_err-moved.ensures.err c.self.invariant)
 
 pub invariant_of-self-2 : goal.invariant_of-self-2
 invariant_of-self-2 c = rw (slots_after c) (push_slots c.self.inside.bytes.items c.append_copy.new.bytes.items c.self.inside.slots.items c.in_ok-moved.moved _ c.self.invariant c.in_ok-moved.ensures.ok)

@@ -1,13 +1,16 @@
 use Rattle.std.proofs.Common.{set, ap, ◌∙◌, List}
 use Rattle.index_page.specs.Store.{Content, beside_by}
 use Rattle.list_facts.proofs.Outcomes.{when_err}
-use Rattle.index_page.proofs.SlotLemmas.{same_contents, put_slots, put_contents}
+use Rattle.index_page.proofs.SlotLemmas.{same_contents, same_slots, put_slots, put_contents}
 use Rattle.index_page.proofs.records.Records.fill.Goals as goal
 
 pub returns-in_err-slot-clause-err : goal.returns-in_err-slot-clause-err
 returns-in_err-slot-clause-err g c =
     let same = same_contents c.self.inside.bytes.items c.append_row.new.bytes.items c.self.inside.slots.items c.in_err-slot.ensures.err c.self.invariant.each in
     when_err c.from_residual.result (same ∙ c.self.view_is ∙ c.put_anew.ensures)
+
+pub invariant_of-self : goal.invariant_of-self
+invariant_of-self g c = same_slots c.self.inside.bytes.items c.append_row.new.bytes.items c.self.inside.slots.items c.in_err-slot.ensures.err c.self.invariant
 
 pub invariant_of-self-2 : goal.invariant_of-self-2
 invariant_of-self-2 g c = put_slots c.self.inside.bytes.items c.append_row.new.bytes.items c.self.inside.slots.items c.in_ok-slot.slot _ c.self.invariant c.in_ok-slot.ensures.ok c.args.number

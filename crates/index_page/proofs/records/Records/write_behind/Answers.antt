@@ -1,12 +1,15 @@
 use Rattle.std.proofs.Common.{◌∙◌, arith}
 use Rattle.list_facts.proofs.Outcomes.{when_err}
-use Rattle.index_page.proofs.SlotLemmas.{stands, same_contents, put_slots, put_contents, with_value}
+use Rattle.index_page.proofs.SlotLemmas.{stands, same_contents, same_slots, put_slots, put_contents, with_value}
 use Rattle.index_page.proofs.records.Records.write_behind.Goals as goal
 
 pub returns-in_err-moved-clause-err : goal.returns-in_err-moved-clause-err
 returns-in_err-moved-clause-err c =
     let same = same_contents c.self.inside.bytes.items c.append_again.new.bytes.items c.self.inside.slots.items c.in_err-moved.ensures.err c.self.invariant.each in
     when_err c.from_residual.result (same ∙ c.self.view_is)
+
+pub invariant_of-self : goal.invariant_of-self
+invariant_of-self c = same_slots c.self.inside.bytes.items c.append_again.new.bytes.items c.self.inside.slots.items c.in_err-moved.ensures.err c.self.invariant
 
 pub index_mut-requires : goal.index_mut-requires
 index_mut-requires c =
