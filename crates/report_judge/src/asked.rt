@@ -37,11 +37,15 @@ pub fn read_schema<'a>(alloc: Global, text: &'a str) -> Result<Vec<Index<'a>>, L
     for said in text.split('\n') {
         line = line.wrapping_add(1);
         if says_something(said) {
-            let words = words_of(alloc, said)?;
-            indexes.push(index_of(&words).ok_or(Lie::Asked { file: 0, line })?)?;
+            indexes.push(read_index(alloc, line, said)?)?;
         }
     }
     Ok(indexes)
+}
+
+fn read_index<'a>(alloc: Global, line: u64, said: &'a str) -> Result<Index<'a>, Lie> {
+    let words = words_of(alloc, said)?;
+    index_of(&words).ok_or(Lie::Asked { file: 0, line })
 }
 
 /// Reads a lane; its file is the lane's number.
@@ -56,12 +60,21 @@ pub(crate) fn read_lane<'a>(
     for said in text.split('\n') {
         line = line.wrapping_add(1);
         if says_something(said) {
-            let words = words_of(alloc, said)?;
-            let asked = line_of(indexes, line, &words).ok_or(Lie::Asked { file, line })?;
-            lines.push(asked)?;
+            lines.push(read_line(alloc, indexes, file, line, said)?)?;
         }
     }
     Ok(lines)
+}
+
+fn read_line<'a>(
+    alloc: Global,
+    indexes: &[Index<'_>],
+    file: usize,
+    line: u64,
+    said: &'a str,
+) -> Result<Line<'a>, Lie> {
+    let words = words_of(alloc, said)?;
+    line_of(indexes, line, &words).ok_or(Lie::Asked { file, line })
 }
 
 fn says_something(line: &str) -> bool {
@@ -79,15 +92,15 @@ fn index_of<'a>(words: &[&'a str]) -> Option<Index<'a>> {
 }
 
 fn line_of<'a>(indexes: &[Index<'_>], number: u64, words: &[&'a str]) -> Option<Line<'a>> {
-    let (name, key, act) = match words {
-        ["get", name, key] => (*name, *key, Act::Get),
-        ["put", name, key, value] if is_plain(value) => (*name, *key, Act::Put(value)),
-        ["set", name, key, value] if is_plain(value) => (*name, *key, Act::Set(value)),
-        ["del", name, key] => (*name, *key, Act::Del),
-        ["seek", name, mode, tuple] => (*name, *tuple, Act::Seek(reach_of(mode)?)),
+    let [verb, name, rest @ ..] = words else {
+        return None;
+    };
+    let (key, act) = match rest {
+        [key] => (*key, act_alone(verb)?),
+        [first, second] => act_with(verb, first, second)?,
         _ => return None,
     };
-    let index = indexes.iter().position(|index| index.name == name)?;
+    let index = indexes.iter().position(|index| index.name == *name)?;
     if !fits(act, count_fields(key)?, indexes.get(index)?.fields) {
         return None;
     }
@@ -97,6 +110,25 @@ fn line_of<'a>(indexes: &[Index<'_>], number: u64, words: &[&'a str]) -> Option<
         act,
         key,
     })
+}
+
+/// What a verb asks of a key, without another word.
+fn act_alone<'a>(verb: &str) -> Option<Act<'a>> {
+    match verb {
+        "get" => Some(Act::Get),
+        "del" => Some(Act::Del),
+        _ => None,
+    }
+}
+
+/// The key or the tuple of two words, and what the verb asks of it.
+fn act_with<'a>(verb: &str, first: &'a str, second: &'a str) -> Option<(&'a str, Act<'a>)> {
+    match verb {
+        "put" if is_plain(second) => Some((first, Act::Put(second))),
+        "set" if is_plain(second) => Some((first, Act::Set(second))),
+        "seek" => Some((second, Act::Seek(reach_of(first)?))),
+        _ => None,
+    }
 }
 
 /// Whether so many fields may be asked about, where keys have this many.

@@ -1,4 +1,5 @@
 //! The two last words of answers, and the statistics that count them.
+use crate::drawn::add;
 use crate::told::Answer;
 use std::alloc::{AllocError, Global};
 
@@ -28,15 +29,30 @@ const COUNTED: [&str; 18] = [
     "worn",
 ];
 
+/// Why a search went down the tree.
+const DESCENTS: [&str; 8] = [
+    "off",
+    "cold",
+    "short",
+    "part-busy",
+    "no-entry",
+    "block-busy",
+    "clock",
+    "unequal",
+];
+
 /// Whether the two words may stand beside one another.
 pub(crate) fn may_stand(how: &str, note: &str) -> bool {
     match how {
         "-" => note == "-",
         "hit" => note == "-" || is_uncounted(note),
-        "off" | "cold" | "short" | "part-busy" | "no-entry" | "block-busy" | "clock" | "unequal" =>
-            is_build(note) || is_uncounted(note),
-        _ => false,
+        _ => is_descent(how) && (is_build(note) || is_uncounted(note)),
     }
+}
+
+/// Whether a word tells why a search went down the tree.
+fn is_descent(how: &str) -> bool {
+    DESCENTS.iter().any(|word| *word == how)
 }
 
 /// Whether a note tells what became of a build.
@@ -57,9 +73,9 @@ pub(crate) fn statistics_of(
     lanes: &[Vec<Answer<'_>>],
 ) -> Result<String, AllocError> {
     let mut line = format!(in alloc; "stats {name}")?;
-    for word in COUNTED {
+    for word in COUNTED.iter() {
         let times = times(word, index, lanes);
-        line.push_str(format!(in alloc; " {word} {times}")?.as_str())?;
+        add(&mut line, format!(in alloc; " {word} {times}"))?;
     }
     Ok(line)
 }

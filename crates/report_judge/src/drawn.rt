@@ -14,12 +14,17 @@ fn draw_below(state: &mut u64, most: u64) -> u64 {
     draw(state).checked_rem(most).unwrap_or(0)
 }
 
+/// Adds what was made to the text.
+pub(crate) fn add(text: &mut String, made: Result<String, AllocError>) -> Result<(), AllocError> {
+    text.push_str(made?.as_str())
+}
+
 /// The schema of so many indexes, `t0` first, with keys of 1 to 4 fields.
 pub fn schema_text(alloc: Global, indexes: u64) -> Result<String, AllocError> {
     let mut schema = String::new(alloc);
     for index in 0..indexes {
         let fields = index % 4 + 1;
-        schema.push_str(format!(in alloc; "index t{index} {fields}\n")?.as_str())?;
+        add(&mut schema, format!(in alloc; "index t{index} {fields}\n"))?;
     }
     Ok(schema)
 }
@@ -39,21 +44,35 @@ pub fn lane_text(
     for before in 0..lines {
         let index = draw_below(&mut state, indexes);
         let number = draw_below(&mut state, keys);
-        let key = key_text(alloc, index, number)?;
-        let key = key.as_str();
         let line = before.wrapping_add(1);
-        let said = match draw_below(&mut state, 40) {
-            0 => String::from_str(alloc, "\n")?,
-            1 => String::from_str(alloc, "# says nothing\n")?,
-            2..10 => format!(in alloc; "get t{index} {key}\n")?,
-            10..16 => seek_line(alloc, &mut state, index, number)?,
-            16..25 => format!(in alloc; "put t{index} {key} v{lane}-{line}\n")?,
-            25..30 => format!(in alloc; "set t{index} {key} w{line}-{lane}-{line}\n")?,
-            _ => format!(in alloc; "del t{index} {key}\n")?,
-        };
-        text.push_str(said.as_str())?;
+        add(
+            &mut text,
+            lane_line(alloc, &mut state, lane, line, index, number),
+        )?;
     }
     Ok(text)
+}
+
+/// A line of such a lane, about the key of this number.
+fn lane_line(
+    alloc: Global,
+    state: &mut u64,
+    lane: u64,
+    line: u64,
+    index: u64,
+    number: u64,
+) -> Result<String, AllocError> {
+    let key = key_text(alloc, index, number)?;
+    let key = key.as_str();
+    match draw_below(state, 40) {
+        0 => String::from_str(alloc, "\n"),
+        1 => String::from_str(alloc, "# says nothing\n"),
+        2..10 => format!(in alloc; "get t{index} {key}\n"),
+        10..16 => seek_line(alloc, state, index, number),
+        16..25 => format!(in alloc; "put t{index} {key} v{lane}-{line}\n"),
+        25..30 => format!(in alloc; "set t{index} {key} w{line}-{lane}-{line}\n"),
+        _ => format!(in alloc; "del t{index} {key}\n"),
+    }
 }
 
 /// A lane of seeks: so many lines over the first four indexes of the schema and the first so many
@@ -70,8 +89,10 @@ pub fn seek_lane_text(
     for _ in 0..lines {
         let index = draw_below(&mut state, 4);
         let number = draw_below(&mut state, keys);
-        let line = seek_or_change(alloc, &mut state, index, number, value)?;
-        text.push_str(line.as_str())?;
+        add(
+            &mut text,
+            seek_or_change(alloc, &mut state, index, number, value),
+        )?;
     }
     Ok(text)
 }
@@ -123,9 +144,9 @@ pub fn slices_of<'a>(alloc: Global, texts: &'a [String]) -> Result<Vec<&'a str>,
 fn key_text(alloc: Global, index: u64, key: u64) -> Result<String, AllocError> {
     let mut text = String::new(alloc);
     for _ in 0..index % 4 {
-        text.push_str(format!(in alloc; "{},", key / 4)?.as_str())?;
+        add(&mut text, format!(in alloc; "{},", key / 4))?;
     }
-    text.push_str(format!(in alloc; "k{key}")?.as_str())?;
+    add(&mut text, format!(in alloc; "k{key}"))?;
     Ok(text)
 }
 
@@ -141,14 +162,13 @@ fn seek_line(alloc: Global, state: &mut u64, index: u64, key: u64) -> Result<Str
     format!(in alloc; "seek t{index} {mode} {}\n", tuple.as_str())
 }
 
-/// The words of the modes.
-const MODES: [&str; 4] = ["ge", "g", "le", "l"];
-
 /// A mode's word.
 fn mode_word(state: &mut u64) -> &'static str {
-    match MODES.get(draw_below(state, 4) as usize) {
-        Some(word) => word,
-        None => "",
+    match draw_below(state, 4) {
+        0 => "ge",
+        1 => "g",
+        2 => "le",
+        _ => "l",
     }
 }
 
@@ -156,7 +176,7 @@ fn mode_word(state: &mut u64) -> &'static str {
 fn beginning_text(alloc: Global, key: u64, fields: u64) -> Result<String, AllocError> {
     let mut text = format!(in alloc; "{}", key / 4)?;
     for _ in 1..fields {
-        text.push_str(format!(in alloc; ",{}", key / 4)?.as_str())?;
+        add(&mut text, format!(in alloc; ",{}", key / 4))?;
     }
     Ok(text)
 }

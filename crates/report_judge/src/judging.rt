@@ -72,9 +72,13 @@ pub fn judge_within<'a>(
     let indexes = read_schema(alloc, schema)?;
     let asked = read_lanes(alloc, &indexes, lanes)?;
     let told = read_report(alloc, &indexes, &asked, text)?;
-    check_changes(&told)?;
+    check_report(alloc, limits, &told)
+}
+
+fn check_report(alloc: Global, limits: Limits, told: &Report<'_>) -> Result<(), Lie> {
+    check_changes(told)?;
     let histories = replay_all(alloc, &told.lists)?;
-    check_lanes(alloc, limits, &told, &histories)
+    check_lanes(alloc, limits, told, &histories)
 }
 
 /// The lines of each lane that say something.

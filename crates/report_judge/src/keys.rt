@@ -16,11 +16,11 @@ pub enum Reach {
 
 /// The reach of a mode's word.
 pub(crate) fn reach_of(word: &str) -> Option<Reach> {
-    match word.as_bytes() {
-        b"ge" => Some(Reach::From),
-        b"g" => Some(Reach::Past),
-        b"le" => Some(Reach::UpTo),
-        b"l" => Some(Reach::Before),
+    match word {
+        "ge" => Some(Reach::From),
+        "g" => Some(Reach::Past),
+        "le" => Some(Reach::UpTo),
+        "l" => Some(Reach::Before),
         _ => None,
     }
 }
@@ -51,8 +51,8 @@ pub(crate) fn compare_fields(tuple: &str, key: &str) -> Ordering {
 
 /// The bytes of a plain field.
 fn bytes_of(field: &str) -> &[u8] {
-    match field.as_bytes() {
-        b"~" => &[],
-        bytes => bytes,
+    match field {
+        "~" => &[],
+        _ => field.as_bytes(),
     }
 }

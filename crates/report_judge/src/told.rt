@@ -81,15 +81,22 @@ fn read_answers<'a>(
 ) -> Result<Vec<Answer<'a>>, Lie> {
     let mut answers = Vec::new(alloc);
     for line in lines {
-        let words = words_of(alloc, reader.take_line()?)?;
-        answers.push(answer_of(*line, &words).ok_or(reader.lie())?)?;
+        answers.push(read_answer(alloc, reader, *line)?)?;
     }
     Ok(answers)
 }
 
+fn read_answer<'a>(
+    alloc: Global,
+    reader: &mut Reader<'a>,
+    line: Line<'a>,
+) -> Result<Answer<'a>, Lie> {
+    let words = words_of(alloc, reader.take_line()?)?;
+    answer_of(line, &words).ok_or(reader.lie())
+}
+
 fn answer_of<'a>(line: Line<'a>, words: &[&'a str]) -> Option<Answer<'a>> {
-    let (before, columns) = words.split_at(words.len().checked_sub(2)?);
-    let [how, note] = columns else {
+    let [before @ .., how, note] = words else {
         return None;
     };
     let (number, said, point) = said_of(before)?;
@@ -107,19 +114,40 @@ fn answer_of<'a>(line: Line<'a>, words: &[&'a str]) -> Option<Answer<'a>> {
 
 /// The number of a line, and what it was told, from the words before the columns.
 fn said_of<'a>(words: &[&'a str]) -> Option<(u64, Said<'a>, Option<u64>)> {
-    let (number, said, point) = match words {
-        [number, "ok", point] => (*number, Said::Done, Some(point_of(point)?)),
-        [number, "found", value, point] => { (*number, Said::Found(value), Some(point_of(point)?)) }
-        [number, "found", key, value, point] => {
-            (*number, Said::Row(key, value), Some(point_of(point)?))
-        }
-        [number, "absent", point] => (*number, Said::Absent, Some(point_of(point)?)),
-        [number, "duplicate", point] => (*number, Said::Duplicate, Some(point_of(point)?)),
-        [number, "log-full", count] => (*number, Said::LogFull, Some(number_of(count)?)),
-        [number, "space-full"] => (*number, Said::SpaceFull, None),
-        _ => return None,
+    let [number, verb, rest @ ..] = words else {
+        return None;
     };
+    let (said, point) = told_of(verb, rest)?;
     Some((number_of(number)?, said, point))
+}
+
+/// What a line was told by a verb, and its point, from the words behind it.
+fn told_of<'a>(verb: &str, words: &[&'a str]) -> Option<(Said<'a>, Option<u64>)> {
+    match words {
+        [] if verb == "space-full" => Some((Said::SpaceFull, None)),
+        [count] if verb == "log-full" => Some((Said::LogFull, Some(number_of(count)?))),
+        [shown @ .., point] => Some((said_with(verb, shown)?, Some(point_of(point)?))),
+        _ => None,
+    }
+}
+
+/// What a verb says with the words between it and the point.
+fn said_with<'a>(verb: &str, shown: &[&'a str]) -> Option<Said<'a>> {
+    match shown {
+        [] => said_alone(verb),
+        [value] if verb == "found" => Some(Said::Found(value)),
+        [key, value] if verb == "found" => Some(Said::Row(key, value)),
+        _ => None,
+    }
+}
+
+fn said_alone<'a>(verb: &str) -> Option<Said<'a>> {
+    match verb {
+        "ok" => Some(Said::Done),
+        "absent" => Some(Said::Absent),
+        "duplicate" => Some(Said::Duplicate),
+        _ => None,
+    }
 }
 
 fn point_of(word: &str) -> Option<u64> {
@@ -138,11 +166,15 @@ fn read_lists<'a>(
 ) -> Result<Vec<Vec<Change<'a>>>, Lie> {
     let mut lists = Vec::new(alloc);
     for index in indexes {
-        let words = words_of(alloc, reader.take_line()?)?;
-        let count = count_of(index.name, &words).ok_or(reader.lie())?;
+        let count = read_count(alloc, reader, index.name)?;
         lists.push(read_changes(alloc, reader, count)?)?;
     }
     Ok(lists)
+}
+
+fn read_count(alloc: Global, reader: &mut Reader<'_>, name: &str) -> Result<u64, Lie> {
+    let words = words_of(alloc, reader.take_line()?)?;
+    count_of(name, &words).ok_or(reader.lie())
 }
 
 fn count_of(name: &str, words: &[&str]) -> Option<u64> {
@@ -159,19 +191,19 @@ fn read_changes<'a>(
 ) -> Result<Vec<Change<'a>>, Lie> {
     let mut changes = Vec::new(alloc);
     for before in 0..count {
-        let words = words_of(alloc, reader.take_line()?)?;
-        let change = change_of(before.wrapping_add(1), &words);
-        changes.push(change.ok_or(reader.lie())?)?;
+        changes.push(read_change(alloc, reader, before.wrapping_add(1))?)?;
     }
     Ok(changes)
 }
 
+fn read_change<'a>(alloc: Global, reader: &mut Reader<'a>, number: u64) -> Result<Change<'a>, Lie> {
+    let words = words_of(alloc, reader.take_line()?)?;
+    change_of(number, &words).ok_or(reader.lie())
+}
+
 fn change_of<'a>(number: u64, words: &[&'a str]) -> Option<Change<'a>> {
-    let (first, lane, line, key, act) = match words {
-        [first, lane, line, "put", key, value] => (*first, *lane, *line, *key, Act::Put(value)),
-        [first, lane, line, "set", key, value] => (*first, *lane, *line, *key, Act::Set(value)),
-        [first, lane, line, "del", key] => (*first, *lane, *line, *key, Act::Del),
-        _ => return None,
+    let [first, lane, line, verb, key, rest @ ..] = words else {
+        return None;
     };
     if number_of(first)? != number {
         return None;
@@ -179,9 +211,19 @@ fn change_of<'a>(number: u64, words: &[&'a str]) -> Option<Change<'a>> {
     Some(Change {
         lane: number_of(lane)?,
         line: number_of(line)?,
-        act,
+        act: act_of(verb, rest)?,
         key,
     })
+}
+
+/// The act of a change, by its verb and the words behind its key.
+fn act_of<'a>(verb: &str, words: &[&'a str]) -> Option<Act<'a>> {
+    match words {
+        [] if verb == "del" => Some(Act::Del),
+        [value] if verb == "put" => Some(Act::Put(value)),
+        [value] if verb == "set" => Some(Act::Set(value)),
+        _ => None,
+    }
 }
 
 /// The lines that count the columns of the lanes' answers, one of each index.
