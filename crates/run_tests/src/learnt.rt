@@ -131,14 +131,21 @@ fn add_told(report: &mut String, alloc: Global, told: &[Told]) -> Option<()> {
     Some(())
 }
 
+/// Adds the changes and the statistics.
+fn add_end(report: &mut String, changes: &str, statistics: &str) -> Option<()> {
+    report.push_str(changes).ok()?;
+    report.push_str(statistics).ok()?;
+    report.push_str("end\n").ok()
+}
+
 fn report_text(alloc: Global, case: &Case) -> Option<String> {
     let mut report = String::from_str(alloc, "ahi run\nlane 1\n").ok()?;
     add_told(&mut report, alloc, case.told)?;
-    report.push_str(case.changes).ok()?;
-    report
-        .push_str(stats_line(alloc, case.counted)?.as_str())
-        .ok()?;
-    report.push_str("end\n").ok()?;
+    add_end(
+        &mut report,
+        case.changes,
+        stats_line(alloc, case.counted)?.as_str(),
+    )?;
     Some(report)
 }
 

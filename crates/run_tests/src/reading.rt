@@ -151,14 +151,19 @@ impl Table {
         line: u64,
         asked: Asked,
     ) -> Result<String, AllocError> {
-        let key = key_text(alloc, asked, LOWER)?;
-        let said = match asked.act {
-            0 => self.get(alloc, &key)?,
-            1 => self.put(alloc, line, key, value_text(alloc, asked, LOWER)?)?,
-            2 => self.set(alloc, line, key, value_text(alloc, asked, LOWER)?)?,
-            _ => self.del(alloc, line, &key)?,
-        };
+        let said = self.work(alloc, line, asked)?;
         format!(in alloc; "{line} {said} @{} \n", self.count)
+    }
+
+    /// Does what a line asks, and gives what it is told.
+    fn work(&mut self, alloc: Global, line: u64, asked: Asked) -> Result<String, AllocError> {
+        let key = key_text(alloc, asked, LOWER)?;
+        match asked.act {
+            0 => self.get(alloc, &key),
+            1 => self.put(alloc, line, key, value_text(alloc, asked, LOWER)?),
+            2 => self.set(alloc, line, key, value_text(alloc, asked, LOWER)?),
+            _ => self.del(alloc, line, &key),
+        }
     }
 
     fn get(&self, alloc: Global, key: &String) -> Result<String, AllocError> {

@@ -137,9 +137,15 @@ fn sink_of(alloc: Global, room: usize, failing_put: Option<u64>) -> Option<Memor
     MemorySink::with_room(alloc, room, listed(alloc, failing_put)?).ok()
 }
 
-/// A file of this name and text.
-fn file_of(alloc: Global, name: String, text: &str) -> Option<(String, Vec<u8>)> {
-    Some((name, text.as_bytes().to_vec(alloc).ok()?))
+/// Adds a file of this name and text.
+fn add_file(
+    alloc: Global,
+    files: &mut Vec<(String, Vec<u8>)>,
+    name: Option<String>,
+    text: &str,
+) -> Option<()> {
+    let bytes = text.as_bytes().to_vec(alloc).ok()?;
+    files.push((name?, bytes)).ok()
 }
 
 fn shelf_of(
@@ -149,13 +155,9 @@ fn shelf_of(
     failing_load: Option<u64>,
 ) -> Option<MemoryShelf> {
     let mut files = Vec::new(alloc);
-    files
-        .push(file_of(alloc, String::from_str(alloc, "s").ok()?, schema)?)
-        .ok()?;
+    add_file(alloc, &mut files, String::from_str(alloc, "s").ok(), schema)?;
     for (place, lane) in lanes.iter().enumerate() {
-        files
-            .push(file_of(alloc, lane_name(alloc, place)?, lane)?)
-            .ok()?;
+        add_file(alloc, &mut files, lane_name(alloc, place), lane)?;
     }
     Some(MemoryShelf::new(files, listed(alloc, failing_load)?))
 }

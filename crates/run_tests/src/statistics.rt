@@ -95,20 +95,28 @@ fn add_line(plain: &mut String, line: &str) -> Option<()> {
     plain.push('\n').ok()
 }
 
+/// Adds what is kept of a line: of statistics nothing, and of an answer all but its columns.
+fn add_kept(plain: &mut String, line: &str, is_answer: bool) -> Option<()> {
+    if is_answer {
+        return add_answer(plain, line);
+    }
+    if line.starts_with("stats ") {
+        return Some(());
+    }
+    add_line(plain, line)
+}
+
 /// A report without the columns of its answers, and without its statistics.
 pub(crate) fn without_columns(alloc: Global, report: &[u8]) -> Option<String> {
     let text = str::from_utf8(report).ok()?;
     let mut plain = String::new(alloc);
     let mut answers = false;
     for line in text.split('\n') {
-        if line.starts_with("lane ") || line.starts_with("changes ") {
+        let begins = line.starts_with("lane ") || line.starts_with("changes ");
+        if begins {
             answers = line.starts_with("lane ");
-            add_line(&mut plain, line)?;
-        } else if answers {
-            add_answer(&mut plain, line)?;
-        } else if !line.starts_with("stats ") {
-            add_line(&mut plain, line)?;
         }
+        add_kept(&mut plain, line, answers && !begins)?;
     }
     Some(plain)
 }

@@ -28,6 +28,14 @@ struct Deal<'a> {
     lanes: Vec<Lane>,
 }
 
+/// What a get is told of the value of its key.
+fn told_of_get(alloc: Global, held: Option<&str>) -> Result<String, AllocError> {
+    match held {
+        Some(value) => format!(in alloc; "found {value}"),
+        None => String::from_str(alloc, "absent"),
+    }
+}
+
 /// What a seek is told of the row that it asks for.
 fn told_of_seek(alloc: Global, row: Option<(&str, &str)>) -> Result<String, AllocError> {
     match row {
@@ -39,37 +47,64 @@ fn told_of_seek(alloc: Global, row: Option<(&str, &str)>) -> Result<String, Allo
 impl<'a> Table<'a> {
     /// Does what the line of a lane asks, and gives its answer line.
     fn answer(&mut self, alloc: Global, lane: usize, line: &Line<'a>) -> Result<String, Lie> {
-        let held = self.rows.get(line.key).copied();
-        let said = match (line.act, held) {
-            (Act::Get, Some(value)) => format!(in alloc; "found {value}")?,
-            (Act::Seek(reach), _) => told_of_seek(alloc, sought(&self.rows, reach, line.key))?,
-            (Act::Put(_), Some(_)) => String::from_str(alloc, "duplicate")?,
-            (Act::Put(value), None) => {
-                self.rows.insert(line.key, value)?;
-                self.note(
-                    alloc,
-                    lane,
-                    line,
-                    format!(in alloc; "put {} {value}", line.key)?,
-                )?
-            }
-            (Act::Set(value), Some(_)) => {
-                self.rows.insert(line.key, value)?;
-                self.note(
-                    alloc,
-                    lane,
-                    line,
-                    format!(in alloc; "set {} {value}", line.key)?,
-                )?
-            }
-            (Act::Del, Some(_)) => {
-                self.rows.remove(line.key);
-                self.note(alloc, lane, line, format!(in alloc; "del {}", line.key)?)?
-            }
-            _ => String::from_str(alloc, "absent")?,
-        };
-        let answer = format!(in alloc; "{} {said} @{} - -\n", line.number, self.count)?;
-        Ok(answer)
+        let said = self.work(alloc, lane, line)?;
+        Ok(format!(in alloc; "{} {said} @{} - -\n", line.number, self.count)?)
+    }
+
+    /// Does what the line of a lane asks, and gives what it is told.
+    fn work(&mut self, alloc: Global, lane: usize, line: &Line<'a>) -> Result<String, Lie> {
+        match line.act {
+            Act::Get => Ok(told_of_get(alloc, self.rows.get(line.key).copied())?),
+            Act::Seek(reach) => Ok(told_of_seek(alloc, sought(&self.rows, reach, line.key))?),
+            Act::Put(value) => self.put(alloc, lane, line, value),
+            Act::Set(value) => self.set(alloc, lane, line, value),
+            Act::Del => self.del(alloc, lane, line),
+        }
+    }
+
+    fn put(
+        &mut self,
+        alloc: Global,
+        lane: usize,
+        line: &Line<'a>,
+        value: &'a str,
+    ) -> Result<String, Lie> {
+        if self.rows.get(line.key).is_some() {
+            return Ok(String::from_str(alloc, "duplicate")?);
+        }
+        self.rows.insert(line.key, value)?;
+        self.note(
+            alloc,
+            lane,
+            line,
+            format!(in alloc; "put {} {value}", line.key)?,
+        )
+    }
+
+    fn set(
+        &mut self,
+        alloc: Global,
+        lane: usize,
+        line: &Line<'a>,
+        value: &'a str,
+    ) -> Result<String, Lie> {
+        if self.rows.get(line.key).is_none() {
+            return Ok(String::from_str(alloc, "absent")?);
+        }
+        self.rows.insert(line.key, value)?;
+        self.note(
+            alloc,
+            lane,
+            line,
+            format!(in alloc; "set {} {value}", line.key)?,
+        )
+    }
+
+    fn del(&mut self, alloc: Global, lane: usize, line: &Line<'a>) -> Result<String, Lie> {
+        if self.rows.remove(line.key).is_none() {
+            return Ok(String::from_str(alloc, "absent")?);
+        }
+        self.note(alloc, lane, line, format!(in alloc; "del {}", line.key)?)
     }
 
     fn note(
