@@ -5,3 +5,4 @@ mod forms;
 mod full;
 mod lies;
 mod sought;
+mod tables;

@@ -1,19 +1,10 @@
 //! Lanes dealt by chance to plain maps, a line at a time: such a run's report is legal.
-use crate::judging::sought::sought;
+use crate::judging::tables::{Table, new_tables};
 use report_judge::{
-    Act, COUNTS, Index, Lie, Line, draw, judge, lane_texts, read_lanes, read_schema, schema_text,
+    COUNTS, Index, Lie, Line, draw, judge, lane_texts, read_lanes, read_schema, schema_text,
     slices_of,
 };
-use std::alloc::{AllocError, Global};
-use std::collections::BTreeMap;
-
-/// An index: its rows, and its changes as they are printed.
-#[derive(Drop)]
-struct Table<'a> {
-    rows: BTreeMap<&'a str, &'a str>,
-    list: String,
-    count: u64,
-}
+use std::alloc::Global;
 
 /// A lane: the place of its next line, and what it was told.
 #[derive(Drop)]
@@ -26,99 +17,6 @@ struct Lane {
 struct Deal<'a> {
     tables: Vec<Table<'a>>,
     lanes: Vec<Lane>,
-}
-
-/// What a get is told of the value of its key.
-fn told_of_get(alloc: Global, held: Option<&str>) -> Result<String, AllocError> {
-    match held {
-        Some(value) => format!(in alloc; "found {value}"),
-        None => String::from_str(alloc, "absent"),
-    }
-}
-
-/// What a seek is told of the row that it asks for.
-fn told_of_seek(alloc: Global, row: Option<(&str, &str)>) -> Result<String, AllocError> {
-    match row {
-        Some((key, value)) => format!(in alloc; "found {key} {value}"),
-        None => String::from_str(alloc, "absent"),
-    }
-}
-
-impl<'a> Table<'a> {
-    /// Does what the line of a lane asks, and gives its answer line.
-    fn answer(&mut self, alloc: Global, lane: usize, line: &Line<'a>) -> Result<String, Lie> {
-        let said = self.work(alloc, lane, line)?;
-        Ok(format!(in alloc; "{} {said} @{} - -\n", line.number, self.count)?)
-    }
-
-    /// Does what the line of a lane asks, and gives what it is told.
-    fn work(&mut self, alloc: Global, lane: usize, line: &Line<'a>) -> Result<String, Lie> {
-        match line.act {
-            Act::Get => Ok(told_of_get(alloc, self.rows.get(line.key).copied())?),
-            Act::Seek(reach) => Ok(told_of_seek(alloc, sought(&self.rows, reach, line.key))?),
-            Act::Put(value) => self.put(alloc, lane, line, value),
-            Act::Set(value) => self.set(alloc, lane, line, value),
-            Act::Del => self.del(alloc, lane, line),
-        }
-    }
-
-    fn put(
-        &mut self,
-        alloc: Global,
-        lane: usize,
-        line: &Line<'a>,
-        value: &'a str,
-    ) -> Result<String, Lie> {
-        if self.rows.get(line.key).is_some() {
-            return Ok(String::from_str(alloc, "duplicate")?);
-        }
-        self.rows.insert(line.key, value)?;
-        self.note(
-            alloc,
-            lane,
-            line,
-            format!(in alloc; "put {} {value}", line.key)?,
-        )
-    }
-
-    fn set(
-        &mut self,
-        alloc: Global,
-        lane: usize,
-        line: &Line<'a>,
-        value: &'a str,
-    ) -> Result<String, Lie> {
-        if self.rows.get(line.key).is_none() {
-            return Ok(String::from_str(alloc, "absent")?);
-        }
-        self.rows.insert(line.key, value)?;
-        self.note(
-            alloc,
-            lane,
-            line,
-            format!(in alloc; "set {} {value}", line.key)?,
-        )
-    }
-
-    fn del(&mut self, alloc: Global, lane: usize, line: &Line<'a>) -> Result<String, Lie> {
-        if self.rows.remove(line.key).is_none() {
-            return Ok(String::from_str(alloc, "absent")?);
-        }
-        self.note(alloc, lane, line, format!(in alloc; "del {}", line.key)?)
-    }
-
-    fn note(
-        &mut self,
-        alloc: Global,
-        lane: usize,
-        line: &Line<'_>,
-        change: String,
-    ) -> Result<String, Lie> {
-        self.count = self.count.wrapping_add(1);
-        let text = format!(in alloc; "{} {lane} {} {change}\n", self.count, line.number)?;
-        self.list.push_str(text.as_str())?;
-        Ok(String::from_str(alloc, "ok")?)
-    }
 }
 
 impl<'a> Deal<'a> {
@@ -157,18 +55,6 @@ impl<'a> Deal<'a> {
         }
         Ok(())
     }
-}
-
-fn new_tables<'a>(alloc: Global, count: usize) -> Result<Vec<Table<'a>>, Lie> {
-    let mut tables = Vec::new(alloc);
-    for _ in 0..count {
-        tables.push(Table {
-            rows: BTreeMap::new(alloc),
-            list: String::new(alloc),
-            count: 0,
-        })?;
-    }
-    Ok(tables)
 }
 
 fn new_lanes(alloc: Global, count: usize) -> Result<Vec<Lane>, Lie> {
