@@ -3,7 +3,7 @@ use Rattle.std.proofs.Common.{◌≡◌, ℕ, suc, ◌-◌, ◌<◌, ◌≤◌, 
 use Rattle.std.specs.List.{All, position, position_or_len}
 use Rattle.std.proofs.lemmas.Bool.{ltb-false}
 use Rattle.std.proofs.lemmas.List.Quantifiers.{position-Some}
-use Rattle.std.proofs.lemmas.List.{get_or-take, length-take, take_rest, take-append-drop, append-nil}
+use Rattle.std.proofs.lemmas.List.{get_or-take, length-take, length-drop, take_rest, take-append-drop, append-nil}
 use Rattle.std.proofs.lemmas.List.Sums.{fails_before_first}
 use Rattle.map_history.specs.Text.{is_plain}
 use Rattle.script.specs.Grammar.{in_front, behind, bytes_of}
@@ -46,6 +46,18 @@ run_bytes (x ∷ run) text h =
     one_plain x (run ++ text) (plain_so (is_plain x) (h 0 0 (omega arith)))
     ∙ ap (in_front (Some x)) (run_bytes run text (λ k d lt. h (suc k) d (omega arith)))
     ∙ in_front_behind x run (bytes_of text)
+
+-- the place of an escape is one of the text
+pub escape_inside : (s : List ℕ) (i : ℕ) → position escapes s ≡ Some i → i < length s
+escape_inside s i h = (position-Some escapes s i 0 h).0
+
+-- so the escape is left
+pub some_left : (s : List ℕ) (i : ℕ) → position escapes s ≡ Some i → 0 < length (take (length s - i) (drop i s))
+some_left s i h = omega (arith, escape_inside s i h, length-take (length s - i) (drop i s), length-drop i s)
+
+-- and what is behind it is shorter than the text
+pub fewer_left : (s after : List ℕ) (i : ℕ) → length after < length (take (length s - i) (drop i s)) → length after < length s
+fewer_left s after i h = omega (arith, h, length-take (length s - i) (drop i s), length-drop i s)
 
 before_escape : (s : List ℕ) (i : ℕ) → position escapes s ≡ Some i → All (λ (b : ℕ). escapes b ≡ false) (take i s)
 before_escape s i h k d lt =

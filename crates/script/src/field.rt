@@ -10,7 +10,6 @@ use crate::error::{Flaw, Refusal};
 use std::alloc::Global;
 
 /// The bytes that a field's or a value's text stands for.
-#[tactic(auto, using(crate::proofs::Steps::behind_nothing))]
 pub fn field(alloc: Global, text: &[u8]) -> Result<Vec<u8>, Refusal>
     ensures { Gives (λ v. v.items) result (or_bad (field_of text.now)) }
 {
@@ -32,7 +31,6 @@ pub fn add_field(bytes: &mut Vec<u8>, text: &[u8]) -> Result<(), Refusal>
 }
 
 /// Bytes that stand for themselves are put together, up to the next that doesn't.
-#[tactic(auto, using(crate::proofs::Runs::run_decoded, crate::proofs::Runs::run_refused, crate::proofs::Runs::run_alone))]
 fn decode(bytes: &mut Vec<u8>, text: &[u8]) -> Result<(), Refusal>
     ensures { Leaves result (or_bad (behind bytes.old.items (bytes_of text.now)))
         bytes.new.items }

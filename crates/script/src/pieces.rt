@@ -70,7 +70,6 @@ impl<'a> Iterator for Lines<'a> {
 
     ghost remaining = { item_count lines_left };
 
-    #[tactic(auto, using(crate::proofs::Cuts::lines_cut, crate::proofs::Cuts::lines_last))]
     fn next(&mut self) -> Option<&'a [u8]> {
         let rest = self.rest;
         if rest.is_empty() {
@@ -90,7 +89,6 @@ impl<'a> Iterator for Lines<'a> {
 }
 
 /// What stands before the first byte of this value, and what stands after it.
-#[tactic(auto, using(crate::proofs::Cuts::cut_parts, crate::proofs::Cuts::cut_nowhere))]
 fn cut(bytes: &[u8], value: u8) -> Option<(&[u8], &[u8])>
     ensures { MatchOption result (LacksByte value bytes.now)
         (λ p. IsFirstCut value bytes.now p.0.now p.1.now) }
