@@ -43,10 +43,11 @@ fn three_logs<'a>(alloc: Global, lines: &'a [Line]) -> Option<Vec<LaneLog<'a>>> 
     let [first, second, third] = lines else {
         return None;
     };
-    let one = log_of(alloc, 1, first, 2, 2)?;
-    let two = log_of(alloc, 2, second, 0, 1)?;
-    let three = log_of(alloc, 3, third, 0, 1)?;
-    Vec::from_array(alloc, [one, two, three]).ok()
+    let mut logs = Vec::new(alloc);
+    logs.push(log_of(alloc, 1, first, 2, 2)?).ok()?;
+    logs.push(log_of(alloc, 2, second, 0, 1)?).ok()?;
+    logs.push(log_of(alloc, 3, third, 0, 1)?).ok()?;
+    Some(logs)
 }
 
 fn three_lanes(alloc: Global) -> Option<bool> {
@@ -101,7 +102,12 @@ fn are_counted(changes: &[LaneChange<'_>]) -> bool {
 fn a_million(alloc: Global) -> Option<bool> {
     let lines = lines(alloc, &[(1, 0)])?;
     let logs = many_logs(alloc, lines.first()?)?;
-    let merged = merge(alloc, &logs, 1).ok()?;
+    are_merged(alloc, &logs)
+}
+
+/// Whether these logs merge to a million changes in order.
+fn are_merged(alloc: Global, logs: &[LaneLog<'_>]) -> Option<bool> {
+    let merged = merge(alloc, logs, 1).ok()?;
     let all = merged.first()?;
     Some(all.len() == 1_000_000 && are_counted(all))
 }

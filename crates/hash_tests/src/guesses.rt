@@ -74,6 +74,13 @@ fn put(page: &mut Page, key: &Key, value: &Value) -> bool {
     page.insert_at(&spot, key, Body::Value(value)).is_ok()
 }
 
+// Puts a row in whose key has this digit.
+fn put_digit(alloc: Global, page: &mut Page, digit: u8) -> Option<bool> {
+    let key = key_of(alloc, digit)?;
+    let value = value_of(alloc)?;
+    Some(put(page, &key, &value))
+}
+
 fn empty_leaf(alloc: Global) -> Option<Page> {
     let head = PageHead {
         number: 1,
@@ -88,10 +95,7 @@ fn empty_leaf(alloc: Global) -> Option<Page> {
 
 fn page_of_two(alloc: Global) -> Option<Page> {
     let mut page = empty_leaf(alloc)?;
-    let value = value_of(alloc)?;
-    let five = key_of(alloc, b'5')?;
-    let seven = key_of(alloc, b'7')?;
-    if put(&mut page, &five, &value) && put(&mut page, &seven, &value) {
+    if put_digit(alloc, &mut page, b'5')? && put_digit(alloc, &mut page, b'7')? {
         Some(page)
     } else {
         None

@@ -4,6 +4,7 @@ use crate::drawn::{Cut, PLACE, draw_cut};
 use crate::recount::recount;
 use crate::shared::{enter_all, has_just, leave_all, shared_part};
 use chain_arena::Node;
+use hash_partition::Partition;
 use std::alloc::{AllocError, Global};
 
 #[test]
@@ -85,13 +86,20 @@ fn change_of(alloc: Global, number: u64, cut: &Cut) -> Result<Change, AllocError
     })
 }
 
+// A partition with the old leaf's nodes, once what goes left it and what comes was entered; none where
+// what goes wasn't there, or what comes has no room.
+fn changed_part(alloc: Global, change: &Change, left: bool) -> Option<Partition> {
+    let old = recount(alloc, &change.old, left).ok()?;
+    let mut part = shared_part(alloc, &old)?;
+    let is_swapped = leave_all(&mut part, &change.goes) && enter_all(&mut part, &change.comes);
+    is_swapped.then_some(part)
+}
+
 // Whether the partition keeps up: what goes is there, and then it has just what a recount finds.
 fn keeps_up(alloc: Global, number: u64) -> Option<bool> {
     let cut = draw_cut(alloc, number).ok()?;
     let change = change_of(alloc, number, &cut).ok()?;
-    let old = recount(alloc, &change.old, cut.left).ok()?;
+    let part = changed_part(alloc, &change, cut.left)?;
     let new = recount(alloc, &change.new, cut.left).ok()?;
-    let mut part = shared_part(alloc, &old)?;
-    let is_swapped = leave_all(&mut part, &change.goes) && enter_all(&mut part, &change.comes);
-    Some(is_swapped && has_just(part, &new))
+    Some(has_just(part, &new))
 }

@@ -81,10 +81,11 @@ fn both_answers(alloc: Global, lines: &[Line]) -> Option<Vec<Texts>> {
 }
 
 fn three_lines(alloc: Global) -> Option<Vec<Line>> {
-    let first = put(alloc, 1, b"a", b"x")?;
-    let second = del(alloc, 2, b"a")?;
-    let third = put(alloc, 3, b"b", b"y")?;
-    Vec::from_array(alloc, [first, second, third]).ok()
+    let mut lines = Vec::new(alloc);
+    lines.push(put(alloc, 1, b"a", b"x")?).ok()?;
+    lines.push(del(alloc, 2, b"a")?).ok()?;
+    lines.push(put(alloc, 3, b"b", b"y")?).ok()?;
+    Some(lines)
 }
 
 fn names(alloc: Global) -> Option<Vec<String>> {

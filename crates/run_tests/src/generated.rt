@@ -71,6 +71,15 @@ fn generate(alloc: Global, lines: u64, keys: u64) -> Result<Generated, AllocErro
     Ok(generated)
 }
 
+/// The report of a lane without columns and statistics, where its run is done.
+fn plain_report<R: AllocGlobal + Threads + Wait + Sync>(rt: &R, lane: &str) -> Option<String> {
+    let (status, sink) = run(rt, SCHEMA, &[lane], ROOMY)?;
+    if status != Status::Done {
+        return None;
+    }
+    without_columns(rt.alloc(), sink.written())
+}
+
 /// Whether a generated lane is reported as the naive reading has it, with so many changes an index.
 fn is_read_alike<R: AllocGlobal + Threads + Wait + Sync>(
     rt: &R,
@@ -78,16 +87,10 @@ fn is_read_alike<R: AllocGlobal + Threads + Wait + Sync>(
     keys: u64,
     changes: u64,
 ) -> Option<bool> {
-    let alloc = rt.alloc();
-    let generated = generate(alloc, lines, keys).ok()?;
-    let report = generated.report(alloc).ok()?;
-    let (status, sink) = run(rt, SCHEMA, &[generated.lane.as_str()], ROOMY)?;
-    let plain = without_columns(alloc, sink.written())?;
-    Some(
-        generated.changes_more_than(changes)
-            && status == Status::Done
-            && plain.as_str() == report.as_str(),
-    )
+    let generated = generate(rt.alloc(), lines, keys).ok()?;
+    let plain = plain_report(rt, generated.lane.as_str())?;
+    let report = generated.report(rt.alloc()).ok()?;
+    Some(generated.changes_more_than(changes) && plain.as_str() == report.as_str())
 }
 
 #[test]

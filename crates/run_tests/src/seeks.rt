@@ -111,13 +111,17 @@ fn rows_are_sought_while_leaves_are_emptied(rt: HostRuntime) {
     assert_eq!(rt; changes_beside_seeks(&rt), Some(4_000));
 }
 
-/// Whether a drawn lane of so many lines, half of them seeks by tuples of one to four fields, is
-/// reported legally.
+/// A drawn lane of so many lines, half of them seeks by tuples of one to four fields.
+fn drawn_lane(alloc: Global, lines: u64) -> Option<String> {
+    let value = bytes_of(alloc, 'v', 200)?;
+    seek_lane_text(alloc, 5, lines, 1_000, value.as_str()).ok()
+}
+
+/// Whether a drawn lane of so many lines is reported legally.
 fn is_drawn_legal<R: AllocGlobal + Threads + Wait + Sync>(rt: &R, lines: u64) -> Option<bool> {
     let alloc = rt.alloc();
     let schema = schema_text(alloc, 4).ok()?;
-    let value = bytes_of(alloc, 'v', 200)?;
-    let lane = seek_lane_text(alloc, 5, lines, 1_000, value.as_str()).ok()?;
+    let lane = drawn_lane(alloc, lines)?;
     let (status, sink) = run(rt, schema.as_str(), &[lane.as_str()], ROOMY)?;
     let judged = judge(alloc, schema.as_str(), &[lane.as_str()], sink.written());
     Some(status == Status::Done && judged == Ok(()))

@@ -83,11 +83,19 @@ fn cause_of(
 
 /// Why two guesses by a key of one field lead nowhere, one after the other.
 fn causes(alloc: Global, info: &Info) -> Option<(Cause, Cause)> {
+    let (learner, mut learn) = open_learner(alloc, info)?;
+    two_causes(alloc, &learner, &mut learn)
+}
+
+/// The same by what this learner knows.
+fn two_causes(alloc: Global, learner: &Learner, learn: &mut LearnPass) -> Option<(Cause, Cause)>
+    requires learner { IsLearnPassOf learner.now learn.old }
+    requires one { 0 < length (opening learner.now).starts }
+{
     let key = key_of(alloc, b"oak")?;
     let (space, mut pass) = open_forest(alloc, &SIZES, &[2], 1).ok()?;
-    let (learner, mut learn) = open_learner(alloc, info)?;
-    let first = cause_of(&space, &mut pass, &learner, &mut learn, &key)?;
-    let second = cause_of(&space, &mut pass, &learner, &mut learn, &key)?;
+    let first = cause_of(&space, &mut pass, learner, learn, &key)?;
+    let second = cause_of(&space, &mut pass, learner, learn, &key)?;
     Some((first, second))
 }
 

@@ -119,12 +119,17 @@ fn report_of(alloc: Global, indexes: &[Index<'_>], deal: &Deal<'_>) -> Result<St
     Ok(text)
 }
 
-/// Whether a run whose order the seed draws is legal.
-fn judge_dealt(alloc: Global, schema: &str, lanes: &[&str], seed: u64) -> Result<(), Lie> {
+/// The report of a run whose order the seed draws.
+fn dealt_report(alloc: Global, schema: &str, lanes: &[&str], seed: u64) -> Result<String, Lie> {
     let indexes = read_schema(alloc, schema)?;
     let asked = read_lanes(alloc, &indexes, lanes)?;
     let dealt = make_deal(alloc, &indexes, &asked, seed)?;
-    let report = report_of(alloc, &indexes, &dealt)?;
+    report_of(alloc, &indexes, &dealt)
+}
+
+/// Whether a run whose order the seed draws is legal.
+fn judge_dealt(alloc: Global, schema: &str, lanes: &[&str], seed: u64) -> Result<(), Lie> {
+    let report = dealt_report(alloc, schema, lanes, seed)?;
     judge(alloc, schema, lanes, report.as_bytes())
 }
 
