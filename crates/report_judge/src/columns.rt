@@ -1,6 +1,6 @@
 //! The two last words of answers, and the statistics that count them.
+use crate::answers::Answer;
 use crate::drawn::add;
-use crate::told::Answer;
 use std::alloc::{AllocError, Global};
 
 /// What a line of statistics says after the name, where all answers have two dashes.
@@ -8,7 +8,7 @@ pub const COUNTS: &str =
     "hit 0 off 0 cold 0 short 0 part-busy 0 no-entry 0 block-busy 0 clock 0 unequal 0 by-clock 0 by-busy 0 by-moved 0 by-last 0 built 0 same 0 arena 0 raced 0 worn 0";
 
 /// The words that are counted, in their order.
-const COUNTED: [&str; 18] = [
+pub const COUNTED: [&str; 18] = [
     "hit",
     "off",
     "cold",

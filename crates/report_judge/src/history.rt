@@ -1,8 +1,8 @@
 //! The list of an index, replayed from the empty map.
 use crate::asked::Act;
+use crate::changes::Change;
 use crate::judging::Lie;
 use crate::keys::{Reach, compare_fields};
-use crate::told::Change;
 use std::alloc::Global;
 
 /// The change of a number: its key, whether that has to be there before it, and the value that the

@@ -2,8 +2,9 @@
 //! parser, no map and no printing of its crates. Keys and values have to be plain, without escapes.
 
 use crate::asked::{Index, Line, read_lane, read_schema};
+use crate::changes::Change;
 use crate::history::History;
-use crate::told::{Change, Report, read_report};
+use crate::told::{Report, read_report};
 use crate::verdict::{Evidence, check_changes, rows_written};
 use std::alloc::{AllocError, AllocFailed, Global};
 use std::str;

@@ -2,7 +2,9 @@
 //! the program: no parser, no map and no printing of its crates.
 #![tactic(auto)]
 
+mod answers;
 mod asked;
+mod changes;
 mod columns;
 mod drawn;
 mod history;
@@ -13,7 +15,7 @@ mod verdict;
 mod words;
 
 pub use asked::{Act, Index, Line, read_schema};
-pub use columns::COUNTS;
+pub use columns::{COUNTED, COUNTS};
 pub use drawn::{draw, lane_text, lane_texts, schema_text, seek_lane_text, slices_of};
 pub use judging::{LIMITS, Lie, Limits, judge, judge_within, read_lanes};
 pub use keys::Reach;

@@ -1,8 +1,10 @@
 //! The answers against the changes.
+use crate::answers::{Answer, Said};
 use crate::asked::Act;
+use crate::changes::Change;
 use crate::history::History;
 use crate::judging::Lie;
-use crate::told::{Answer, Change, Report, Said};
+use crate::told::Report;
 use std::alloc::Global;
 
 /// What a lane's answers are judged by.

@@ -1,8 +1,5 @@
 //! The judge of reports, tried on legal reports, on reports that lie, and on texts that are none.
 mod by_hand;
-mod dealt;
 mod forms;
 mod full;
 mod lies;
-mod sought;
-mod tables;

@@ -2,6 +2,8 @@
 #![tactic(auto)]
 
 #[cfg(test)]
+mod dealt;
+#[cfg(test)]
 mod drawn;
 #[cfg(test)]
 mod frames;
@@ -34,7 +36,11 @@ mod seeks;
 #[cfg(test)]
 mod setup;
 #[cfg(test)]
+mod sought;
+#[cfg(test)]
 mod statistics;
+#[cfg(test)]
+mod tables;
 #[cfg(test)]
 mod together;
 #[cfg(test)]

@@ -1,8 +1,7 @@
-//! A naive reading of one lane over plain maps, which knows nothing of the crates' maps, parsers or
-//! printing.
-use report_judge::draw;
+//! Lines over hostile bytes: as they stand in a lane, and as they are read. All is written here, and
+//! nothing by the program's parsers or printing.
+use report_judge::{Act, Line, draw};
 use std::alloc::{AllocError, Global};
-use std::collections::BTreeMap;
 
 pub(crate) const SCHEMA: &str = "index a 1\nindex b 2\nindex c 4\n";
 
@@ -13,23 +12,35 @@ const LOWER: &[u8] = b"0123456789abcdef";
 
 const UPPER: &[u8] = b"0123456789ABCDEF";
 
-/// What a line asks: 0 is a get, 1 a put, 2 a set, 3 a del.
+/// How many values there are.
+const VALUES: u64 = 16;
+
+/// What a line asks: 0 is a get, 1 a put, 2 a set, 3 a del. Its digits may be upper case.
 #[derive(Clone, Copy)]
 pub(crate) struct Asked {
     act: u64,
-    pub(crate) index: u64,
+    index: u64,
     key: u64,
     value: u64,
     upper: bool,
 }
 
-/// Draws a line over so many keys an index.
-pub(crate) fn draw_line(state: &mut u64, keys: u64) -> Asked {
+/// Draws so many lines over so many keys an index.
+pub(crate) fn draw_lines(alloc: Global, lines: u64, keys: u64) -> Result<Vec<Asked>, AllocError> {
+    let mut state = 1;
+    let mut asked = Vec::new(alloc);
+    for _ in 0..lines {
+        asked.push(draw_line(&mut state, keys))?;
+    }
+    Ok(asked)
+}
+
+fn draw_line(state: &mut u64, keys: u64) -> Asked {
     Asked {
         act: draw(state) % 4,
         index: draw(state) % 3,
         key: draw(state).checked_rem(keys).unwrap_or(0),
-        value: draw(state) % 16,
+        value: draw(state) % VALUES,
         upper: draw(state) % 2 == 1,
     }
 }
@@ -55,14 +66,15 @@ fn hostile(number: u64) -> u8 {
     HOSTILE.get((number % 11) as usize).copied().unwrap_or(b'a')
 }
 
-/// The number of a field: keys of more fields share some of them, and some are alike once joined.
-fn field_number(asked: Asked, place: u64) -> u64 {
-    if asked.index == 0 {
-        asked.key
+/// The number of a key's field: keys of more fields share some of them, and some are alike once
+/// joined.
+fn field_number(index: u64, key: u64, place: u64) -> u64 {
+    if index == 0 {
+        key
     } else if place % 2 == 0 {
-        asked.key % 4
+        key % 4
     } else {
-        (asked.key / 4).wrapping_mul(2)
+        (key / 4).wrapping_mul(2)
     }
 }
 
@@ -92,140 +104,123 @@ fn add_field(text: &mut String, digits: &[u8], number: u64) -> Result<(), AllocE
     Ok(())
 }
 
-fn key_text(alloc: Global, asked: Asked, digits: &[u8]) -> Result<String, AllocError> {
-    let mut text = String::new(alloc);
-    for place in 0..last_place(asked.index) {
-        add_field(&mut text, digits, field_number(asked, place))?;
+/// Writes the key of this number.
+fn add_key(text: &mut String, digits: &[u8], index: u64, key: u64) -> Result<(), AllocError> {
+    for place in 0..last_place(index) {
+        add_field(text, digits, field_number(index, key, place))?;
         text.push(',')?;
     }
-    let last = field_number(asked, last_place(asked.index));
-    add_field(&mut text, digits, last)?;
-    Ok(text)
+    add_field(text, digits, field_number(index, key, last_place(index)))
 }
 
-fn value_text(alloc: Global, asked: Asked, digits: &[u8]) -> Result<String, AllocError> {
-    let mut text = String::new(alloc);
-    add_field(&mut text, digits, asked.value)?;
-    Ok(text)
+/// Writes the beginning of a line up to its key: a verb and an index.
+fn add_start(text: &mut String, asked: &Asked) -> Result<(), AllocError> {
+    text.push_str(match asked.act {
+        0 => "get ",
+        1 => "put ",
+        2 => "set ",
+        _ => "del ",
+    })?;
+    text.push_str(name_of(asked.index))?;
+    text.push(' ')
 }
 
-/// The line as it stands in the lane.
-pub(crate) fn line_text(alloc: Global, asked: Asked) -> Result<String, AllocError> {
+/// Writes a line.
+fn add_line(text: &mut String, asked: &Asked) -> Result<(), AllocError> {
     let digits = if asked.upper { UPPER } else { LOWER };
-    let name = name_of(asked.index);
-    let key = key_text(alloc, asked, digits)?;
-    let value = value_text(alloc, asked, digits)?;
-    match asked.act {
-        0 => format!(in alloc; "get {name} {key}\n"),
-        1 => format!(in alloc; "put {name} {key} {value}\n"),
-        2 => format!(in alloc; "set {name} {key} {value}\n"),
-        _ => format!(in alloc; "del {name} {key}\n"),
+    add_start(text, asked)?;
+    add_key(text, digits, asked.index, asked.key)?;
+    if asked.act == 1 || asked.act == 2 {
+        text.push(' ')?;
+        add_field(text, digits, asked.value)?;
     }
+    text.push('\n')
 }
 
-/// An index: its rows as they are printed, and its changes.
+/// The lane of these lines.
+pub(crate) fn lane_text(alloc: Global, asked: &[Asked]) -> Result<String, AllocError> {
+    let mut text = String::new(alloc);
+    for line in asked {
+        add_line(&mut text, line)?;
+    }
+    Ok(text)
+}
+
+/// The texts of the keys of each index, and of the values, as they are printed.
 #[derive(Drop)]
-pub(crate) struct Table {
-    rows: BTreeMap<String, String>,
-    list: String,
-    count: u64,
+pub(crate) struct Texts {
+    keys: Vec<Vec<String>>,
+    values: Vec<String>,
 }
 
-impl Table {
-    pub(crate) fn new(alloc: Global) -> Table {
-        Table {
-            rows: BTreeMap::new(alloc),
-            list: String::new(alloc),
-            count: 0,
-        }
+fn keys_of(alloc: Global, index: u64, count: u64) -> Result<Vec<String>, AllocError> {
+    let mut texts = Vec::new(alloc);
+    for key in 0..count {
+        let mut text = String::new(alloc);
+        add_key(&mut text, LOWER, index, key)?;
+        texts.push(text)?;
     }
-
-    pub(crate) fn count(&self) -> u64 {
-        self.count
-    }
-
-    /// What a line is told, without columns, and how many changes there are then.
-    pub(crate) fn tell(
-        &mut self,
-        alloc: Global,
-        line: u64,
-        asked: Asked,
-    ) -> Result<String, AllocError> {
-        let said = self.work(alloc, line, asked)?;
-        format!(in alloc; "{line} {said} @{} \n", self.count)
-    }
-
-    /// Does what a line asks, and gives what it is told.
-    fn work(&mut self, alloc: Global, line: u64, asked: Asked) -> Result<String, AllocError> {
-        let key = key_text(alloc, asked, LOWER)?;
-        match asked.act {
-            0 => self.get(alloc, &key),
-            1 => self.put(alloc, line, key, value_text(alloc, asked, LOWER)?),
-            2 => self.set(alloc, line, key, value_text(alloc, asked, LOWER)?),
-            _ => self.del(alloc, line, &key),
-        }
-    }
-
-    fn get(&self, alloc: Global, key: &String) -> Result<String, AllocError> {
-        match self.rows.get(key) {
-            Some(value) => format!(in alloc; "found {value}"),
-            None => String::from_str(alloc, "absent"),
-        }
-    }
-
-    fn put(
-        &mut self,
-        alloc: Global,
-        line: u64,
-        key: String,
-        value: String,
-    ) -> Result<String, AllocError> {
-        if self.rows.get(&key).is_some() {
-            return String::from_str(alloc, "duplicate");
-        }
-        self.note(alloc, line, format!(in alloc; "put {key} {value}")?)?;
-        self.rows.insert(key, value)?;
-        String::from_str(alloc, "ok")
-    }
-
-    fn set(
-        &mut self,
-        alloc: Global,
-        line: u64,
-        key: String,
-        value: String,
-    ) -> Result<String, AllocError> {
-        if self.rows.get(&key).is_none() {
-            return String::from_str(alloc, "absent");
-        }
-        self.note(alloc, line, format!(in alloc; "set {key} {value}")?)?;
-        self.rows.insert(key, value)?;
-        String::from_str(alloc, "ok")
-    }
-
-    fn del(&mut self, alloc: Global, line: u64, key: &String) -> Result<String, AllocError> {
-        if self.rows.remove(key).is_none() {
-            return String::from_str(alloc, "absent");
-        }
-        self.note(alloc, line, format!(in alloc; "del {key}")?)?;
-        String::from_str(alloc, "ok")
-    }
-
-    fn note(&mut self, alloc: Global, line: u64, change: String) -> Result<(), AllocError> {
-        self.count = self.count.wrapping_add(1);
-        let text = format!(in alloc; "{} 1 {line} {change}\n", self.count)?;
-        self.list.push_str(text.as_str())
-    }
+    Ok(texts)
 }
 
-/// Adds the changes of the index of this number.
-pub(crate) fn add_changes(
-    alloc: Global,
-    report: &mut String,
-    index: u64,
-    table: &Table,
-) -> Result<(), AllocError> {
-    let head = format!(in alloc; "changes {} {}\n", name_of(index), table.count)?;
-    report.push_str(head.as_str())?;
-    report.push_str(table.list.as_str())
+fn keys_of_each(alloc: Global, count: u64) -> Result<Vec<Vec<String>>, AllocError> {
+    let mut texts = Vec::new(alloc);
+    for index in 0..3 {
+        texts.push(keys_of(alloc, index, count)?)?;
+    }
+    Ok(texts)
+}
+
+fn values(alloc: Global) -> Result<Vec<String>, AllocError> {
+    let mut texts = Vec::new(alloc);
+    for value in 0..VALUES {
+        let mut text = String::new(alloc);
+        add_field(&mut text, LOWER, value)?;
+        texts.push(text)?;
+    }
+    Ok(texts)
+}
+
+impl Texts {
+    /// Those of so many keys an index.
+    pub(crate) fn new(alloc: Global, keys: u64) -> Result<Texts, AllocError> {
+        let keys = keys_of_each(alloc, keys)?;
+        let values = values(alloc)?;
+        Ok(Texts { keys, values })
+    }
+
+    /// The lines, numbered from 1, as they are read.
+    pub(crate) fn read<'a>(
+        &'a self,
+        alloc: Global,
+        asked: &[Asked],
+    ) -> Result<Vec<Line<'a>>, AllocError> {
+        let mut lines = Vec::new(alloc);
+        let mut number: u64 = 0;
+        for line in asked {
+            number = number.wrapping_add(1);
+            if let Some(line) = self.line(number, line) {
+                lines.push(line)?;
+            }
+        }
+        Ok(lines)
+    }
+
+    fn line(&self, number: u64, asked: &Asked) -> Option<Line<'_>> {
+        let index = asked.index as usize;
+        let key = self.keys.get(index)?.get(asked.key as usize)?.as_str();
+        let value = self.values.get(asked.value as usize)?.as_str();
+        let act = match asked.act {
+            0 => Act::Get,
+            1 => Act::Put(value),
+            2 => Act::Set(value),
+            _ => Act::Del,
+        };
+        Some(Line {
+            number,
+            index,
+            act,
+            key,
+        })
+    }
 }

@@ -1,28 +1,7 @@
 //! The last lines of a report, and a report without what learning made of it.
+use report_judge::COUNTED;
 use std::alloc::Global;
 use std::str;
-
-/// The words that are counted, in their order.
-const WORDS: [&str; 18] = [
-    "hit",
-    "off",
-    "cold",
-    "short",
-    "part-busy",
-    "no-entry",
-    "block-busy",
-    "clock",
-    "unequal",
-    "by-clock",
-    "by-busy",
-    "by-moved",
-    "by-last",
-    "built",
-    "same",
-    "arena",
-    "raced",
-    "worn",
-];
 
 /// How often a word was told, which is never where it isn't among these.
 fn count_of(told: &[(&str, u64)], word: &str) -> u64 {
@@ -37,7 +16,7 @@ fn count_of(told: &[(&str, u64)], word: &str) -> u64 {
 /// The line of the index `t`, of which these words were told so often, and no others.
 pub(crate) fn stats_line(alloc: Global, told: &[(&str, u64)]) -> Option<String> {
     let mut line = String::from_str(alloc, "stats t").ok()?;
-    for word in WORDS.iter() {
+    for word in COUNTED.iter() {
         let part = format!(in alloc; " {word} {}", count_of(told, word)).ok()?;
         line.push_str(part.as_str()).ok()?;
     }

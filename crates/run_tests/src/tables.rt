@@ -1,5 +1,5 @@
-//! The plain maps to which lanes are dealt, and what each line is told by them.
-use crate::judging::sought::sought;
+//! Plain maps to which lanes are dealt, and what each line is told by them.
+use crate::sought::sought;
 use report_judge::{Act, Lie, Line};
 use std::alloc::{AllocError, Global};
 use std::collections::BTreeMap;
@@ -55,60 +55,40 @@ impl<'a> Table<'a> {
 
     /// Does what the line of a lane asks, and gives what it is told.
     fn work(&mut self, alloc: Global, lane: usize, line: &Line<'a>) -> Result<String, Lie> {
+        let held = self.rows.get(line.key).copied();
         match line.act {
-            Act::Get => Ok(told_of_get(alloc, self.rows.get(line.key).copied())?),
+            Act::Get => Ok(told_of_get(alloc, held)?),
             Act::Seek(reach) => Ok(told_of_seek(alloc, sought(&self.rows, reach, line.key))?),
-            Act::Put(value) => self.put(alloc, lane, line, value),
-            Act::Set(value) => self.set(alloc, lane, line, value),
-            Act::Del => self.del(alloc, lane, line),
+            Act::Put(_) if held.is_some() => Ok(String::from_str(alloc, "duplicate")?),
+            Act::Put(value) => self.write(alloc, lane, line, "put", value),
+            _ if held.is_none() => Ok(String::from_str(alloc, "absent")?),
+            Act::Set(value) => self.write(alloc, lane, line, "set", value),
+            Act::Del => self.remove(alloc, lane, line),
         }
     }
 
-    fn put(
+    /// Gives the key of the line this value, as its verb says.
+    fn write(
         &mut self,
         alloc: Global,
         lane: usize,
         line: &Line<'a>,
+        verb: &str,
         value: &'a str,
     ) -> Result<String, Lie> {
-        if self.rows.get(line.key).is_some() {
-            return Ok(String::from_str(alloc, "duplicate")?);
-        }
         self.rows.insert(line.key, value)?;
-        self.note(
-            alloc,
-            lane,
-            line,
-            format!(in alloc; "put {} {value}", line.key)?,
-        )
+        let change = format!(in alloc; "{verb} {} {value}", line.key)?;
+        self.note(alloc, lane, line, change)
     }
 
-    fn set(
-        &mut self,
-        alloc: Global,
-        lane: usize,
-        line: &Line<'a>,
-        value: &'a str,
-    ) -> Result<String, Lie> {
-        if self.rows.get(line.key).is_none() {
-            return Ok(String::from_str(alloc, "absent")?);
-        }
-        self.rows.insert(line.key, value)?;
-        self.note(
-            alloc,
-            lane,
-            line,
-            format!(in alloc; "set {} {value}", line.key)?,
-        )
+    /// Takes the row of the line's key out.
+    fn remove(&mut self, alloc: Global, lane: usize, line: &Line<'_>) -> Result<String, Lie> {
+        let _row = self.rows.remove(line.key);
+        let change = format!(in alloc; "del {}", line.key)?;
+        self.note(alloc, lane, line, change)
     }
 
-    fn del(&mut self, alloc: Global, lane: usize, line: &Line<'a>) -> Result<String, Lie> {
-        if self.rows.remove(line.key).is_none() {
-            return Ok(String::from_str(alloc, "absent")?);
-        }
-        self.note(alloc, lane, line, format!(in alloc; "del {}", line.key)?)
-    }
-
+    /// Notes the change of a line, which is told `ok`.
     fn note(
         &mut self,
         alloc: Global,
