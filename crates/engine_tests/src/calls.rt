@@ -1,11 +1,7 @@
 //! The calls one after another, until the list is full.
 use crate::setup::{Caller, Order, open};
-use map_history::{How, Note, Reply, Told};
-use std::alloc::Global;
-use std::sync::Wait;
-
-/// A key, what is asked of it, and what that is told.
-type Step = (&'static [u8], Order<'static>, Reply, u64);
+use crate::steps::{Step, other_step};
+use map_history::Reply;
 
 const STEPS: [Step; 14] = [
     (b"a", Order::Get, Reply::Absent, 0),
@@ -24,27 +20,10 @@ const STEPS: [Step; 14] = [
     (b"a", Order::Get, Reply::Found, 3),
 ];
 
-/// The place of the first step that is told otherwise. Each is by a descent of an index that has
-/// learnt nothing yet.
-fn other_step<R: Wait>(alloc: Global, caller: &mut Caller<'_>, wait: &R) -> Option<usize> {
-    for (place, (key, order, reply, point)) in STEPS.iter().enumerate() {
-        let told = Told {
-            reply: *reply,
-            point: Some(*point),
-            how: How::Cold,
-            note: Note::No,
-        };
-        if caller.ask(alloc, key, *order, wait) != Some(told) {
-            return Some(place);
-        }
-    }
-    None
-}
-
 #[test]
 fn a_row_comes_and_goes_until_the_list_is_full(rt: HostRuntime) {
     let (engine, pass) = open(rt.alloc(), 1, 3).expect(&rt, "an engine");
     let mut caller = Caller::new(rt.alloc(), &engine, pass).expect(&rt, "a row buffer");
-    assert_eq!(rt; other_step(rt.alloc(), &mut caller, &rt), None);
+    assert_eq!(rt; other_step(rt.alloc(), &mut caller, &STEPS, &rt), None);
     assert!(rt; caller.out.value() == b"z".as_slice());
 }

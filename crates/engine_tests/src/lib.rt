@@ -34,4 +34,6 @@ mod sets;
 #[cfg(test)]
 mod setup;
 #[cfg(test)]
+mod steps;
+#[cfg(test)]
 mod threads;

@@ -1,13 +1,13 @@
 //! Pages of rows that went are merged, and their numbers are free again.
 use crate::setup::{Caller, Order, open};
+use crate::steps::{Asked, other_reply};
 use map_history::Reply;
 use std::alloc::Global;
 use std::sync::Wait;
 
-/// A row's number, what is asked of it, and what that is told, where forty rows with 1,000 bytes
-/// stand on leaves of 8, 8, 8 and 16 and there is no further page. With four rows on the first leaf
-/// it and the next one have room on one page.
-const DELS: [(u32, Order<'static>, Reply); 6] = [
+/// What is asked where forty rows with 1,000 bytes stand on leaves of 8, 8, 8 and 16 and there is no
+/// further page. With four rows on the first leaf it and the next one have room on one page.
+const DELS: [Asked; 6] = [
     (2, Order::Del, Reply::Ok),
     (3, Order::Del, Reply::Ok),
     (4, Order::Del, Reply::Ok),
@@ -27,23 +27,13 @@ fn put_forty<R: Wait>(alloc: Global, caller: &mut Caller<'_>, wait: &R) -> bool 
     true
 }
 
-/// The place of the first of these that is told otherwise.
-fn other_del<R: Wait>(alloc: Global, caller: &mut Caller<'_>, wait: &R) -> Option<usize> {
-    for (place, (number, order, reply)) in DELS.iter().enumerate() {
-        if caller.reply(alloc, &number.to_be_bytes(), *order, wait) != Some(*reply) {
-            return Some(place);
-        }
-    }
-    None
-}
-
 #[test]
 fn a_light_leaf_is_merged_and_gives_its_page_back(rt: HostRuntime) {
     let alloc = rt.alloc();
     let (engine, pass) = open(alloc, 5, 100).expect(&rt, "an engine");
     let mut caller = Caller::new(alloc, &engine, pass).expect(&rt, "a row buffer");
     assert!(rt; put_forty(alloc, &mut caller, &rt));
-    assert_eq!(rt; other_del(alloc, &mut caller, &rt), None);
+    assert_eq!(rt; other_reply(alloc, &mut caller, &DELS, &rt), None);
 }
 
 /// The row's key: its number, and as many bytes as a key may have.

@@ -1,5 +1,6 @@
 //! Which put finds no page: so many rows are on each leaf.
 use crate::setup::{Caller, Order, open};
+use crate::steps::{Asked, other_reply};
 use map_history::Reply;
 use std::alloc::Global;
 use std::sync::Wait;
@@ -66,9 +67,8 @@ fn leaves_are_as_full_as_they_can_be(rt: HostRuntime) {
     assert_eq!(rt; other_put(rt.alloc(), &rt), None);
 }
 
-/// A number, what is asked of its row, and what that is told, where eight rows with 2,000 bytes
-/// filled the only leaf and the ninth found no page.
-const AFTER: [(u8, Order<'static>, Reply); 7] = [
+/// What is asked where eight rows with 2,000 bytes filled the only leaf and the ninth found no page.
+const AFTER: [Asked; 7] = [
     (1, Order::Get, Reply::Found),
     (9, Order::Get, Reply::Absent),
     (9, Order::Put(b"v"), Reply::Ok),
@@ -78,22 +78,11 @@ const AFTER: [(u8, Order<'static>, Reply); 7] = [
     (10, Order::Get, Reply::Found),
 ];
 
-/// The place of the first of these that is told otherwise.
-fn other_after<R: Wait>(alloc: Global, caller: &mut Caller<'_>, wait: &R) -> Option<usize> {
-    for (place, (number, order, reply)) in AFTER.iter().enumerate() {
-        let key = u32::from(*number).to_be_bytes();
-        if caller.reply(alloc, &key, *order, wait) != Some(*reply) {
-            return Some(place);
-        }
-    }
-    None
-}
-
 #[test]
 fn an_index_without_a_page_goes_on(rt: HostRuntime) {
     let alloc = rt.alloc();
     let (engine, pass) = open(alloc, 2, 100).expect(&rt, "an engine");
     let mut caller = Caller::new(alloc, &engine, pass).expect(&rt, "a row buffer");
     assert!(rt; first_refused(alloc, &mut caller, 2000, &rt) == Some((9, Reply::SpaceFull)));
-    assert_eq!(rt; other_after(alloc, &mut caller, &rt), None);
+    assert_eq!(rt; other_reply(alloc, &mut caller, &AFTER, &rt), None);
 }

@@ -1,11 +1,7 @@
 //! Sets one after another: until the list is full, and on a leaf without room.
 use crate::setup::{Caller, Order, open};
-use map_history::{How, Note, Reply, Told};
-use std::alloc::Global;
-use std::sync::Wait;
-
-/// A key, what is asked of it, and what that is told.
-type Step = (&'static [u8], Order<'static>, Reply, u64);
+use crate::steps::{Asked, Step, other_reply, other_step};
+use map_history::Reply;
 
 const STEPS: [Step; 10] = [
     (b"a", Order::Set(b"x"), Reply::Absent, 0),
@@ -20,35 +16,17 @@ const STEPS: [Step; 10] = [
     (b"a", Order::Get, Reply::Found, 4),
 ];
 
-/// The place of the first step that is told otherwise. Each is by a descent of an index that has
-/// learnt nothing yet.
-fn other_step<R: Wait>(alloc: Global, caller: &mut Caller<'_>, wait: &R) -> Option<usize> {
-    for (place, (key, order, reply, point)) in STEPS.iter().enumerate() {
-        let told = Told {
-            reply: *reply,
-            point: Some(*point),
-            how: How::Cold,
-            note: Note::No,
-        };
-        if caller.ask(alloc, key, *order, wait) != Some(told) {
-            return Some(place);
-        }
-    }
-    None
-}
-
 #[test]
 fn a_value_is_set_until_the_list_is_full(rt: HostRuntime) {
     let (engine, pass) = open(rt.alloc(), 1, 4).expect(&rt, "an engine");
     let mut caller = Caller::new(rt.alloc(), &engine, pass).expect(&rt, "a row buffer");
-    assert_eq!(rt; other_step(rt.alloc(), &mut caller, &rt), None);
+    assert_eq!(rt; other_step(rt.alloc(), &mut caller, &STEPS, &rt), None);
     assert!(rt; caller.out.value() == b"long".as_slice());
 }
 
-/// A number, what is asked of its row, and what that is told, where there is one page. A row is
-/// charged 13 bytes more than its value of 2,000 has, of the page's 16,252: so eight rows leave 148
-/// bytes, of which each longer value takes 48.
-const ROOM: [(u8, Order<'static>, Reply); 19] = [
+/// What is asked where there is one page. A row is charged 13 bytes more than its value of 2,000 has, of
+/// the page's 16,252: so eight rows leave 148 bytes, of which each longer value takes 48.
+const ROOM: [Asked; 19] = [
     (1, Order::Put(&[b'v'; 2000]), Reply::Ok),
     (2, Order::Put(&[b'v'; 2000]), Reply::Ok),
     (3, Order::Put(&[b'v'; 2000]), Reply::Ok),
@@ -70,21 +48,10 @@ const ROOM: [(u8, Order<'static>, Reply); 19] = [
     (8, Order::Get, Reply::Found),
 ];
 
-/// The place of the first of these that is told otherwise.
-fn other_room<R: Wait>(alloc: Global, caller: &mut Caller<'_>, wait: &R) -> Option<usize> {
-    for (place, (number, order, reply)) in ROOM.iter().enumerate() {
-        let key = u32::from(*number).to_be_bytes();
-        if caller.reply(alloc, &key, *order, wait) != Some(*reply) {
-            return Some(place);
-        }
-    }
-    None
-}
-
 #[test]
 fn a_longer_value_wants_room_on_its_leaf(rt: HostRuntime) {
     let alloc = rt.alloc();
     let (engine, pass) = open(alloc, 1, 100).expect(&rt, "an engine");
     let mut caller = Caller::new(alloc, &engine, pass).expect(&rt, "a row buffer");
-    assert_eq!(rt; other_room(alloc, &mut caller, &rt), None);
+    assert_eq!(rt; other_reply(alloc, &mut caller, &ROOM, &rt), None);
 }
