@@ -145,11 +145,16 @@ impl Heap {
         Ok(())
     }
 
-    /// No rows yet, in the same memory.
-    pub(crate) fn anew(&self) -> Heap
-        ensures { result ≡ [] }
+    /// The same rows from a number on, at places of their own.
+    pub(crate) fn tail(&self, first: usize) -> Result<Heap, AllocError>
+        requires first { first ≤ length self.now }
+        requires keys { AllByRecursion (λ (x : Row). IsWithinLimits x.key) self.now }
+        requires room { length self.now ≤ PAGE_ROOM }
+        ensures { IfOk result (λ tail. Appends [] tail (drop first self.now)) }
     {
-        Heap::new(self.alloc)
+        let mut tail = Heap::new(self.alloc);
+        tail.append(self, first)?;
+        Ok(tail)
     }
 
     /// Takes out the row with that number.

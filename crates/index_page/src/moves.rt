@@ -24,8 +24,7 @@ impl Page {
         ensures to_err { OnErr result (to.new ≡ to.old) }
     {
         let at = self.position(first);
-        let mut tail = self.rows.anew();
-        tail.append(&self.rows, at)?;
+        let tail = self.rows.tail(at)?;
         let load = self.load_of_first(at);
         self.rows.keep_first(at);
         to.rows = tail;
@@ -58,8 +57,7 @@ impl Page {
         ensures copy { copy.new ≡ None }
     {
         copy.forget();
-        let mut rows = self.rows.anew();
-        rows.append(&self.rows, 0)?;
+        let rows = self.rows.tail(0)?;
         self.rows = rows;
         Ok(())
     }

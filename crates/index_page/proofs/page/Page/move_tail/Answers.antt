@@ -1,21 +1,20 @@
-use Rattle.std.proofs.Common.{◌≡◌, List, [], length, take, drop, sym, ap, ◌∙◌, subst, arith}
+use Rattle.std.proofs.Common.{◌≡◌, List, [], take, drop, sym, ap, ◌∙◌, subst, arith}
 use Rattle.key_tuple.specs.Limits.{IsWithinLimits}
 use Rattle.list_facts.proofs.Each.{each_weaker}
 use Rattle.index_page.specs.Rows.{Row, SameRows}
 use Rattle.index_page.specs.Page.{PageRows, IsRowOf, IsPageInOrder}
-use Rattle.index_page.specs.Store.{Appends}
 use Rattle.index_page.specs.Loads.{load_of}
 use Rattle.index_page.proofs.HalvesLemmas.{load_of-parts}
 use Rattle.index_page.proofs.AppendLemmas.{appended_order, appended_load, rows_within_load}
 use Rattle.index_page.proofs.PartLemmas.{first_rows, other_rows, moves_tail}
 use Rattle.index_page.proofs.page.Page.move_tail.Goals as goal
 
-pub append-requires-clause-keys : goal.append-requires-clause-keys
-append-requires-clause-keys c =
+pub tail-requires-clause-keys : goal.tail-requires-clause-keys
+tail-requires-clause-keys c =
     each_weaker (IsRowOf c.self.inside.head) (λ (x : Row). IsWithinLimits x.key) (λ (x : Row) of. of.limits) c.self.inside.rows c.self.invariant.each
 
-pub append-requires-clause-room : goal.append-requires-clause-room
-append-requires-clause-room c = omega (arith, ap length c.anew-tail.ensures, rows_within_load c.self.inside.rows, c.self.invariant.fits)
+pub tail-requires-clause-room : goal.tail-requires-clause-room
+tail-requires-clause-room c = omega (arith, rows_within_load c.self.inside.rows, c.self.invariant.fits)
 
 pub invariant_of-self : goal.invariant_of-self
 invariant_of-self c =
@@ -27,23 +26,22 @@ invariant_of-to c =
     let level = ap (λ (p : PageRows). p.head.level) c.to.view_is ∙ c.requires.level ∙ sym (ap (λ (p : PageRows). p.head.level) c.self.view_is) in
     let fields = ap (λ (p : PageRows). p.head.fields) c.to.view_is ∙ c.requires.fields ∙ sym (ap (λ (p : PageRows). p.head.fields) c.self.view_is) in
     let others = other_rows (record { head = c.self.inside.head; rows = c.self.inside.rows }) c.position-at.result c.self.invariant c.to.inside.head level fields c.to.invariant.prev c.to.invariant.next in
-    let all = subst (λ (rows : List Row). Appends rows c.append.new.self (drop c.position-at.result c.self.inside.rows)) c.anew-tail.ensures c.in_ok-append.ensures.ok in
-    appended_order c.to.inside.head [] c.append.new.self (drop c.position-at.result c.self.inside.rows) all tt others.each others.ascend (omega (arith, others.fits)) c.to.invariant.prev c.to.invariant.next
+    appended_order c.to.inside.head [] c.in_ok-tail.tail (drop c.position-at.result c.self.inside.rows) c.in_ok-tail.ensures tt others.each others.ascend (omega (arith, others.fits)) c.to.invariant.prev c.to.invariant.next
 
 pub invariant_of-to-inside : goal.invariant_of-to-inside
 invariant_of-to-inside c =
     let rest = drop c.position-at.result c.self.inside.rows in
-    let behind = appended_load c.anew-tail.result c.append.new.self rest c.in_ok-append.ensures.ok in
+    let behind = appended_load [] c.in_ok-tail.tail rest c.in_ok-tail.ensures in
     let first = c.load_of_first-load.ensures ∙ ap (λ (p : PageRows). load_of (take c.position-at.result p.rows)) (sym c.self.view_is) in
-    (omega (arith, behind, ap load_of c.anew-tail.ensures, first, load_of-parts c.self.inside.rows c.position-at.result, c.self.inside.charged), tt)
+    (omega (arith, behind, first, load_of-parts c.self.inside.rows c.position-at.result, c.self.inside.charged), tt)
 
 pub returns-clause-ok : goal.returns-clause-ok
 returns-clause-ok c =
     let rows = ap (λ (p : PageRows). p.rows) c.self.view_is in
-    let all = subst (λ (zs : List Row). Appends zs c.append.new.self (drop c.position-at.result c.self.inside.rows)) c.anew-tail.ensures c.in_ok-append.ensures.ok in
+    let all = c.in_ok-tail.ensures in
     let same = subst (SameRows (drop c.position-at.result c.self.inside.rows)) (sym all.rows) all.same in
     moves_tail c.args.self.now _ c.args.to.now _ c.args.first c.position-at.result c.position-at.ensures.row
     (ap (λ (p : PageRows). p.head) c.self.view_is)
     (subst (λ (zs : List Row). c.keep_first.new.self ≡ take c.position-at.result zs) rows c.keep_first.ensures)
     (ap (λ (p : PageRows). p.head) c.to.view_is)
-    (subst (λ (zs : List Row). SameRows (drop c.position-at.result zs) c.append.new.self) rows same)
+    (subst (λ (zs : List Row). SameRows (drop c.position-at.result zs) c.in_ok-tail.tail) rows same)
