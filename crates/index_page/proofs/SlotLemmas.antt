@@ -1,5 +1,5 @@
 -- Records in one run of bytes: what stays, what comes behind, and what is written over.
-use Rattle.std.proofs.Common.{◌≡◌, ℕ, zero, suc, ◌+◌, ◌-◌, ◌<◌, ◌≤◌, Some, None, Option, List, [], ◌∷◌, ◌++◌, length, take, drop, map, set, refl, sym, ap, ◌∙◌, subst, arith, inl, inr, ⊎_elim, get_or, length-append, length-take, length-drop, append_assoc}
+use Rattle.std.proofs.Common.{◌≡◌, ℕ, zero, suc, ◌+◌, ◌-◌, ◌<◌, ◌≤◌, Some, None, Option, List, [], ◌∷◌, ◌++◌, length, take, drop, map, set, refl, sym, ap, ◌∙◌, subst, arith, inl, inr, ⊎_elim, get_or, length-append, length-take, length-drop, append_assoc, Result, Ok, Err, IfOk}
 use Rattle.std.proofs.lemmas.List.{map-append, map-set, take-append-drop, length_push, length-set, length-map, map_more}
 use Rattle.std.proofs.lemmas.List.Sums.{sum_by-cons}
 use Rattle.std.specs.List.{AllByRecursion, slice_get, slice_range}
@@ -325,3 +325,8 @@ with_value bytes slot key value part now contents number view c =
     let same = c.its_key in
     let none = c.childless in
     cc (same, none, view)
+
+-- what a slot that was made has, one with the same parts has
+pub slot_made : {E : Type 0} (r : Result Slot E) (made : Slot) (P : Slot → Type 0) → P made → IfOk r (λ slot. slot ≡ made) → IfOk r P
+slot_made (Ok slot) made P p is = subst P (sym is) p
+slot_made (Err e) made P p is = tt

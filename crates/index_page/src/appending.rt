@@ -22,17 +22,15 @@ pub(crate) fn append_row<A: Fields>(
 {
     let start = offset_of(bytes)?;
     let ends = append_fields(bytes, key)?;
-    let middle = offset_of(bytes)?;
+    let middle = bytes.len();
     let child = append_beside(bytes, beside)?;
-    let stop = offset_of(bytes)?;
-    Ok(Slot {
-        start,
-        middle,
-        stop,
+    let slot = Slot {
         child,
         ends,
         count: key.count(),
-    })
+        ..Slot::blank()
+    };
+    slot.moved(start, middle, bytes.len())
 }
 
 /// Puts the record of a slot that lies in other bytes behind these.
@@ -44,15 +42,9 @@ pub(crate) fn append_copy(bytes: &mut Vec<u8>, from: &[u8], slot: &Slot) -> Resu
 {
     let start = offset_of(bytes)?;
     bytes.extend_from_slice(&from[slot.start as usize..slot.middle as usize])?;
-    let middle = offset_of(bytes)?;
+    let middle = bytes.len();
     bytes.extend_from_slice(&from[slot.middle as usize..slot.stop as usize])?;
-    let stop = offset_of(bytes)?;
-    Ok(Slot {
-        start,
-        middle,
-        stop,
-        ..*slot
-    })
+    slot.moved(start, middle, bytes.len())
 }
 
 /// Puts the key of a slot's record once more behind the bytes, with another value.
@@ -70,15 +62,9 @@ pub(crate) fn append_again(
 {
     let start = offset_of(bytes)?;
     bytes.extend_from_within(slot.start as usize..slot.middle as usize)?;
-    let middle = offset_of(bytes)?;
+    let middle = bytes.len();
     bytes.extend_from_slice(value)?;
-    let stop = offset_of(bytes)?;
-    Ok(Slot {
-        start,
-        middle,
-        stop,
-        ..*slot
-    })
+    slot.moved(start, middle, bytes.len())
 }
 
 /// Puts the fields one behind another, and tells where they end.

@@ -1,8 +1,9 @@
 //! Where a record lies.
-ghost use Rattle.std.specs.Prelude.{◌≡◌, ℕ, List};
+ghost use Rattle.std.specs.Prelude.{◌≡◌, ◌≤◌, ℕ, List, IfOk};
 ghost use Rattle.index_page.specs.Slots.{content_in, no_content, IsSlotIn};
 
 use key_tuple::FIELD_ROOM;
+use std::alloc::AllocError;
 
 /// Where a record lies in a run of bytes: its key from `start` to `middle`, told apart by the ends
 /// of its fields, counted from `start`; and its value from there to `stop`, unless it has a child.
@@ -31,5 +32,28 @@ impl Slot {
             ends: [0; FIELD_ROOM],
             count: 0,
         }
+    }
+
+    /// The slot of the same record at other offsets. There is no room behind 4 GiB.
+    pub(crate) fn moved(&self, start: u32, middle: usize, stop: usize) -> Result<Slot, AllocError>
+        requires { middle ≤ stop }
+        ensures { IfOk result (λ slot. slot ≡ record {
+          start = start;
+          middle = middle;
+          stop = stop;
+          child = self.now.child;
+          ends = self.now.ends;
+          count = self.now.count;
+        }) }
+    {
+        if stop > u32::MAX as usize {
+            return Err(AllocError);
+        }
+        Ok(Slot {
+            start,
+            middle: middle as u32,
+            stop: stop as u32,
+            ..*self
+        })
     }
 }
