@@ -48,3 +48,23 @@ pub(crate) fn lane_ends(alloc: Global, lane: &[u8], error: Option<ScriptError>) 
 pub(crate) fn schema_ends(alloc: Global, schema: &[u8], error: Option<ScriptError>) -> bool {
     schema.len() <= MAX_FILE_BYTES && read_schema(alloc, schema).err() == error
 }
+
+/// The number of the first lane that ends otherwise.
+pub(crate) fn first_other_lane(
+    alloc: Global,
+    lanes: &[&[u8]],
+    error: Option<ScriptError>,
+) -> Option<usize> {
+    lanes.iter().position(|lane| !lane_ends(alloc, lane, error))
+}
+
+/// The number of the first schema that ends otherwise.
+pub(crate) fn first_other_schema(
+    alloc: Global,
+    schemas: &[&[u8]],
+    error: Option<ScriptError>,
+) -> Option<usize> {
+    schemas
+        .iter()
+        .position(|schema| !schema_ends(alloc, schema, error))
+}

@@ -1,7 +1,5 @@
 //! The edges of the grammar of schemas and lanes.
-use crate::files::{bad, lane_ends, schema_ends, unknown};
-use script::ScriptError;
-use std::alloc::Global;
+use crate::files::{bad, first_other_lane, first_other_schema, lane_ends, schema_ends, unknown};
 
 const BAD_LINES: [&[u8]; 39] = [
     b"get t a\r\n",
@@ -88,35 +86,22 @@ const SCHEMAS: [&[u8]; 3] = [
     b"index a_0123456789_0123456789_01234567 1\n",
 ];
 
-/// The number of the first lane that ends otherwise.
-fn first_other(alloc: Global, lanes: &[&[u8]], error: Option<ScriptError>) -> Option<usize> {
-    lanes.iter().position(|lane| !lane_ends(alloc, lane, error))
-}
-
-/// The number of the first schema that ends otherwise.
-fn first_other_schema(
-    alloc: Global,
-    schemas: &[&[u8]],
-    error: Option<ScriptError>,
-) -> Option<usize> {
-    schemas
-        .iter()
-        .position(|schema| !schema_ends(alloc, schema, error))
-}
-
 #[test]
 fn lines_in_bad_form_are_refused(rt: HostRuntime) {
-    assert_eq!(rt; first_other(rt.alloc(), &BAD_LINES, bad(1)), None);
+    assert_eq!(rt; first_other_lane(rt.alloc(), &BAD_LINES, bad(1)), None);
 }
 
 #[test]
 fn good_lanes_are_read(rt: HostRuntime) {
-    assert_eq!(rt; first_other(rt.alloc(), &LANES, None), None);
+    assert_eq!(rt; first_other_lane(rt.alloc(), &LANES, None), None);
 }
 
 #[test]
 fn unknown_indexes_are_told(rt: HostRuntime) {
-    assert_eq!(rt; first_other(rt.alloc(), &UNKNOWN_INDEXES, unknown(1)), None);
+    assert_eq!(rt;
+        first_other_lane(rt.alloc(), &UNKNOWN_INDEXES, unknown(1)),
+        None
+    );
 }
 
 #[test]

@@ -7,6 +7,8 @@ mod answers;
 #[cfg(test)]
 mod drawn;
 #[cfg(test)]
+mod edited;
+#[cfg(test)]
 mod files;
 #[cfg(test)]
 mod folds;

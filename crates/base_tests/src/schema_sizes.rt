@@ -1,7 +1,7 @@
 //! The settings of a schema.
-use crate::files::{bad, schema_ends};
+use crate::files::{bad, first_other_schema};
 use map_history::Sizes;
-use script::{DEFAULT_SIZES, ScriptError, read_schema};
+use script::{DEFAULT_SIZES, read_schema};
 use std::alloc::Global;
 
 /// Schemas that are read.
@@ -40,13 +40,6 @@ const BAD_SECOND: [&[u8]; 4] = [
     b"index t 1\nblocks 8\nindex u 1\n",
 ];
 
-/// The number of the first schema that ends otherwise.
-fn first_other(alloc: Global, schemas: &[&[u8]], error: Option<ScriptError>) -> Option<usize> {
-    schemas
-        .iter()
-        .position(|schema| !schema_ends(alloc, schema, error))
-}
-
 /// The sizes of a schema that sets two.
 fn sizes_of_two(alloc: Global) -> Option<Sizes> {
     let schema = read_schema(alloc, b"pages 2\nnodes 0\nindex t 1\n").ok()?;
@@ -55,17 +48,17 @@ fn sizes_of_two(alloc: Global) -> Option<Sizes> {
 
 #[test]
 fn a_setting_stands_before_the_indexes(rt: HostRuntime) {
-    assert_eq!(rt; first_other(rt.alloc(), &GOOD, None), None);
+    assert_eq!(rt; first_other_schema(rt.alloc(), &GOOD, None), None);
 }
 
 #[test]
 fn a_setting_wants_one_number(rt: HostRuntime) {
-    assert_eq!(rt; first_other(rt.alloc(), &BAD_FIRST, bad(1)), None);
+    assert_eq!(rt; first_other_schema(rt.alloc(), &BAD_FIRST, bad(1)), None);
 }
 
 #[test]
 fn a_setting_stands_once_and_before_an_index(rt: HostRuntime) {
-    assert_eq!(rt; first_other(rt.alloc(), &BAD_SECOND, bad(2)), None);
+    assert_eq!(rt; first_other_schema(rt.alloc(), &BAD_SECOND, bad(2)), None);
 }
 
 #[test]
