@@ -18,7 +18,7 @@ use settings::{Setting, set_size};
 use std::alloc::{AllocError, Global};
 
 /// The sizes and the indexes so far, and which settings were given.
-#[derive(Debug, Drop)]
+#[derive(Drop)]
 pub struct Draft {
     pub sizes: Sizes,
     pub given: Vec<Setting>,
@@ -42,10 +42,10 @@ impl Draft {
         ensures { Leaves result (after_words (draft_view self.old) (pieces_left words.entry))
             (draft_view self.new) }
     {
-        let word = words.next().ok_or(Flaw::BadLine)?;
-        match find_entry(word).ok_or(Flaw::BadLine)? {
-            Entry::Index => self.take_index(alloc, words),
-            Entry::Set(setting) => self.take_setting(setting, words),
+        match words.next().and_then(find_entry) {
+            Some(Entry::Index) => self.take_index(alloc, words),
+            Some(Entry::Set(setting)) => self.take_setting(setting, words),
+            None => Err(Refusal::Flawed(Flaw::BadLine)),
         }
     }
 
@@ -53,8 +53,12 @@ impl Draft {
         ensures { Leaves result (index_line (draft_view self.old) (pieces_left words.entry))
             (draft_view self.new) }
     {
-        let (name, count) = two_words(words).ok_or(Flaw::BadLine)?;
-        let count = find_count(count).ok_or(Flaw::BadLine)?;
+        let Some((name, count)) = two_words(words) else {
+            return Err(Refusal::Flawed(Flaw::BadLine));
+        };
+        let Some(count) = find_count(count) else {
+            return Err(Refusal::Flawed(Flaw::BadLine));
+        };
         if !self.has_room_for(name) {
             return Err(Refusal::Flawed(Flaw::BadLine));
         }
@@ -85,13 +89,10 @@ impl Draft {
         ensures { Leaves result (setting_line setting (draft_view self.old)
             (pieces_left words.entry)) (draft_view self.new) }
     {
-        let word = one_word(words).ok_or(Flaw::BadLine)?;
-        let number = find_number(word).ok_or(Flaw::BadLine)?;
-        if !self.has_room_for_setting(setting) {
-            return Err(Refusal::Flawed(Flaw::BadLine));
+        match one_word(words).and_then(find_number) {
+            Some(number) if self.has_room_for_setting(setting) => Ok(self.set(setting, number)?),
+            _ => Err(Refusal::Flawed(Flaw::BadLine)),
         }
-        self.set(setting, number)?;
-        Ok(())
     }
 
     /// No index stands before the setting, and it wasn't given yet.

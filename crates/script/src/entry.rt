@@ -5,7 +5,7 @@ ghost use Rattle.script.specs.Schema.{entry_named};
 use settings::{Setting, find_setting};
 
 /// What a line of a schema sets.
-#[derive(Debug, Clone, Copy, PartialEq, Eq)]
+#[derive(Clone, Copy)]
 pub enum Entry {
     /// An index: its name, and the number of its keys' fields.
     Index,

@@ -25,7 +25,7 @@ pub enum ScriptError {
 }
 
 /// Why a line isn't read.
-#[derive(Debug, Clone, Copy, PartialEq, Eq)]
+#[derive(Clone, Copy)]
 pub enum Refusal {
     /// It isn't in the grammar.
     Flawed(Flaw),

@@ -36,9 +36,12 @@ fn read_operation(alloc: Global, line: &[u8], schema: &Schema) -> Result<Op, Ref
         (operation_in (schema_text schema.now) (line_words line.now)) }
 {
     let mut words = Pieces::new(line, b' ');
-    let word = words.next().ok_or(Flaw::BadLine)?;
-    let name = words.next().ok_or(Flaw::BadLine)?;
-    let verb = find_verb(word).ok_or(Flaw::BadLine)?;
+    let Some(verb) = words.next().and_then(find_verb) else {
+        return Err(Refusal::Flawed(Flaw::BadLine));
+    };
+    let Some(name) = words.next() else {
+        return Err(Refusal::Flawed(Flaw::BadLine));
+    };
     let index = find_index(schema, name)?;
     let count = field_count(schema, index);
     read_parts(alloc, verb, index, count, words)

@@ -7,7 +7,7 @@ ghost use Rattle.script.specs.Grammar.{lines_of};
 use memchr::memchr;
 
 /// What stands between the bytes of one value: one piece more than there are such bytes.
-#[derive(Debug, Clone, Copy)]
+#[derive(Clone, Copy)]
 pub struct Pieces<'a> {
     rest: Option<&'a [u8]>,
     separator: u8,
@@ -49,7 +49,7 @@ impl<'a> Iterator for Pieces<'a> {
 }
 
 /// The lines of a file. Each ends with the byte 10, which the last may lack.
-#[derive(Debug, Clone, Copy)]
+#[derive(Clone, Copy)]
 pub struct Lines<'a> {
     rest: &'a [u8],
 }

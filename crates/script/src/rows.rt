@@ -17,7 +17,7 @@ use key_tuple::{Key, KeyError, MAX_FIELDS, Mode, Tuple, Value};
 use std::alloc::Global;
 
 /// The fields of a key's or a tuple's word: their bytes one behind another, and where each ends.
-#[derive(Debug, Drop)]
+#[derive(Drop)]
 struct KeyText {
     bytes: Vec<u8>,
     ends: ArrayVec<usize, 4>,
@@ -29,7 +29,9 @@ pub fn read_key(alloc: Global, count: u8, words: Pieces<'_>) -> Result<Key, Refu
     requires few { count ≤ MAX_FIELDS }
     ensures { Gives (λ k. k.tuple) result (key_parts count (pieces_left words.entry)) }
 {
-    let word = one_word(words).ok_or(Flaw::BadLine)?;
+    let Some(word) = one_word(words) else {
+        return Err(Refusal::Flawed(Flaw::BadLine));
+    };
     let text = key_text(alloc, count, word)?;
     key_within(text)
 }
@@ -40,7 +42,9 @@ pub fn read_row(alloc: Global, count: u8, words: Pieces<'_>) -> Result<(Key, Val
     requires few { count ≤ MAX_FIELDS }
     ensures { Gives (λ r. (r.0.tuple, r.1)) result (row_parts count (pieces_left words.entry)) }
 {
-    let (key, value) = two_words(words).ok_or(Flaw::BadLine)?;
+    let Some((key, value)) = two_words(words) else {
+        return Err(Refusal::Flawed(Flaw::BadLine));
+    };
     let text = key_text(alloc, count, key)?;
     let bytes = field(alloc, value)?;
     let key = key_within(text)?;
@@ -54,8 +58,12 @@ pub fn read_search(alloc: Global, count: u8, words: Pieces<'_>) -> Result<(Mode,
     requires { count ≤ MAX_FIELDS }
     ensures { Gives (λ s. (s.0, s.1)) result (search_parts count (pieces_left words.entry)) }
 {
-    let (mode, tuple) = two_words(words).ok_or(Flaw::BadLine)?;
-    let mode = find_mode(mode).ok_or(Flaw::BadLine)?;
+    let Some((mode, tuple)) = two_words(words) else {
+        return Err(Refusal::Flawed(Flaw::BadLine));
+    };
+    let Some(mode) = find_mode(mode) else {
+        return Err(Refusal::Flawed(Flaw::BadLine));
+    };
     let text = tuple_text(alloc, count, tuple)?;
     let tuple = tuple_within(text)?;
     Ok((mode, tuple))

@@ -3,7 +3,7 @@ ghost use Rattle.std.specs.Prelude.{◌≡◌};
 ghost use Rattle.script.specs.Lane.{verb_named, verb_word};
 
 /// What a line of a lane asks for.
-#[derive(Debug, Clone, Copy, PartialEq, Eq)]
+#[derive(Clone, Copy)]
 pub enum Verb {
     /// The value of a key.
     Get,
