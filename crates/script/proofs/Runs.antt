@@ -1,12 +1,13 @@
 -- Bytes that stand for themselves, put together.
-use Rattle.std.proofs.Common.{◌≡◌, ℕ, suc, ◌-◌, ◌<◌, ◌≤◌, ◌&&◌, Bool, true, false, cond, not, eqb, leb, List, [], ◌∷◌, ◌++◌, length, take, drop, Option, Some, None, refl, sym, subst, ap, ◌∙◌, arith, append_assoc}
+use Rattle.std.proofs.Common.{◌≡◌, ℕ, suc, ◌-◌, ◌<◌, ◌≤◌, ◌&&◌, Bool, true, false, cond, not, eqb, leb, List, [], ◌∷◌, ◌++◌, length, get_or, take, drop, Option, Some, None, refl, sym, subst, ap, ◌∙◌, arith, append_assoc}
 use Rattle.std.specs.List.{All, position, position_or_len}
 use Rattle.std.proofs.lemmas.Bool.{ltb-false}
 use Rattle.std.proofs.lemmas.List.Quantifiers.{position-Some}
 use Rattle.std.proofs.lemmas.List.{get_or-take, length-take, length-drop, take_rest, take-append-drop, append-nil}
 use Rattle.std.proofs.lemmas.List.Sums.{fails_before_first}
 use Rattle.map_history.specs.Text.{is_plain}
-use Rattle.script.specs.Grammar.{in_front, behind, bytes_of}
+use Rattle.script.specs.Grammar.{byte_of, in_front, behind, bytes_of}
+use Rattle.script.specs.Pieces.{IsFirstByte}
 use Rattle.script.proofs.Results.{both_so}
 use Rattle.script.proofs.Steps.{behind_in_front, behind_nothing}
 
@@ -30,6 +31,26 @@ one_plain : (a : ℕ) (text : List ℕ) → is_plain a ≡ true → bytes_of (a 
 one_plain a [] h = rw h refl
 one_plain a (b ∷ []) h = rw h refl
 one_plain a (b ∷ c ∷ text) h = rw (h, isn't_escape a h) refl
+
+-- a byte alone at the front of a text
+pub plain_first : (text : List ℕ) → 0 < length text → is_plain (get_or text 0 0) ≡ true → IsFirstByte text (get_or text 0 0) (take (length text - 1) (drop 1 text))
+plain_first [] lt h = absurd (omega arith)
+plain_first (a ∷ text) lt h = rw (take_rest (a ∷ text) 1) (record { spelled = one_plain a text h; shorter = omega arith })
+
+-- an escape at the front of a text
+pub escape_first : (text : List ℕ) (byte : ℕ) → 3 ≤ length text → get_or text 0 0 ≡ 37 → byte_of (get_or text 1 0) (get_or text 2 0) ≡ Some byte
+    → IsFirstByte text byte (take (length text - 3) (drop 3 text))
+escape_first [] byte le sign h = absurd (omega arith)
+escape_first (a ∷ []) byte le sign h = absurd (omega arith)
+escape_first (a ∷ b ∷ []) byte le sign h = absurd (omega arith)
+escape_first (a ∷ b ∷ c ∷ text) byte le sign h = rw (take_rest (a ∷ b ∷ c ∷ text) 3) (record { spelled = rw (sign, h) refl; shorter = omega arith })
+
+-- an escape whose digits are none
+pub no_digits : (text : List ℕ) → 3 ≤ length text → get_or text 0 0 ≡ 37 → byte_of (get_or text 1 0) (get_or text 2 0) ≡ None → bytes_of text ≡ None
+no_digits [] le sign h = absurd (omega arith)
+no_digits (a ∷ []) le sign h = absurd (omega arith)
+no_digits (a ∷ b ∷ []) le sign h = absurd (omega arith)
+no_digits (a ∷ b ∷ c ∷ text) le sign h = rw (sign, h) refl
 
 in_front_behind : (x : ℕ) (run : List ℕ) (o : Option (List ℕ)) → in_front (Some x) (behind run o) ≡ behind (x ∷ run) o
 in_front_behind x run None = refl

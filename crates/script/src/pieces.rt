@@ -32,7 +32,6 @@ impl<'a> Iterator for Pieces<'a> {
 
     ghost remaining = { item_count pieces_left };
 
-    #[tactic(auto, using(crate::proofs::Cuts::pieces_cut, crate::proofs::Cuts::pieces_whole))]
     fn next(&mut self) -> Option<&'a [u8]> {
         let rest = self.rest?;
         match cut(rest, self.separator) {

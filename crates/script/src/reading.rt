@@ -71,7 +71,7 @@ fn read_indexes(alloc: Global, bytes: &[u8]) -> Result<Draft, ScriptError>
     Ok(draft)
 }
 
-#[tactic(auto, unfolding(crate::specs::Lane::lane_of), using(crate::proofs::Whole::few_lines, crate::proofs::Whole::after_none))]
+#[tactic(auto, unfolding(crate::specs::Lane::lane_of), using(crate::proofs::Whole::few_lines, crate::proofs::Whole::after_none, crate::proofs::Whole::lane_stops, crate::proofs::Whole::lane_goes))]
 fn read_lines(alloc: Global, bytes: &[u8], schema: &Schema) -> Result<Vec<Line>, ScriptError>
     requires { length bytes.now ≤ MAX_FILE_BYTES }
     ensures { GivesWhole (λ v. line_texts v.items) result

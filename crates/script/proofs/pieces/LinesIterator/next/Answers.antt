@@ -16,3 +16,8 @@ pub returns-in-None-clause-steps : goal.returns-in-None-clause-steps
 returns-in-None-clause-steps c =
     let some : length c.args.self.now.rest.now ≡ 0 → ⊥ = eqb-false _ _ (sym c.if-is_empty.ensures) in
     lines_last c.args.self.now.rest.now (omega arith) c.in-None.ensures
+
+pub returns-in-None-clause-goes : goal.returns-in-None-clause-goes
+returns-in-None-clause-goes c =
+    let fewer = ap length (returns-in-None-clause-steps c) in
+    record { on = λ _. (tt, tt, omega (arith, fewer)); keeps = tt; rests = λ _. tt }
