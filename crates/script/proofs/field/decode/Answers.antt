@@ -1,6 +1,7 @@
 -- A run and the byte after it more, or the last run, or what stands for nothing.
 use Rattle.std.proofs.Common.{ℕ, List, [], ◌∷◌, ◌++◌, Ok, sym, ap, ◌∙◌, arith}
 use Rattle.std.proofs.lemmas.List.{length-take}
+use Rattle.std.proofs.lemmas.Result.{err_from_is_err_and}
 use Rattle.script.specs.Grammar.{bytes_of, behind}
 use Rattle.script.specs.Steps.{or_bad}
 use Rattle.script.proofs.Runs.{escape_inside, some_left, fewer_left, run_decoded, run_refused, run_alone}
@@ -34,3 +35,18 @@ returns c =
 
 pub text-smaller : goal.text-smaller
 text-smaller c = fewer_left c.text.rest.now c.in-Some-first_byte.after.now c.in-Some.at c.in-Some-first_byte.ensures.shorter
+
+pub returns-in_err-extend_from_slice : goal.returns-in_err-extend_from_slice
+returns-in_err-extend_from_slice c =
+    let p = err_from_is_err_and c.from_residual.result c.from_residual.ensures.1 in
+    rw (p.1, p.2) tt
+
+pub returns-in_err-push : goal.returns-in_err-push
+returns-in_err-push c =
+    let p = err_from_is_err_and c.from_residual-in_err-push.result c.from_residual-in_err-push.ensures.1 in
+    rw (p.1, p.2) tt
+
+pub returns-in_err-extend_from_slice-2 : goal.returns-in_err-extend_from_slice-2
+returns-in_err-extend_from_slice-2 c =
+    let p = err_from_is_err_and c.from_residual-in_err-extend_from_slice-2.result c.from_residual-in_err-extend_from_slice-2.ensures.1 in
+    rw (p.1, p.2) tt
