@@ -46,18 +46,20 @@ fn explain_line(
             format!(in alloc; "{}, line {line}: {flaw}", name_of(words, file))
         }
         Some(Told::Shelf { file }) => {
-            format!(in alloc;
-                "{}: it isn't there, or can't be read",
-                name_of(words, file)
-            )
+            of_file(alloc, words, file, "it isn't there, or can't be read")
         }
-        Some(Told::TooLarge { file }) => format!(in alloc;
-            "{}: with it the files have more than 67,108,864 bytes together",
-            name_of(words, file)
-        ),
+        Some(Told::TooLarge { file }) => {
+            let said = "with it the files have more than 67,108,864 bytes together";
+            of_file(alloc, words, file, said)
+        }
         Some(Told::Sizes { setting }) => wanted(alloc, setting, words.len().saturating_sub(2)),
         None => String::from_str(alloc, "the run was refused"),
     }
+}
+
+/// Says this of the file of this number.
+fn of_file(alloc: Global, words: &[String], file: usize, said: &str) -> Result<String, AllocError> {
+    format!(in alloc; "{}: {said}", name_of(words, file))
 }
 
 /// The name of the file of this number among the words.
