@@ -1,5 +1,5 @@
 -- Lanes before and after they work.
-use Rattle.std.specs.Prelude.{ℕ, ◌≡◌, Some, IfSome, Vec, List, map}
+use Rattle.std.specs.Prelude.{ℕ, ◌≡◌, Some, IfSome, Vec, List, [], ◌∷◌, ◌++◌, map}
 use Rattle.std.specs.List.{AllZip, zip}
 use Rattle.std.specs.declared.alloc.Global.{Global}
 use Rattle.change_log.specs.Log.{Log}
@@ -8,6 +8,7 @@ use Rattle.map_history.specs.declared.line.Line.{Line}
 use Rattle.map_history.specs.Lines.{line_texts}
 use Rattle.lane_work.specs.Engine.{Engine, EnginePass, IsOf, IsSame}
 use Rattle.lane_work.specs.Works.{Works}
+use Rattle.lane_threads.specs.declared.apart.Parts.{Parts}
 use Rattle.lane_threads.specs.declared.doer.DoneLane.{DoneLane}
 use Rattle.lane_threads.specs.declared.doer.LaneDoer.{LaneDoer}
 use Rattle.lane_threads.specs.declared.doer.ReadyLane.{ReadyLane}
@@ -49,3 +50,13 @@ pub record AreParts (doers : List LaneDoer) (passes : List EnginePass)
   pub texts_are : texts ≡ map (λ (d : DoneLane). d.work.answers) done
   pub logs_are : logs ≡ map (λ (d : DoneLane). d.work.log) done
   pub counts_are : counts ≡ map (λ (d : DoneLane). d.work.counts) done
+
+-- the parts are those of the doers
+abbrev pub ArePartsOf : List LaneDoer → Parts → Type 0
+ArePartsOf doers parts = AreParts doers parts.passes.items parts.answers.items parts.logs.items
+    parts.counts.items
+
+-- the parts of the doer were put behind those of the others
+abbrev pub AddsPartsOf : LaneDoer → Parts → Parts → Type 0
+AddsPartsOf doer old new = (doers : List LaneDoer) → ArePartsOf doers old
+    → ArePartsOf (doers ++ doer ∷ []) new

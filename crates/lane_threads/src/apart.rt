@@ -1,6 +1,6 @@
 //! Lanes taken apart after they worked.
-ghost use Rattle.std.specs.Prelude.{◌≡◌, IfOk};
-ghost use Rattle.lane_threads.specs.Doing.{AreParts};
+ghost use Rattle.std.specs.Prelude.{◌≡◌, [], IfOk, OnOk};
+ghost use Rattle.lane_threads.specs.Doing.{ArePartsOf, AddsPartsOf};
 
 use crate::doer::{DoneLane, LaneDoer};
 use change_log::LaneLog;
@@ -19,6 +19,33 @@ pub(crate) struct Parts<'a> {
     pub(crate) counts: Vec<Vec<Counts>>,
 }
 
+impl<'a> Parts<'a> {
+    /// The parts of no lane.
+    fn none(alloc: Global) -> Parts<'a>
+        ensures { ArePartsOf [] result }
+    {
+        Parts {
+            passes: Vec::new(alloc),
+            answers: Vec::new(alloc),
+            logs: Vec::new(alloc),
+            counts: Vec::new(alloc),
+        }
+    }
+
+    /// Puts the parts of one more lane behind the others. A lane that isn't done makes it
+    /// `NoMemory`, after which some of its parts may be there.
+    fn add(&mut self, doer: LaneDoer<'_, 'a>) -> Result<(), NoMemory>
+        ensures { OnOk result (AddsPartsOf doer.entry self.old self.new) }
+    {
+        let DoneLane { pass, work } = doer.done().ok_or(NoMemory)?;
+        self.passes.push(pass)?;
+        self.answers.push(work.answers)?;
+        self.logs.push(work.log)?;
+        self.counts.push(work.counts)?;
+        Ok(())
+    }
+}
+
 impl<'e, 'a> LaneDoer<'e, 'a> {
     fn done(self) -> Option<DoneLane<'a>>
         ensures { result ≡ self.entry.done }
@@ -33,24 +60,11 @@ pub(crate) fn take_apart<'e, 'a>(
     alloc: Global,
     doers: Vec<LaneDoer<'e, 'a>>,
 ) -> Result<Parts<'a>, NoMemory>
-    ensures { IfOk result (λ parts. AreParts doers.entry.items parts.passes.items
-        parts.answers.items parts.logs.items parts.counts.items) }
+    ensures { IfOk result (ArePartsOf doers.entry.items) }
 {
-    let mut passes = Vec::with_capacity(alloc, doers.len())?;
-    let mut answers = Vec::with_capacity(alloc, doers.len())?;
-    let mut logs = Vec::with_capacity(alloc, doers.len())?;
-    let mut counts = Vec::with_capacity(alloc, doers.len())?;
+    let mut parts = Parts::none(alloc);
     for doer in doers {
-        let DoneLane { pass, work } = doer.done().ok_or(NoMemory)?;
-        passes.push(pass)?;
-        answers.push(work.answers)?;
-        logs.push(work.log)?;
-        counts.push(work.counts)?;
+        parts.add(doer)?;
     }
-    Ok(Parts {
-        passes,
-        answers,
-        logs,
-        counts,
-    })
+    Ok(parts)
 }

@@ -1,8 +1,7 @@
-use Rattle.std.proofs.Common.{◌≡◌, Some, List, [], ◌∷◌, ◌++◌, length, refl, ap, sym, ◌∙◌, subst, arith, append_assoc, append-nil}
+use Rattle.std.proofs.Common.{◌≡◌, List, [], ◌∷◌, ◌++◌, length, refl, ap, sym, ◌∙◌, subst, arith, append_assoc, append-nil}
 use Rattle.std.specs.Vec.Iter.{into_iter_items}
 use Rattle.lane_threads.specs.declared.doer.LaneDoer.{LaneDoer}
-use Rattle.lane_threads.specs.Doing.{AreParts}
-use Rattle.lane_threads.proofs.PartLemmas.{parts_more}
+use Rattle.lane_threads.specs.Doing.{ArePartsOf}
 use Rattle.lane_threads.proofs.apart.take_apart.Goals as goal
 
 nothing_left : {X : Type 0} (xs : List X) → length xs ≡ 0 → xs ≡ []
@@ -17,24 +16,21 @@ loop-doer-init c =
     record {
       rest = items;
       count = omega (arith, len, same);
-      parts = record { done = []; all_done = refl; passes_are = c.in_ok-passes.ensures.items; texts_are = c.in_ok-answers.ensures.items; logs_are = c.in_ok-logs.ensures.items; counts_are = c.in_ok-counts.ensures.items };
+      parts = c.none-parts.ensures;
     }
 
 pub loop-doer-preserved : goal.loop-doer-preserved
 loop-doer-preserved c =
     let so_far = c.loop-doer.invariant in
     let doer = c.in-Some.doer in
-    let lane = c.in_ok-pass.field-0 in
     let steps : into_iter_items c.loop-doer.doer-iterator ≡ doer ∷ into_iter_items c.next.new.self = c.in-Some.ensures.steps.0 in
-    let is : doer.done ≡ Some lane = sym c.done.ensures ∙ c.in_ok-pass.ensures.ok_part in
     let count = so_far.count in
     let shorter = ap length steps in
     let len = c.in-Some.ensures.steps.1 in
     record {
       rest = append_assoc c.loop-doer.yielded (doer ∷ []) _ ∙ (ap (λ (ds : List LaneDoer). c.loop-doer.yielded ++ ds) (sym steps) ∙ so_far.rest);
       count = omega (arith, count, shorter, len);
-      parts = parts_more c.loop-doer.yielded doer lane c.loop-doer.passes.items c.push.new.self.items c.loop-doer.answers.items c.push-in-loop-doer.new.self.items c.loop-doer.logs.items c.push-in-loop-doer-2.new.self.items c.loop-doer.counts.items c.push-in-loop-doer-3.new.self.items
-          so_far.parts is c.in_ok-push.ensures.items c.in_ok-push-2.ensures.items c.in_ok-push-3.ensures.items c.in_ok-push-4.ensures.items;
+      parts = c.in_ok-add.ensures c.loop-doer.yielded so_far.parts;
     }
 
 pub returns : goal.returns
@@ -42,4 +38,4 @@ returns c =
     let so_far = c.loop-doer.invariant in
     let empty : into_iter_items c.loop-doer.doer-iterator ≡ [] = nothing_left _ (sym so_far.count ∙ c.in-None.ensures.steps.0) in
     let all : c.loop-doer.yielded ≡ c.args.doers.items = sym (append-nil c.loop-doer.yielded) ∙ (ap (λ (ds : List LaneDoer). c.loop-doer.yielded ++ ds) (sym empty) ∙ so_far.rest) in
-    subst (λ (ds : List LaneDoer). AreParts ds c.loop-doer.passes.items c.loop-doer.answers.items c.loop-doer.logs.items c.loop-doer.counts.items) all so_far.parts
+    subst (λ (ds : List LaneDoer). ArePartsOf ds c.loop-doer.parts) all so_far.parts

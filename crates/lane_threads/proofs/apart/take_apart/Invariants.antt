@@ -1,6 +1,6 @@
 use Rattle.std.proofs.Common.{◌≡◌, ◌++◌, length}
 use Rattle.std.specs.Vec.Iter.{into_iter_items, into_iter_len}
-use Rattle.lane_threads.specs.Doing.{AreParts}
+use Rattle.lane_threads.specs.Doing.{ArePartsOf}
 use Rattle.lane_threads.proofs.apart.take_apart.Given as goal
 
 -- the doers so far are taken apart, and the others are left
@@ -8,5 +8,5 @@ abbrev pub invariant-loop-doer : goal.invariant-loop-doer
 invariant-loop-doer l = record {
   rest : l.yielded ++ into_iter_items l.doer-iterator ≡ l.fn.doers.items;
   count : into_iter_len l.doer-iterator ≡ length (into_iter_items l.doer-iterator);
-  parts : AreParts l.yielded l.passes.items l.answers.items l.logs.items l.counts.items;
+  parts : ArePartsOf l.yielded l.parts;
 }
