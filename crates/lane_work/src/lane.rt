@@ -1,9 +1,11 @@
 //! A whole lane.
-ghost use Rattle.std.specs.Prelude.{◌≡◌, ◌+◌, ◌<◌, length, IfOk};
-ghost use Rattle.map_history.specs.Lines.{line_texts};
+ghost use Rattle.std.specs.Prelude.{◌≡◌, ◌+◌, ◌<◌, [], length, replicate, IsSome, IfOk, OnOk};
+ghost use Rattle.map_history.specs.Lines.{line_text, line_texts};
+ghost use Rattle.map_history.specs.Statistics.{counts_of};
+ghost use Rattle.map_history.specs.Told.{answer_of};
 ghost use Rattle.index_engine.specs.Engines.{known, IsOf, IsSame, indexes_of};
 ghost use Rattle.lane_work.specs.Workable.{AreWorkable};
-ghost use Rattle.lane_work.specs.Works.{Works, NotesLine};
+ghost use Rattle.lane_work.specs.Works.{Works, AddsLine, NotesLine};
 
 use crate::line::work_line;
 use change_log::{LaneChange, LaneLog};
@@ -23,6 +25,43 @@ pub struct LaneWork<'a> {
     pub answers: Texts,
     pub log: LaneLog<'a>,
     pub counts: Vec<Counts>,
+}
+
+impl<'a> LaneWork<'a> {
+    /// Nothing told yet, with room for so many lines.
+    fn reserve(alloc: Global, lines: usize, indexes: usize) -> Result<LaneWork<'a>, NoMemory>
+        ensures answers { IfOk result (λ work. work.answers ≡ []) }
+        ensures log { IfOk result (λ work. (work.log.noted ≡ []) × (work.log.room ≡ lines)) }
+        ensures counts { IfOk result (λ work.
+            work.counts.items ≡ replicate indexes (counts_of [])) }
+    {
+        let answers = Texts::reserve(alloc, lines)?;
+        let log = LaneLog::reserve(alloc, lines)?;
+        let counts = no_counts(alloc, indexes)?;
+        Ok(LaneWork {
+            answers,
+            log,
+            counts,
+        })
+    }
+
+    /// Adds what a line was told: its answer is printed, its columns are counted, and its change is
+    /// noted, if it made one.
+    fn add(&mut self, lane: u32, line: &'a Line, told: &Told, row: &RowBuf) -> Result<(), NoMemory>
+        requires answer { IsSome (answer_of (line_text line.now).op.ask told.now row.now) }
+        requires index { (line_text line.now).op.index < length self.old.counts.items }
+        requires room { length self.old.log.noted < self.old.log.room }
+        ensures { OnOk result (AddsLine self.old self.new lane line.now told.now row.now) }
+    {
+        self.answers.add_answer(line.line, told, row, &line.op)?;
+        count_told(
+            &mut self.counts[line.op.index() as usize],
+            told.how,
+            told.note,
+        )?;
+        note(&mut self.log, lane, line, told);
+        Ok(())
+    }
 }
 
 /// Works the lines of a lane, which has this number from 1, one after another. The gate is asked
@@ -45,22 +84,14 @@ pub fn work_lane<'a, R: Wait, G: Gate>(
     ensures ok { IfOk result (λ work. Works pass.old pass.new (line_texts lines.now) work.answers
         work.log work.counts.items) }
 {
-    let mut answers = Texts::reserve(alloc, lines.len())?;
-    let mut log = LaneLog::reserve(alloc, lines.len())?;
-    let mut counts = no_counts(alloc, indexes)?;
+    let mut work = LaneWork::reserve(alloc, lines.len(), indexes)?;
     let mut row = RowBuf::new(alloc)?;
     for line in lines {
         gate.before(lane, line.line);
         let told = work_line(engine, pass, line, &mut row, wait)?;
-        answers.add_answer(line.line, &told, &row, &line.op)?;
-        count_told(&mut counts[line.op.index() as usize], told.how, told.note)?;
-        note(&mut log, lane, line, &told);
+        work.add(lane, line, &told, &row)?;
     }
-    Ok(LaneWork {
-        answers,
-        log,
-        counts,
-    })
+    Ok(work)
 }
 
 /// Notes the change of a line, if it made one.

@@ -9,7 +9,7 @@ abbrev pub invariant-loop-line : goal.invariant-loop-line
 invariant-loop-line g l = record {
   same : IsSame l.fn.pass l.pass;
   own : IsOf l.engine l.pass;
-  works : Works l.fn.pass l.pass (line_texts (take l.line-index l.lines)) l.answers l.log l.counts.items;
-  room : l.log.room ≡ length l.lines;
-  few : length l.log.noted ≤ l.line-index;
+  works : Works l.fn.pass l.pass (line_texts (take l.line-index l.lines)) l.work.answers l.work.log l.work.counts.items;
+  room : l.work.log.room ≡ length l.lines;
+  few : length l.work.log.noted ≤ l.line-index;
 }
