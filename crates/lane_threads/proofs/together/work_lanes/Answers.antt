@@ -1,70 +1,46 @@
-use Rattle.std.proofs.Common.{◌≡◌, List, [], length, replicate, ap, sym, subst, ◌∙◌}
-use Rattle.std.specs.List.{AllByRecursion}
-use Rattle.std.specs.Prelude.{Vec}
-use Rattle.std.specs.declared.alloc.Global.{Global}
-use Rattle.column_counts.specs.Sums.{all_sums, count_lists}
-use Rattle.index_law.specs.Shape.{Shape}
-use Rattle.latch_law.specs.declared.knows.Terms.{Terms}
-use Rattle.map_history.specs.declared.counts.Counts.{Counts}
-use Rattle.map_history.specs.Statistics.{counts_of}
-use Rattle.lane_threads.proofs.SayLemmas.{in_row}
-use Rattle.lane_threads.proofs.ReadyLemmas.{all_workable}
-use Rattle.lane_threads.proofs.TogetherLemmas.{terms_are, first_fresh, first_untaught, lanes_dealt, as_many_dealt, lanes_worked, not_empty, counts_long, together}
+use Rattle.std.proofs.Common.{◌≡◌, Option, Some, None, Result, Ok, Err, IfSome, length, ap, sym, subst, ◌∙◌}
+use Rattle.latch_law.specs.Rule.{first_view}
+use Rattle.map_history.specs.declared.sizes.Sizes.{Sizes}
+use Rattle.forest_world.specs.Opening.{forest_terms}
+use Rattle.lane_threads.specs.Together.{lane_texts, RanTogether}
 use Rattle.lane_threads.proofs.together.work_lanes.Goals as goal
 
-pub ready_lanes-requires-clause-long : goal.ready_lanes-requires-clause-long
-ready_lanes-requires-clause-long g c = as_many_dealt c.in_ok-engine.engine c.args.sizes.now c.args.fields.now c.args.lanes.now c.in_ok-engine.pass c.in_ok-engine.ensures.ok c.in_ok-engine.ensures.untaught c.in_ok-passes.passes.items c.in_ok-passes.ensures.ok
+-- what was opened broke no limit
+unbroken : {A B E X : Type 0} (limit : Option X) (of : X → E) (opened : A) (result : Result B E) → IfSome limit (λ s. Ok opened ≡ Err (of s)) → IfSome limit (λ s. result ≡ Err (of s))
+unbroken None of opened result refused = tt
+unbroken (Some s) of opened result refused = absurd cc
 
-pub ready_lanes-requires-clause-own : goal.ready_lanes-requires-clause-own
-ready_lanes-requires-clause-own g c = lanes_dealt c.in_ok-engine.engine c.args.sizes.now c.args.fields.now c.args.lanes.now c.in_ok-engine.pass c.in_ok-engine.ensures.ok c.in_ok-engine.ensures.untaught c.in_ok-passes.passes.items c.in_ok-passes.ensures.ok
+pub open-requires-clause-indexes : goal.open-requires-clause-indexes
+open-requires-clause-indexes g c = c.requires.indexes
 
-pub ready_lanes-requires-clause-indexes : goal.ready_lanes-requires-clause-indexes
-ready_lanes-requires-clause-indexes g c =
-    let terms = terms_are c.in_ok-engine.engine c.args.sizes.now c.args.fields.now c.args.lanes.now c.in_ok-engine.pass c.in_ok-engine.ensures.ok c.in_ok-engine.ensures.untaught in
-    sym (ap (λ (t : Terms Shape). t.indexes) terms)
+pub open-requires-clause-keyed : goal.open-requires-clause-keyed
+open-requires-clause-keyed g c = c.requires.keyed
 
-pub ready_lanes-requires-clause-lines : goal.ready_lanes-requires-clause-lines
-ready_lanes-requires-clause-lines g c =
-    let engine = c.in_ok-engine.engine in let sizes = c.args.sizes.now in let fields = c.args.fields.now in let lanes = c.args.lanes.now in
-    all_workable engine sizes fields _ (terms_are engine sizes fields lanes c.in_ok-engine.pass c.in_ok-engine.ensures.ok c.in_ok-engine.ensures.untaught) lanes c.requires.lines
+pub open-requires-clause-lanes : goal.open-requires-clause-lanes
+open-requires-clause-lanes g c = c.requires.lanes
 
-pub add_up-requires : goal.add_up-requires
-add_up-requires g c =
-    let engine = c.in_ok-engine.engine in let sizes = c.args.sizes.now in let fields = c.args.fields.now in let lanes = c.args.lanes.now in
-    let parts = c.in_ok-passes-2.field-0 in let opened = c.in_ok-engine.ensures.ok in let untaught = c.in_ok-engine.ensures.untaught in
-    let long = counts_long engine sizes fields lanes c.in_ok-engine.pass opened untaught c.in_ok-passes.passes.items c.in_ok-passes.ensures.ok
-    (c.in_ok-passes.ensures.fresh (first_fresh engine sizes fields lanes c.in_ok-engine.pass opened untaught) (first_untaught engine sizes fields lanes c.in_ok-engine.pass opened untaught)) c.in_ok-doers.doers.items c.run_lanes-worked.result.items parts.passes.items parts.answers.items parts.logs.items parts.counts.items
-    c.in_ok-doers.ensures c.run_lanes-worked.ensures c.in_ok-passes-2.ensures in
-    subst (AllByRecursion (λ (list : Vec Counts Global). length list.items ≡ length fields)) (sym c.deref.ensures.value) long
+pub work_opened-requires-clause-own : goal.work_opened-requires-clause-own
+work_opened-requires-clause-own g c κs lives = c.in_ok-engine.ensures.ok.0
 
-pub gather-requires-clause-own : goal.gather-requires-clause-own
-gather-requires-clause-own g c =
-    let engine = c.in_ok-engine.engine in let sizes = c.args.sizes.now in let fields = c.args.fields.now in let lanes = c.args.lanes.now in
-    let parts = c.in_ok-passes-2.field-0 in let opened = c.in_ok-engine.ensures.ok in let untaught = c.in_ok-engine.ensures.untaught in
-    (in_row engine 0 parts.passes.items (lanes_worked engine sizes fields lanes c.in_ok-engine.pass opened untaught c.in_ok-passes.passes.items c.in_ok-passes.ensures.ok
-    (c.in_ok-passes.ensures.fresh (first_fresh engine sizes fields lanes c.in_ok-engine.pass opened untaught) (first_untaught engine sizes fields lanes c.in_ok-engine.pass opened untaught)) c.in_ok-doers.doers.items c.run_lanes-worked.result.items parts.passes.items parts.answers.items parts.logs.items parts.counts.items
-    c.in_ok-doers.ensures c.run_lanes-worked.ensures c.in_ok-passes-2.ensures)).0
+pub work_opened-requires-clause-fresh : goal.work_opened-requires-clause-fresh
+work_opened-requires-clause-fresh g c κs lives = c.in_ok-engine.ensures.ok.2 ∙ ap (λ (s : Sizes). first_view (forest_terms s c.args.fields.now (length c.args.lanes.now))) (sym c.in_ok-engine.ensures.ok.1)
 
-pub gather-requires-clause-row : goal.gather-requires-clause-row
-gather-requires-clause-row g c =
-    let engine = c.in_ok-engine.engine in let sizes = c.args.sizes.now in let fields = c.args.fields.now in let lanes = c.args.lanes.now in
-    let parts = c.in_ok-passes-2.field-0 in let opened = c.in_ok-engine.ensures.ok in let untaught = c.in_ok-engine.ensures.untaught in
-    (in_row engine 0 parts.passes.items (lanes_worked engine sizes fields lanes c.in_ok-engine.pass opened untaught c.in_ok-passes.passes.items c.in_ok-passes.ensures.ok
-    (c.in_ok-passes.ensures.fresh (first_fresh engine sizes fields lanes c.in_ok-engine.pass opened untaught) (first_untaught engine sizes fields lanes c.in_ok-engine.pass opened untaught)) c.in_ok-doers.doers.items c.run_lanes-worked.result.items parts.passes.items parts.answers.items parts.logs.items parts.counts.items
-    c.in_ok-doers.ensures c.run_lanes-worked.ensures c.in_ok-passes-2.ensures)).1
+pub work_opened-requires-clause-untaught : goal.work_opened-requires-clause-untaught
+work_opened-requires-clause-untaught g c κs lives = c.in_ok-engine.ensures.untaught
 
-pub unreachable-requires : goal.unreachable-requires
-unreachable-requires g c =
-    let engine = c.in_ok-engine.engine in let sizes = c.args.sizes.now in let fields = c.args.fields.now in let lanes = c.args.lanes.now in
-    let parts = c.in_ok-passes-2.field-0 in let opened = c.in_ok-engine.ensures.ok in let untaught = c.in_ok-engine.ensures.untaught in
-    not_empty engine sizes fields lanes c.in_ok-engine.pass opened untaught c.in_ok-passes.passes.items c.in_ok-passes.ensures.ok
-    (c.in_ok-passes.ensures.fresh (first_fresh engine sizes fields lanes c.in_ok-engine.pass opened untaught) (first_untaught engine sizes fields lanes c.in_ok-engine.pass opened untaught)) c.in_ok-doers.doers.items c.run_lanes-worked.result.items parts.passes.items parts.answers.items parts.logs.items parts.counts.items
-    c.in_ok-doers.ensures c.run_lanes-worked.ensures c.in_ok-passes-2.ensures c.requires.lanes.0 c.in_default.ensures
+pub work_opened-requires-clause-lanes : goal.work_opened-requires-clause-lanes
+work_opened-requires-clause-lanes g c κs lives = c.requires.lanes.0
+
+pub work_opened-requires-clause-lines : goal.work_opened-requires-clause-lines
+work_opened-requires-clause-lines g c κs lives = c.requires.lines
 
 pub returns-clause-ok : goal.returns-clause-ok
 returns-clause-ok g c =
-    let engine = c.in_ok-engine.engine in let sizes = c.args.sizes.now in let fields = c.args.fields.now in let lanes = c.args.lanes.now in
-    let parts = c.in_ok-passes-2.field-0 in let opened = c.in_ok-engine.ensures.ok in let untaught = c.in_ok-engine.ensures.untaught in
-    together engine sizes fields lanes c.in_ok-engine.pass opened untaught c.in_ok-passes.passes.items c.in_ok-passes.ensures.ok
-    (c.in_ok-passes.ensures.fresh (first_fresh engine sizes fields lanes c.in_ok-engine.pass opened untaught) (first_untaught engine sizes fields lanes c.in_ok-engine.pass opened untaught)) c.in_ok-doers.doers.items c.run_lanes-worked.result.items parts.passes.items parts.answers.items parts.logs.items parts.counts.items
-    c.in_ok-doers.ensures c.run_lanes-worked.ensures c.in_ok-passes-2.ensures c.in-Some.pass c.in_ok-counts.counts.items c.requires.lanes.0 (c.in_ok-counts.ensures ∙ ap (λ (ls : List (Vec Counts Global)). all_sums (replicate (length fields) (counts_of [])) (count_lists ls)) c.deref.ensures.value) c.in-Some.ensures c.fits.ensures
+    let work = c.in_ok-work_opened.field-0 in
+    subst (λ (s : Sizes). RanTogether s c.args.fields.now (lane_texts c.args.lanes.now) work.answers.items work.logs.items work.counts.items work.pass) c.in_ok-engine.ensures.ok.1 c.in_ok-work_opened.ensures
+
+pub returns-clause-refused : goal.returns-clause-refused
+returns-clause-refused g c = unbroken _ _ _ _ c.in_ok-engine.ensures.refused
+
+pub returns-in_err-work_opened-clause-refused : goal.returns-in_err-work_opened-clause-refused
+returns-in_err-work_opened-clause-refused g c = unbroken _ _ _ _ c.in_ok-engine.ensures.refused
