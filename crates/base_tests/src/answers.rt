@@ -7,10 +7,11 @@ ghost use Rattle.map_history.specs.Told.{answer_of};
 ghost use Rattle.report_text.specs.Printed.{printed_answer};
 
 use crate::lines::is;
-use crate::setup::{key_of, tuple_of, value_of};
+use crate::setup::{key_of, tuple_of};
 use key_tuple::{Blank, Key, Mode};
 use map_history::{How, Note, Op, Reply, Told};
 use report_text::answer;
+use sample_rows::value_of;
 use std::alloc::Global;
 use std::test::Fail;
 

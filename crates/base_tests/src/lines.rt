@@ -1,8 +1,9 @@
 //! The other lines of a report, byte for byte.
-use crate::setup::{key_of, value_of};
+use crate::setup::key_of;
 use change_log::LaneChange;
 use map_history::{Counts, Line, Op};
 use report_text::{change, changes_head, lane_head, report_end, report_head, stats};
+use sample_rows::value_of;
 use std::alloc::Global;
 use std::test::Fail;
 

@@ -1,7 +1,8 @@
 //! A row's life in a map, seeks in all modes, and a scan that is lent.
-use crate::setup::{key_of, tuple_of, value_of};
+use crate::setup::{key_of, tuple_of};
 use key_tuple::{Key, Mode, Value};
 use map_history::{Change, Op, OpRef, Reply, RowBuf, answer, apply, make};
+use sample_rows::value_of;
 use std::alloc::Global;
 use std::collections::BTreeMap;
 use std::test::Fail;

@@ -1,5 +1,5 @@
-//! Keys, tuples and values, or `None` where there is no memory or they are refused.
-use key_tuple::{Key, Tuple, Value};
+//! Keys, tuples and bytes, or `None` where there is no memory or they are refused.
+use key_tuple::{Key, Tuple};
 use std::alloc::Global;
 
 /// The tuple of these fields.
@@ -14,11 +14,6 @@ pub(crate) fn key_of(alloc: Global, parts: &[&[u8]]) -> Option<Key> {
         return None;
     }
     Key::try_new(alloc, fields).ok()
-}
-
-/// The value of these bytes.
-pub(crate) fn value_of(alloc: Global, bytes: &[u8]) -> Option<Value> {
-    Value::try_new(bytes.to_vec(alloc).ok()?).ok()
 }
 
 /// So many bytes.

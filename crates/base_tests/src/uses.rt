@@ -1,6 +1,7 @@
 //! Copies, a buffer that is filled again, and keys in a map.
 use crate::setup::key_of;
-use key_tuple::{FieldBuffer, Fields, Key, Value};
+use key_tuple::{FieldBuffer, Fields, Key};
+use sample_rows::value_of;
 use std::alloc::Global;
 use std::collections::BTreeMap;
 use std::hash::{DefaultHasher, Hash, Hasher};
@@ -28,7 +29,7 @@ fn is_key_copied(alloc: Global) -> Option<bool> {
 }
 
 fn is_value_copied(alloc: Global) -> Option<bool> {
-    let value = Value::try_new(b"xyz".to_vec(alloc).ok()?).ok()?;
+    let value = value_of(alloc, b"xyz")?;
     let copy = value.clone().ok()?;
     Some(copy.as_bytes() == b"xyz".as_slice())
 }

@@ -4,8 +4,9 @@ ghost use Rattle.map_history.specs.declared.TheConstants.{MAX_LANES};
 ghost use Rattle.index_engine.specs.Engines.{indexes_of, IsOf, FitsKey};
 
 use index_engine::{Engine, EnginePass};
-use key_tuple::{Fields, Key, Mode, Value};
+use key_tuple::{Key, Mode};
 use map_history::{Reply, RowBuf, Sizes, Told};
+use sample_rows::{key_of, value_of};
 use std::alloc::Global;
 use std::sync::Wait;
 
@@ -59,39 +60,6 @@ pub(crate) enum Order<'a> {
     Del,
     Get,
     Seek(Mode),
-}
-
-fn bytes_of(alloc: Global, bytes: &[u8]) -> Option<Vec<u8>> {
-    bytes.to_vec(alloc).ok()
-}
-
-fn one_field(alloc: Global, field: Vec<u8>) -> Option<Vec<Vec<u8>>>
-    ensures { IfSome result (λ fields. 0 < length fields.items) }
-{
-    vec![in alloc; field].ok()
-}
-
-fn fields_of(alloc: Global, bytes: &[u8]) -> Option<Vec<Vec<u8>>>
-    ensures { IfSome result (λ fields. 0 < length fields.items) }
-{
-    let field = bytes_of(alloc, bytes)?;
-    one_field(alloc, field)
-}
-
-/// The key of one field.
-pub(crate) fn key_of(alloc: Global, bytes: &[u8]) -> Option<Key>
-    ensures { IfSome result (λ key. length key.tuple ≡ 1) }
-{
-    let fields = fields_of(alloc, bytes)?;
-    match Key::try_new(alloc, fields) {
-        Ok(key) if key.count() == 1 => Some(key),
-        _ => None,
-    }
-}
-
-pub(crate) fn value_of(alloc: Global, bytes: &[u8]) -> Option<Value> {
-    let bytes = bytes_of(alloc, bytes)?;
-    Value::try_new(bytes).ok()
 }
 
 impl<'a> Caller<'a> {

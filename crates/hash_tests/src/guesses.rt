@@ -4,6 +4,7 @@ ghost use Rattle.std.specs.Prelude.{◌<◌, length, IfSome};
 use guess_check::check;
 use index_page::{Body, Page, PageHead};
 use key_tuple::{Fields, Key, Mode, Tuple, Value};
+use sample_rows::value_of;
 use std::alloc::Global;
 
 // The page has (m, 5) and (m, 7), and a page stands before it: each check is of the row (m, 5).
@@ -55,11 +56,6 @@ fn first_alone(alloc: Global) -> Option<Vec<Vec<u8>>> {
     vec![in alloc; first].ok()
 }
 
-fn value_of(alloc: Global) -> Option<Value> {
-    let bytes = bytes_of(alloc, b'v')?;
-    Value::try_new(bytes).ok()
-}
-
 // Puts a row in whose key isn't there.
 fn put(page: &mut Page, key: &Key, value: &Value) -> bool {
     let head = *page.head();
@@ -77,7 +73,7 @@ fn put(page: &mut Page, key: &Key, value: &Value) -> bool {
 // Puts a row in whose key has this digit.
 fn put_digit(alloc: Global, page: &mut Page, digit: u8) -> Option<bool> {
     let key = key_of(alloc, digit)?;
-    let value = value_of(alloc)?;
+    let value = value_of(alloc, b"v")?;
     Some(put(page, &key, &value))
 }
 

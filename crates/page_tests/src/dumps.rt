@@ -5,6 +5,7 @@ use crate::records::OneByte;
 use byte_page::BytePage;
 use index_page::{Body, PageError, PageHead, Place, spots_tell_keys};
 use key_tuple::{Mode, Value};
+use sample_rows::value_of;
 use std::alloc::Global;
 
 /// A line of a dump: where sixteen bytes stand, and which they are.
@@ -124,7 +125,7 @@ fn page_with_row(alloc: Global) -> Option<BytePage>
     ensures { IfSome result (λ form. form.page.head.level ≡ 0) }
 {
     let mut page = page_three(alloc)?;
-    let value = Value::try_new(vec![in alloc; b'x'; 1].ok()?).ok()?;
+    let value = value_of(alloc, b"x")?;
     let place = page
         .insert(&OneByte { bytes: *b"a" }, Body::Value(&value))
         .ok()?;
@@ -166,7 +167,7 @@ pub(crate) fn put(page: &mut BytePage, byte: u8, value: &Value) -> Option<Place>
 /// the dump: the eighth splits the slot of supremum.
 fn page_with_eight(alloc: Global) -> Option<BytePage> {
     let mut page = page_three(alloc)?;
-    let value = Value::try_new(vec![in alloc; b'x'; 1].ok()?).ok()?;
+    let value = value_of(alloc, b"x")?;
     for (byte, place) in EIGHT {
         if put(&mut page, byte, &value)? != place {
             return None;
@@ -195,7 +196,7 @@ fn set_first(page: &mut BytePage, value: &Value) -> Option<Place>
 /// Page 3 with the row, which has another value then, if it stands at this place.
 fn page_with_set_row(alloc: Global, bytes: &[u8], place: Place) -> Option<BytePage> {
     let mut page = page_with_row(alloc)?;
-    let value = Value::try_new(bytes.to_vec(alloc).ok()?).ok()?;
+    let value = value_of(alloc, bytes)?;
     let other = set_first(&mut page, &value)?;
     if other == place { Some(page) } else { None }
 }

@@ -4,7 +4,7 @@ ghost use Rattle.std.specs.Prelude.{◌≡◌, ◌<◌, length, IfSome};
 use crate::dumps::{EIGHT, line_at, offer, page_three, put};
 use byte_page::BytePage;
 use index_page::{PageError, Place};
-use key_tuple::Value;
+use sample_rows::value_of;
 use std::alloc::Global;
 
 /// The bytes of a row with a key of one byte and a value of 2,000.
@@ -13,18 +13,13 @@ const ROW_BYTES: usize = 2009;
 /// Where the slots of these pages begin.
 const SLOTS: usize = 16_370;
 
-/// A value of so many bytes.
-fn value_of(alloc: Global, count: usize) -> Option<Value> {
-    Value::try_new(vec![in alloc; b'x'; count].ok()?).ok()
-}
-
 /// Page 3 with rows of the keys `a` to `h` and values of 2,000 bytes.
 fn page_with_long(alloc: Global) -> Option<BytePage>
     ensures fields { IfSome result (λ form. form.page.head.fields ≡ 1) }
     ensures level { IfSome result (λ form. form.page.head.level ≡ 0) }
 {
     let mut page = page_three(alloc)?;
-    let value = value_of(alloc, 2000)?;
+    let value = value_of(alloc, &[b'x'; 2000])?;
     for (byte, _) in EIGHT {
         put(&mut page, byte, &value)?;
     }
@@ -152,7 +147,7 @@ struct Asked {
 /// A page with eight long rows, and what it says to another one as long.
 fn asked_when_full(alloc: Global) -> Option<Asked> {
     let mut page = page_with_long(alloc)?;
-    let value = value_of(alloc, 2000)?;
+    let value = value_of(alloc, &[b'x'; 2000])?;
     let told = offer(&mut page, b'i', &value)?;
     Some(Asked { page, told })
 }
@@ -161,7 +156,7 @@ fn asked_when_full(alloc: Global) -> Option<Asked> {
 /// byte longer.
 fn asked_when_scattered(alloc: Global) -> Option<Asked> {
     let mut page = page_with_long(alloc)?;
-    let value = value_of(alloc, 2001)?;
+    let value = value_of(alloc, &[b'x'; 2001])?;
     if take_first(&mut page)? != 128 {
         return None;
     }
@@ -172,7 +167,7 @@ fn asked_when_scattered(alloc: Global) -> Option<Asked> {
 /// A page with eight long rows, and what it says where the first one is to have a byte more.
 fn asked_to_set(alloc: Global) -> Option<Asked> {
     let mut page = page_with_long(alloc)?;
-    let value = value_of(alloc, 2001)?;
+    let value = value_of(alloc, &[b'x'; 2001])?;
     let place = page.first()?;
     let told = page.set(place, &value);
     Some(Asked { page, told })

@@ -1,9 +1,8 @@
 //! Worked loads, moves and copies.
-use crate::setup::{
-    charged, entry, has_letters, key_of, lettered, page_of, place_at, put_bytes, take_out, value_of,
-};
+use crate::setup::{charged, entry, has_letters, lettered, page_of, place_at, put_bytes, take_out};
 use index_page::{Body, Page, PageCopy, PageError, Place};
 use key_tuple::{Fields, Key, Value};
+use sample_rows::{key_of, value_of};
 use std::alloc::Global;
 
 /// What a page is charged for a row with a key of one byte and a value of so many.

@@ -2,11 +2,11 @@
 ghost use Rattle.std.specs.Prelude.{◌<◌};
 
 use crate::setup::{
-    entry, has_letters, has_value, key_of, lettered, page_of, place_at, place_of, put_bytes,
-    take_out,
+    entry, has_letters, has_value, lettered, page_of, place_at, place_of, put_bytes, take_out,
 };
 use index_page::{Body, Page, Place, Spot, spots_tell_keys};
 use key_tuple::{Blank, Fields, Key, Mode};
+use sample_rows::key_of;
 use std::alloc::Global;
 use std::marker::Send;
 

@@ -1,9 +1,10 @@
 //! Pages to test, and claims of them. A step that may fail is a function of its own, and so is a claim.
-ghost use Rattle.std.specs.Prelude.{◌≡◌, ◌<◌, [], length, IfSome, IsSome};
+ghost use Rattle.std.specs.Prelude.{◌≡◌, [], IfSome, IsSome};
 ghost use Rattle.index_page.specs.Rows.{find_row};
 
 use index_page::{Body, Page, PageError, PageHead, Place, charge};
 use key_tuple::{Blank, Fields, Key, Mode, Value};
+use sample_rows::{key_of, value_of};
 use std::alloc::Global;
 
 /// A page with no rows, for keys of one field.
@@ -20,33 +21,6 @@ pub(crate) fn page_of(alloc: Global, level: u16) -> Option<Page>
         fields: 1,
     };
     Page::empty(alloc, head).ok()
-}
-
-fn bytes_of(alloc: Global, bytes: &[u8]) -> Option<Vec<u8>> {
-    bytes.to_vec(alloc).ok()
-}
-
-fn one_field(alloc: Global, field: Vec<u8>) -> Option<Vec<Vec<u8>>>
-    ensures { IfSome result (λ fields. 0 < length fields.items) }
-{
-    vec![in alloc; field].ok()
-}
-
-fn fields_of(alloc: Global, bytes: &[u8]) -> Option<Vec<Vec<u8>>>
-    ensures { IfSome result (λ fields. 0 < length fields.items) }
-{
-    let field = bytes_of(alloc, bytes)?;
-    one_field(alloc, field)
-}
-
-pub(crate) fn key_of(alloc: Global, bytes: &[u8]) -> Option<Key> {
-    let fields = fields_of(alloc, bytes)?;
-    Key::try_new(alloc, fields).ok()
-}
-
-pub(crate) fn value_of(alloc: Global, bytes: &[u8]) -> Option<Value> {
-    let bytes = bytes_of(alloc, bytes)?;
-    Value::try_new(bytes).ok()
 }
 
 /// Puts a value's row in, unless its key is there or the page has children.

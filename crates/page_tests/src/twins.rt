@@ -2,10 +2,11 @@
 ghost use Rattle.std.specs.Prelude.{IfSome, IsSome};
 ghost use Rattle.index_page.specs.Rows.{find_row};
 
-use crate::setup::{charged, first, key_of, next, page_of, place_of, put, value_of};
+use crate::setup::{charged, first, next, page_of, place_of, put};
 use byte_page::{ByteCopy, BytePage};
 use index_page::{Body, Gaps, Page, PageError, PageHead, Place};
 use key_tuple::{Fields, Key, Mode, Value};
+use sample_rows::{key_of, value_of};
 use std::alloc::Global;
 
 /// A page in both forms.

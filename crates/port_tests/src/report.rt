@@ -1,35 +1,25 @@
 //! A worked report, byte for byte.
 use change_log::LaneChange;
 use io_port::MemorySink;
-use key_tuple::{Key, Value};
 use map_history::{Counts, How, Line, Note, Op, Reply, RowBuf, Told};
 use report_print::{Halt, put_report};
 use report_text::Texts;
+use sample_rows::{key_of, value_of};
 use std::alloc::Global;
-
-fn key(alloc: Global, field: &[u8]) -> Option<Key> {
-    let field = Vec::from_slice(alloc, field).ok()?;
-    let fields = Vec::from_array(alloc, [field]).ok()?;
-    Key::try_new(alloc, fields).ok()
-}
-
-fn value(alloc: Global, bytes: &[u8]) -> Option<Value> {
-    Value::try_new(Vec::from_slice(alloc, bytes).ok()?).ok()
-}
 
 /// A line that puts a row.
 fn put(alloc: Global, line: u32, field: &[u8], bytes: &[u8]) -> Option<Line> {
     let op = Op::Put {
         index: 0,
-        key: key(alloc, field)?,
-        value: value(alloc, bytes)?,
+        key: key_of(alloc, field)?,
+        value: value_of(alloc, bytes)?,
     };
     Some(Line { line, op })
 }
 
 /// A line that takes it away.
 fn del(alloc: Global, line: u32, field: &[u8]) -> Option<Line> {
-    let key = key(alloc, field)?;
+    let key = key_of(alloc, field)?;
     let op = Op::Del { index: 0, key };
     Some(Line { line, op })
 }

@@ -6,7 +6,6 @@ ghost use Rattle.search_info.specs.Passes.{opening, IsLearnPassOf};
 ghost use Rattle.forest_law.specs.State.{fields_for};
 ghost use Rattle.buffer_pool.specs.Forests.{IsForest};
 
-use crate::keys::key_of;
 use forest_world::{ForestPass, ForestSpace, open_forest};
 use hash_guess::{Cause, Guess, guess};
 use hash_maintain::{give_part_back, try_part};
@@ -14,6 +13,7 @@ use key_tuple::{Key, Mode, Params};
 use latch_space::Take;
 use learning::{Info, is_info_of};
 use map_history::Sizes;
+use sample_rows::key_of;
 use search_info::{LearnPass, Learner};
 use std::alloc::Global;
 

@@ -5,11 +5,11 @@ ghost use Rattle.latch_space.specs.Spaces.{IsPassOf};
 ghost use Rattle.forest_law.specs.State.{fields_for};
 ghost use Rattle.buffer_pool.specs.Forests.{IsForest};
 
-use crate::keys::key_of;
 use buffer_pool::{give_back, give_tree_back, take_tree};
 use forest_world::{ForestPass, ForestSpace, open_forest};
 use key_tuple::{Key, Mode};
 use map_history::Sizes;
+use sample_rows::key_of;
 use std::alloc::Global;
 use std::sync::Wait;
 use tree_descent::descend;

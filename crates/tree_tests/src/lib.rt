@@ -7,8 +7,6 @@ mod guesses;
 #[cfg(test)]
 mod held_tree;
 #[cfg(test)]
-mod keys;
-#[cfg(test)]
 mod opening;
 #[cfg(test)]
 mod pages;

@@ -3,7 +3,6 @@ ghost use Rattle.std.specs.Prelude.{IfSome, IsSome};
 ghost use Rattle.leaf_rows.specs.Changing.{LacksRow, WasPut, HasRowOf};
 ghost use Rattle.leaf_rows.specs.Finding.{HasSpot};
 
-use crate::keys::{key_of, value_of};
 use forest_law::Frame;
 use index_page::{Page, PageHead, Place, Spot};
 use key_tuple::{Fields, Key, Mode, Value};
@@ -11,6 +10,7 @@ use leaf_rows::{
     LeafBefore, delete_row, find_key, grow_value, put_back, put_row, take_back, value_len,
 };
 use learning::BlockFigures;
+use sample_rows::{key_of, value_of};
 use std::alloc::Global;
 
 /// An empty leaf for keys of one field.

@@ -1,33 +1,13 @@
 //! Leaves with a row for each letter, which is its key of one field and its value.
-ghost use Rattle.std.specs.Prelude.{◌≡◌, ◌<◌, length, IfSome, IsSome};
+ghost use Rattle.std.specs.Prelude.{◌≡◌, IfSome, IsSome};
 ghost use Rattle.index_page.specs.Rows.{find_row};
 ghost use Rattle.index_page.specs.Changes.{rows_without};
 
 use hash_upkeep::rows_come_and_go;
 use index_page::{Body, Page, PageHead, Place};
 use key_tuple::{Fields, Key, Mode, Value};
+use sample_rows::{key_of, value_of};
 use std::alloc::Global;
-
-fn bytes_of(alloc: Global, letter: u8) -> Option<Vec<u8>> {
-    vec![in alloc; letter].ok()
-}
-
-fn one_field(alloc: Global, field: Vec<u8>) -> Option<Vec<Vec<u8>>>
-    ensures { IfSome result (λ fields. 0 < length fields.items) }
-{
-    vec![in alloc; field].ok()
-}
-
-fn key_of(alloc: Global, letter: u8) -> Option<Key> {
-    let field = bytes_of(alloc, letter)?;
-    let fields = one_field(alloc, field)?;
-    Key::try_new(alloc, fields).ok()
-}
-
-fn value_of(alloc: Global, letter: u8) -> Option<Value> {
-    let bytes = bytes_of(alloc, letter)?;
-    Value::try_new(bytes).ok()
-}
 
 /// Puts a row in whose key isn't there.
 fn put(page: &mut Page, key: &Key, value: &Value) -> Option<Place>
@@ -54,7 +34,7 @@ pub(crate) fn put_letter(alloc: Global, page: &mut Page, letter: u8) -> Option<P
     ensures there { IfSome result (λ place. IsSome (find_row place page.new.rows)) }
     ensures head { IfSome result (λ place. page.new.head ≡ page.old.head) }
 {
-    match (key_of(alloc, letter), value_of(alloc, letter)) {
+    match (key_of(alloc, &[letter]), value_of(alloc, &[letter])) {
         (Some(key), Some(value)) => put(page, &key, &value),
         _ => None,
     }
