@@ -58,8 +58,8 @@ fn says_all(alloc: Global, map: &mut BTreeMap<Key, Value>, out: &mut RowBuf) -> 
         ("get", b"", Reply::Absent, b"y"),
         ("set", b"z", Reply::Absent, b"y"),
     ];
-    for line in table {
-        if !says(alloc, map, out, line) {
+    for line in table.iter() {
+        if !says(alloc, map, out, *line) {
             return false;
         }
     }
@@ -95,8 +95,8 @@ fn put_four(alloc: Global, map: &mut BTreeMap<Key, Value>) -> bool {
         (b"y", b"1", b"r"),
         (b"x", b"2", b"q"),
     ];
-    for row in rows {
-        if !put_row(alloc, map, row) {
+    for row in rows.iter() {
+        if !put_row(alloc, map, *row) {
             return false;
         }
     }
@@ -142,8 +142,8 @@ fn finds_all(alloc: Global, map: &mut BTreeMap<Key, Value>, out: &mut RowBuf) ->
         (Mode::L, &[b"a", b"y"], b"q"),
         (Mode::L, &[b"a"], b""),
     ];
-    for line in table {
-        if !finds(alloc, map, out, line) {
+    for line in table.iter() {
+        if !finds(alloc, map, out, *line) {
             return false;
         }
     }

@@ -62,9 +62,9 @@ pub(crate) const EIGHT: [(u8, Place); 8] = [
 
 /// The sixteen bytes at a place of the dump.
 pub(crate) fn line_at(at: usize) -> [u8; 16] {
-    for (start, bytes) in LINES {
-        if start == at {
-            return bytes;
+    for (start, bytes) in LINES.iter() {
+        if *start == at {
+            return *bytes;
         }
     }
     [0; 16]
@@ -72,9 +72,9 @@ pub(crate) fn line_at(at: usize) -> [u8; 16] {
 
 /// The sixteen bytes at a place of the dump with the row.
 fn row_line_at(at: usize) -> [u8; 16] {
-    for (start, bytes) in ROW_LINES {
-        if start == at {
-            return bytes;
+    for (start, bytes) in ROW_LINES.iter() {
+        if *start == at {
+            return *bytes;
         }
     }
     if at == 0x0080 {
@@ -83,20 +83,15 @@ fn row_line_at(at: usize) -> [u8; 16] {
     line_at(at)
 }
 
-/// The bytes are those of the dump.
-fn is_dump(bytes: &[u8]) -> bool {
+/// The bytes are those of the dump, with the row or without it.
+fn is_dump(bytes: &[u8], with_row: bool) -> bool {
     for (i, line) in bytes.chunks(16).enumerate() {
-        if line != line_at(16 * i).as_slice() {
-            return false;
-        }
-    }
-    true
-}
-
-/// The bytes are those of the dump with the row.
-fn is_row_dump(bytes: &[u8]) -> bool {
-    for (i, line) in bytes.chunks(16).enumerate() {
-        if line != row_line_at(16 * i).as_slice() {
+        let wanted = if with_row {
+            row_line_at(16 * i)
+        } else {
+            line_at(16 * i)
+        };
+        if line != wanted.as_slice() {
             return false;
         }
     }
@@ -168,8 +163,8 @@ pub(crate) fn put(page: &mut BytePage, byte: u8, value: &Value) -> Option<Place>
 fn page_with_eight(alloc: Global) -> Option<BytePage> {
     let mut page = page_three(alloc)?;
     let value = value_of(alloc, b"x")?;
-    for (byte, place) in EIGHT {
-        if put(&mut page, byte, &value)? != place {
+    for (byte, place) in EIGHT.iter() {
+        if put(&mut page, *byte, &value)? != *place {
             return None;
         }
     }
@@ -223,13 +218,13 @@ fn has_shorter(bytes: &[u8]) -> bool
 
 #[test]
 fn a_page_without_rows_has_the_bytes_of_the_dump(rt: HostRuntime) {
-    let same = page_three(rt.alloc()).map_or(false, |page| is_dump(page.bytes()));
+    let same = page_three(rt.alloc()).map_or(false, |page| is_dump(page.bytes(), false));
     assert!(rt; same);
 }
 
 #[test]
 fn a_page_with_a_row_has_the_bytes_of_the_dump(rt: HostRuntime) {
-    let same = page_with_row(rt.alloc()).map_or(false, |page| is_row_dump(page.bytes()));
+    let same = page_with_row(rt.alloc()).map_or(false, |page| is_dump(page.bytes(), true));
     assert!(rt; same);
 }
 

@@ -20,8 +20,8 @@ fn page_with_long(alloc: Global) -> Option<BytePage>
 {
     let mut page = page_three(alloc)?;
     let value = value_of(alloc, &[b'x'; 2000])?;
-    for (byte, _) in EIGHT {
-        put(&mut page, byte, &value)?;
+    for (byte, _) in EIGHT.iter() {
+        put(&mut page, *byte, &value)?;
     }
     Some(page)
 }

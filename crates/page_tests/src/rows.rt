@@ -47,25 +47,40 @@ fn three_texts(alloc: Global) -> Option<Page> {
     filled.then_some(page)
 }
 
+/// The places of the rows of `ba`, `bc` and `d`.
+const BA: Option<Place> = Some(2);
+
+const BC: Option<Place> = Some(0);
+
+const D: Option<Place> = Some(1);
+
+/// A text, a mode, and where that cuts these rows.
+const CUTS: [(&[u8], Mode, Cut); 8] = [
+    (b"b", Mode::Ge, ((None, 0, 0), (BA, 0, 1))),
+    (b"bb", Mode::G, ((BA, 0, 1), (BC, 0, 1))),
+    (b"bc", Mode::Ge, ((BA, 0, 1), (BC, 1, 0))),
+    (b"bc", Mode::G, ((BC, 1, 0), (D, 0, 0))),
+    (b"bc", Mode::Le, ((BC, 1, 0), (D, 0, 0))),
+    (b"bc", Mode::L, ((BA, 0, 1), (BC, 1, 0))),
+    (b"d", Mode::Le, ((D, 1, 0), (None, 0, 0))),
+    (b"e", Mode::Ge, ((D, 0, 0), (None, 0, 0))),
+];
+
+/// The place of the first of these that cuts otherwise.
+fn other_cut(alloc: Global, page: &Page) -> Option<usize> {
+    for (place, (text, mode, cut)) in CUTS.iter().enumerate() {
+        if cut_at(alloc, page, text, *mode) != Some(*cut) {
+            return Some(place);
+        }
+    }
+    None
+}
+
 #[test]
 fn spots_are_where_the_modes_cut(rt: HostRuntime) {
-    let alloc = rt.alloc();
-    let page = three_texts(alloc).expect(&rt, "a page");
-    let (ba, bc, d) = (Some(2), Some(0), Some(1));
-    let table: [(&[u8], Mode, Cut); 8] = [
-        (b"b", Mode::Ge, ((None, 0, 0), (ba, 0, 1))),
-        (b"bb", Mode::G, ((ba, 0, 1), (bc, 0, 1))),
-        (b"bc", Mode::Ge, ((ba, 0, 1), (bc, 1, 0))),
-        (b"bc", Mode::G, ((bc, 1, 0), (d, 0, 0))),
-        (b"bc", Mode::Le, ((bc, 1, 0), (d, 0, 0))),
-        (b"bc", Mode::L, ((ba, 0, 1), (bc, 1, 0))),
-        (b"d", Mode::Le, ((d, 1, 0), (None, 0, 0))),
-        (b"e", Mode::Ge, ((d, 0, 0), (None, 0, 0))),
-    ];
-    for (text, mode, cut) in table {
-        assert!(rt; cut_at(alloc, &page, text, mode) == Some(cut));
-    }
-    assert!(rt; ends(&page) == (ba, d));
+    let page = three_texts(rt.alloc()).expect(&rt, "a page");
+    assert_eq!(rt; other_cut(rt.alloc(), &page), None);
+    assert!(rt; ends(&page) == (BA, D));
 }
 
 fn sent<T: Send>(value: T) -> T {

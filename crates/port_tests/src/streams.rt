@@ -11,20 +11,26 @@ const TEXT: &[u8] = b"0123456789";
 /// A put of so many bytes goes past the block, to the writer itself, until less than a block is left.
 const LONG: usize = 65_546;
 
+/// The read that fails, the limit, how the reading ends, and the reads that were made.
+const READINGS: [(u32, u64, Result<(), ShelfError>, u32); 3] = [
+    (99, 10, Ok(()), 5),
+    (2, 10, Err(ShelfError::Failed), 2),
+    (4, 5, Err(ShelfError::TooLong(5)), 2),
+];
+
+/// The place of the first of these that ends otherwise.
+fn other_reading(alloc: Global) -> Option<usize> {
+    for (place, (fail_from, limit, end, reads)) in READINGS.iter().enumerate() {
+        if !reads_as(alloc, *fail_from, *limit, *end, *reads) {
+            return Some(place);
+        }
+    }
+    None
+}
+
 #[test]
 fn a_reader_is_read_to_its_end_or_fails(rt: HostRuntime) {
-    let rows = [
-        // the read that fails, the limit, how the reading ends, the reads that were made
-        (99, 10, Ok(()), 5),
-        (2, 10, Err(ShelfError::Failed), 2),
-        (4, 5, Err(ShelfError::TooLong(5)), 2),
-    ];
-    for (fail_from, limit, end, reads) in rows {
-        assert!(rt;
-            reads_as(rt.alloc(), fail_from, limit, end, reads),
-            "from {fail_from} on"
-        );
-    }
+    assert_eq!(rt; other_reading(rt.alloc()), None);
 }
 
 #[test]
@@ -33,19 +39,27 @@ fn a_writer_takes_all_or_fails(rt: HostRuntime) {
     assert!(rt; takes(rt.alloc(), 7, false, 7));
 }
 
+/// The room of the writer, the puts of ten bytes, whether they are taken, and what it has then.
+const BLOCKS: [(usize, u32, bool, Option<usize>); 4] = [
+    (0, 6_553, true, None),
+    (0, 6_554, false, None),
+    (65_530, 6_554, true, None),
+    (65_540, 6_554, true, Some(65_540)),
+];
+
+/// The place of the first of these that comes otherwise.
+fn other_block(alloc: Global) -> Option<usize> {
+    for (place, (room, puts, is_put, taken)) in BLOCKS.iter().enumerate() {
+        if put_and_finish(alloc, *room, *puts) != Some((*is_put, *taken)) {
+            return Some(place);
+        }
+    }
+    None
+}
+
 #[test]
 fn the_output_is_written_in_blocks(rt: HostRuntime) {
-    let rows = [
-        // the room of the writer, the puts of ten bytes, whether they are taken, what it has then
-        (0, 6_553, true, None),
-        (0, 6_554, false, None),
-        (65_530, 6_554, true, None),
-        (65_540, 6_554, true, Some(65_540)),
-    ];
-    for (room, puts, is_put, taken) in rows {
-        let found = put_and_finish(rt.alloc(), room, puts);
-        assert!(rt; found == Some((is_put, taken)), "{puts} puts into {room}");
-    }
+    assert_eq!(rt; other_block(rt.alloc()), None);
 }
 
 fn reads_as(

@@ -126,9 +126,9 @@ const LIES: [(&str, Edits, Lie); 17] = [
 
 /// The name of the first lie that isn't refused as what it is.
 fn other_lie(alloc: Global) -> Option<&'static str> {
-    for (name, edits, lie) in LIES {
-        if judge_edited(alloc, edits) != Some(Err(lie)) {
-            return Some(name);
+    for (name, edits, lie) in LIES.iter() {
+        if judge_edited(alloc, edits) != Some(Err(*lie)) {
+            return Some(*name);
         }
     }
     None
