@@ -1,4 +1,4 @@
-use Rattle.std.proofs.Common.{[], replicate, refl}
+use Rattle.std.proofs.Common.{◌≡◌, ◌+◌, ◌∙◌, None, [], replicate, refl, add-one, arith}
 use Rattle.index_page.specs.Rows.{Child, placed_row}
 use Rattle.tree_restructure.proofs.RootLemmas.{only_row, blank_begins}
 use Rattle.tree_restructure.proofs.raise.one_pointer.Goals as goal
@@ -12,3 +12,12 @@ returns-in-Ok-clause-one c = let n = c.args.head.now.fields in
       child_is = refl;
       first = blank_begins n;
     }
+
+pub insert-requires-clause-body : goal.insert-requires-clause-body
+insert-requires-clause-body c none =
+    let level : c.in_ok-top.top.head.level ≡ c.args.head.now.level + 1 = (λ i. (c.in_ok-top.ensures.head i).level) in omega (arith, level, none)
+
+pub returns-in-Ok-clause-head : goal.returns-in-Ok-clause-head
+returns-in-Ok-clause-head c =
+    let head = c.args.head.now in
+    c.in-Ok.ensures.ok.head ∙ c.in_ok-top.ensures.head ∙ (λ i. record head { level = add-one head.level i; prev = None; next = None })
