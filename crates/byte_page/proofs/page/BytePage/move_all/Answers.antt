@@ -26,3 +26,6 @@ returns-clause-garbage c =
     let can = all_may_go c.args.self.now c.args.to.now c.use_all-again.new.self c.use_all-again.result c.first.result c.use_all-again.ensures.stays c.use_all-again.ensures.garbage c.requires.level
     c.requires.fields c.requires.ascend c.requires.fits c.first.ensures in
     (c.append_rows.ensures [] c.args.self.now.page.rows can).tight
+
+pub returns-clause-told : goal.returns-clause-told
+returns-clause-told c = c.use_all-again.ensures.told
