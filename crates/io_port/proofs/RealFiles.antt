@@ -13,6 +13,13 @@ pub IsFileOf-untold : (result : Result (Vec ℕ Global) ShelfError) (name : List
 IsFileOf-untold (Ok bytes) name = λ files told. cc
 IsFileOf-untold (Err e) name = tt
 
+-- what holds whatever a load gave
+pub OnFailed-always : {T P : Type 0} → (result : Result T ShelfError) → P → OnFailed result P
+OnFailed-always (Ok x) p = tt
+OnFailed-always (Err Failed) p = p
+OnFailed-always (Err (TooLong n)) p = tt
+OnFailed-always (Err NoMemory) p = tt
+
 -- what follows after a load that failed
 pub OnFailed-map : {T P Q : Type 0} → (P → Q) → (result : Result T ShelfError) → OnFailed result P → OnFailed result Q
 OnFailed-map f (Ok x) p = tt

@@ -14,3 +14,6 @@ writes-preserved g c =
       taken = rw (take-add done c.in-Some.taken bytes) (rw rest at more);
       within = omega (arith, c.in-Some.ensures.bound, length-drop done bytes);
     }
+
+pub returns-clause-ok : goal.returns-clause-ok
+returns-clause-ok g c = rw (take_all c.writes.done c.args.bytes.now c.writes-test.false) at c.writes.invariant.taken
