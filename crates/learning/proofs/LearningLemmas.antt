@@ -1,5 +1,5 @@
 -- What learning keeps.
-use Rattle.std.proofs.Common.{◌≡◌, ℕ, ◌+◌, ◌<◌, ◌≤◌, Bool, true, false, not, ◌&&◌, ◌||◌, ◌==◌, cond, nat_lt, nat_le, List, [], ◌∷◌, length, refl, ◌∙◌, sym, subst, ◌⊎◌, inl, inr, arith}
+use Rattle.std.proofs.Common.{◌≡◌, ℕ, ◌+◌, ◌*◌, ◌/◌, ◌<◌, ◌≤◌, Bool, true, false, not, is_none, ◌&&◌, ◌||◌, ◌==◌, cond, nat_lt, nat_le, List, [], ◌∷◌, length, refl, ◌∙◌, sym, subst, ◌⊎◌, inl, inr, arith}
 use Rattle.std.proofs.lemmas.Bool.Decides.{nat_tests}
 use Rattle.std.specs.Ordering.{nat_cmp, ordering_then, is_le}
 use Rattle.std.specs.declared.cmp.Ordering.{Ordering}
@@ -11,10 +11,12 @@ use Rattle.learning.specs.declared.info.Info.{Info}
 use Rattle.learning.specs.declared.event.Descent.{Descent}
 use Rattle.learning.specs.declared.event.Event.{Event}
 use Rattle.learning.specs.declared.event.Event.TheVariants.{Hit, Miss, Descent as Down}
+use Rattle.learning.specs.declared.event.BlockFigures.{BlockFigures}
 use Rattle.learning.specs.declared.event.Figures.{Figures}
 use Rattle.key_tuple.specs.Fold.{asked_fields}
 use Rattle.learning.specs.Bounds.{IsInfoOf, AreFiguresOf, IsDescentOf, IsEventOf}
-use Rattle.learning.specs.Learning.{learn, learn_descent, is_early, waiting, reviewed, info_after, one_more}
+use Rattle.learning.specs.BuildRule.{is_worth_building}
+use Rattle.learning.specs.Learning.{is_hashed_with, learn, learn_block, advised, has_helped, learn_descent, is_early, waiting, reviewed, info_after, one_more}
 use Rattle.learning.specs.Recommendation.{extent_cmp, recommendation, recommendation_by, parting, promise, promise_by, stands_after, confirms}
 
 -- a fact of both values of a choice
@@ -179,3 +181,16 @@ confirmed unique f some = cases (extent_cmp f.up f.low) refl some
     cases Equal e h = absurd (omega arith)
     cases Greater e h = parted_after unique f (extent_greater f.up f.low e)
     cases Less e h = parted_before unique f (extent_less f.up f.low e)
+
+-- what a descent leaves of its block where the advice wouldn't have helped
+pub block_advised : (info wait new : Info) (d : Descent) → wait ≡ waiting info → new ≡ reviewed wait d → false ≡ is_early info → false ≡ has_helped new d.block
+    → record d.block { helps = 1; advice = new.params } ≡ learn_block info d
+block_advised info wait new d w n early helped =
+    let new_is : new ≡ reviewed (waiting info) d = n ∙ (λ k. reviewed (w k) d) in
+    (λ k. cond (helped k) (record d.block { helps = one_more 4294967295 d.block.helps }) (record d.block { helps = 1; advice = new.params }))
+    ∙ (λ k. cond (early k) d.block (advised (new_is k) d.block))
+
+-- whether a block is worth building, where it has helped often enough and the index promises enough
+pub worth_of_promise : (info : Info) (block : BlockFigures) (rows : ℕ) → rows / 16 < block.helps → 100 ≤ info.potential
+    → (is_none block.built || nat_lt (2 * rows) block.helps || not (is_hashed_with block.advice block.built)) ≡ is_worth_building info block rows
+worth_of_promise info block rows often enough = grind (arith, nat_tests)

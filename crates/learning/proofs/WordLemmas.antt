@@ -1,11 +1,18 @@
 -- A word tells its fields.
-use Rattle.std.proofs.Common.{◌≡◌, ◌≤◌, Bool, true, false, refl, arith}
+use Rattle.std.proofs.Common.{◌≡◌, ℕ, zero, suc, ◌<◌, ◌≤◌, Bool, true, false, ◌==◌, refl, arith}
 use Rattle.learning.specs.declared.info.Info.{Info}
 use Rattle.learning.specs.Word.{bit_of, word_of, FitsWord}
 
-bit_below : (b : Bool) → bit_of b ≤ 1
+-- a bit is at most 1
+pub bit_below : (b : Bool) → bit_of b ≤ 1
 bit_below true = omega arith
 bit_below false = omega arith
+
+-- the bit of a number's test for 1 is the number, where that is a bit
+pub bit_of_test : (n : ℕ) → n < 2 → bit_of (n == 1) ≡ n
+bit_of_test zero h = refl
+bit_of_test (suc zero) h = refl
+bit_of_test (suc (suc n)) h = absurd (omega arith)
 
 bit_tells : (a b : Bool) → bit_of a ≡ bit_of b → a ≡ b
 bit_tells true true e = refl
@@ -36,6 +43,10 @@ fields_told i j f g e =
       events = omega (arith, e);
     }
 
-pub word_tells : (i j : Info) → FitsWord i → FitsWord j → word_of i ≡ word_of j → i ≡ j
-word_tells i j f g e = let t = fields_told i j f g e in let last : i.last ≡ j.last = bit_tells i.last j.last t.last in let left : i.params.left ≡ j.params.left = bit_tells i.params.left j.params.left t.left in
+-- two infos with the same fields are one
+pub same_info : (i j : Info) → Told i j → i ≡ j
+same_info i j t = let last : i.last ≡ j.last = bit_tells i.last j.last t.last in let left : i.params.left ≡ j.params.left = bit_tells i.params.left j.params.left t.left in
     λ k. record { analysis = t.analysis k; potential = t.potential k; params = record { fields = t.fields k; bytes = t.bytes k; left = left k }; last = last k; events = t.events k }
+
+pub word_tells : (i j : Info) → FitsWord i → FitsWord j → word_of i ≡ word_of j → i ≡ j
+word_tells i j f g e = same_info i j (fields_told i j f g e)
