@@ -1,6 +1,8 @@
 use Rattle.std.proofs.Common.{◌≡◌, ◌<◌, ap, ◌∙◌, sym, subst, length, refl, List}
 use mathlib.Core.Option.{some}
 use lib.ListN.{get_elem?}
+use Rattle.learning.specs.declared.info.Info.{Info}
+use Rattle.learning.specs.Learning.{learn}
 use Rattle.learning.specs.Word.{FitsWord, word_of}
 use Rattle.learning.proofs.LearningLemmas.{learn_bounded}
 use Rattle.search_info.specs.declared.knows.Opening.{Opening}
@@ -26,3 +28,18 @@ returns-else-found-word-clause-did c = let r = c.requires.read in let v = c.args
     let there = unpacked_word v c.exchange_at-found.new.seat.me.0 c.args.index r.start r.list c.args.event.now c.unpack.result c.exchange_at-found.result r.is_start
     (c.exchange_at-found.ensures.missed r.start r.list r.is_start r.is_seen c.if-found-word.false) c.unpack.ensures in
     (refl, (λ e. c.if-found-word.false (sym there ∙ (ap word_of (sym e) ∙ (ap word_of r.before_is ∙ sym r.word_is)))), late)
+
+pub exchange_at-found-requires-clause-rule : goal.exchange_at-found-requires-clause-rule
+exchange_at-found-requires-clause-rule c = let r = c.requires.read in record {
+  start = r.start;
+  is_start = r.is_start;
+  list = r.list;
+  is_seen = r.is_seen;
+  old_is = r.word_is;
+  fair = r.fair;
+  new_is = c.pack-new.ensures ∙ ap word_of (c.learn-after.ensures ∙ ap (λ (info : Info). learn info c.args.event.now) r.before_is);
+  room = subst (λ (info : Info). info.events < 4294967295) r.before_is r.room;
+}
+
+pub returns-then-found-word-clause-did : goal.returns-then-found-word-clause-did
+returns-then-found-word-clause-did c = (refl, c.learn-after.ensures, c.should_build-build.ensures, λ xs seen. c.exchange_at-found.ensures.hit xs seen c.if-found-word.true)
