@@ -1,4 +1,5 @@
-use Rattle.std.proofs.Common.{◌≡◌, ℕ, Option, ap, ◌∙◌, sym, length}
+use Rattle.std.proofs.Common.{◌≡◌, ℕ, Option, ap, ◌∙◌, sym, length, refl}
+use Rattle.list_facts.proofs.Outcomes.{when_err}
 use Rattle.column_counts.specs.Places.{how_place, note_place, raised_at}
 use Rattle.column_counts.proofs.PlaceLemmas.{raised_long, raised_both}
 use Rattle.column_counts.proofs.counting.count_told.Goals as goal
@@ -12,3 +13,6 @@ returns-clause-ok c =
     let places : raised_at c.note_place.result c.raise.new.numbers ≡ raised_at (note_place c.args.note) (raised_at (how_place c.args.how) numbers) = (λ i. raised_at (c.note_place.ensures i) ((first ∙ ap (λ (p : Option ℕ). raised_at p numbers) c.how_place.ensures) i)) in
     let all = second ∙ (places ∙ raised_both c.args.how c.args.note numbers long) in
     λ i. record { numbers = all i }
+
+pub returns-in_err-raise-2-clause-err : goal.returns-in_err-raise-2-clause-err
+returns-in_err-raise-2-clause-err c = when_err c.from_residual-in_err-raise-2.result refl
