@@ -1,4 +1,4 @@
-use Rattle.std.proofs.Common.{◌≡◌, ◌∙◌, ℕ, Some, ap, subst}
+use Rattle.std.proofs.Common.{◌∙◌, ℕ, Some, ap, subst}
 use Rattle.clock_law.specs.ModifyClock.{ClockRises}
 use Rattle.forest_law.specs.declared.objects.Frame.{Frame}
 use Rattle.forest_law.specs.State.{bound}
