@@ -139,6 +139,10 @@ workable_seen engine pass line own can =
 pub lines_more : (lines : List Line) (i : ℕ) (d : Line) → i < length lines → line_texts (take (i + 1) lines) ≡ line_texts (take i lines) ++ line_text (get_or lines i d) ∷ []
 lines_more lines i d below = ap line_texts (take_more lines i d below) ∙ map-append line_text (take i lines) (get_or lines i d ∷ [])
 
+-- a pass is the same before and after no call
+pub same_none : (p : EnginePass) → IsSame p p
+same_none p = record { pass = (refl, refl); learn = (refl, refl); sizes = refl }
+
 -- the same pass before and after two calls
 pub same_more : (p q r : EnginePass) → IsSame p q → IsSame q r → IsSame p r
 same_more p q r a b = record { pass = (b.pass.0 ∙ a.pass.0, b.pass.1 ∙ a.pass.1); learn = (b.learn.0 ∙ a.learn.0, b.learn.1 ∙ a.learn.1); sizes = b.sizes ∙ a.sizes }

@@ -1,14 +1,14 @@
-use Rattle.std.proofs.Common.{◌≡◌, ◌∙◌, ◌+◌, ◌∷◌, [], ◌++◌, ap, sym, subst, refl, arith, length, length-append, take}
+use Rattle.std.proofs.Common.{◌≡◌, ◌∙◌, ◌+◌, ◌∷◌, [], ◌++◌, ap, sym, subst, arith, length, length-append, take}
 use Rattle.map_history.specs.Lines.{line_text, line_texts}
 use Rattle.index_engine.specs.Engines.{known, indexes_of}
 use Rattle.lane_work.specs.Workable.{IsWorkable}
 use Rattle.lane_work.specs.Works.{Works, told_notes}
-use Rattle.lane_work.proofs.LaneLemmas.{works_none, works_more, workable_at, workable_plain, workable_below, workable_seen, lines_more, same_more, note_fits}
+use Rattle.lane_work.proofs.LaneLemmas.{works_none, works_more, workable_at, workable_plain, workable_below, workable_seen, lines_more, same_none, same_more, note_fits}
 use Rattle.lane_work.proofs.lane.work_lane.Goals as goal
 
 pub loop-line-init : goal.loop-line-init
 loop-line-init g c = let work = c.in_ok-work.work in record {
-  same = record { pass = (refl, refl); learn = (refl, refl); sizes = refl };
+  same = same_none c.args.pass.now;
   own = c.requires.own;
   works = works_none c.args.pass.now work.answers work.log work.counts.items c.args.indexes c.in_ok-work.ensures.answers c.in_ok-work.ensures.log.0 (c.requires.indexes ∙ sym (ap (λ t. t.indexes) c.requires.own.0.1)) c.in_ok-work.ensures.counts;
   room = c.in_ok-work.ensures.log.1;

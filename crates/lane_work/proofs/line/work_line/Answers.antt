@@ -25,3 +25,10 @@ returns-in-Set-clause-ok g c =
     (operation_of o).ask told c.args.row.now)) (sym c.in-Set.is)
     (result_shows_no_row c.set.result v w c.in-Set.index c.in-Set.key.tuple c.in-Set.value
     (map.Set c.in-Set.key.tuple c.in-Set.value) (lent_row None) c.args.row.now c.set.ensures.ok)
+
+pub returns-in-Seek-clause-ok : goal.returns-in-Seek-clause-ok
+returns-in-Seek-clause-ok g c =
+    let v = known c.args.pass.now in
+    let w = known c.seek.new.pass in
+    subst (λ (o : Op). TellsOnce v w (operation_of o).index (operation_of o).ask c.seek.result
+    c.seek.new.out) (sym c.in-Seek.is) c.seek.ensures.told.tells
