@@ -34,6 +34,9 @@ returns-then-at-level-clause-rests g c e =
     rests_below c.walk_above-at.ensures.reaches c.if-at-level.true
     (c.walk_above-at.ensures.root c.if-at-level.true) c.give_back.ensures.gave
 
+pub returns-then-branch-clause-rests : goal.returns-then-branch-clause-rests
+returns-then-branch-clause-rests g c e = cc
+
 pub returns-then-branch-clause-freed : goal.returns-then-branch-clause-freed
 returns-then-branch-clause-freed g c above e =
     frees_one c.walk_above-at.ensures.reaches c.give_back-2.ensures.gave
