@@ -4,6 +4,17 @@ use Rattle.hash_guess.specs.Guesses.{LearnsIf}
 use Rattle.hash_guess.proofs.GuessLemmas.{misses_keep}
 use Rattle.hash_guess.proofs.guessing.guess.Goals as goal
 
+pub returns-in-Ok-clause-did : goal.returns-in-Ok-clause-did
+returns-in-Ok-clause-did g c = record {
+  info = c.recommend-info.result;
+  hits = c.in-Ok.ensures.ok;
+  learns = record {
+    read = knowledge c.recommend-info.new.pass;
+    recommends = c.recommend-info.ensures.did;
+    tells = c.after_hit.ensures.did;
+  };
+}
+
 pub returns-then-is_miss-clause-did : goal.returns-then-is_miss-clause-did
 returns-then-is_miss-clause-did g c = let told = c.in-Err.ensures.err in record {
   keeps = misses_keep c.args.pass.now c.find_named-told.new.pass c.requires.known c.args.index
