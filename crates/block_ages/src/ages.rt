@@ -13,7 +13,7 @@ const RUN: usize = 64;
 
 /// The age of each block: the tick at which it was last used. The lowest age of each run of blocks is
 /// kept beside them, so that the block of the lowest age is found in two short passes.
-#[derive(Debug, Drop)]
+#[derive(Drop)]
 pub struct Ages {
     ages: Vec<u64>,
     lows: Vec<u64>,

@@ -20,7 +20,7 @@ use std::marker::Model;
 /// A page of an index that is its bytes, seen as the head and the rows that they spell, each at the
 /// place where its key begins, where it has bytes for a record, how many are in no use, and how
 /// many records each slot has.
-#[derive(Debug, Drop)]
+#[derive(Drop)]
 pub struct BytePage {
     pub(crate) bytes: Vec<u8>,
     pub(crate) fields: u8,

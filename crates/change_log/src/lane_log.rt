@@ -6,7 +6,7 @@ use std::marker::Model;
 
 /// The changes of one lane, of all indexes, in the order in which they were noted. A contract sees
 /// the list `noted`, and as `room` how many it was reserved for.
-#[derive(Debug, Drop)]
+#[derive(Drop)]
 pub struct LaneLog<'a> {
     noted: Vec<LaneChange<'a>>,
 }

@@ -12,7 +12,7 @@ use key_tuple::Fields;
 use std::marker::Model;
 
 /// A record where it stands in a page. Its fields are those of its key, lent from the page.
-#[derive(Debug, Drop)]
+#[derive(Drop)]
 pub struct RecordRef<'a> {
     page: &'a [u8],
     place: u16,

@@ -12,7 +12,7 @@ use std::marker::Model;
 /// How many indexes, pages, blocks and partitions there are. It is fixed for good, and it alone
 /// knows which number an object has: the pool first, then the trees, then the partitions, then the
 /// frames.
-#[derive(Debug, Drop)]
+#[derive(Drop)]
 pub struct ForestLayout {
     pub(crate) indexes: u32,
     pub(crate) fields: Vec<u8>,

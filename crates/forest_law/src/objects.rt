@@ -35,7 +35,7 @@ impl Frame {
 }
 
 /// Where a page is.
-#[derive(Debug, Drop, Clone, Copy)]
+#[derive(Drop, Clone, Copy)]
 pub enum Where {
     /// No page has the number.
     Free,
@@ -70,7 +70,7 @@ pub struct Pool {
 }
 
 /// The tree of an index.
-#[derive(Debug, Drop, Clone, Copy)]
+#[derive(Drop, Clone, Copy)]
 pub struct Tree {
     /// The index.
     pub index: u32,

@@ -5,7 +5,7 @@ ghost use Rattle.hash_guess.specs.Causes.{is_miss};
 use index_page::Place;
 
 /// Why a guess leads nowhere.
-#[derive(Debug, Clone, Copy, PartialEq, Eq)]
+#[derive(Clone, Copy, PartialEq, Eq)]
 pub enum Cause {
     /// What the index has learnt promises nothing.
     Cold,

@@ -5,7 +5,7 @@ ghost use Rattle.hash_upkeep.specs.Build.{built_after};
 use key_tuple::Params;
 
 /// What a build came to.
-#[derive(Debug, Clone, Copy, PartialEq, Eq)]
+#[derive(Clone, Copy, PartialEq, Eq)]
 pub enum Build {
     /// So many entries were entered.
     Built { nodes: u32 },

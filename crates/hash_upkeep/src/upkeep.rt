@@ -17,7 +17,7 @@ use hash_partition::Partition;
 use index_page::Page;
 
 /// Whether a partition kept up with a change of rows.
-#[derive(Debug, Clone, Copy, PartialEq, Eq)]
+#[derive(Clone, Copy, PartialEq, Eq)]
 pub enum Upkeep {
     /// Its nodes are those of the rows as they are now.
     Kept,

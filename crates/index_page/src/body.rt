@@ -7,7 +7,7 @@ ghost use Rattle.index_page.specs.Store.{beside_by};
 use key_tuple::Value;
 
 /// What a new row is to carry, borrowed.
-#[derive(Debug, Clone, Copy)]
+#[derive(Clone, Copy)]
 pub enum Body<'a> {
     /// On level 0: a value.
     Value(&'a Value),

@@ -6,7 +6,7 @@ use std::alloc::{AllocError, Global};
 
 /// The heads of rows in their order. They only tell where a search looks first: what it finds never
 /// depends on them, so no clause speaks of them.
-#[derive(Debug, Drop)]
+#[derive(Drop)]
 pub(crate) struct Heads {
     heads: Vec<u64>,
 }

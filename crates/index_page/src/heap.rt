@@ -19,7 +19,7 @@ use std::marker::Model;
 
 /// Rows in an order that its caller gives them, each at a place that stays. Seen as the list of
 /// them.
-#[derive(Debug, Drop)]
+#[derive(Drop)]
 pub(crate) struct Heap {
     alloc: Global,
     slots: Records,

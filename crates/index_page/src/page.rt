@@ -14,7 +14,7 @@ use std::marker::Model;
 
 /// A page of an index, seen as its head and its rows by ascending keys, each at a place that stays
 /// until the row is deleted.
-#[derive(Debug, Drop)]
+#[derive(Drop)]
 pub struct Page {
     pub(crate) head: PageHead,
     pub(crate) rows: Heap,

@@ -9,7 +9,7 @@ use std::marker::Model;
 
 /// The places of rows in their order, and the vacant ones. A place becomes vacant without new
 /// memory.
-#[derive(Debug, Drop)]
+#[derive(Drop)]
 pub(crate) struct Places {
     live: Vec<Place>,
     free: Vec<Place>,

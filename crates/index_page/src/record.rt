@@ -13,7 +13,7 @@ use key_tuple::{Fields, LentFields};
 use std::marker::Model;
 
 /// A key with a value or a child, lent by those that keep it.
-#[derive(Debug, Drop)]
+#[derive(Drop)]
 pub(crate) struct Record<'a> {
     key: LentFields<'a>,
     value: &'a [u8],

@@ -18,7 +18,7 @@ const SPARE_BYTES: usize = 4096;
 /// Records by their numbers, seen as the list of what they say. They lie in one run of bytes, in
 /// which a record that goes, or moves since its value grew, leaves its bytes behind, and one whose
 /// value gets shorter leaves some.
-#[derive(Debug, Drop)]
+#[derive(Drop)]
 pub(crate) struct Records {
     alloc: Global,
     pub(crate) bytes: Vec<u8>,

@@ -10,7 +10,7 @@ use key_tuple::Fields;
 use std::marker::Model;
 
 /// A row of a page, seen as the row and the level of its page. Its fields are those of its key.
-#[derive(Debug, Drop)]
+#[derive(Drop)]
 pub struct RowRef<'a> {
     record: Record<'a>,
     place: Place,

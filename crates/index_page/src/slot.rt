@@ -7,7 +7,7 @@ use std::alloc::AllocError;
 
 /// Where a record lies in a run of bytes: its key from `start` to `middle`, told apart by the ends
 /// of its fields, counted from `start`; and its value from there to `stop`, unless it has a child.
-#[derive(Debug, Clone, Copy)]
+#[derive(Clone, Copy)]
 pub(crate) struct Slot {
     pub(crate) start: u32,
     pub(crate) middle: u32,

@@ -10,7 +10,7 @@ use std::alloc::{AllocError, Global};
 use std::marker::Model;
 
 /// Fields that lie one after another in one buffer: at most 4, and below 65,536 bytes together.
-#[derive(Debug, Drop)]
+#[derive(Drop)]
 pub struct FieldBuffer {
     bytes: Vec<u8>,
     ends: [u16; FIELD_ROOM],

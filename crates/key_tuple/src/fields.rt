@@ -19,7 +19,7 @@ pub trait Fields {
 }
 
 /// So many empty fields.
-#[derive(Debug, Clone, Copy, PartialEq, Eq)]
+#[derive(Clone, Copy, PartialEq, Eq)]
 pub struct Blank {
     /// How many.
     pub count: u8,

@@ -13,7 +13,7 @@ use std::hash::{Hash, Hasher};
 
 /// A whole key. Its fields are those of `tuple`; `room` is the number of fields that its buffer was
 /// made to be refilled with, 0 for a key that isn't refilled, and plays no part in comparisons.
-#[derive(Debug, Drop)]
+#[derive(Drop)]
 pub struct Key {
     tuple: Tuple,
     room: u8,

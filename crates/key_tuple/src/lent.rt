@@ -8,7 +8,7 @@ use crate::fields::Fields;
 use std::marker::Model;
 
 /// Fields that lie one after another in lent bytes: at most 4, and below 65,536 bytes together.
-#[derive(Debug, Drop)]
+#[derive(Drop)]
 pub struct LentFields<'a> {
     bytes: &'a [u8],
     ends: &'a [u16],

@@ -2,7 +2,7 @@
 ghost use Rattle.std.specs.Prelude.{◌≡◌};
 
 /// Which row a search asks for.
-#[derive(Debug, Clone, Copy, PartialEq, Eq)]
+#[derive(Clone, Copy, PartialEq, Eq)]
 pub enum Mode {
     /// The first row that isn't below the tuple.
     Ge,
@@ -16,7 +16,7 @@ pub enum Mode {
 
 /// A prefix of a key: whole fields, then first bytes of the next field; and which end of a group of
 /// rows with one prefix is meant.
-#[derive(Debug, Clone, Copy, PartialEq, Eq)]
+#[derive(Clone, Copy, PartialEq, Eq)]
 pub struct Params {
     /// Whole fields.
     pub fields: u8,
@@ -27,7 +27,7 @@ pub struct Params {
 }
 
 /// How far a tuple and a key agree.
-#[derive(Debug, Clone, Copy, PartialEq, Eq)]
+#[derive(Clone, Copy, PartialEq, Eq)]
 pub struct Match {
     /// Equal first fields.
     pub fields: u8,

@@ -15,7 +15,7 @@ use std::hash::{Hash, Hasher};
 use std::marker::Model;
 
 /// Up to [`MAX_FIELDS`] fields of up to [`MAX_KEY_BYTES`] bytes together, seen as the list of them.
-#[derive(Debug, Drop)]
+#[derive(Drop)]
 pub struct Tuple {
     buffer: FieldBuffer,
 }

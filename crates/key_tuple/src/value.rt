@@ -8,7 +8,7 @@ use std::alloc::AllocError;
 use std::marker::Model;
 
 /// Up to [`MAX_VALUE_BYTES`] bytes, seen as the list of them.
-#[derive(Debug, Drop)]
+#[derive(Drop)]
 pub struct Value {
     bytes: Vec<u8>,
 }

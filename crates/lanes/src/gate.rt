@@ -7,7 +7,7 @@ pub trait Gate {
 }
 
 /// Lets each line pass at once.
-#[derive(Clone, Copy, Debug, PartialEq, Eq)]
+#[derive(Clone, Copy, PartialEq, Eq)]
 pub struct NoGate;
 
 impl Gate for NoGate {

@@ -5,7 +5,7 @@ ghost use Rattle.learning.specs.Opening.{opening_info};
 use key_tuple::Params;
 
 /// What an index has learnt: a recommendation how to hash its keys, and what that promises.
-#[derive(Debug, Clone, Copy, PartialEq, Eq)]
+#[derive(Clone, Copy, PartialEq, Eq)]
 pub struct Info {
     /// How many descents the recommendation has waited to be looked at.
     pub analysis: u8,

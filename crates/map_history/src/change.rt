@@ -2,7 +2,7 @@
 use key_tuple::{Key, Value};
 
 /// One change of the map of an index.
-#[derive(Debug, Drop)]
+#[derive(Drop)]
 pub enum Change {
     /// A row whose key wasn't there.
     Put { key: Key, value: Value },

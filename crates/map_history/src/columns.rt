@@ -3,7 +3,7 @@ ghost use Rattle.std.specs.Prelude.{◌≡◌};
 ghost use Rattle.map_history.specs.Words.{how_text, note_text};
 
 /// How a search found its row.
-#[derive(Debug, Clone, Copy, PartialEq, Eq)]
+#[derive(Clone, Copy, PartialEq, Eq)]
 pub enum How {
     /// The hash isn't in use yet: printed `-`.
     Dash,
@@ -36,7 +36,7 @@ pub enum How {
 }
 
 /// What became of a search's learning.
-#[derive(Debug, Clone, Copy, PartialEq, Eq)]
+#[derive(Clone, Copy, PartialEq, Eq)]
 pub enum Note {
     /// Nothing was to be said: printed `-`.
     Dash,

@@ -2,7 +2,7 @@
 use crate::Op;
 
 /// A line that says something: its number, from 1, and its operation.
-#[derive(Debug, Drop)]
+#[derive(Drop)]
 pub struct Line {
     pub line: u32,
     pub op: Op,

@@ -5,7 +5,7 @@ ghost use Rattle.map_history.specs.Operation.{operation_of, operation_by};
 use key_tuple::{Key, Mode, Tuple, Value};
 
 /// One operation on an index, by its number.
-#[derive(Debug, Drop)]
+#[derive(Drop)]
 pub enum Op {
     /// The value of a key.
     Get {

@@ -5,7 +5,7 @@ use std::alloc::{AllocError, Global};
 use std::marker::Model;
 
 /// Byte lists, told apart by the offsets of their ends.
-#[derive(Debug, Drop)]
+#[derive(Drop)]
 pub(crate) struct PartList {
     bytes: Vec<u8>,
     ends: Vec<usize>,

@@ -2,7 +2,7 @@
 use crate::columns::{How, Note};
 
 /// The word of an answer. A found row stands in the caller's buffer.
-#[derive(Debug, Clone, Copy, PartialEq, Eq)]
+#[derive(Clone, Copy, PartialEq, Eq)]
 pub enum Reply {
     /// The row is there.
     Found,
@@ -19,7 +19,7 @@ pub enum Reply {
 }
 
 /// An answer with its columns.
-#[derive(Debug, Clone, Copy, PartialEq, Eq)]
+#[derive(Clone, Copy, PartialEq, Eq)]
 pub struct Told {
     pub reply: Reply,
     /// The number of changes of the index at which it was answered; none where space was full.
@@ -29,7 +29,7 @@ pub struct Told {
 }
 
 /// One piece of a scan, with its columns.
-#[derive(Debug, Clone, Copy, PartialEq, Eq)]
+#[derive(Clone, Copy, PartialEq, Eq)]
 pub struct Piece {
     /// The number of changes of the index at which its rows were read.
     pub point: u64,

@@ -8,7 +8,7 @@ use std::alloc::Global;
 use std::marker::Model;
 
 /// One row, seen as its key's fields and its value. It has room for the largest row.
-#[derive(Debug, Drop)]
+#[derive(Drop)]
 pub struct RowBuf {
     key: FieldBuffer,
     value: Vec<u8>,

@@ -8,7 +8,7 @@ use std::alloc::{AllocError, Global};
 use std::marker::Model;
 
 /// Rows one after another, each seen as its key's fields and its value.
-#[derive(Debug, Drop)]
+#[derive(Drop)]
 pub struct Rows {
     parts: PartList,
     ends: Vec<usize>,
@@ -118,7 +118,7 @@ fn add_row<A: Fields>(parts: &mut PartList, key: &A, value: &[u8]) -> Result<(),
 }
 
 /// One of the rows, lent.
-#[derive(Debug, Drop)]
+#[derive(Drop)]
 pub struct RowIn<'a> {
     rows: &'a Rows,
     at: usize,

@@ -1,7 +1,7 @@
 //! The sizes that a run is opened with.
 
 /// The settings of a schema.
-#[derive(Debug, Clone, Copy, PartialEq, Eq)]
+#[derive(Clone, Copy, PartialEq, Eq)]
 pub struct Sizes {
     /// Buffer blocks.
     pub blocks: u32,

@@ -12,7 +12,7 @@ use std::alloc::Global;
 use std::marker::Model;
 
 /// Texts one behind another, seen as the list of them.
-#[derive(Debug, Drop)]
+#[derive(Drop)]
 pub struct Texts {
     bytes: Vec<u8>,
     ends: Vec<usize>,

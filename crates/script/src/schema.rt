@@ -6,7 +6,7 @@ use map_history::Sizes;
 
 /// Sizes, and for each index its name and how many fields its keys have: 1 to 64 indexes, numbered
 /// from 0, of 1 to 4 fields, and no two of one name.
-#[derive(Debug, Drop)]
+#[derive(Drop)]
 pub struct Schema {
     pub sizes: Sizes,
     pub names: Vec<String>,

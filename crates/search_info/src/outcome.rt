@@ -2,7 +2,7 @@
 use learning::Info;
 
 /// What came of a try to count an event.
-#[derive(Debug, Clone, Copy, PartialEq, Eq)]
+#[derive(Clone, Copy, PartialEq, Eq)]
 pub enum Learn {
     /// The event was counted.
     Learnt {

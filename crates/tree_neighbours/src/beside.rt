@@ -16,7 +16,7 @@ use forest_world::{ForestPass, ForestSpace};
 use std::sync::Wait;
 
 /// What stands on a side of a leaf.
-#[derive(Debug, Clone, Copy, PartialEq, Eq)]
+#[derive(Clone, Copy, PartialEq, Eq)]
 pub enum Beside {
     /// Nothing: it is the last leaf on this side.
     AtEnd,

@@ -13,7 +13,7 @@ use key_tuple::{Key, NoMemory};
 use std::alloc::Global;
 
 /// Where a page is cut: the first row of its upper half.
-#[derive(Debug, Drop)]
+#[derive(Drop)]
 pub struct Cut {
     /// The place of the row.
     pub place: Place,

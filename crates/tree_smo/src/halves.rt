@@ -15,7 +15,7 @@ use key_tuple::NoMemory;
 use tree_restructure::{Cut, split_frames};
 
 /// The blocks of a parent and of two halves.
-#[derive(Debug, Clone, Copy)]
+#[derive(Clone, Copy)]
 pub struct SplitBlocks {
     /// That of the parent.
     pub parent: u32,
