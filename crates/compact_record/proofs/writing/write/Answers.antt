@@ -4,6 +4,10 @@ use Rattle.compact_record.proofs.PartLemmas.{length-concat}
 use Rattle.compact_record.proofs.WritingLemmas.{parts_write, length-measured}
 use Rattle.compact_record.proofs.writing.write.Goals as goal
 
+pub put_tail_length-key_start-requires-clause-room : goal.put_tail_length-key_start-requires-clause-room
+put_tail_length-key_start-requires-clause-room g c =
+    omega (arith, length-measured c.args.head.kind (g.A.Fields.fields_of c.args.key.now) c.args.tail.now)
+
 pub put_key_lengths-top-requires-clause-room : goal.put_key_lengths-top-requires-clause-room
 put_key_lengths-top-requires-clause-room g c =
     omega (arith, length-measured c.args.head.kind (g.A.Fields.fields_of c.args.key.now) c.args.tail.now)
