@@ -2,7 +2,9 @@ pub mod RowLemmas
 pub mod CutLemmas
 pub mod KeyLemmas
 pub mod StoreLemmas
+pub mod ClaimLemmas
 pub mod SlotLemmas
+pub mod AgainLemmas
 pub mod OrderLemmas
 pub mod BesideLemmas
 pub mod SpotLemmas

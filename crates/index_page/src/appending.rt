@@ -1,5 +1,5 @@
 //! Records that are put behind others.
-ghost use Rattle.std.specs.Prelude.{◌≡◌, length, IfOk, OnErr};
+ghost use Rattle.std.specs.Prelude.{◌≡◌, IfOk, OnErr};
 ghost use Rattle.key_tuple.specs.Limits.{IsWithinLimits};
 ghost use Rattle.index_page.specs.Store.{body_from, beside_by};
 ghost use Rattle.index_page.specs.Slots.{content_in, IsSlotIn, GrewFrom, PutsFields, PutsBeside, PutsRecord};
@@ -20,7 +20,7 @@ pub(crate) fn append_row<A: Fields>(
         (record { key = A.fields_of key.now; body = beside_by beside.entry })) }
     ensures err { OnErr result (GrewFrom bytes.old.items bytes.new.items) }
 {
-    let start = offset_of(bytes)?;
+    let start = bytes.len();
     let ends = append_fields(bytes, key)?;
     let middle = bytes.len();
     let child = append_beside(bytes, beside)?;
@@ -40,10 +40,9 @@ pub(crate) fn append_copy(bytes: &mut Vec<u8>, from: &[u8], slot: &Slot) -> Resu
         PutsRecord bytes.old.items bytes.new.items moved (content_in from.now slot.now)) }
     ensures err { OnErr result (GrewFrom bytes.old.items bytes.new.items) }
 {
-    let start = offset_of(bytes)?;
-    bytes.extend_from_slice(&from[slot.start as usize..slot.middle as usize])?;
-    let middle = bytes.len();
-    bytes.extend_from_slice(&from[slot.middle as usize..slot.stop as usize])?;
+    let start = bytes.len();
+    bytes.extend_from_slice(&from[slot.start as usize..slot.stop as usize])?;
+    let middle = start + (slot.middle - slot.start) as usize;
     slot.moved(start, middle, bytes.len())
 }
 
@@ -60,7 +59,7 @@ pub(crate) fn append_again(
     })) }
     ensures err { OnErr result (GrewFrom bytes.old.items bytes.new.items) }
 {
-    let start = offset_of(bytes)?;
+    let start = bytes.len();
     bytes.extend_from_within(slot.start as usize..slot.middle as usize)?;
     let middle = bytes.len();
     bytes.extend_from_slice(value)?;
@@ -99,14 +98,4 @@ fn append_beside(bytes: &mut Vec<u8>, beside: Beside<'_>) -> Result<Option<u32>,
         }
         Beside::Child(number) => Ok(Some(number)),
     }
-}
-
-/// Where the next byte comes. There is no room behind 4 GiB.
-fn offset_of(bytes: &[u8]) -> Result<u32, AllocError>
-    ensures { IfOk result (λ n. n ≡ length bytes.now) }
-{
-    if bytes.len() > u32::MAX as usize {
-        return Err(AllocError);
-    }
-    Ok(bytes.len() as u32)
 }

@@ -35,8 +35,9 @@ impl Slot {
     }
 
     /// The slot of the same record at other offsets. There is no room behind 4 GiB.
-    pub(crate) fn moved(&self, start: u32, middle: usize, stop: usize) -> Result<Slot, AllocError>
-        requires { middle ≤ stop }
+    pub(crate) fn moved(&self, start: usize, middle: usize, stop: usize) -> Result<Slot, AllocError>
+        requires key { start ≤ middle }
+        requires value { middle ≤ stop }
         ensures { IfOk result (λ slot. slot ≡ record {
           start = start;
           middle = middle;
@@ -50,7 +51,7 @@ impl Slot {
             return Err(AllocError);
         }
         Ok(Slot {
-            start,
+            start: start as u32,
             middle: middle as u32,
             stop: stop as u32,
             ..*self

@@ -1,0 +1,16 @@
+use Rattle.std.proofs.Common.{◌+◌, ◌-◌, refl, arith}
+use Rattle.index_page.specs.Slots.{PutsRecord}
+use Rattle.list_facts.proofs.Outcomes.{when_err}
+use Rattle.index_page.proofs.SlotLemmas.{slot_made}
+use Rattle.index_page.proofs.AgainLemmas.{puts_copy}
+use Rattle.index_page.proofs.appending.append_copy.Goals as goal
+
+pub returns-clause-ok : goal.returns-clause-ok
+returns-clause-ok c =
+    let old = c.args.bytes.now in
+    let new = c.extend_from_slice.new.self in
+    let slot = c.args.slot.now in
+    slot_made c.moved.result _ (λ moved. PutsRecord old.items new.items moved _) (puts_copy old.items new.items c.args.from.now slot c.len-start.result (c.len-start.result + (slot.middle - slot.start)) c.len.result c.requires c.in_ok-extend_from_slice.ensures.items (omega (arith, c.len-start.ensures, old.ok.0)) refl (omega (arith, c.len.ensures, new.ok.0))) c.moved.ensures
+
+pub returns-clause-err : goal.returns-clause-err
+returns-clause-err c = when_err c.moved.result (record { more = _; items = c.in_ok-extend_from_slice.ensures.items })
