@@ -163,3 +163,27 @@ module _ (ages lows : List ℕ) (is : AreLows ages lows) (b age : ℕ) (below : 
           let low_is = ap (λ k. get_or lows (run_of k) 0) e in omega (arith, is_here, low_is, higher)
       pick c less (inr isnt) = let up = is.least c (omega (arith, less, many)) in
           let age_is = other c isnt in omega (arith, up, age_is)
+
+-- of one number more, a lower one is the lowest
+pub lower_is_lowest : (numbers : List ℕ) (from i at : ℕ) → IsLowestIn numbers from i at → get_or numbers i 0 < get_or numbers at 0 → IsLowestIn numbers from (i + 1) i
+lower_is_lowest numbers from i at is lower = record {
+  above = (let low = is.above in let high = is.below in omega (arith, low, high));
+  below = omega arith;
+  least = λ k low high. elim (cases_eq k i) [
+    | inl e ↦ (let same = ap (λ j. get_or numbers j 0) e in omega (arith, same))
+    | inr ne ↦ (let least = is.least k low (omega (arith, high, ne)) in omega (arith, least, lower))
+  ];
+  first = λ k low high. (let least = is.least k low high in omega (arith, least, lower));
+}
+
+-- and one that isn't lower leaves it
+pub lowest_stays : (numbers : List ℕ) (from i at : ℕ) → IsLowestIn numbers from i at → get_or numbers at 0 ≤ get_or numbers i 0 → IsLowestIn numbers from (i + 1) at
+lowest_stays numbers from i at is lower = record {
+  above = is.above;
+  below = (let high = is.below in omega (arith, high));
+  least = λ k low high. elim (cases_eq k i) [
+    | inl e ↦ (let same = ap (λ j. get_or numbers j 0) e in omega (arith, same, lower))
+    | inr ne ↦ is.least k low (omega (arith, high, ne))
+  ];
+  first = is.first;
+}

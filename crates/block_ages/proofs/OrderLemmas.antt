@@ -1,5 +1,5 @@
 -- The order of the blocks by their ages.
-use Rattle.std.proofs.Common.{◌≡◌, ℕ, ◌+◌, ◌<◌, ◌⊎◌, inl, inr, List, get_or, subst, arith, Option, Some, None}
+use Rattle.std.proofs.Common.{◌≡◌, ◌↔◌, IsTrue, nat_lt, rules, tests, ℕ, ◌+◌, ◌<◌, ◌⊎◌, inl, inr, List, get_or, subst, arith, Option, Some, None}
 use Rattle.std.proofs.lemmas.Bool.{cases_eq}
 use Rattle.block_ages.specs.Order.{ComesBefore, IsBehind, IsAhead}
 
@@ -99,3 +99,13 @@ module _ (ages : List ℕ) where
             → IsBehind ages last i → IsAhead ages i (Some b) → ⊥
         never (inl n) a b = n a
         never (inr n) a b = n b
+
+-- of two blocks of one age the one with the lower number comes before the other
+pub lower_number : (ages : List ℕ) (a b : ℕ) → get_or ages a 0 ≡ get_or ages b 0 → IsTrue (nat_lt a b) ↔ ComesBefore ages a b
+lower_number ages a b same = (
+  λ less. inr (same, search (rules, tests)),
+  λ before. elim before [
+    | inl lower ↦ absurd (omega (arith, lower, same))
+    | inr less ↦ (let low = less.1 in search (rules, tests))
+  ],
+)
