@@ -7,7 +7,7 @@ use Rattle.key_tuple.specs.declared.mode.Mode.{Mode}
 use Rattle.key_tuple.specs.declared.mode.Mode.TheVariants.{Ge, G, Le, L}
 use Rattle.key_tuple.specs.declared.mode.Match.{Match}
 use Rattle.page_search.specs.declared.agreement.Agreement.{Agreement}
-use Rattle.page_search.specs.Agreeing.{agreed}
+use Rattle.page_search.specs.Agreeing.{AgreesTo, agreed}
 use Rattle.page_search.specs.Cuts.{admits_at}
 use Rattle.page_search.specs.Judging.{Judges}
 use Rattle.key_tuple.specs.Figures.{equal_bytes}
@@ -57,3 +57,9 @@ whole_judged mode tuple key admitted f one_field bytes one some same is =
       admitted = is ∙ admits_is mode tuple key Equal (sym (all_equal upto).0);
       figures = match_is f one_field bytes ∙ figures_end 1 upto (sym one);
     }
+
+-- where no field is known to be equal, so many first bytes of the first fields are
+pub starts_equal : (tuple key : FieldList) (from : Match) (first other : List ℕ) (start : ℕ) → AgreesTo tuple key from → from.fields ≡ 0 → first ≡ get_or tuple 0 [] → other ≡ get_or key 0 [] → start ≡ from.bytes → start ≤ equal_bytes first other
+starts_equal tuple key from first other start agrees none first_is other_is start_is =
+    let bytes : from.bytes ≤ equal_bytes (get_or tuple 0 []) (get_or key 0 []) = subst (λ (n : ℕ). from.bytes ≤ equal_bytes (get_or tuple n []) (get_or key n [])) none agrees.bytes in
+    rw (start_is, first_is, other_is) bytes

@@ -2,7 +2,9 @@ pub mod AgreeLemmas
 pub mod ByteLemmas
 pub mod CutLemmas
 pub mod FigureLemmas
+pub mod FourLemmas
 pub mod JudgeLemmas
+pub mod LesserLemmas
 pub mod NextLemmas
 pub mod SlotLemmas
 pub mod WayLemmas

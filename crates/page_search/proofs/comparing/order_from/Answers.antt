@@ -1,11 +1,26 @@
-use Rattle.std.proofs.Common.{◌≡◌, ◌∙◌, ◌<◌, length, min, arith}
+use Rattle.std.proofs.Common.{◌≡◌, ◌∙◌, ◌+◌, ◌<◌, length, min, arith}
 use Rattle.key_tuple.specs.Figures.{equal_bytes}
 use Rattle.key_tuple.proofs.OrderLemmas.{equal_bytes-end}
 use Rattle.page_search.proofs.ByteLemmas.{skip_bytes, equal_within, equal_below, ends_here, behind_within, behind_end}
+use Rattle.page_search.proofs.FourLemmas.{byte_more}
 use Rattle.page_search.proofs.comparing.order_from.Goals as goal
 
 pub loop-i-init : goal.loop-i-init
 loop-i-init c = skip_bytes c.args.left.now c.args.right.now c.skip_fours-near.result c.skip_fours-near.ensures
+
+pub loop-i-preserved : goal.loop-i-preserved
+loop-i-preserved c =
+    let i = c.loop-i.i in
+    let in_left : i < length c.args.left.now = omega (arith, c.min-most.ensures, c.loop-i-test.true) in
+    let in_right : i < length c.args.right.now = omega (arith, c.min-most.ensures, c.loop-i-test.true) in
+    omega (arith, c.loop-i.invariant, byte_more c.args.left.now c.args.right.now i (i + 1) (omega arith) in_left in_right c.if-left-i.false)
+
+pub returns-then-left-i-clause-equal : goal.returns-then-left-i-clause-equal
+returns-then-left-i-clause-equal c =
+    let i = c.loop-i.i in
+    let in_left : i < length c.args.left.now = omega (arith, c.min-most.ensures, c.loop-i-test.true) in
+    let in_right : i < length c.args.right.now = omega (arith, c.min-most.ensures, c.loop-i-test.true) in
+    ends_here c.args.left.now c.args.right.now i in_left in_right c.if-left-i.true c.loop-i.invariant
 
 pub returns-then-left-i-clause-order : goal.returns-then-left-i-clause-order
 returns-then-left-i-clause-order c =

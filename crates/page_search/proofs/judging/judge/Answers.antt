@@ -1,13 +1,26 @@
 use Rattle.std.proofs.Common.{◌≡◌, ◌∙◌, ◌≤◌, ◌+◌, ◌-◌, ◌/◌, ℕ, [], length, get_or, ap, ap₂, sym, arith, bit_xor, nat_lt, nat_cmp, is_lt, inl, inr}
 use Rattle.std.proofs.lemmas.Bool.{cases_lt}
+use Rattle.std.proofs.lemmas.Nat.{leading_le}
 use Rattle.std.specs.Int.{w64, leading_zeros}
 use Rattle.std.specs.Cmp.Lexicographic.{slice_cmp}
 use Rattle.key_tuple.specs.Figures.{equal_bytes}
 use Rattle.compact_record.specs.Record.{PlacedRecord}
 use Rattle.compact_record.specs.Reading.{record_at}
-use Rattle.page_search.proofs.JudgeLemmas.{first_some, apart_judged, whole_judged}
+use Rattle.page_search.specs.Agreeing.{agreed}
+use Rattle.page_search.proofs.JudgeLemmas.{first_some, starts_equal, apart_judged, whole_judged}
 use Rattle.page_search.proofs.WordLemmas.{told_at, same_at, apart_at, all_same}
 use Rattle.page_search.proofs.judging.judge.Goals as goal
+
+pub first_apart-place-requires-clause-start : goal.first_apart-place-requires-clause-start
+first_apart-place-requires-clause-start g c =
+    let t = g.A.Fields.fields_of c.args.tuple.now in
+    let k = (record_at c.args.page.now c.args.at c.args.fields).key in
+    let other_is = c.field-other.ensures.bytes ∙ ap (λ (x : PlacedRecord). get_or x.key 0 []) c.view-row.ensures in
+    starts_equal t k (agreed c.args.from) c.args.first.now c.field-other.result.now c.from-start.result c.requires.agrees (c.is_in_first.ensures c.if-not-is_in_first.false) c.requires.first.is other_is (c.from-start.ensures ∙ c.bytes.ensures)
+
+pub overflow_cast-place : goal.overflow_cast-place
+overflow_cast-place g c =
+    omega (arith, c.equal_in.ensures, leading_le 64 (bit_xor c.word-left.result c.word-right.result), c.first_apart-place.ensures.within, c.requires.first.short)
 
 pub returns-then-left-right : goal.returns-then-left-right
 returns-then-left-right g c =
