@@ -3,6 +3,21 @@ use Rattle.page_directory.specs.Sizes.{group_sizes}
 use Rattle.page_directory.proofs.BalanceLemmas.{balanced_few, balanced_many}
 use Rattle.page_directory.proofs.balancing.balance.Goals as goal
 
+pub owned-count-requires : goal.owned-count-requires
+owned-count-requires c =
+    let r = c.requires in
+    (r.0, r.1, r.2, r.3.page, r.3.inner)
+
+pub move_one-requires-clause-there : goal.move_one-requires-clause-there
+move_one-requires-clause-there c =
+    let r = c.requires in
+    (r.0, r.1, r.2, r.3, sym (c.owned-count.ensures r.0 r.1 r.2 r.3.page r.3.inner))
+
+pub join_next-requires-clause-there : goal.join_next-requires-clause-there
+join_next-requires-clause-there c =
+    let r = c.requires in
+    (r.0, r.1, r.2, r.3, sym (c.owned-count.ensures r.0 r.1 r.2 r.3.page r.3.inner))
+
 pub returns-then-count-gt4 : goal.returns-then-count-gt4
 returns-then-count-gt4 c = λ m gs free r.
     let size = sym (c.owned-count.ensures m gs free r.page r.inner) in
