@@ -1,13 +1,26 @@
-use Rattle.std.proofs.Common.{sym, subst, ◌∙◌}
+use Rattle.std.proofs.Common.{◌≡◌, sym, subst, ◌∙◌}
 use Rattle.forest_law.specs.declared.objects.Object.TheVariants as object
 use Rattle.index_page.specs.Page.{IsNeighbour}
+use Rattle.buffer_pool.specs.declared.error.PoolError.{PoolError}
+use Rattle.buffer_pool.specs.declared.error.PoolError.TheVariants as refused
 use Rattle.buffer_pool.proofs.AgainLemmas.{gives_none}
 use Rattle.buffer_pool.proofs.CallLemmas.{pool_has}
 use Rattle.buffer_pool.proofs.NewPageLemmas.{free_both, may_new, gets_page}
 use Rattle.buffer_pool.proofs.new_pages.new_page.Goals as goal
 
+-- a space that is full is not a want of memory
+full_not_memory : (e : PoolError) → e ≡ refused.SpaceFull → e ≡ refused.NoMemory → ⊥
+full_not_memory e full memory = absurd cc
+
 pub returns-in_default-clause-memory : goal.returns-in_default-clause-memory
 returns-in_default-clause-memory g c = λ e. (gives_none c.args.pass.now c.requires.known).got
+
+pub returns-in_err-number-clause-full : goal.returns-in_err-number-clause-full
+returns-in_err-number-clause-full g c = λ e. c.in_err-number.ensures.full.1
+
+pub returns-in_err-number-clause-memory : goal.returns-in_err-number-clause-memory
+returns-in_err-number-clause-memory g c = λ e. let r = rw e at c.from_residual.ensures in
+    absurd (full_not_memory _ c.in_err-number.ensures.full.0 (sym r.1))
 
 pub restart-requires-clause-prev : goal.restart-requires-clause-prev
 restart-requires-clause-prev g c =
