@@ -1,6 +1,7 @@
 -- A page is merged with one beside it, or isn't, on the way up.
-use Rattle.std.proofs.Common.{◌≡◌, ℕ, suc, Option, Some, List, [], ◌∷◌}
+use Rattle.std.proofs.Common.{◌≡◌, ℕ, suc, Bool, true, false, Option, Some, Result, Ok, Err, List, [], ◌∷◌}
 use Rattle.key_tuple.specs.Order.{FieldList}
+use Rattle.key_tuple.specs.declared.error.NoMemory.{NoMemory}
 use Rattle.key_tuple.specs.declared.mode.Mode.TheVariants as mode
 use Rattle.latch_space.specs.Passes.{view}
 use Rattle.forest_world.specs.Held.{TreePass}
@@ -90,3 +91,12 @@ pub failed_back : {p q r s : TreePass} {pair : Pair} {asked : Siblings} {i : ℕ
 failed_back {pair = pair} took got gave still =
     taken_back took (to_both (way_nothing got took.to.way) gave)
     (λ f knows. still f (still_nothing got pair.parent f knows))
+
+-- an answer that two pages were merged is not that none were
+pub merged_or_not : (r : Result Bool NoMemory) → r ≡ Ok true → r ≡ Ok false → ⊥
+merged_or_not r merged not = absurd cc
+
+-- a want of memory is neither answer
+pub refused_or_not : (r : Result Bool NoMemory) (e : NoMemory) (merged : Bool) → r ≡ Err e
+    → r ≡ Ok merged → ⊥
+refused_or_not r e merged refused answered = absurd cc

@@ -1,6 +1,7 @@
 -- The page above a level was given back.
-use Rattle.std.proofs.Common.{ℕ, [], ◌∷◌, refl}
+use Rattle.std.proofs.Common.{◌≡◌, ℕ, Option, Some, None, Result, Ok, [], ◌∷◌, refl}
 use Rattle.key_tuple.specs.Order.{FieldList}
+use Rattle.key_tuple.specs.declared.error.NoMemory.{NoMemory}
 use Rattle.forest_world.specs.Held.{TreePass}
 use Rattle.buffer_pool.specs.Frames.{GivesFrame}
 use Rattle.tree_growth.specs.declared.looking.PageInHand.{PageInHand}
@@ -22,3 +23,8 @@ module _ {p q : TreePass} {i : ℕ} {key : FieldList} {at : PageInHand}
       → GoesTo p i key [] s
   given_after back gave = to_both (to_both arrived back.to)
       (way_gave back.to.way gave (λ k ne each. (ne, tt)) refl)
+
+-- an answer names no level, or one
+pub none_or_named : (r : Result (Option ℕ) NoMemory) (above : ℕ) → r ≡ Ok None
+    → r ≡ Ok (Some above) → ⊥
+none_or_named r above none named = absurd cc

@@ -15,16 +15,19 @@ use Rattle.forest_world.specs.Held.{TreePass, shape_of_pass}
 use Rattle.call_law.specs.Hands.{KnowsTree}
 use Rattle.buffer_pool.specs.Calls.{DoesSilently, GetsNothing}
 use Rattle.buffer_pool.specs.Frames.{GivesFrame}
+use Rattle.buffer_pool.specs.Hands.{MayGiveBack}
 use Rattle.buffer_pool.proofs.AddedLemmas.{frame_no_tree, frame_still, tree_still}
 use Rattle.buffer_pool.proofs.CallLemmas.{silently_both}
 use Rattle.tree_descent.specs.Descents.{PointsAt}
-use Rattle.tree_descent.proofs.PageLemmas.{tree_page_inside}
+use Rattle.tree_descent.proofs.PageLemmas.{tree_page_inside, may_give_back}
 use Rattle.tree_smo.proofs.SilentLemmas.{silently_weaker, does_shape}
+use Rattle.tree_growth.specs.Pages.{HoldsPagedFrame}
 use Rattle.tree_growth.specs.Ways.{IsGoingDown}
 use Rattle.tree_growth.proofs.HandLemmas.{frames_apart, still_gave}
 use Rattle.tree_growth.proofs.KnownLemmas.{levels_apart}
 use Rattle.tree_shrinking.specs.Lifting.{PointsAtOnly, CanLift, LiftsRoot}
 use Rattle.tree_shrinking.specs.Pairs.{HoldsJoined, ComesBack}
+use Rattle.tree_shrinking.proofs.TakenLemmas.{paged_frame}
 use Rattle.tree_shrinking.proofs.WayLemmas.{way_without, way_gave, to_both, still_nothing, way_nothing}
 
 -- a pointer among one row at most is the only one
@@ -43,6 +46,18 @@ module _ {p : TreePass} {parent child i : ℕ} {key : FieldList}
   pub joined_apart : child ≢ parent
   joined_apart = levels_apart (view p) parent child i h.level h.up h.low h.knows_up h.knows_low
       h.above h.below
+
+  -- the page above can be read
+  pub above_held : HoldsPagedFrame p parent
+  above_held = paged_frame p way.known parent i (suc h.level) h.up h.knows_up h.above
+
+  -- the child can be given back, also after nothing was done
+  pub child_may_go : MayGiveBack p child
+  child_may_go = may_give_back p way.known child i h.level h.low h.knows_low h.below
+
+  pub child_still_may_go : {q : TreePass} → GetsNothing p q → MayGiveBack q child
+  child_still_may_go {q} got = may_give_back q (way_nothing got way).way.known child i h.level
+      h.low (still_nothing got child h.low h.knows_low) h.below
 
   -- the child was given back
   pub back_given : {q : TreePass} → GivesFrame p child q → ComesBack p parent i key q

@@ -1,11 +1,11 @@
-use Rattle.std.proofs.Common.{[], ◌∷◌}
+use Rattle.std.proofs.Common.{[], ◌∷◌, refl}
 use Rattle.buffer_pool.proofs.CallLemmas.{frame_has}
 use Rattle.tree_growth.proofs.HandLemmas.{no_frame_but, no_table}
 use Rattle.tree_shrinking.proofs.JoinedLemmas.{way_joined, holds_joined}
-use Rattle.tree_shrinking.proofs.JoinLemmas.{back_after, pair_still, taken_back, failed_back}
+use Rattle.tree_shrinking.proofs.JoinLemmas.{back_after, pair_still, taken_back, failed_back, merged_or_not, refused_or_not}
 use Rattle.tree_shrinking.proofs.LeaveLemmas.{leaves_pair, frees_pair}
 use Rattle.tree_shrinking.proofs.TakenLemmas.{paged_frame, can_merge}
-use Rattle.tree_shrinking.proofs.WayLemmas.{to_both}
+use Rattle.tree_shrinking.proofs.WayLemmas.{to_both, way_nothing}
 use Rattle.tree_shrinking.proofs.joining.join_pair.Goals as goal
 
 pub are_to_join-requires-clause-left : goal.are_to_join-requires-clause-left
@@ -32,6 +32,9 @@ returns-then-not-are_to_join-clause-apart g c e =
     (frame_has q took.to.way.known c.take_pair-left.result.0 h.lower h.knows_left)
     (frame_has q took.to.way.known c.take_pair-left.result.1 h.upper h.knows_right) h.is_left.paged
     h.is_right.paged c.if-not-are_to_join.true)
+
+pub returns-then-not-are_to_join-clause-freed : goal.returns-then-not-are_to_join-clause-freed
+returns-then-not-are_to_join-clause-freed g c e = absurd (merged_or_not _ e refl)
 
 pub merge_children-requires-clause-held : goal.merge_children-requires-clause-held
 merge_children-requires-clause-held g c = let took = c.take_pair-left.ensures.took in
@@ -66,6 +69,10 @@ lift_only-requires-clause-held g c =
     holds_joined c.take_pair-left.ensures.fits c.take_pair-left.ensures.took.to.way
     c.in-Ok.ensures.ok c.loads_add_up.ensures
 
+pub give_pair_back-requires-in-Err-clause-way : goal.give_pair_back-requires-in-Err-clause-way
+give_pair_back-requires-in-Err-clause-way g c =
+    (way_nothing c.in-Err.ensures.memory c.take_pair-left.ensures.took.to.way).way
+
 pub give_pair_back-requires-in-Err-clause-held : goal.give_pair_back-requires-in-Err-clause-held
 give_pair_back-requires-in-Err-clause-held g c =
     pair_still c.in-Err.ensures.memory c.take_pair-left.ensures.took.held
@@ -87,3 +94,9 @@ pub returns-in-Ok-clause-freed : goal.returns-in-Ok-clause-freed
 returns-in-Ok-clause-freed g c e =
     frees_pair c.take_pair-left.ensures.fits c.take_pair-left.ensures.took c.in-Ok.ensures.ok
     c.lift_only.ensures.back
+
+pub returns-in-Err-clause-apart : goal.returns-in-Err-clause-apart
+returns-in-Err-clause-apart g c e = absurd (refused_or_not _ _ _ refl e)
+
+pub returns-in-Err-clause-freed : goal.returns-in-Err-clause-freed
+returns-in-Err-clause-freed g c e = absurd (refused_or_not _ _ _ refl e)

@@ -1,10 +1,30 @@
-use Rattle.std.proofs.Common.{[], ◌∷◌, length, ap, sym, ◌∙◌, arith}
+use Rattle.std.proofs.Common.{[], ◌∷◌, length, refl, ap, sym, ◌∙◌, arith}
 use Rattle.index_page.specs.declared.head.PageHead.{PageHead}
 use Rattle.index_page.specs.Page.{PageRows}
 use Rattle.buffer_pool.proofs.CallLemmas.{frame_has}
 use Rattle.tree_growth.proofs.HandLemmas.{no_frame_but, no_table}
-use Rattle.tree_shrinking.proofs.OnlyLemmas.{back_given, back_failed, can_lift, back_lifted}
+use Rattle.tree_shrinking.proofs.JoinLemmas.{merged_or_not, refused_or_not}
+use Rattle.tree_shrinking.proofs.OnlyLemmas.{above_held, child_may_go, child_still_may_go, back_given, back_failed, can_lift, back_lifted}
 use Rattle.tree_shrinking.proofs.joining.lift_only.Goals as goal
+
+pub held_page-page-requires-clause-held : goal.held_page-page-requires-clause-held
+held_page-page-requires-clause-held g c = above_held c.requires.way c.requires.held
+
+pub give_back-requires-clause-held : goal.give_back-requires-clause-held
+give_back-requires-clause-held g c = child_may_go c.requires.way c.requires.held
+
+pub give_back-requires-in-Err-clause-held : goal.give_back-requires-in-Err-clause-held
+give_back-requires-in-Err-clause-held g c =
+    child_still_may_go c.requires.way c.requires.held c.in-Err.ensures.memory
+
+pub returns-then-head-index-clause-merged : goal.returns-then-head-index-clause-merged
+returns-then-head-index-clause-merged g c = merged_or_not _ refl
+
+pub returns-in-Ok-clause-merged : goal.returns-in-Ok-clause-merged
+returns-in-Ok-clause-merged g c = merged_or_not _ refl
+
+pub returns-in-Err-clause-merged : goal.returns-in-Err-clause-merged
+returns-in-Err-clause-merged g c = refused_or_not _ _ _ refl
 
 pub returns-then-head-index-clause-back : goal.returns-then-head-index-clause-back
 returns-then-head-index-clause-back g c =

@@ -1,8 +1,8 @@
-use Rattle.std.proofs.Common.{◌<◌, Ok, ap, arith}
+use Rattle.std.proofs.Common.{◌<◌, Ok, refl, ap, arith}
 use Rattle.latch_space.specs.Passes.{view}
 use Rattle.tree_growth.proofs.ChildLemmas.{holds_inner, level_above}
 use Rattle.tree_shrinking.proofs.LeaveLemmas.{rests_below, rests_under, frees_one}
-use Rattle.tree_shrinking.proofs.LevelLemmas.{given_at_once, given_after}
+use Rattle.tree_shrinking.proofs.LevelLemmas.{given_at_once, given_after, none_or_named}
 use Rattle.tree_shrinking.proofs.levels.join_level.Goals as goal
 
 pub returns-then-at-level-clause-to : goal.returns-then-at-level-clause-to
@@ -35,7 +35,21 @@ returns-then-at-level-clause-rests g c e =
     (c.walk_above-at.ensures.root c.if-at-level.true) c.give_back.ensures.gave
 
 pub returns-then-branch-clause-rests : goal.returns-then-branch-clause-rests
-returns-then-branch-clause-rests g c e = cc
+returns-then-branch-clause-rests g c e = absurd (none_or_named _ _ e refl)
+
+pub returns-then-at-level-clause-freed : goal.returns-then-at-level-clause-freed
+returns-then-at-level-clause-freed g c above e = absurd (none_or_named _ above refl e)
+
+pub returns-else-branch-clause-freed : goal.returns-else-branch-clause-freed
+returns-else-branch-clause-freed g c above e = absurd (none_or_named _ above refl e)
+
+pub returns-in_err-merged-clause-rests : goal.returns-in_err-merged-clause-rests
+returns-in_err-merged-clause-rests g c e =
+    let no = rw e at c.from_residual.ensures in absurd no.1
+
+pub returns-in_err-merged-clause-freed : goal.returns-in_err-merged-clause-freed
+returns-in_err-merged-clause-freed g c above e =
+    let no = rw e at c.from_residual.ensures in absurd no.1
 
 pub returns-then-branch-clause-freed : goal.returns-then-branch-clause-freed
 returns-then-branch-clause-freed g c above e =

@@ -1,6 +1,8 @@
 use Rattle.std.proofs.Common.{◌≡◌, ◌≢◌, None, ap, sym, subst, arith, rules}
 use Rattle.latch_space.specs.Passes.{view}
 use Rattle.index_page.specs.declared.TheConstants.{NO_PAGE}
+use Rattle.buffer_pool.specs.Forests.{IsFittedTree}
+use Rattle.buffer_pool.proofs.AgainLemmas.{passes_both}
 use Rattle.index_page.specs.declared.head.PageHead.{PageHead}
 use Rattle.tree_smo.specs.Plans.{RelinksBehind}
 use Rattle.tree_shrinking.specs.Merging.{CanMerge}
@@ -45,6 +47,10 @@ call g c = record {
 pub join_halves-requires-clause-suits : goal.join_halves-requires-clause-suits
 join_halves-requires-clause-suits g c =
     suits_taken (call g (goal.at.join_halves-requires-clause-suits g c).After-laws_of_moves)
+
+pub returns-in_err-join_halves-clause-fits : goal.returns-in_err-join_halves-clause-fits
+returns-in_err-join_halves-clause-fits g c =
+    subst IsFittedTree (sym c.in_err-join_halves.ensures.err.same_view) c.fits.ensures
 
 pub keep_up_between-requires : goal.keep_up_between-requires
 keep_up_between-requires g c =
@@ -94,6 +100,16 @@ settle-requires g c = let at = goal.at.settle-requires g c in
     let all = linked g at.After-relink_behind made
     (left_number g at.After-head_of-left made.call.held.can) in
     record { own = search rules; whole = whole all; rule = follows all }
+
+pub returns-clause-own : goal.returns-clause-own
+returns-clause-own g c = let p = c.args.pass.now in let joined = c.join_halves.new.pass in
+    let kept = c.keep_up_between.new.pass in let linked = c.relink_behind.new.pass in
+    let settled = c.settle.new.pass in (
+      passes_both p joined settled c.join_halves.ensures.own.0
+          (passes_both joined kept settled c.keep_up_between.ensures.own.0
+          (passes_both kept linked settled c.relink_behind.ensures.own.0 c.settle.ensures.own.0)),
+      c.settle.ensures.own.1,
+    )
 
 pub returns-clause-ok : goal.returns-clause-ok
 returns-clause-ok g c = let at = goal.at.returns-clause-ok g c in

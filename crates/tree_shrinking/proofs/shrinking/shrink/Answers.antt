@@ -1,3 +1,4 @@
+use Rattle.buffer_pool.proofs.CallLemmas.{tree_has}
 use Rattle.tree_growth.proofs.AnswerLemmas.{on_ok_more}
 use Rattle.tree_growth.proofs.TreeLemmas.{lacks_tree, way_tree, grows_silently}
 use Rattle.tree_shrinking.specs.Joins.{WalksUp}
@@ -14,6 +15,10 @@ pub shrink_up-outcome-requires-clause-way : goal.shrink_up-outcome-requires-clau
 shrink_up-outcome-requires-clause-way g c =
     way_tree c.args.pass.now c.take_tree.new.pass c.args.index c.args.key.now.tuple
     c.requires.index c.requires.few c.requires.fields c.requires.nothing c.take_tree.ensures.took
+
+pub give_tree_back-requires-clause-held : goal.give_tree_back-requires-clause-held
+give_tree_back-requires-clause-held g c = let way = c.shrink_up-outcome.ensures.to.way in
+    (way.tree, tree_has c.shrink_up-outcome.new.pass way.known c.args.index way.tree way.knows)
 
 pub returns-clause-quiet : goal.returns-clause-quiet
 returns-clause-quiet g c =

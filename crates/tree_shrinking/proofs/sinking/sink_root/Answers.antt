@@ -1,4 +1,6 @@
-use Rattle.std.proofs.Common.{◌-◌, ap, arith, rules}
+use Rattle.std.proofs.Common.{◌-◌, ap, sym, subst, arith, rules}
+use Rattle.buffer_pool.specs.Forests.{IsFittedTree}
+use Rattle.buffer_pool.proofs.AgainLemmas.{passes_both}
 use Rattle.forest_law.specs.declared.objects.Tree.{Tree}
 use Rattle.tree_shrinking.proofs.KeptPairLemmas.{in_place, moved_rows}
 use Rattle.tree_shrinking.proofs.SinkLemmas.{one_lower, SinkCall, some_height, suits_sinking, rows_moved, SinkInHand, sink_kept}
@@ -24,6 +26,10 @@ call g c = record {
 pub sink_storeys-requires-clause-suits : goal.sink_storeys-requires-clause-suits
 sink_storeys-requires-clause-suits g c =
     suits_sinking (call g (goal.at.sink_storeys-requires-clause-suits g c).After-laws_of_moves)
+
+pub returns-in_err-sink_storeys-clause-fits : goal.returns-in_err-sink_storeys-clause-fits
+returns-in_err-sink_storeys-clause-fits g c =
+    subst IsFittedTree (sym c.in_err-sink_storeys.ensures.err.same_view) c.fits.ensures
 
 pub keep_up_between-requires : goal.keep_up_between-requires
 keep_up_between-requires g c =
@@ -78,6 +84,16 @@ settle-requires g c = let at = goal.at.settle-requires g c in
     let all = lowered g at.After-change_tree (sunk g at.After-keep_up_between
     (call g at.After-laws_of_moves)) in
     record { own = search rules; whole = whole all; rule = follows all }
+
+pub returns-clause-own : goal.returns-clause-own
+returns-clause-own g c = let p = c.args.pass.now in let sunk = c.sink_storeys.new.pass in
+    let kept = c.keep_up_between.new.pass in let lowered = c.change_tree.new.pass in
+    let settled = c.settle.new.pass in (
+      passes_both p sunk settled c.sink_storeys.ensures.own.0
+          (passes_both sunk kept settled c.keep_up_between.ensures.own.0
+          (passes_both kept lowered settled c.change_tree.ensures.own.0 c.settle.ensures.own.0)),
+      c.settle.ensures.own.1,
+    )
 
 pub returns-clause-ok : goal.returns-clause-ok
 returns-clause-ok g c = let at = goal.at.returns-clause-ok g c in
