@@ -1,5 +1,5 @@
 -- A new page is held besides, or was given back.
-use Rattle.std.proofs.Common.{◌≡◌, ◌≢◌, ℕ, ◌<◌, [], ◌∷◌, sym, ap, subst, ◌∙◌, refl, arith, Option, Some, None}
+use Rattle.std.proofs.Common.{◌≡◌, ◌≢◌, ℕ, ◌<◌, [], ◌∷◌, sym, ap, subst, ◌∙◌, refl, arith, Option, Some, None, Result, Err}
 use mathlib.Core.Option.{some}
 use lib.ListN.{get_elem?}
 use Rattle.list_facts.proofs.Places.{none_is_not, same_some}
@@ -18,6 +18,8 @@ use Rattle.forest_world.specs.Held.{TreePass, shape_of_pass}
 use Rattle.call_law.specs.Hands.{KnowsFrame, HoldsNoTable}
 use Rattle.call_law.specs.Spoken.{View}
 use Rattle.call_law.proofs.TableLemmas.{table_no_frame, tables_lacked}
+use Rattle.buffer_pool.specs.declared.error.PoolError.{PoolError}
+use Rattle.buffer_pool.specs.declared.error.PoolError.TheVariants as refused
 use Rattle.buffer_pool.specs.Calls.{DoesSilently, GetsNothing}
 use Rattle.buffer_pool.specs.Forests.{FitsTrees}
 use Rattle.buffer_pool.specs.NewPages.{outside_page, GetsPage, HoldsOutsidePage, FreesPage}
@@ -182,3 +184,8 @@ module _ (p q : TreePass) (head : PageHead) (b : ℕ) (got : GetsPage p head b q
         count = (let a = got.count in let b = same.count in let c = frees.count in
             omega (arith, a, b, c));
       }
+
+-- a want of memory is not a full space
+pub memory_not_full : (r : Result ℕ PoolError) → r ≡ Err refused.NoMemory
+    → r ≡ Err refused.SpaceFull → ⊥
+memory_not_full r memory full = absurd cc

@@ -1,10 +1,12 @@
-use Rattle.std.proofs.Common.{[], ◌∷◌, sym, ap, subst, Err}
+use Rattle.std.proofs.Common.{◌<◌, ◌≤◌, [], ◌∷◌, refl, sym, ap, subst, arith, Err}
 use Rattle.latch_space.specs.Passes.{view}
+use Rattle.index_law.specs.Shape.{Shape}
 use Rattle.buffer_pool.proofs.SpaceLemmas.{objects_of}
 use Rattle.tree_smo.proofs.InsideLemmas.{none_outside_but, knows_inside}
 use Rattle.buffer_pool.specs.NewPages.{FindsNoneFree}
-use Rattle.tree_smo.proofs.BesideLemmas.{holds_outside, no_table, still_no_table, gets_nothing}
+use Rattle.tree_smo.proofs.BesideLemmas.{holds_outside, no_table, still_no_table, gets_nothing, memory_not_full}
 use Rattle.tree_smo.proofs.RootLemmas.{root_page, index_is, index_there, root_fields, root_got, storeys_held, raises_root}
+use Rattle.tree_smo.proofs.SilentLemmas.{does_shape}
 use Rattle.tree_smo.proofs.raising.raise_root.Goals as goal
 
 pub head_of-head-requires : goal.head_of-head-requires
@@ -41,10 +43,39 @@ returns-in_err-under-clause-full g c = λ e. let r = rw e at c.from_residual.ens
     c.frame.result.now c.frame.ensures c.head_of-head.result c.head_of-head.ensures.head)
     (c.in_err-under.ensures.full (ap Err (sym r.1)))
 
+pub returns-in_err-under-clause-memory : goal.returns-in_err-under-clause-memory
+returns-in_err-under-clause-memory g c = λ e. let r = rw e at c.from_residual.ensures in
+    c.in_err-under.ensures.memory (ap Err (sym r.1))
+
 pub raise_hashed-requires-clause-parts : goal.raise_hashed-requires-clause-parts
 raise_hashed-requires-clause-parts g c =
     (no_table c.args.pass.now c.new_page.new.pass c.head_of-head.result c.in_ok-under.under
     c.in_ok-under.ensures.ok c.requires.tables).parts
+
+pub raise_hashed-requires-clause-index : goal.raise_hashed-requires-clause-index
+raise_hashed-requires-clause-index g c = subst (λ (s : Shape). c.args.index < s.indexes)
+    (sym (does_shape c.args.pass.now c.new_page.new.pass _ _
+    c.in_ok-under.ensures.ok.silently.does)) c.requires.index
+
+pub raise_hashed-requires-clause-few : goal.raise_hashed-requires-clause-few
+raise_hashed-requires-clause-few g c = subst (λ (s : Shape). s.pages ≤ 65536)
+    (sym (does_shape c.args.pass.now c.new_page.new.pass _ _
+    c.in_ok-under.ensures.ok.silently.does)) c.requires.few
+
+pub raise_hashed-requires-clause-known : goal.raise_hashed-requires-clause-known
+raise_hashed-requires-clause-known g c = c.in_ok-under.ensures.ok.silently.does.known
+
+pub raise_hashed-requires-clause-room : goal.raise_hashed-requires-clause-room
+raise_hashed-requires-clause-room g c = let counted = c.in_ok-under.ensures.ok.count in
+    let room = c.requires.room in omega (arith, counted, room)
+
+pub free_page-requires-clause-known : goal.free_page-requires-clause-known
+free_page-requires-clause-known g c = c.in-Err.ensures.err.silently.does.known
+
+pub free_page-requires-clause-room : goal.free_page-requires-clause-room
+free_page-requires-clause-room g c = let counted = c.in_ok-under.ensures.ok.count in
+    let same = c.in-Err.ensures.err.count in let room = c.requires.room in
+    omega (arith, counted, same, room)
 
 pub raise_hashed-requires-clause-held : goal.raise_hashed-requires-clause-held
 raise_hashed-requires-clause-held g c = let p = c.args.pass.now in
@@ -71,6 +102,9 @@ returns-in-Ok-clause-ok g c = let p = c.args.pass.now in
     c.frame.result.now c.frame.ensures c.head_of-head.result c.head_of-head.ensures.head
     c.in_ok-under.under c.new_page.new.pass
     c.in_ok-under.ensures.ok) c.requires.index c.raise_hashed.new.pass c.in-Ok.ensures.ok
+
+pub returns-in-Err-clause-full : goal.returns-in-Err-clause-full
+returns-in-Err-clause-full g c = λ e. absurd (memory_not_full _ refl e)
 
 pub returns-in-Err-clause-memory : goal.returns-in-Err-clause-memory
 returns-in-Err-clause-memory g c = λ e.

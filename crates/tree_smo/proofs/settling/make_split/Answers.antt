@@ -1,5 +1,7 @@
 use Rattle.std.proofs.Common.{◌≢◌, sym, subst, arith}
 use Rattle.index_page.specs.declared.TheConstants.{NO_PAGE}
+use Rattle.buffer_pool.specs.Forests.{IsFittedTree}
+use Rattle.buffer_pool.proofs.AgainLemmas.{passes_both}
 use Rattle.tree_smo.specs.Plans.{RelinksBehind}
 use Rattle.tree_smo.proofs.ChangedLemmas.{suits_halves, moved_rows, in_place, same_count, splits_kept, next_in_hand}
 use Rattle.tree_smo.proofs.PlanLemmas.{split_call, right_number, right_frame, right_page, number_read}
@@ -20,6 +22,10 @@ pub change_halves-requires-clause-suits : goal.change_halves-requires-clause-sui
 change_halves-requires-clause-suits g c = let p = c.args.pass.now in let plan = c.args.plan in
     suits_halves p plan c.args.right (split_call p plan c.args.right c.requires.known
     c.fits.ensures c.requires.held c.requires.blank c.requires.part) c.requires.few
+
+pub returns-in_err-change_halves-clause-fits : goal.returns-in_err-change_halves-clause-fits
+returns-in_err-change_halves-clause-fits g c =
+    subst IsFittedTree (sym c.in_err-change_halves.ensures.err.same_view) c.fits.ensures
 
 pub keep_up_between-requires-clause-moved : goal.keep_up_between-requires-clause-moved
 keep_up_between-requires-clause-moved g c = let p = c.args.pass.now in let plan = c.args.plan in
@@ -82,6 +88,16 @@ settle-requires-clause-rule g c = let p = c.args.pass.now in let plan = c.args.p
     (λ n. RelinksBehind c.keep_up_between.new.pass plan.next n c.relink_behind.new.pass)
     (number_read p plan c.args.right call c.frame.result.now c.frame.ensures c.head_of-number.result
     c.head_of-number.ensures.head) c.relink_behind.ensures.relinks)
+
+pub returns-clause-own : goal.returns-clause-own
+returns-clause-own g c = let p = c.args.pass.now in let changed = c.change_halves.new.pass in
+    let kept = c.keep_up_between.new.pass in let linked = c.relink_behind.new.pass in
+    let settled = c.settle.new.pass in (
+      passes_both p changed settled c.change_halves.ensures.own.0
+          (passes_both changed kept settled c.keep_up_between.ensures.own.0
+          (passes_both kept linked settled c.relink_behind.ensures.own.0 c.settle.ensures.own.0)),
+      c.settle.ensures.own.1,
+    )
 
 pub returns-clause-ok : goal.returns-clause-ok
 returns-clause-ok g c = λ part holds. let p = c.args.pass.now in let plan = c.args.plan in

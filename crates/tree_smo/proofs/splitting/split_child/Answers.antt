@@ -1,8 +1,9 @@
-use Rattle.std.proofs.Common.{subst}
+use Rattle.std.proofs.Common.{refl, subst}
 use Rattle.std.specs.Prelude.{IfOk}
 use Rattle.key_tuple.specs.Limits.{IsWithinLimits}
 use Rattle.tree_smo.specs.Splitting.{SplitsChild}
 use Rattle.buffer_pool.specs.NewPages.{FindsNoneFree}
+use Rattle.tree_smo.proofs.BesideLemmas.{memory_not_full}
 use Rattle.tree_smo.proofs.ChildLemmas.{got_nothing, low_page, can_be_cut, index_is, planned}
 use Rattle.tree_smo.proofs.splitting.split_child.Goals as goal
 
@@ -15,6 +16,9 @@ pub find_cut-requires : goal.find_cut-requires
 find_cut-requires g c =
     can_be_cut c.args.pass.now c.requires.known c.args.parent c.args.child c.args.index
     c.requires.held c.frame-low.result.now c.frame-low.ensures
+
+pub returns-in-Err-clause-full : goal.returns-in-Err-clause-full
+returns-in-Err-clause-full g c = λ e. absurd (memory_not_full _ refl e)
 
 pub returns-in-Err-clause-memory : goal.returns-in-Err-clause-memory
 returns-in-Err-clause-memory g c = λ e. got_nothing c.args.pass.now c.requires.known

@@ -1,10 +1,13 @@
+use Rattle.std.proofs.Common.{◌<◌, ◌^◌, sym, subst, arith}
 use Rattle.std.proofs.lemmas.Result.{IfOk-weaker}
 use Rattle.latch_space.specs.Passes.{view}
+use Rattle.index_law.specs.Shape.{Shape}
 use Rattle.buffer_pool.proofs.SpaceLemmas.{objects_of}
 use Rattle.tree_smo.specs.Plans.{SplitsBeside}
 use Rattle.tree_smo.specs.Splitting.{SplitsChild}
 use Rattle.tree_smo.proofs.AroundLemmas.{none_free, nothing, splits_child, splits_last, frames_last}
 use Rattle.tree_smo.proofs.NextLemmas.{plan_last, next_live, next_other, next_taken, plan_with, plan_held, frames_held, tables_still, next_held}
+use Rattle.tree_smo.proofs.SilentLemmas.{does_shape}
 use Rattle.tree_smo.proofs.splitting.split_planned.Goals as goal
 
 pub split_beside-requires-clause-held : goal.split_beside-requires-clause-held
@@ -33,6 +36,19 @@ split_beside-made-requires-clause-held g c = let p = c.args.pass.now in let plan
     let q = c.page_in-behind.new.pass in
     plan_held p plan n b q (next_taken p plan n b q c.requires.held c.in-Some.is
     c.page_in-behind.ensures.took c.page_in-behind.ensures.fits)
+
+pub split_beside-made-requires-clause-known : goal.split_beside-made-requires-clause-known
+split_beside-made-requires-clause-known g c =
+    c.page_in-behind.ensures.took.silently.does.known
+
+pub split_beside-made-requires-clause-few : goal.split_beside-made-requires-clause-few
+split_beside-made-requires-clause-few g c = subst (λ (s : Shape). s.pages < 2 ^ 32)
+    (sym (does_shape c.args.pass.now c.page_in-behind.new.pass _ _
+    c.page_in-behind.ensures.took.silently.does)) c.requires.few
+
+pub split_beside-made-requires-clause-room : goal.split_beside-made-requires-clause-room
+split_beside-made-requires-clause-room g c = let counted = c.page_in-behind.ensures.took.count in
+    let room = c.requires.room in omega (arith, counted, room)
 
 pub split_beside-made-requires-clause-frames : goal.split_beside-made-requires-clause-frames
 split_beside-made-requires-clause-frames g c = let p = c.args.pass.now in let plan = c.args.plan in

@@ -1,5 +1,7 @@
-use Rattle.std.proofs.Common.{◌≡◌, arith, rules, ℕ, Option}
+use Rattle.std.proofs.Common.{◌≡◌, sym, subst, arith, rules, ℕ, Option}
 use Rattle.latch_space.specs.Passes.{view}
+use Rattle.buffer_pool.specs.Forests.{IsFittedTree}
+use Rattle.buffer_pool.proofs.AgainLemmas.{passes_both}
 use Rattle.tree_smo.specs.PartHeld.{HoldsPartFor}
 use Rattle.tree_smo.proofs.RaiseKeptLemmas.{RaisesKept, raised_rows, in_place, same_count, raises_kept}
 use Rattle.tree_smo.proofs.RaiseLemmas.{tree_there, whole, follows, makes_raise}
@@ -17,6 +19,10 @@ call g c part = search
 pub change_storeys-requires-clause-suits : goal.change_storeys-requires-clause-suits
 change_storeys-requires-clause-suits g c = suits_storeys
     (call g (goal.at.change_storeys-requires-clause-suits g c).After-laws_of_moves c.requires.part)
+
+pub returns-in_err-change_storeys-clause-fits : goal.returns-in_err-change_storeys-clause-fits
+returns-in_err-change_storeys-clause-fits g c =
+    subst IsFittedTree (sym c.in_err-change_storeys.ensures.err.same_view) c.fits.ensures
 
 pub keep_up_between-requires : goal.keep_up_between-requires
 keep_up_between-requires g c =
@@ -75,6 +81,16 @@ settle-requires g c = let at = goal.at.settle-requires g c in
       whole = whole raised grows c.change_tree.ensures.changed;
       rule = follows raised grows c.change_tree.ensures.changed;
     }
+
+pub returns-clause-own : goal.returns-clause-own
+returns-clause-own g c = let p = c.args.pass.now in let changed = c.change_storeys.new.pass in
+    let kept = c.keep_up_between.new.pass in let raised = c.change_tree.new.pass in
+    let settled = c.settle.new.pass in (
+      passes_both p changed settled c.change_storeys.ensures.own.0
+          (passes_both changed kept settled c.keep_up_between.ensures.own.0
+          (passes_both kept raised settled c.change_tree.ensures.own.0 c.settle.ensures.own.0)),
+      c.settle.ensures.own.1,
+    )
 
 pub returns-clause-ok : goal.returns-clause-ok
 unfolding call
