@@ -11,9 +11,11 @@ use Rattle.forest_law.specs.State.{fields_for}
 use Rattle.forest_world.specs.Held.{TreePass, shape_of_pass, HasFrame}
 use Rattle.call_law.specs.Hands.{KnowsFrame}
 use Rattle.buffer_pool.specs.Frames.{GivesFrame}
+use Rattle.buffer_pool.specs.Hands.{MayGiveBack}
 use Rattle.buffer_pool.proofs.CallLemmas.{gave_frame, frame_has}
+use Rattle.tree_descent.proofs.PageLemmas.{may_give_back}
 use Rattle.tree_growth.specs.declared.looking.PageInHand.{PageInHand}
-use Rattle.tree_growth.specs.Pages.{TellsRoom, HoldsLow, HoldsBothHalves}
+use Rattle.tree_growth.specs.Pages.{TellsRoom, HoldsLow, HoldsPagedFrame, HoldsBothHalves}
 use Rattle.tree_growth.specs.Ways.{IsGoingDown, ArrivesAt, KeepsHalf}
 use Rattle.tree_growth.proofs.HandLemmas.{still_gave}
 use Rattle.tree_growth.proofs.RoomLemmas.{is_roomy}
@@ -59,6 +61,35 @@ low_of_right p i key left right way halves = record {
       halves.order_upper.low)));
 }
 
+-- either half can be given back, and the page of the other read then
+module _ (p q : TreePass) (i : ℕ) (key : FieldList) (left right : ℕ)
+    (way : IsGoingDown p i key (left ∷ right ∷ []))
+    (halves : HoldsBothHalves (view p) left right i key) where
+  pub upper_may_go : MayGiveBack p right
+  upper_may_go = may_give_back p way.known right i halves.level halves.upper halves.knows_upper
+      halves.is_upper
+
+  pub lower_may_go : MayGiveBack p left
+  lower_may_go = may_give_back p way.known left i halves.level halves.lower halves.knows_lower
+      halves.is_lower
+
+  lower_has_frame : GivesFrame p right q → HasFrame q left halves.lower halves.lower
+  lower_has_frame gave = frame_has q (gave_frame p q way.known right gave).known left halves.lower
+      (still_gave p q right way.known gave left halves.lower halves.apart halves.knows_lower)
+
+  upper_has_frame : GivesFrame p left q → HasFrame q right halves.upper halves.upper
+  upper_has_frame gave = frame_has q (gave_frame p q way.known left gave).known right halves.upper
+      (still_gave p q left way.known gave right halves.upper (λ e. halves.apart (sym e))
+      halves.knows_upper)
+
+  pub lower_held : GivesFrame p right q → HoldsPagedFrame q left
+  lower_held gave =
+      (halves.lower, halves.is_lower.page, lower_has_frame gave, halves.is_lower.paged)
+
+  pub upper_held : GivesFrame p left q → HoldsPagedFrame q right
+  upper_held gave =
+      (halves.upper, halves.is_upper.page, upper_has_frame gave, halves.is_upper.paged)
+
 -- the half that has the key is kept
 module _ (p q : TreePass) (i : ℕ) (key : FieldList) (need left right : ℕ)
     (way : IsGoingDown p i key (left ∷ right ∷ [])) (small : need ≤ MAX_CHARGE) (at : PageInHand)
@@ -68,9 +99,7 @@ module _ (p q : TreePass) (i : ℕ) (key : FieldList) (need left right : ℕ)
     lower_tells : (it : HoldsBothHalves (view p) left right i key)
         → TellsRoom left it.is_lower.page need at
     lower_tells it = looks it.lower it.is_lower.page
-        (frame_has q (gave_frame p q way.known right gave).known left it.lower
-        (still_gave p q right way.known gave left it.lower it.apart it.knows_lower))
-        it.is_lower.paged
+        (lower_has_frame p q i key left right way it gave) it.is_lower.paged
 
     pub keeps_lower : KeepsHalf p left right i key need at q
     keeps_lower = record {
@@ -87,9 +116,7 @@ module _ (p q : TreePass) (i : ℕ) (key : FieldList) (need left right : ℕ)
     upper_tells : (it : HoldsBothHalves (view p) left right i key)
         → TellsRoom right it.is_upper.page need at
     upper_tells it = looks it.upper it.is_upper.page
-        (frame_has q (gave_frame p q way.known left gave).known right it.upper
-        (still_gave p q left way.known gave right it.upper (λ e. it.apart (sym e)) it.knows_upper))
-        it.is_upper.paged
+        (upper_has_frame p q i key left right way it gave) it.is_upper.paged
 
     pub keeps_upper : KeepsHalf p left right i key need at q
     keeps_upper = record {

@@ -10,7 +10,7 @@ use Rattle.key_tuple.specs.Order.{FieldList}
 use Rattle.latch_law.specs.declared.knows.Terms.{Terms}
 use Rattle.latch_space.specs.declared.space.SpaceOf.{SpaceOf}
 use Rattle.latch_space.specs.Has.{IsKnown}
-use Rattle.latch_space.specs.Passes.{view, count, IsSamePass}
+use Rattle.latch_space.specs.Passes.{view, count}
 use Rattle.latch_space.specs.Spaces.{IsPassOf}
 use Rattle.index_law.specs.Answers.{MadeChange, Saying}
 use Rattle.index_law.specs.Shape.{Shape}

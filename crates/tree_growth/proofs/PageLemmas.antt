@@ -1,5 +1,5 @@
 -- Pages that are kept on the way, and in whose bounds the key is.
-use Rattle.std.proofs.Common.{◌≡◌, ◌≢◌, ℕ, Bool, true, false, List, [], ◌∷◌, length, cond, eq-eqb, sym, ap, subst, ◌∙◌, refl}
+use Rattle.std.proofs.Common.{◌≡◌, ◌≢◌, ℕ, Bool, true, false, List, [], ◌∷◌, length, cond, eq-eqb, sym, ap, subst, ◌∙◌}
 use Rattle.std.specs.List.{AllByRecursion}
 use Rattle.key_tuple.specs.declared.mode.Mode.{Mode}
 use Rattle.key_tuple.specs.declared.mode.Mode.TheVariants as mode

@@ -1,5 +1,14 @@
+use Rattle.buffer_pool.proofs.CallLemmas.{frame_has}
 use Rattle.tree_growth.proofs.FullLemmas.{can_split, is_ordered, may_give_parent, grows_kept}
 use Rattle.tree_growth.proofs.growing.grow_child.Goals as goal
+
+pub page_in_hand-low-requires-clause-held : goal.page_in_hand-low-requires-clause-held
+page_in_hand-low-requires-clause-held g c = let held = c.requires.held in (
+  held.low,
+  held.below.is.page,
+  frame_has c.args.pass.now c.requires.way.known c.args.child held.low held.knows_low,
+  held.below.is.paged,
+)
 
 pub halve_child-requires-clause-two : goal.halve_child-requires-clause-two
 halve_child-requires-clause-two g c =
