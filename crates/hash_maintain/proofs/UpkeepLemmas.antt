@@ -114,6 +114,10 @@ is_call p b k bits f how layout shape result one other bits_are told found part 
       part = part ∙ ap (λ (s : Shape). part_for s.parts how.index) same;
     }
 
+-- a frame is hashed for an index, or is not
+pub hashed_or_not : (hashed : Option ℕ) (index : ℕ) → hashed ≡ Some index → hashed ≡ None → ⊥
+hashed_or_not hashed index is not = absurd cc
+
 module _ (p : TreePass) (b k : ℕ) (f : Frame) (how : Hashing) (call : IsCall p b k f how) where
   abbrev sh : Shape
   sh = shape_of_pass p

@@ -11,6 +11,9 @@ use Rattle.hash_maintain.proofs.PassLemmas.{knows_forest, unheld_lacks, held_not
 use Rattle.hash_maintain.proofs.PartLemmas.{takes_part}
 use Rattle.hash_maintain.proofs.parting.hold_part.Goals as goal
 
+pub returns-then-holds-clause-took : goal.returns-then-holds-clause-took
+returns-then-holds-clause-took g c = tt
+
 pub returns-then-holds-clause-held : goal.returns-then-holds-clause-held
 returns-then-holds-clause-held g c = λ lacks. let p = c.args.pass.now in
     held_not_lacked (view p).held (part_id (shape_of_pass p) c.args.part)

@@ -2,16 +2,35 @@ use Rattle.std.proofs.Common.{sym, ap, subst, refl}
 use Rattle.latch_law.specs.declared.knows.Terms.{Terms}
 use Rattle.index_law.specs.Shape.{Shape}
 use Rattle.hash_maintain.specs.Parting.{HasRoomFor}
-use Rattle.hash_maintain.proofs.UpkeepLemmas.{IsCall, is_call, hashed_so, was_so, drops}
+use Rattle.hash_maintain.proofs.UpkeepLemmas.{IsCall, is_call, hashed_so, hashed_or_not, was_so, drops}
+use Rattle.hash_maintain.proofs.upkeep.drop_frame.Given as given
 use Rattle.hash_maintain.proofs.upkeep.drop_frame.Goals as goal
+use Rattle.hash_maintain.proofs.upkeep.drop_frame.Goals.{After-part_for-part}
+
+-- the call, as lemmas know it
+the_call : (g : given.Over) (c : After-part_for-part g)
+    → IsCall c.args.pass.now c.args.block c.part_for-part.result c.args.frame.now c.in-Some.how
+the_call g c =
+    is_call c.args.pass.now c.args.block c.part_for-part.result c.fold_bits.result
+    c.args.frame.now c.in-Some.how c.shape-layout.result.now c.args.space.now.terms.shape
+    c.hashing_of.result c.shape-layout.ensures
+    (ap (λ (t : Terms Shape). t.shape) c.requires.own.1) c.fold_bits.ensures c.hashing_of.ensures
+    c.in-Some.is c.part_for-part.ensures
+
+pub unhash-requires-clause-hashed : goal.unhash-requires-clause-hashed
+unhash-requires-clause-hashed g c =
+    hashed_so c.args.pass.now c.args.block c.part_for-part.result c.args.frame.now c.in-Some.how
+    (the_call g (goal.at.unhash-requires-clause-hashed g c).After-part_for-part)
+
+pub returns-in-Some-clause-rests : goal.returns-in-Some-clause-rests
+returns-in-Some-clause-rests g c none =
+    let so = hashed_so c.args.pass.now c.args.block c.part_for-part.result c.args.frame.now
+    c.in-Some.how (the_call g (goal.at.returns-in-Some-clause-rests g c).After-part_for-part) in
+    absurd (hashed_or_not _ _ so.index none)
 
 pub unhash-requires-clause-exact : goal.unhash-requires-clause-exact
 unhash-requires-clause-exact g c = let p = c.args.pass.now in let f = c.args.frame.now in
-    let call : IsCall p c.args.block c.part_for-part.result c.args.frame.now c.in-Some.how =
-    is_call p c.args.block c.part_for-part.result c.fold_bits.result c.args.frame.now c.in-Some.how
-    c.shape-layout.result.now c.args.space.now.terms.shape c.hashing_of.result c.shape-layout.ensures
-    (ap (λ (t : Terms Shape). t.shape) c.requires.own.1) c.fold_bits.ensures c.hashing_of.ensures
-    c.in-Some.is c.part_for-part.ensures in
+    let call = the_call g (goal.at.unhash-requires-clause-exact g c).After-part_for-part in
     let so = hashed_so p c.args.block c.part_for-part.result f c.in-Some.how call in
     let leaf = c.requires.tidy.leaf c.in-Some.how.index so.index in
     was_so p c.args.block c.part_for-part.result f c.in-Some.how call c.entries_are_owed.ensures
@@ -20,11 +39,7 @@ unhash-requires-clause-exact g c = let p = c.args.pass.now in let f = c.args.fra
 
 pub returns-in-Some-clause-drops : goal.returns-in-Some-clause-drops
 returns-in-Some-clause-drops g c = λ how e. let p = c.args.pass.now in
-    let call : IsCall p c.args.block c.part_for-part.result c.args.frame.now c.in-Some.how =
-    is_call p c.args.block c.part_for-part.result c.fold_bits.result c.args.frame.now c.in-Some.how
-    c.shape-layout.result.now c.args.space.now.terms.shape c.hashing_of.result c.shape-layout.ensures
-    (ap (λ (t : Terms Shape). t.shape) c.requires.own.1) c.fold_bits.ensures c.hashing_of.ensures
-    c.in-Some.is c.part_for-part.ensures in
+    let call = the_call g (goal.at.returns-in-Some-clause-drops g c).After-part_for-part in
     drops p c.args.block c.part_for-part.result c.args.frame.now c.in-Some.how call
     c.hold_part_out-partition.new.pass c.part_back.new.pass c.hold_part_out-partition.result
     c.unhash.new.part c.unhash.new.frame c.hold_part_out-partition.ensures.out
@@ -32,10 +47,6 @@ returns-in-Some-clause-drops g c = λ how e. let p = c.args.pass.now in
 
 pub hold_part_out-partition-requires-clause-room : goal.hold_part_out-partition-requires-clause-room
 hold_part_out-partition-requires-clause-room g c = let p = c.args.pass.now in
-    let call : IsCall p c.args.block c.part_for-part.result c.args.frame.now c.in-Some.how =
-    is_call p c.args.block c.part_for-part.result c.fold_bits.result c.args.frame.now c.in-Some.how
-    c.shape-layout.result.now c.args.space.now.terms.shape c.hashing_of.result c.shape-layout.ensures
-    (ap (λ (t : Terms Shape). t.shape) c.requires.own.1) c.fold_bits.ensures c.hashing_of.ensures
-    c.in-Some.is c.part_for-part.ensures in
+    let call = the_call g (goal.at.hold_part_out-partition-requires-clause-room g c).After-part_for-part in
     let so = hashed_so p c.args.block c.part_for-part.result c.args.frame.now c.in-Some.how call in
     subst (HasRoomFor p) (sym call.part) (c.requires.room c.in-Some.how.index so.index)
