@@ -5,6 +5,7 @@ use Rattle.index_law.specs.Shape.{Shape}
 use Rattle.forest_world.specs.Held.{shape_of_pass}
 use Rattle.hash_maintain.specs.Moves.{first_hashed}
 use Rattle.hash_maintain.proofs.MovingLemmas.{may_move, moves_in_hand}
+use Rattle.hash_maintain.proofs.UpkeepLemmas.{hashed_or_not}
 use Rattle.hash_maintain.proofs.moving.move_between.Goals as goal
 
 pub rows_moved-answer-requires-clause-apart : goal.rows_moved-answer-requires-clause-apart
@@ -25,6 +26,10 @@ rows_moved-answer-requires-clause-may g c =
     c.args.from.now c.args.to.now part_is bits_are (c.requires.moved index found)
     c.hold_part_out-partition.new.pass c.hold_part_out-partition.result
     c.hold_part_out-partition.ensures.out
+
+pub returns-in-Some-clause-rests : goal.returns-in-Some-clause-rests
+returns-in-Some-clause-rests g c none =
+    absurd (hashed_or_not _ _ (sym c.first_hashed.ensures ∙ c.in-Some.is) none)
 
 pub returns-in-Some-clause-moves : goal.returns-in-Some-clause-moves
 returns-in-Some-clause-moves g c = λ i is.

@@ -47,6 +47,7 @@ returns-in-Some-clause-drops g c = λ how e. let p = c.args.pass.now in
 
 pub hold_part_out-partition-requires-clause-room : goal.hold_part_out-partition-requires-clause-room
 hold_part_out-partition-requires-clause-room g c = let p = c.args.pass.now in
-    let call = the_call g (goal.at.hold_part_out-partition-requires-clause-room g c).After-part_for-part in
+    let call = the_call g
+    (goal.at.hold_part_out-partition-requires-clause-room g c).After-part_for-part in
     let so = hashed_so p c.args.block c.part_for-part.result c.args.frame.now c.in-Some.how call in
     subst (HasRoomFor p) (sym call.part) (c.requires.room c.in-Some.how.index so.index)
