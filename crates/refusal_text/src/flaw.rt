@@ -107,21 +107,27 @@ fn flaw_of_seek(line: &[u8]) -> &'static str {
 
 /// What is wrong with the words of a line, whatever they mean.
 fn flaw_of_words(line: &[u8]) -> Option<&'static str> {
-    if line.iter().any(|byte| *byte < b' ' || *byte > b'~') {
-        Some(BYTES)
-    } else if has_empty_word(line) {
-        Some(SPACES)
-    } else {
-        None
+    for byte in line {
+        if *byte < b' ' || *byte > b'~' {
+            return Some(BYTES);
+        }
     }
+    if has_empty_word(line) {
+        return Some(SPACES);
+    }
+    None
 }
 
 fn is_name(word: &[u8]) -> bool {
-    let is_first_a_letter = match word.first() {
-        Some(first) => first.is_ascii_lowercase(),
-        None => false,
+    let Some(first) = word.first() else {
+        return false;
     };
-    is_first_a_letter && word.len() <= 32 && word.iter().all(|byte| is_in_names(*byte))
+    for byte in word {
+        if !is_in_names(*byte) {
+            return false;
+        }
+    }
+    first.is_ascii_lowercase() && word.len() <= 32
 }
 
 fn is_in_names(byte: u8) -> bool {

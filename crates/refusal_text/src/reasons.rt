@@ -1,10 +1,11 @@
 //! A run's end in words.
 use crate::flaw::{flaw_of_lane, flaw_of_schema, long_part};
-use crate::lines::{line_of, shown, word_of};
-use crate::sizes::wanted;
+use crate::lines::{line_of, put_shown, word_of};
+use crate::sizes::put_wanted;
 use crate::told::{Told, read};
 use crate::usage::wrong_use;
 use std::alloc::{AllocError, Global};
+use std::fmt::Write;
 
 /// The number of the file whose line is refused by the line that was put, if one is: 0 for the
 /// schema, and from 1 on for the lanes.
@@ -15,8 +16,9 @@ pub fn refused_file(told: &[u8]) -> Option<usize> {
     }
 }
 
-/// Why a run of these words ended with the status of this number, when `told` was put first. Of a file whose line is refused
-/// `bytes` has the bytes, where they can be read again. Nothing is said of a run that is done.
+/// Why a run of these words ended with the status of this number, when `told` was put first. Of a
+/// file whose line is refused `bytes` has the bytes, where they can be read again. Nothing is said
+/// of a run that is done.
 pub fn explain(
     alloc: Global,
     status: u8,
@@ -29,37 +31,39 @@ pub fn explain(
         2 => wrong_use(alloc, words),
         4 => String::from_str(alloc, "the standard output didn't take all that was put"),
         6 => String::from_str(alloc, "there was no memory"),
-        _ => explain_line(alloc, words, told, bytes),
+        _ => {
+            let mut text = String::new(alloc);
+            put_refusal(&mut text, words, told, bytes)?;
+            Ok(text)
+        }
     }
 }
 
-/// Says in words what the line of a refusal tells.
-fn explain_line(
-    alloc: Global,
+/// Puts in words what the line of a refusal tells.
+fn put_refusal(
+    text: &mut String,
     words: &[String],
     told: &[u8],
     bytes: Option<&[u8]>,
-) -> Result<String, AllocError> {
+) -> Result<(), AllocError> {
     match read(told) {
         Some(Told::Script { file, line, code }) => {
-            let flaw = flaw(alloc, file, line, code, bytes)?;
-            format!(in alloc; "{}, line {line}: {flaw}", name_of(words, file))
+            put_place(text, name_of(words, file), line)?;
+            put_flaw(
+                text,
+                file,
+                code,
+                bytes.and_then(|bytes| line_of(bytes, line)),
+            )
         }
-        Some(Told::Shelf { file }) => {
-            of_file(alloc, words, file, "it isn't there, or can't be read")
-        }
-        Some(Told::TooLarge { file }) => {
-            let said = "with it the files have more than 67,108,864 bytes together";
-            of_file(alloc, words, file, said)
-        }
-        Some(Told::Sizes { setting }) => wanted(alloc, setting, words.len().saturating_sub(2)),
-        None => String::from_str(alloc, "the run was refused"),
+        Some(Told::File { file, said }) => write!(text, "{}: {said}", name_of(words, file)),
+        Some(Told::Sizes { setting }) => put_wanted(text, setting, words.len().saturating_sub(2)),
+        None => text.push_str("the run was refused"),
     }
 }
 
-/// Says this of the file of this number.
-fn of_file(alloc: Global, words: &[String], file: usize, said: &str) -> Result<String, AllocError> {
-    format!(in alloc; "{}: {said}", name_of(words, file))
+fn put_place(text: &mut String, name: &str, line: u64) -> Result<(), AllocError> {
+    write!(text, "{name}, line {line}: ")
 }
 
 /// The name of the file of this number among the words.
@@ -70,20 +74,19 @@ fn name_of(words: &[String], file: usize) -> &str {
     }
 }
 
-/// What is wrong with a line, and the line itself where it is known.
-fn flaw(
-    alloc: Global,
+/// Puts what is wrong with a line, and the line itself where it is known.
+fn put_flaw(
+    text: &mut String,
     file: usize,
-    line: u64,
     code: u64,
-    bytes: Option<&[u8]>,
-) -> Result<String, AllocError> {
-    match bytes.and_then(|bytes| line_of(bytes, line)) {
-        None => String::from_str(alloc, general_flaw(code)),
-        Some([]) => String::from_str(alloc, flaw_of_schema(b"")),
-        Some(text) => {
-            let flaw = flaw_of(alloc, file, code, text)?;
-            format!(in alloc; "{flaw} ({})", shown(alloc, text)?)
+    line: Option<&[u8]>,
+) -> Result<(), AllocError> {
+    match line {
+        None => text.push_str(general_flaw(code)),
+        Some([]) => text.push_str(flaw_of_schema(b"")),
+        Some(line) => {
+            put_flaw_of(text, file, code, line)?;
+            put_quoted(text, line)
         }
     }
 }
@@ -97,15 +100,23 @@ fn general_flaw(code: u64) -> &'static str {
     }
 }
 
-/// What a code says of this line.
-fn flaw_of(alloc: Global, file: usize, code: u64, line: &[u8]) -> Result<String, AllocError> {
+/// Puts what a code says of this line.
+fn put_flaw_of(text: &mut String, file: usize, code: u64, line: &[u8]) -> Result<(), AllocError> {
     match (file, code) {
-        (0, 1) => String::from_str(alloc, flaw_of_schema(line)),
-        (_, 1) => String::from_str(alloc, flaw_of_lane(line)),
-        (_, 2) => {
-            let name = shown(alloc, word_of(line, 1).unwrap_or(b""))?;
-            format!(in alloc; "no index is called {name}")
-        }
-        _ => String::from_str(alloc, long_part(line)),
+        (0, 1) => text.push_str(flaw_of_schema(line)),
+        (_, 1) => text.push_str(flaw_of_lane(line)),
+        (_, 2) => put_unknown(text, word_of(line, 1).unwrap_or(b"")),
+        _ => text.push_str(long_part(line)),
     }
+}
+
+fn put_unknown(text: &mut String, name: &[u8]) -> Result<(), AllocError> {
+    text.push_str("no index is called ")?;
+    put_shown(text, name)
+}
+
+fn put_quoted(text: &mut String, line: &[u8]) -> Result<(), AllocError> {
+    text.push_str(" (")?;
+    put_shown(text, line)?;
+    text.push(')')
 }

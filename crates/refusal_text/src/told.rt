@@ -5,8 +5,7 @@ use std::str;
 #[derive(Clone, Copy)]
 pub enum Told<'a> {
     Script { file: usize, line: u64, code: u64 },
-    Shelf { file: usize },
-    TooLarge { file: usize },
+    File { file: usize, said: &'static str },
     Sizes { setting: &'a str },
 }
 
@@ -16,25 +15,37 @@ pub fn read(line: &[u8]) -> Option<Told<'_>> {
         return None;
     };
     let (word, rest) = str::from_utf8(text).ok()?.split_once(' ')?;
+    read_kind(word, rest)
+}
+
+fn read_kind<'a>(word: &str, rest: &'a str) -> Option<Told<'a>> {
     match word {
         "script" => read_script(rest),
-        "shelf" => Some(Told::Shelf {
-            file: rest.parse::<usize>().ok()?,
-        }),
-        "too-large" => Some(Told::TooLarge {
-            file: rest.parse::<usize>().ok()?,
-        }),
+        "shelf" => read_file(rest, "it isn't there, or can't be read"),
+        "too-large" => read_file(
+            rest,
+            "with it the files have more than 67,108,864 bytes together",
+        ),
         "sizes" => Some(Told::Sizes { setting: rest }),
         _ => None,
     }
 }
 
+fn read_file<'a>(rest: &'a str, said: &'static str) -> Option<Told<'a>> {
+    let file = rest.parse::<usize>().ok()?;
+    Some(Told::File { file, said })
+}
+
 fn read_script(rest: &str) -> Option<Told<'_>> {
     let (file, rest) = rest.split_once(' ')?;
+    let file = file.parse::<usize>().ok()?;
+    let (line, code) = read_place(rest)?;
+    Some(Told::Script { file, line, code })
+}
+
+fn read_place(rest: &str) -> Option<(u64, u64)> {
     let (line, code) = rest.split_once(' ')?;
-    Some(Told::Script {
-        file: file.parse::<usize>().ok()?,
-        line: line.parse::<u64>().ok()?,
-        code: code.parse::<u64>().ok()?,
-    })
+    let line = line.parse::<u64>().ok()?;
+    let code = code.parse::<u64>().ok()?;
+    Some((line, code))
 }
