@@ -1,5 +1,5 @@
 -- What is put of lanes that were run is a legal report, and their pass did what it tells.
-use Rattle.std.proofs.Common.{◌≡◌, ℕ, List, length, map, ap, ◌∙◌, sym, subst}
+use Rattle.std.proofs.Common.{◌≡◌, ℕ, None, List, length, map, ap, ◌∙◌, sym, subst}
 use Rattle.std.proofs.lemmas.List.{length-map}
 use Rattle.std.specs.String.{string_bytes}
 use Rattle.change_log.specs.Log.{ChangeNote, Log}
@@ -19,10 +19,11 @@ use Rattle.report_print.specs.Texts.{report_text_of}
 use Rattle.report_print.proofs.SpellLemmas.{report_spelled}
 use Rattle.ahi_cli.specs.declared.files.Script.{Script}
 use Rattle.ahi_cli.specs.Run.{run_over, IsReportBy}
-use Rattle.ahi_cli.specs.Scripts.{IsScript}
+use Rattle.ahi_cli.specs.FirstRefusal.{sizes_stop}
+use Rattle.ahi_cli.specs.Scripts.{IsScript, TellsScript}
 
 -- what is merged of what a call was handed is merged of the same
-pub merged_for : (n n' : ℕ) (logs logs' : List Log) (changes : List (List ChangeNote)) → n' ≡ n → logs' ≡ logs → AreMerges n' logs' changes → AreMerges n logs changes
+merged_for : (n n' : ℕ) (logs logs' : List Log) (changes : List (List ChangeNote)) → n' ≡ n → logs' ≡ logs → AreMerges n' logs' changes → AreMerges n logs changes
 merged_for n n' logs logs' changes count same merged = subst (λ (z : ℕ × List Log). AreMerges z.0 z.1 changes) (λ i. (count i, same i)) merged
 
 module _ (script : Script) (is : IsScript script) (texts : List (List (List ℕ))) (logs : List Log) (counts : List Counts) (pass : EnginePass)
@@ -56,10 +57,20 @@ module _ (script : Script) (is : IsScript script) (texts : List (List (List ℕ)
       ∙ report_spelled schema.names ran.answers changes entries counts counted (ran.counted.long ∙ sym paired) all_reported.printed all_reported.counted
 
   -- what is put is a legal report, and the pass did what it tells
-  pub told_by : IsReportBy pass schema lanes (report_text_of schema.names texts changes counts)
+  told_by : IsReportBy pass schema lanes (report_text_of schema.names texts changes counts)
   told_by = record {
     report = record { report = report; spelled = spelled; legal = all_reported.legal };
     sizes = ran.sizes_are;
     trail = all_reported.trail;
     tries = all_reported.taught;
   }
+
+-- so what is put, once their changes are merged, tells of the script
+pub tells_script : (script : Script) → IsScript script → sizes_stop (schema_text script.schema) (length script.lanes.items) ≡ None
+    → (texts : List (List (List ℕ))) (logs : List Log) (counts : List Counts) (pass : EnginePass) → RanTogether script.schema.sizes script.schema.fields.items (lane_texts script.lanes.items) texts logs counts pass
+    → (n : ℕ) (logs' : List Log) (changes : List (List ChangeNote)) → n ≡ length script.schema.names.items → logs' ≡ logs → AreMerges n logs' changes
+    → TellsScript (IsReportBy pass) script (report_text_of (schema_text script.schema).names texts changes counts)
+tells_script script is allowed texts logs counts pass ran n logs' changes count same merged = record {
+  sizes = allowed;
+  told = told_by script is texts logs counts pass ran changes (merged_for (length script.schema.names.items) n logs logs' changes count same merged);
+}

@@ -1,5 +1,5 @@
 -- What the run of a script tells of the files that spell it.
-use Rattle.std.proofs.Common.{◌≡◌, ◌⊎◌, ℕ, Option, Some, None, List, length, ap, ◌∙◌, sym, subst, inl, inr}
+use Rattle.std.proofs.Common.{◌≡◌, ◌⊎◌, ℕ, Option, Some, None, IfSome, Ok, Err, List, length, refl, ap, ◌∙◌, sym, subst, inl, inr}
 use Rattle.std.specs.Option.{ForSome, IsSomeAnd, option_map}
 use Rattle.map_history.specs.LegalReport.{Line}
 use Rattle.script.specs.Schema.{SchemaText}
@@ -30,6 +30,14 @@ broken_sizes schema indexes lanes e setting is count cause = ap (λ n. option_ma
     of : (o : Option Setting) → IsSomeAnd o (λ s. e ≡ EngineError.BadSize s) → option_map stop.Sizes o ≡ Some (stop.Sizes setting)
     of None broken = absurd broken
     of (Some s) broken = let same : EngineError.BadSize s ≡ EngineError.BadSize setting = sym broken ∙ is in ap (λ z. Some (stop.Sizes z)) (let named : s ≡ setting = cc in named)
+
+-- where no setting keeps an engine from being opened, the sizes have no refusal
+pub opened_sizes : {Work : Type 0} (schema : SchemaText) (indexes lanes : ℕ) (work : Work) → indexes ≡ length schema.names → IfSome (first_broken schema.sizes indexes lanes) (λ s. Ok work ≡ Err (EngineError.BadSize s)) → sizes_stop schema lanes ≡ None
+opened_sizes schema indexes lanes work count opened = ap (λ n. option_map stop.Sizes (first_broken schema.sizes n lanes)) (sym count) ∙ of (first_broken schema.sizes indexes lanes) opened
+  where
+    of : (o : Option Setting) → IfSome o (λ s. Ok work ≡ Err (EngineError.BadSize s)) → option_map stop.Sizes o ≡ None
+    of None ok = refl
+    of (Some s) ok = absurd (let other = ok in cc)
 
 -- what is told of a script is told of the files that spell it
 pub tells : (IsTold : SchemaText → List (List Line) → List ℕ → Type 0) (asked : Asked) (names : List ℕ × List (List ℕ)) (script : Script) (bytes : List ℕ) → accepted asked.words ≡ Some names → ForSome asked.told (λ files. Spells files names (schema_text script.schema) (lane_texts script.lanes.items)) → length script.lanes.items ≡ length names.1 → TellsScript IsTold script bytes → Tells IsTold asked bytes

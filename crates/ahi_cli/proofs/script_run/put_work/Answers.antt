@@ -9,35 +9,35 @@ use Rattle.ahi_cli.specs.Ends.{output_of}
 use Rattle.ahi_cli.specs.Run.{IsReportOf, IsReportBy}
 use Rattle.ahi_cli.specs.Scripts.{TellsScript, RefusesSizes}
 use Rattle.ahi_cli.proofs.EndsLemmas.{done_ends, halted_ends, leaves_pass}
-use Rattle.ahi_cli.proofs.ReportLemmas.{merged_for, told_by}
+use Rattle.ahi_cli.proofs.ReportLemmas.{tells_script}
 use Rattle.ahi_cli.proofs.script_run.put_work.Goals as goal
 
 pub returns-in-Ok-put_report-clause-ends : goal.returns-in-Ok-put_report-clause-ends
 returns-in-Ok-put_report-clause-ends g c =
     let script = c.args.script.now in
     let count : c.len.result ≡ length script.schema.names.items = omega (arith, c.len.ensures, script.schema.names.ok.0) in
-    let merged = merged_for (length script.schema.names.items) c.len.result c.args.work.logs.items c.deref.result.now (note_lists c.in-Ok.changes.items) count c.deref.ensures.value c.in-Ok.ensures in
-    let did = told_by script c.requires.script c.args.work.answers.items c.args.work.logs.items c.args.work.counts.items c.args.work.pass c.requires.ran (note_lists c.in-Ok.changes.items) merged in
-    let text = report_text_of (schema_text script.schema).names c.args.work.answers.items (note_lists c.in-Ok.changes.items) c.args.work.counts.items in
+    let work = c.args.work in
+    let told = tells_script script c.requires.script c.requires.allowed work.answers.items work.logs.items work.counts.items work.pass c.requires.ran c.len.result c.deref.result.now (note_lists c.in-Ok.changes.items) count c.deref.ensures.value c.in-Ok.ensures in
+    let text = report_text_of (schema_text script.schema).names work.answers.items (note_lists c.in-Ok.changes.items) work.counts.items in
     let put : PrintsTo g.K.Sink c.args.sink.now c.put_report.new.sink text (Ok tt) = rw (sym c.deref-2.ensures.value, sym c.deref-3.ensures.value, sym c.deref-4.ensures.value, sym c.deref-5.ensures.value) c.in-Ok-put_report.ensures in
-    done_ends (TellsScript IsReportOf script) (RefusesSizes script) (output_of g.K.Sink c.args.sink.now c.put_report.new.sink) text Done (record { sizes = c.requires.allowed; told = did.report }) (refl, put.0, put.1)
+    done_ends (TellsScript IsReportOf script) (RefusesSizes script) (output_of g.K.Sink c.args.sink.now c.put_report.new.sink) text Done (record { sizes = told.sizes; told = told.told.report }) (refl, put.0, put.1)
 
 pub returns-in-Ok-put_report-clause-trail : goal.returns-in-Ok-put_report-clause-trail
 returns-in-Ok-put_report-clause-trail g c =
     let script = c.args.script.now in
     let count : c.len.result ≡ length script.schema.names.items = omega (arith, c.len.ensures, script.schema.names.ok.0) in
-    let merged = merged_for (length script.schema.names.items) c.len.result c.args.work.logs.items c.deref.result.now (note_lists c.in-Ok.changes.items) count c.deref.ensures.value c.in-Ok.ensures in
-    let did = told_by script c.requires.script c.args.work.answers.items c.args.work.logs.items c.args.work.counts.items c.args.work.pass c.requires.ran (note_lists c.in-Ok.changes.items) merged in
-    let text = report_text_of (schema_text script.schema).names c.args.work.answers.items (note_lists c.in-Ok.changes.items) c.args.work.counts.items in
+    let work = c.args.work in
+    let told = tells_script script c.requires.script c.requires.allowed work.answers.items work.logs.items work.counts.items work.pass c.requires.ran c.len.result c.deref.result.now (note_lists c.in-Ok.changes.items) count c.deref.ensures.value c.in-Ok.ensures in
+    let text = report_text_of (schema_text script.schema).names work.answers.items (note_lists c.in-Ok.changes.items) work.counts.items in
     let put : PrintsTo g.K.Sink c.args.sink.now c.put_report.new.sink text (Ok tt) = rw (sym c.deref-2.ensures.value, sym c.deref-3.ensures.value, sym c.deref-4.ensures.value, sym c.deref-5.ensures.value) c.in-Ok-put_report.ensures in
-    leaves_pass (λ pass. TellsScript (IsReportBy pass) script) (output_of g.K.Sink c.args.sink.now c.put_report.new.sink) c.args.work.pass text (record { sizes = c.requires.allowed; told = did }) put.0 put.1
+    leaves_pass (λ pass. TellsScript (IsReportBy pass) script) (output_of g.K.Sink c.args.sink.now c.put_report.new.sink) work.pass text told put.0 put.1
 
 pub returns-clause-ends : goal.returns-clause-ends
 returns-clause-ends g c =
     let script = c.args.script.now in
     let count : c.len.result ≡ length script.schema.names.items = omega (arith, c.len.ensures, script.schema.names.ok.0) in
-    let merged = merged_for (length script.schema.names.items) c.len.result c.args.work.logs.items c.deref.result.now (note_lists c.in-Ok.changes.items) count c.deref.ensures.value c.in-Ok.ensures in
-    let did = told_by script c.requires.script c.args.work.answers.items c.args.work.logs.items c.args.work.counts.items c.args.work.pass c.requires.ran (note_lists c.in-Ok.changes.items) merged in
-    let text = report_text_of (schema_text script.schema).names c.args.work.answers.items (note_lists c.in-Ok.changes.items) c.args.work.counts.items in
+    let work = c.args.work in
+    let told = tells_script script c.requires.script c.requires.allowed work.answers.items work.logs.items work.counts.items work.pass c.requires.ran c.len.result c.deref.result.now (note_lists c.in-Ok.changes.items) count c.deref.ensures.value c.in-Ok.ensures in
+    let text = report_text_of (schema_text script.schema).names work.answers.items (note_lists c.in-Ok.changes.items) work.counts.items in
     let put : PrintsTo g.K.Sink c.args.sink.now c.put_report.new.sink text (Err c.in-Err.halt) = subst (λ t. PrintsTo g.K.Sink c.args.sink.now c.put_report.new.sink t (Err c.in-Err.halt)) (λ i. report_text_of (map string_bytes (c.deref-2.ensures.value i)) (c.deref-3.ensures.value i) (note_lists (c.deref-4.ensures.value i)) (c.deref-5.ensures.value i)) c.in-Err.ensures in
-    halted_ends (TellsScript IsReportOf script) (RefusesSizes script) (output_of g.K.Sink c.args.sink.now c.put_report.new.sink) text c.in-Err.halt c.halted.result c.halted.ensures (record { sizes = c.requires.allowed; told = did.report }) put
+    halted_ends (TellsScript IsReportOf script) (RefusesSizes script) (output_of g.K.Sink c.args.sink.now c.put_report.new.sink) text c.in-Err.halt c.halted.result c.halted.ensures (record { sizes = told.sizes; told = told.told.report }) put
