@@ -150,3 +150,12 @@ leaves_pass DidBy out pass text did whole faults = record { done = λ is. record
 pub leaves_as : (DidBy DidBy' : EnginePass → List ℕ → Type 0) (out : Output) (trail : Option EnginePass) (status : Status) → ((pass : EnginePass) (text : List ℕ) → DidBy pass text → DidBy' pass text) → LeavesTrail DidBy out trail status → LeavesTrail DidBy' out trail status
 leaves_as DidBy DidBy' out None status more l = record { done = λ is. l.done is; other = l.other }
 leaves_as DidBy DidBy' out (Some pass) status more l = record { done = λ is. written_as (DidBy pass) (DidBy' pass) out (more pass) (l.done is); other = l.other }
+
+-- a call that isn't done leaves what it was handed: no pass
+pub leaves_none : (DidBy : EnginePass → List ℕ → Type 0) (out : Output) (trail : Option EnginePass) (status : Status) → trail ≡ None → status ≢ Done → LeavesTrail DidBy out trail status
+leaves_none DidBy out trail status none other = record { done = λ is. absurd (other is); other = λ is. none }
+
+-- printing that was halted isn't done
+pub halted_other : (halt : Halt) → halted halt ≢ Done
+halted_other halt.SinkFault = λ e. cc
+halted_other halt.NoMemory = λ e. cc

@@ -23,3 +23,6 @@ returns-in-Ok-clause-ok g c =
 
 pub returns-in-Ok-clause-lines : goal.returns-in-Ok-clause-lines
 returns-in-Ok-clause-lines g c = lines_ask (schema_text c.args.schema.now) c.in-Ok.lines.items c.args.schema.now.shape.paired c.in-Ok.ensures.lines
+
+pub returns-in-Ok-clause-fits : goal.returns-in-Ok-clause-fits
+returns-in-Ok-clause-fits g c = omega (arith, c.in_ok-bytes.ensures.within, c.len.ensures, c.in_ok-bytes.bytes.ok.0)

@@ -1,3 +1,4 @@
+use Rattle.std.proofs.Common.{◌∙◌, sym}
 use Rattle.std.proofs.lemmas.Result.{err_from_is_err_and}
 use Rattle.ahi_cli.specs.Words.{names_of, file_names}
 use Rattle.ahi_cli.proofs.FileLemmas.{unread_schema, unread_lanes}
@@ -13,3 +14,13 @@ returns-in_err-lanes-clause-err g c =
     let p = err_from_is_err_and c.from_residual-in_err-lanes.result c.from_residual-in_err-lanes.ensures.1 in
     let first = c.in_ok-schema.ensures in
     rw (p.1, p.2) (unread_lanes (g.F.Shelf.holds c.args.shelf.now) (g.F.Shelf.holds c.load_schema.new.shelf) (g.F.Shelf.faults c.args.shelf.now) (g.F.Shelf.faults c.load_schema.new.shelf) (g.F.Shelf.faults c.load_lanes.new.shelf) (g.F.Shelf.failed c.load_lanes.new.shelf) (file_names (names_of c.args.command.now)) c.in_err-lanes.field-0.0 first.kept.0 first.kept.1 c.in_err-lanes.ensures.err)
+
+pub load_lanes-requires-clause-spelled : goal.load_lanes-requires-clause-spelled
+load_lanes-requires-clause-spelled g c = λ files told. c.in_ok-schema.ensures.ok files (sym c.in_ok-schema.ensures.kept.0 ∙ told)
+
+pub returns-clause-ok : goal.returns-clause-ok
+returns-clause-ok g c = λ files told. record {
+  size = c.in_ok-schema.size;
+  schema_file = c.in_ok-schema.ensures.ok files told;
+  lane_files = c.in_ok-lanes.ensures.ok files (c.in_ok-schema.ensures.kept.0 ∙ told);
+}

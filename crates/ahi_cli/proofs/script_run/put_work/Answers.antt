@@ -1,4 +1,4 @@
-use Rattle.std.proofs.Common.{◌≡◌, length, map, sym, refl, subst, arith, Ok, Err}
+use Rattle.std.proofs.Common.{◌≡◌, length, map, ◌∙◌, sym, refl, subst, arith, Ok, Err}
 use Rattle.std.specs.String.{string_bytes}
 use Rattle.script.specs.Views.{schema_text}
 use Rattle.change_log.specs.Merge.{note_lists}
@@ -8,7 +8,7 @@ use Rattle.ahi_cli.specs.declared.status.Status.TheVariants.{Done}
 use Rattle.ahi_cli.specs.Ends.{output_of}
 use Rattle.ahi_cli.specs.Run.{IsReportOf, IsReportBy}
 use Rattle.ahi_cli.specs.Scripts.{TellsScript, RefusesSizes}
-use Rattle.ahi_cli.proofs.EndsLemmas.{done_ends, halted_ends, leaves_pass}
+use Rattle.ahi_cli.proofs.EndsLemmas.{done_ends, halted_ends, halted_other, leaves_none, leaves_pass}
 use Rattle.ahi_cli.proofs.ReportLemmas.{tells_script}
 use Rattle.ahi_cli.proofs.script_run.put_work.Goals as goal
 
@@ -41,3 +41,6 @@ returns-clause-ends g c =
     let text = report_text_of (schema_text script.schema).names work.answers.items (note_lists c.in-Ok.changes.items) work.counts.items in
     let put : PrintsTo g.K.Sink c.args.sink.now c.put_report.new.sink text (Err c.in-Err.halt) = subst (λ t. PrintsTo g.K.Sink c.args.sink.now c.put_report.new.sink t (Err c.in-Err.halt)) (λ i. report_text_of (map string_bytes (c.deref-2.ensures.value i)) (c.deref-3.ensures.value i) (note_lists (c.deref-4.ensures.value i)) (c.deref-5.ensures.value i)) c.in-Err.ensures in
     halted_ends (TellsScript IsReportOf script) (RefusesSizes script) (output_of g.K.Sink c.args.sink.now c.put_report.new.sink) text c.in-Err.halt c.halted.result c.halted.ensures (record { sizes = told.sizes; told = told.told.report }) put
+
+pub returns-clause-trail : goal.returns-clause-trail
+returns-clause-trail g c = leaves_none (λ pass. TellsScript (IsReportBy pass) c.args.script.now) (output_of g.K.Sink c.args.sink.now c.put_report.new.sink) c.args.trail.now c.halted.result c.requires.trail (λ is. halted_other c.in-Err.halt (sym c.halted.ensures ∙ is))
