@@ -1,6 +1,6 @@
 use Rattle.std.proofs.Common.{sym, ap, ◌∙◌}
 use Rattle.std.specs.Str.{bytes_eq}
-use Rattle.settings.proofs.WordLemmas.{named_later}
+use Rattle.settings.proofs.WordLemmas.{named_here, named_later}
 use Rattle.settings.proofs.setting.find_setting.Goals as goal
 
 pub loop-setting-preserved : goal.loop-setting-preserved
@@ -8,3 +8,9 @@ loop-setting-preserved c = c.loop-setting.invariant
     ∙ named_later c.args.word.now _ c.loop-setting.setting-index _ c.loop-setting-test.true
     (sym (ap (λ t. bytes_eq t c.args.word.now) (c.as_bytes.ensures.value ∙ c.word.ensures))
     ∙ sym c.eq.ensures ∙ c.if-eq.false)
+
+pub returns-then-eq : goal.returns-then-eq
+returns-then-eq c = sym (c.loop-setting.invariant
+    ∙ named_here c.args.word.now _ c.loop-setting.setting-index _ c.loop-setting-test.true
+    (sym (ap (λ t. bytes_eq t c.args.word.now) (c.as_bytes.ensures.value ∙ c.word.ensures))
+    ∙ sym c.eq.ensures ∙ c.if-eq.true))
