@@ -1,8 +1,10 @@
 -- Sums of counts are counts of columns in a row.
-use Rattle.std.proofs.Common.{◌≡◌, ◌≢◌, ◌⊎◌, ℕ, zero, suc, ◌+◌, Bool, cond, eqb, Some, List, [], ◌∷◌, ◌++◌, length, set, map, replicate, refl, ap, ap₂, sym, ◌∙◌, arith, inl, inr, ⊎_elim, length-set, eq-eqb, ne_eqb, append_assoc, append-nil}
+use Rattle.std.proofs.Common.{◌≡◌, ◌≢◌, ◌⊎◌, ℕ, zero, suc, ◌+◌, ◌<◌, ◌≤◌, Bool, cond, eqb, Some, List, [], ◌∷◌, ◌++◌, length, get_or, set, drop, map, replicate, refl, ap, ap₂, sym, ◌∙◌, arith, inl, inr, ⊎_elim, length-set, eq-eqb, ne_eqb, append_assoc, append-nil}
 use Rattle.std.proofs.lemmas.List.Concat.{flat_map-cons}
 use Rattle.std.proofs.lemmas.List.Sums.{sum_by-append}
-use Rattle.std.specs.List.{AllZip, slice_get, zip, flat_map}
+use Rattle.std.specs.List.{AllByRecursion, AllZip, slice_get, zip, flat_map}
+use Rattle.std.specs.Prelude.{Vec}
+use Rattle.std.specs.declared.alloc.Global.{Global}
 use Rattle.list_facts.proofs.Elements.{map_get_from, zip_from}
 use Rattle.list_facts.proofs.Places.{same_some}
 use Rattle.map_history.specs.declared.counts.Counts.{Counts}
@@ -10,7 +12,7 @@ use Rattle.map_history.specs.Report.{Columns}
 use Rattle.map_history.specs.Statistics.{has_word, times, counts_of}
 use Rattle.map_history.specs.Words.{counted_words}
 use Rattle.column_counts.specs.Counted.{AreCounts}
-use Rattle.column_counts.specs.Sums.{added, sum_of, sums_of, all_sums}
+use Rattle.column_counts.specs.Sums.{added, sum_of, sums_of, all_sums, count_lists}
 
 -- a word stands in columns in a row as often as in both parts
 times_append : (word : List ℕ) (xs ys : List Columns) → times word (xs ++ ys) ≡ times word xs + times word ys
@@ -24,10 +26,31 @@ words_append xs ys (word ∷ words) = ap₂ (λ (n : ℕ) (ns : List ℕ). n ∷
 pub counts_append : (xs ys : List Columns) → counts_of (xs ++ ys) ≡ sum_of (counts_of xs) (counts_of ys)
 counts_append xs ys = λ i. record { numbers = words_append xs ys counted_words i }
 
-sums_long : (xs ys : List Counts) → length ys ≡ length xs → length (sums_of xs ys) ≡ length xs
+pub sums_long : (xs ys : List Counts) → length ys ≡ length xs → length (sums_of xs ys) ≡ length xs
 sums_long [] ys long = refl
 sums_long (x ∷ xs) [] long = absurd (omega (arith, long))
 sums_long (x ∷ xs) (y ∷ ys) long = ap suc (sums_long xs ys (omega (arith, long)))
+
+-- the lists from a place on are added by adding the one there and then those behind it
+pub sums_step : (lists : List (Vec Counts Global)) (i : ℕ) (d : Vec Counts Global) (sums : List Counts) → i < length lists
+    → all_sums sums (count_lists (drop i lists)) ≡ all_sums (sums_of sums (get_or lists i d).items) (count_lists (drop (suc i) lists))
+sums_step [] i d sums below = absurd (omega (arith, below))
+sums_step (list ∷ lists) zero d sums below = refl
+sums_step (list ∷ lists) (suc i) d sums below = sums_step lists i d sums (omega (arith, below))
+
+-- behind the last list there is none
+pub none_left : (lists : List (Vec Counts Global)) (i : ℕ) → length lists ≤ i → drop i lists ≡ []
+none_left [] zero past = refl
+none_left [] (suc i) past = refl
+none_left (list ∷ lists) zero past = absurd (omega (arith, past))
+none_left (list ∷ lists) (suc i) past = none_left lists i (omega (arith, past))
+
+-- lists that are all as long are so at each place
+pub long_at : (n : ℕ) (lists : List (Vec Counts Global)) (i : ℕ) (d : Vec Counts Global) → i < length lists
+    → AllByRecursion (λ (list : Vec Counts Global). length list.items ≡ n) lists → length (get_or lists i d).items ≡ n
+long_at n [] i d below all = absurd (omega (arith, below))
+long_at n (list ∷ lists) zero d below all = all.0
+long_at n (list ∷ lists) (suc i) d below all = long_at n lists i d (omega (arith, below)) all.1
 
 -- sums index by index count the columns of both
 pub sums_counted : (indexes : ℕ) (f g : ℕ → List Columns) (xs ys : List Counts) → AreCounts indexes f xs → AreCounts indexes g ys → AreCounts indexes (λ i. f i ++ g i) (sums_of xs ys)
