@@ -1,5 +1,5 @@
 -- The report of lanes that worked together is legal.
-use Rattle.std.proofs.Common.{◌≡◌, ℕ, zero, suc, false, Some, subst, List, [], ◌∷◌, length, map, replicate, sym, ap, ◌∙◌, refl, arith}
+use Rattle.std.proofs.Common.{◌≡◌, ℕ, suc, false, Some, subst, List, [], ◌∷◌, length, map, replicate, sym, ap, ◌∙◌, refl, arith}
 use Rattle.std.specs.List.{AllByRecursion, AllZip, slice_get, zip}
 use Rattle.std.proofs.lemmas.List.{length-map, length-replicate}
 use Rattle.std.specs.Prelude.{Vec}

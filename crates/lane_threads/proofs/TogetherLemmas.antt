@@ -27,7 +27,6 @@ use Rattle.index_law.specs.Shape.{Shape}
 use Rattle.call_law.specs.Spoken.{View}
 use Rattle.search_info.specs.Passes.{opening}
 use Rattle.search_info.specs.declared.knows.Knows.{Knows}
-use Rattle.search_info.specs.declared.knows.Opening.{Opening}
 use Rattle.lane_law.specs.Taught.{told_try}
 use Rattle.lane_work.specs.Engine.{Engine, EnginePass, known, lessons_of, nothing_learnt, IsOf, indexes_of}
 use Rattle.forest_world.specs.Opening.{forest_terms}
