@@ -1,12 +1,10 @@
-use Rattle.std.proofs.Common.{◌≡◌, ◌≤◌, true, length, arith, sym, ap, subst, ◌∙◌, inl, inr}
-use Rattle.latch_law.specs.declared.knows.Terms.{Terms}
+use Rattle.std.proofs.Common.{◌≡◌, ◌≤◌, true, length, sym, ap, subst, ◌∙◌, inl, inr}
 use Rattle.latch_space.specs.Passes.{view}
 use Rattle.learning.specs.declared.event.Event.TheVariants as event
 use Rattle.map_history.specs.declared.columns.How.TheVariants as ways
 use Rattle.map_history.specs.Columns.{may_stand}
 use Rattle.map_history.specs.Report.{Columns}
 use Rattle.search_info.specs.Passes.{knowledge}
-use Rattle.index_law.specs.Shape.{Shape}
 use Rattle.forest_law.specs.State.{fields_for}
 use Rattle.forest_world.specs.Held.{shape_of_pass}
 use Rattle.buffer_pool.proofs.SpaceLemmas.{objects_of}

@@ -94,3 +94,16 @@ returns-in-Ends-clause-ends g c = let call = c.args.self.now in let p = c.args.p
     (page_number both.frame call.index 0 both.is.page.is) both.knows
     (knows_same p q b both.frame kept.held terms both.knows))
     (gave_page r c.leave-in-Ends.new.pass m call.index holds.frame holds.knows holds.is gave2)
+
+pub leave-requires-in-Ends-clause-held : goal.leave-requires-in-Ends-clause-held
+leave-requires-in-Ends-clause-held g c = let call = c.args.self.now in let p = c.args.pass.now in
+    let q = c.stand_on-stand.new.pass in let r = c.leave.new.pass in
+    let both = c.requires.held in let b = c.args.leaf.now.block in let m = c.args.other in
+    let terms = c.stand_on-stand.ensures.own.1.1 ∙ sym c.requires.own.1 in
+    let kept = c.stand_on-stand.ensures.kept in let gave = c.leave.ensures.gave in
+    let holds = page_gave q r call.index b m both.beside.other gave
+    (page_same p q call.index m kept terms
+    (both_stands p call.index call.mode call.tuple.now c.args.leaf.now m both).holds) in
+    may_leave r (m ∷ []) m call.index holds.frame
+    (only_gave q r b (m ∷ []) (only_same p q (b ∷ m ∷ []) both.only kept terms) gave)
+    holds.knows holds.is

@@ -4,7 +4,7 @@ use Rattle.index_law.specs.Shape.{Shape}
 use Rattle.tree_neighbours.specs.Neighbours.{TellsBeside}
 use Rattle.tree_neighbours.specs.declared.beside.Beside.TheVariants.{AtEnd, Held, Busy}
 use Rattle.index_seeks.proofs.SeekHandLemmas.{only_same, only_gave, page_same, may_leave}
-use Rattle.index_seeks.proofs.StepLemmas.{walks_then, last_here, last_only, last_page, last_ends, busy_only, busy_ends, took_only, took_knows, next_only, next_passes, next_stands}
+use Rattle.index_seeks.proofs.StepLemmas.{walks_then, last_here, last_only, last_page, last_ends, busy_only, busy_knows, busy_ends, took_only, took_knows, next_only, next_passes, next_stands}
 use Rattle.index_seeks.proofs.seek_call.SeekCall.step.Goals as goal
 
 pub leave-requires-clause-held : goal.leave-requires-clause-held
@@ -88,3 +88,28 @@ returns-in-Busy-clause-then g c = let call = c.args.self.now in let p = c.args.p
       busy_ends p call.index call.mode call.tuple.now c.args.from c.requires.walks q busy
           c.leave-in-Busy.new.pass c.args.out.now c.leave-in-Busy.ensures.gave,
     )
+
+pub leave-requires-in-AtEnd-clause-held : goal.leave-requires-in-AtEnd-clause-held
+leave-requires-in-AtEnd-clause-held g c = let call = c.args.self.now in let p = c.args.pass.now in
+    let b = c.args.from.block in let q = c.take_beside.new.pass in let r = c.tell-told.new.pass in
+    let last = subst (λ s. TellsBeside p b call.index s AtEnd q) c.side_of-side.ensures
+    (subst (λ r. TellsBeside p b call.index c.side_of-side.result r q) c.in-AtEnd.is
+    c.take_beside.ensures.tells) in
+    let terms = c.tell-told.ensures.own.1.1 ∙ sym c.take_beside.ensures.own.1.1 in
+    let kept = c.tell-told.ensures.kept in
+    let holds = page_same q r call.index b kept terms
+    (last_page p call.index call.mode call.tuple.now c.args.from c.requires.walks q last) in
+    may_leave r (b ∷ []) b call.index holds.frame
+    (only_same q r (b ∷ [])
+    (last_only p call.index call.mode call.tuple.now c.args.from c.requires.walks q last) kept
+    terms) holds.knows holds.is
+
+pub leave-requires-in-Busy-clause-held : goal.leave-requires-in-Busy-clause-held
+leave-requires-in-Busy-clause-held g c = let call = c.args.self.now in let p = c.args.pass.now in
+    let b = c.args.from.block in let q = c.take_beside.new.pass in let walks = c.requires.walks in
+    let busy = subst (λ s. TellsBeside p b call.index s Busy q) c.side_of-side.ensures
+    (subst (λ r. TellsBeside p b call.index c.side_of-side.result r q) c.in-Busy.is
+    c.take_beside.ensures.tells) in
+    may_leave q (b ∷ []) b call.index walks.holds.frame
+    (busy_only p call.index call.mode call.tuple.now c.args.from walks q busy)
+    (busy_knows p call.index call.mode call.tuple.now c.args.from walks q busy) walks.holds.is

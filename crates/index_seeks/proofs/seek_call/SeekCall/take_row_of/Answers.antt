@@ -40,6 +40,9 @@ take_row-requires-clause-leaf g c = let held = c.requires.held in
     held.is.paged c.page_of-page.ensures in
     ap (λ (z : PageRows). z.head.level) is ∙ held.is.at_level
 
+pub take_row-requires-clause-finds : goal.take_row-requires-clause-finds
+take_row-requires-clause-finds g c = c.search.ensures
+
 pub returns : goal.returns
 returns g c = λ h. (let call = c.args.self.now in
     subst
