@@ -1,7 +1,14 @@
 use Rattle.std.proofs.Common.{Err, ap, ◌∙◌}
+use Rattle.latch_space.specs.Passes.{view}
+use Rattle.call_law.proofs.TraceLemmas.{quiet_of}
 use Rattle.index_engine.specs.Writes.{write_asked}
 use Rattle.index_engine.proofs.RoomLemmas.{room_then_word, write_asks, knows_short}
 use Rattle.index_engine.proofs.growing.grow.Goals as goal
+
+pub returns-in-Ok-clause-ok : goal.returns-in-Ok-clause-ok
+returns-in-Ok-clause-ok g c = let made = c.in-Ok.ensures.ok.silently in
+    quiet_of (view c.args.pass.now) (view c.make_room-room.new.pass) c.args.call.now.index
+    made.added made.grows.adds made.silent
 
 pub say_space_full-requires-clause-short : goal.say_space_full-requires-clause-short
 say_space_full-requires-clause-short g c =

@@ -1,5 +1,5 @@
-use Rattle.std.proofs.Common.{◌≡◌, ◌<◌, ◌≤◌, ℕ, zero, suc, List, [], ◌∷◌, length, refl, arith, rules, subst, ap}
-use Rattle.std.specs.Prelude.{slice_index_or}
+use Rattle.std.proofs.Common.{◌≡◌, ◌<◌, ◌≤◌, ℕ, zero, suc, List, [], ◌∷◌, length, Option, Some, refl, arith, rules, subst, ap}
+use Rattle.std.specs.Prelude.{slice_index_or, IfSome}
 use lib.ListN.{get_elem?}
 use Rattle.latch_law.specs.declared.knows.Terms.{Terms}
 use Rattle.index_law.specs.Shape.{Shape}
@@ -12,6 +12,11 @@ number_at : (xs : List ℕ) (i : ℕ) → i < length xs → slice_index_or xs i 
 number_at [] i below = absurd (omega arith)
 number_at (x ∷ xs) zero below = refl
 number_at (x ∷ xs) (suc i) below = number_at xs i (omega arith)
+
+-- what holds of an option's value
+of_its_value : {T : Type 0} (P : T → Type 0) (o : Option T) (value : T) → Some value ≡ o
+    → P value → IfSome o P
+of_its_value {T} P o value is holds = subst (λ (z : Option T). IfSome z P) is holds
 
 pub open_forest-requires-clause-hash : goal.open_forest-requires-clause-hash
 open_forest-requires-clause-hash c = record {
@@ -28,3 +33,6 @@ invariant_of-engine-clause-learns c = let fields = c.args.fields.now in
     knows_first c.in_ok-learner.learner c.in_ok-space.space.terms.shape fields c.args.lanes
     c.in_ok-learner.ensures.opening (ap (λ (t : Terms Shape). t.shape.fields) terms)
     (ap (λ (t : Terms Shape). t.shape.indexes) terms)
+
+pub returns-in-Some-clause-refused : goal.returns-in-Some-clause-refused
+returns-in-Some-clause-refused c = of_its_value _ _ c.in-Some.setting c.in-Some.ensures refl
