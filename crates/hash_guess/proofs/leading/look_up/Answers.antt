@@ -49,3 +49,11 @@ returns-clause-err g c =
     c.part_for-part.result c.fold-fold.result sought.0 sought.1 c.in_default.ensures.did
     c.partition.result.now c.partition.ensures c.give_part_back.new.pass
     c.in_default-find.ensures.none c.give_part_back.ensures.gave
+
+pub partition-requires-clause-held : goal.partition-requires-clause-held
+partition-requires-clause-held g c =
+    let took = c.in_default.ensures.did.0 in (took.part, took.part, took.has)
+
+pub give_part_back-requires-clause-held : goal.give_part_back-requires-clause-held
+give_part_back-requires-clause-held g c =
+    let took = c.in_default.ensures.did.0 in (took.part, took.has)
