@@ -3,7 +3,7 @@ use Rattle.forest_world.specs.Held.{TreePass, shape_of_pass}
 use Rattle.buffer_pool.proofs.PartLemmas.{part_below}
 use Rattle.hash_guess.specs.Leads.{part_in}
 use Rattle.hash_guess.specs.Guesses.{HitsRow}
-use Rattle.hash_guess.proofs.GuessLemmas.{row_in_hand, misses_block, hits_row, misses_row}
+use Rattle.hash_guess.proofs.GuessLemmas.{row_in_hand, node_in_hand, misses_block, hits_row, misses_row}
 use Rattle.hash_guess.proofs.guessing.find_named.Goals as goal
 
 pub returns-in-Busy-clause-err : goal.returns-in-Busy-clause-err
@@ -34,3 +34,8 @@ returns-in-None-clause-err g c = let p = c.args.pass.now in let s = shape_of_pas
     (c.follow.ensures.taken c.in_default.is)
     (part_below p s s (part_in p c.args.index) c.args.index c.fits.ensures refl refl refl)
     c.confirm.new.pass c.args.mode c.in-None.ensures.none
+
+pub follow-requires-clause-node : goal.follow-requires-clause-node
+follow-requires-clause-node g c = node_in_hand c.args.pass.now c.lead.new.pass c.args.index
+    (g.A.Fields.fields_of c.args.tuple.now) c.args.info.now c.in_ok-node.node c.requires.known
+    c.in_ok-node.ensures.ok
