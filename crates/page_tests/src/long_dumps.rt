@@ -1,11 +1,11 @@
 //! The bytes of a page with long rows, full and scattered, against what the format says.
-ghost use Rattle.std.specs.Prelude.{◌≡◌, ◌<◌, length, IfSome};
+ghost use Rattle.std.specs.Prelude.{◌≡◌, ◌<◌, length};
 
-use crate::dumps::{EIGHT, line_at, offer, page_three, put};
+use crate::dumps::{EIGHT, line_at, offer, page_three, set_first};
+use crate::setup::value;
 use byte_page::BytePage;
 use index_page::{PageError, Place};
-use sample_rows::value_of;
-use std::alloc::Global;
+use std::process::Abort;
 
 /// The bytes of a row with a key of one byte and a value of 2,000.
 const ROW_BYTES: usize = 2009;
@@ -13,49 +13,49 @@ const ROW_BYTES: usize = 2009;
 /// Where the slots of these pages begin.
 const SLOTS: usize = 16_370;
 
+/// The bytes of the front of a page with eight rows, and without the first of them, that aren't
+/// those of a page without rows.
+const FRONT: [(usize, u8, u8); 11] = [
+    (39, 3, 3),
+    (40, 0x3f, 0x3f),
+    (41, 0x40, 0x40),
+    (43, 10, 10),
+    (45, 0, 128),
+    (46, 0, 0x07),
+    (47, 0, 0xd9),
+    (55, 8, 7),
+    (97, 0, 0x07),
+    (98, 29, 0xf6),
+    (107, 5, 4),
+];
+
+/// The slots of supremum, of the fourth row, or of the fifth where the first one is gone, and of
+/// infimum.
+const ALL_SLOTS: [u8; 14] = [0, 0x70, 0x18, 0x0b, 0, 0x63, 0, 0, 0, 0, 0, 0, 0, 0];
+
+const OTHER_SLOTS: [u8; 14] = [0, 0x70, 0x1f, 0xe4, 0, 0x63, 0, 0, 0, 0, 0, 0, 0, 0];
+
 /// Page 3 with rows of the keys `a` to `h` and values of 2,000 bytes.
-fn page_with_long(alloc: Global) -> Option<BytePage>
-    ensures fields { IfSome result (λ form. form.page.head.fields ≡ 1) }
-    ensures level { IfSome result (λ form. form.page.head.level ≡ 0) }
+fn page_with_long<R: AllocGlobal + Abort>(rt: &R) -> BytePage
+    ensures fields { result.page.head.fields ≡ 1 }
+    ensures level { result.page.head.level ≡ 0 }
 {
-    let mut page = page_three(alloc)?;
-    let value = value_of(alloc, &[b'x'; 2000])?;
+    let mut page = page_three(rt);
+    let value = value(rt, &[b'x'; 2000]);
     for (byte, _) in EIGHT.iter() {
-        put(&mut page, *byte, &value)?;
+        assert!(rt; offer(rt, &mut page, *byte, &value).is_ok());
     }
-    Some(page)
+    page
 }
 
-/// Takes the first row out, and tells where it stood.
-fn take_first(page: &mut BytePage) -> Option<Place>
-    ensures { page.new.page.head ≡ page.old.page.head }
-{
-    let place = page.first()?;
-    page.delete(place);
-    Some(place)
-}
-
-/// A byte of the front of a page with eight rows, or without the first of them: that of a page
-/// without rows but where rows change it.
-fn front_byte(at: usize, gone: bool) -> u8
-    requires { at < 16384 }
-{
-    match (at, gone) {
-        (39, _) => 3,
-        (40, _) => 0x3f,
-        (41, _) => 0x40,
-        (43, _) => 10,
-        (45, true) => 128,
-        (46, true) | (97, true) => 0x07,
-        (47, true) => 0xd9,
-        (55, false) => 8,
-        (55, true) => 7,
-        (98, false) => 29,
-        (98, true) => 0xf6,
-        (107, false) => 5,
-        (107, true) => 4,
-        _ => line_at(at / 16 * 16)[at % 16],
+/// A byte of the front of a page with eight rows, or without the first of them.
+fn front_byte(at: usize, gone: bool) -> u8 {
+    for (place, all, others) in FRONT.iter() {
+        if *place == at {
+            return if gone { *others } else { *all };
+        }
     }
+    line_at(at / 16 * 16)[at % 16]
 }
 
 /// How many records the row with that number owns.
@@ -94,20 +94,6 @@ fn row_byte(row: usize, at: usize, gone: bool) -> u8
     }
 }
 
-/// A byte of the slots: those of supremum, of the fourth row, or of the fifth where the first one
-/// is gone, and of infimum.
-fn slot_byte(at: usize, gone: bool) -> u8 {
-    match (at, gone) {
-        (1, _) => 0x70,
-        (2, false) => 0x18,
-        (3, false) => 0x0b,
-        (2, true) => 0x1f,
-        (3, true) => 0xe4,
-        (5, _) => 0x63,
-        _ => 0,
-    }
-}
-
 /// A byte of the page.
 fn byte_at(at: usize, gone: bool) -> u8
     requires { at < 16384 }
@@ -122,89 +108,56 @@ fn byte_at(at: usize, gone: bool) -> u8
     if at < SLOTS {
         return 0;
     }
-    slot_byte(at - SLOTS, gone)
+    let slots = if gone { OTHER_SLOTS } else { ALL_SLOTS };
+    slots[at - SLOTS]
 }
 
 /// The bytes are those that the format says.
-fn is_long_dump(bytes: &[u8], gone: bool) -> bool
+fn assert_long_dump<R: Abort>(rt: &R, bytes: &[u8], gone: bool)
     requires { length bytes.now ≡ 16384 }
 {
     for at in 0..16_384usize {
-        if bytes[at] != byte_at(at, gone) {
-            return false;
-        }
+        assert!(rt; bytes[at] == byte_at(at, gone), "at {at}");
     }
-    true
 }
 
-/// A page that was asked for room, and what it told.
-#[derive(Drop)]
-struct Asked {
-    page: BytePage,
-    told: Result<Place, PageError>,
-}
+/// What a page is told that has no gap for a row, or a value, that is a byte longer than the others.
+const SCATTERED: Result<Place, PageError> = Err(PageError::Scattered {
+    need: 2011,
+    run: 178,
+});
 
-/// A page with eight long rows, and what it says to another one as long.
-fn asked_when_full(alloc: Global) -> Option<Asked> {
-    let mut page = page_with_long(alloc)?;
-    let value = value_of(alloc, &[b'x'; 2000])?;
-    let told = offer(&mut page, b'i', &value)?;
-    Some(Asked { page, told })
-}
-
-/// The same page once its first row is gone from place 128, and what it says to a row that is a
-/// byte longer.
-fn asked_when_scattered(alloc: Global) -> Option<Asked> {
-    let mut page = page_with_long(alloc)?;
-    let value = value_of(alloc, &[b'x'; 2001])?;
-    if take_first(&mut page)? != 128 {
-        return None;
-    }
-    let told = offer(&mut page, b'i', &value)?;
-    Some(Asked { page, told })
-}
-
-/// A page with eight long rows, and what it says where the first one is to have a byte more.
-fn asked_to_set(alloc: Global) -> Option<Asked> {
-    let mut page = page_with_long(alloc)?;
-    let value = value_of(alloc, &[b'x'; 2001])?;
-    let place = page.first()?;
-    let told = page.set(place, &value);
-    Some(Asked { page, told })
-}
-
-/// The page was full, and is as it was.
-fn is_full(asked: &Asked) -> bool {
+#[test]
+fn a_full_page_has_the_bytes_of_the_format(rt: HostRuntime) {
+    let mut page = page_with_long(&rt);
     let full = PageError::PageFull {
         need: 2010,
         free: 172,
     };
-    asked.told == Err(full) && is_long_dump(asked.page.bytes(), false)
+    assert!(rt; offer(&rt, &mut page, b'i', &value(&rt, &[b'x'; 2000])) == Err(full));
+    assert_long_dump(&rt, page.bytes(), false);
 }
 
-/// The page was scattered, and has the bytes that it had, without the first row or with it.
-fn is_scattered(asked: &Asked, gone: bool) -> bool {
-    let scattered = PageError::Scattered {
-        need: 2011,
-        run: 178,
-    };
-    asked.told == Err(scattered) && is_long_dump(asked.page.bytes(), gone)
-}
-
-#[test]
-fn a_full_page_has_the_bytes_of_the_format(rt: HostRuntime) {
-    let same = asked_when_full(rt.alloc()).map_or(false, |asked| is_full(&asked));
-    assert!(rt; same);
+/// Takes the first row out, which stands at 128.
+fn take_first<R: Abort>(rt: &R, page: &mut BytePage)
+    ensures { page.new.page.head ≡ page.old.page.head }
+{
+    let place = page.first().expect(rt, "a row");
+    assert!(rt; place == 128);
+    page.delete(place);
 }
 
 #[test]
 fn a_scattered_page_has_the_bytes_of_the_format(rt: HostRuntime) {
-    let same = asked_when_scattered(rt.alloc()).map_or(false, |asked| is_scattered(&asked, true));
-    assert!(rt; same);
+    let mut page = page_with_long(&rt);
+    take_first(&rt, &mut page);
+    assert!(rt; offer(&rt, &mut page, b'i', &value(&rt, &[b'x'; 2001])) == SCATTERED);
+    assert_long_dump(&rt, page.bytes(), true);
 }
 
 #[test]
 fn a_value_that_is_scattered_leaves_the_bytes(rt: HostRuntime) {
-    let same = asked_to_set(rt.alloc()).map_or(false, |asked| is_scattered(&asked, false));
-    assert!(rt; same);
+    let mut page = page_with_long(&rt);
+    assert!(rt; set_first(&rt, &mut page, &[b'x'; 2001]) == SCATTERED);
+    assert_long_dump(&rt, page.bytes(), false);
 }

@@ -1,16 +1,25 @@
-//! Pages to test, and claims of them. A step that may fail is a function of its own, and so is a claim.
+//! Pages to test, and claims of them. What isn't as it has to be ends the test where it is found.
 ghost use Rattle.std.specs.Prelude.{◌≡◌, [], IfSome, IsSome};
 ghost use Rattle.index_page.specs.Rows.{find_row};
 
 use index_page::{Body, Page, PageError, PageHead, Place, charge};
 use key_tuple::{Blank, Fields, Key, Mode, Value};
 use sample_rows::{key_of, value_of};
-use std::alloc::Global;
+use std::process::Abort;
+
+/// The key of one field, of these bytes.
+pub(crate) fn key<R: AllocGlobal + Abort>(rt: &R, bytes: &[u8]) -> Key {
+    key_of(rt.alloc(), bytes).expect(rt, "a key")
+}
+
+/// The value of these bytes.
+pub(crate) fn value<R: AllocGlobal + Abort>(rt: &R, bytes: &[u8]) -> Value {
+    value_of(rt.alloc(), bytes).expect(rt, "a value")
+}
 
 /// A page with no rows, for keys of one field.
-pub(crate) fn page_of(alloc: Global, level: u16) -> Option<Page>
-    ensures rows { IfSome result (λ page. page.rows ≡ []) }
-    ensures head { IfSome result (λ page. (page.head.level ≡ level) × (page.head.fields ≡ 1)) }
+pub(crate) fn page_of<R: AllocGlobal + Abort>(rt: &R, level: u16) -> Page
+    ensures rows { result.rows ≡ [] }
 {
     let head = PageHead {
         number: 7,
@@ -20,21 +29,22 @@ pub(crate) fn page_of(alloc: Global, level: u16) -> Option<Page>
         next: Some(9),
         fields: 1,
     };
-    Page::empty(alloc, head).ok()
+    Page::empty(rt.alloc(), head).expect(rt, "a page")
 }
 
-/// Puts a value's row in, unless its key is there or the page has children.
-pub(crate) fn put(page: &mut Page, key: &Key, value: &Value) -> Option<Result<Place, PageError>> {
+/// Puts a value's row in, whose key isn't there.
+pub(crate) fn put<R: Abort>(
+    rt: &R,
+    page: &mut Page,
+    key: &Key,
+    value: &Value,
+) -> Result<Place, PageError> {
     let head = *page.head();
-    if head.level != 0 || key.count() != head.fields {
-        return None;
-    }
+    assert!(rt; head.level == 0 && key.count() == head.fields);
     let spot = page.search(key, Mode::Ge);
-    if spot.up.fields == key.count() {
-        return None;
-    }
+    assert!(rt; spot.up.fields != key.count());
     key.tuple().is_within_limits();
-    Some(page.insert_at(&spot, key, Body::Value(value)))
+    page.insert_at(&spot, key, Body::Value(value))
 }
 
 /// What a page is charged for a row with this key and value.
@@ -44,38 +54,35 @@ pub(crate) fn charged(key: &Key, value: &Value) -> u16 {
 }
 
 /// Puts a row of these bytes in.
-pub(crate) fn entry(
-    alloc: Global,
+pub(crate) fn entry<R: AllocGlobal + Abort>(
+    rt: &R,
     page: &mut Page,
-    key: &[u8],
-    value: &[u8],
-) -> Option<Result<Place, PageError>> {
-    match (key_of(alloc, key), value_of(alloc, value)) {
-        (Some(key), Some(value)) => put(page, &key, &value),
-        _ => None,
-    }
+    field: &[u8],
+    bytes: &[u8],
+) -> Result<Place, PageError> {
+    put(rt, page, &key(rt, field), &value(rt, bytes))
 }
 
 /// The same, where it is taken: its place.
-pub(crate) fn put_bytes(alloc: Global, page: &mut Page, key: &[u8], value: &[u8]) -> Option<Place> {
-    entry(alloc, page, key, value)?.ok()
+pub(crate) fn put_bytes<R: AllocGlobal + Abort>(
+    rt: &R,
+    page: &mut Page,
+    field: &[u8],
+    bytes: &[u8],
+) -> Place {
+    let Ok(place) = entry(rt, page, field, bytes) else {
+        panic!(rt; "no room")
+    };
+    place
 }
 
-/// Puts a row in for each letter, which is its key and its value.
-fn fill(alloc: Global, page: &mut Page, letters: &[u8]) -> bool {
+/// A leaf with a row for each letter, which is its key and its value, put in in this order.
+pub(crate) fn lettered<R: AllocGlobal + Abort>(rt: &R, letters: &[u8]) -> Page {
+    let mut page = page_of(rt, 0);
     for letter in letters {
-        if put_bytes(alloc, page, &[*letter], &[*letter]).is_none() {
-            return false;
-        }
+        put_bytes(rt, &mut page, &[*letter], &[*letter]);
     }
-    true
-}
-
-/// A leaf with a row for each letter, put in in this order.
-pub(crate) fn lettered(alloc: Global, letters: &[u8]) -> Option<Page> {
-    let mut page = page_of(alloc, 0)?;
-    let filled = fill(alloc, &mut page, letters);
-    filled.then_some(page)
+    page
 }
 
 /// The place of the first row.
@@ -102,25 +109,21 @@ fn has_key(page: &Page, place: Place, key: &[u8]) -> bool
 }
 
 /// The keys are these letters, in the order of the rows.
-pub(crate) fn has_letters(page: &Page, letters: &[u8]) -> bool {
+pub(crate) fn assert_letters<R: Abort>(rt: &R, page: &Page, letters: &[u8]) {
     let mut at = first(page);
     for letter in letters {
-        let Some(place) = at else { return false };
-        if !has_key(page, place, &[*letter]) {
-            return false;
-        }
+        let place = at.expect(rt, "a row");
+        assert!(rt; has_key(page, place, &[*letter]));
         at = next(page, place);
     }
-    at.is_none()
+    assert!(rt; at.is_none());
 }
 
 /// The place of the row with that key, if it is there.
-pub(crate) fn place_of(page: &Page, key: &Key) -> Option<Place>
+pub(crate) fn place_of<R: Abort>(rt: &R, page: &Page, key: &Key) -> Option<Place>
     ensures { IfSome result (λ place. IsSome (find_row place page.now.rows)) }
 {
-    if key.count() != page.head().fields {
-        return None;
-    }
+    assert!(rt; key.count() == page.head().fields);
     let spot = page.search(key, Mode::Ge);
     if spot.up.fields == key.count() {
         spot.after
@@ -129,28 +132,15 @@ pub(crate) fn place_of(page: &Page, key: &Key) -> Option<Place>
     }
 }
 
-pub(crate) fn place_at(alloc: Global, page: &Page, key: &[u8]) -> Option<Place>
+/// The same of the key of these bytes.
+pub(crate) fn place_at<R: AllocGlobal + Abort>(rt: &R, page: &Page, field: &[u8]) -> Option<Place>
     ensures { IfSome result (λ place. IsSome (find_row place page.now.rows)) }
 {
-    let key = key_of(alloc, key)?;
-    place_of(page, &key)
+    place_of(rt, page, &key(rt, field))
 }
 
-/// Takes the row with that key out, if it is there.
-pub(crate) fn take_out(alloc: Global, page: &mut Page, key: &[u8]) -> bool {
-    match place_at(alloc, page, key) {
-        Some(place) => {
-            page.delete(place);
-            true
-        }
-        None => false,
-    }
-}
-
-/// The row with that key has this value.
-pub(crate) fn has_value(alloc: Global, page: &Page, key: &[u8], value: &[u8]) -> bool {
-    match place_at(alloc, page, key) {
-        Some(place) => page.head().level == 0 && page.row(place).value() == value,
-        None => false,
-    }
+/// Takes the row with that key out, which is there.
+pub(crate) fn take_out<R: AllocGlobal + Abort>(rt: &R, page: &mut Page, field: &[u8]) {
+    let place = place_at(rt, page, field).expect(rt, "a row");
+    page.delete(place);
 }

@@ -3,4 +3,4 @@ use Rattle.page_tests.proofs.dumps.page_with_eight.Given as goal
 
 -- the page stays a leaf for keys of one field
 abbrev pub invariant-loop-byte : goal.invariant-loop-byte
-invariant-loop-byte l = record { fields : l.page.page.head.fields ≡ 1; level : l.page.page.head.level ≡ 0 }
+invariant-loop-byte g l = record { fields : l.page.page.head.fields ≡ 1; level : l.page.page.head.level ≡ 0 }
