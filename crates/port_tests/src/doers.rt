@@ -2,77 +2,57 @@
 use crate::meeting::Meeting;
 use crate::teller::Teller;
 use lanes::{Doer, NoGate, run_lanes};
-use std::alloc::Global;
+use std::process::Abort;
 use std::sync::Wait;
 use std::thread::Threads;
 
-fn tellers(alloc: Global, count: u32, lines: u32) -> Option<Vec<Teller>> {
-    let mut all = Vec::new(alloc);
+fn tellers<R: AllocGlobal + Abort>(rt: &R, count: u32, lines: u32) -> Vec<Teller> {
+    let mut all = Vec::new(rt.alloc());
     for lane in 0..count {
-        all.push(Teller::new(lane, lines)).ok()?;
+        all.push(Teller::new(lane, lines))
+            .expect(rt, "memory for a teller");
     }
-    Some(all)
+    all
 }
 
-/// The first place at which another teller stands, or one that hasn't told five lines.
-fn other_teller(worked: &[Teller]) -> Option<usize> {
+/// So many doers come back in order, each having worked once.
+fn come_back<R: AllocGlobal + Abort + Threads + Wait + Sync>(rt: &R, count: u32) {
+    let worked = run_lanes(rt, rt, tellers(rt, count, 5), &NoGate);
+    assert!(rt; worked.len() == count as usize);
     for (place, teller) in worked.iter().enumerate() {
-        if teller.lane() as usize != place || teller.told() != 5 {
-            return Some(place);
-        }
+        assert!(rt; teller.lane() as usize == place && teller.told() == 5);
     }
-    None
-}
-
-/// Whether so many doers come back in order, each having worked once.
-fn come_back<R: Threads + Wait + Sync>(alloc: Global, rt: &R, count: u32) -> bool {
-    let Some(doers) = tellers(alloc, count, 5) else {
-        return false;
-    };
-    let worked = run_lanes(rt, rt, doers, &NoGate);
-    worked.len() == count as usize && other_teller(&worked).is_none()
-}
-
-/// The first of these numbers of doers that don't.
-fn other_count<R: Threads + Wait + Sync>(alloc: Global, rt: &R) -> Option<u32> {
-    for count in [0, 1, 2, 3, 64].iter() {
-        if !come_back(alloc, rt, *count) {
-            return Some(*count);
-        }
-    }
-    None
 }
 
 #[test]
 fn each_doer_works_once_and_all_come_back_in_order(rt: HostRuntime) {
-    assert_eq!(rt; other_count(rt.alloc(), &rt), None);
+    for count in [0, 1, 2, 3, 64].iter() {
+        come_back(&rt, *count);
+    }
 }
 
-/// Whether two lanes come back, and neither waited in vain.
-fn two_meet<R: Threads + Wait + Sync>(alloc: Global, rt: &R) -> bool {
-    let Some(doers) = tellers(alloc, 2, 4) else {
-        return false;
-    };
+/// Two lanes come back, and neither waited in vain.
+fn two_meet<R: AllocGlobal + Abort + Threads + Wait + Sync>(rt: &R) {
     let gate = Meeting::new();
-    let worked = run_lanes(rt, rt, doers, &gate);
-    worked.len() == 2 && !gate.gave_up()
+    let worked = run_lanes(rt, rt, tellers(rt, 2, 4), &gate);
+    assert!(rt; worked.len() == 2 && !gate.gave_up());
 }
 
 #[test]
 fn two_lanes_meet_before_each_line(rt: HostRuntime) {
-    assert!(rt; two_meet(rt.alloc(), &rt));
+    two_meet(&rt);
 }
 
-/// Whether one lane after the other waits in vain.
-fn one_by_one_gives_up<R: Threads + Wait + Sync>(rt: &R, first: u32, second: u32) -> bool {
+/// One lane after the other waits in vain.
+fn one_by_one_gives_up<R: Abort + Threads + Wait + Sync>(rt: &R, first: u32, second: u32) {
     let gate = Meeting::new();
     Teller::new(first, 2).work(rt, rt, &gate);
     Teller::new(second, 2).work(rt, rt, &gate);
-    gate.gave_up()
+    assert!(rt; gate.gave_up());
 }
 
 #[test]
 fn lanes_one_after_another_do_not_meet(rt: HostRuntime) {
-    assert!(rt; one_by_one_gives_up(&rt, 0, 1));
-    assert!(rt; one_by_one_gives_up(&rt, 1, 0));
+    one_by_one_gives_up(&rt, 0, 1);
+    one_by_one_gives_up(&rt, 1, 0);
 }

@@ -1,7 +1,7 @@
 //! The ends in memory: what they are asked for, what they refuse, and a caller of both.
 use crate::copying::{Copied, copy_two};
 use io_port::{MemoryShelf, MemorySink, Shelf, ShelfError, Sink};
-use std::alloc::Global;
+use std::process::Abort;
 
 /// Two names, the load and the put that are to fail, the answer, and what is written.
 const COPIES: [(&str, &str, u64, u64, Copied, &str); 6] = [
@@ -13,138 +13,75 @@ const COPIES: [(&str, &str, u64, u64, Copied, &str); 6] = [
     ("a", "b", 9, 1, Copied::SinkFault, "one"),
 ];
 
-/// The place of the first of these that ends otherwise.
-fn other_copy(alloc: Global) -> Option<usize> {
-    for (place, (first, second, load, put, answer, written)) in COPIES.iter().enumerate() {
-        let copied = copy_with(alloc, first, second, *load, *put);
-        if !is_copy(&copied, *answer, written) {
-            return Some(place);
-        }
-    }
-    None
-}
-
 #[test]
 fn two_files_are_copied_and_each_refusal_is_told(rt: HostRuntime) {
-    assert_eq!(rt; other_copy(rt.alloc()), None);
+    for (first, second, load, put, answer, written) in COPIES.iter() {
+        let mut shelf = three_files(&rt, *load);
+        let mut sink = sink_of_8(&rt, *put);
+        let copied = copy_two(rt.alloc(), &mut shelf, &mut sink, first, second, 5);
+        assert!(rt; copied == *answer && sink.written() == written.as_bytes());
+    }
 }
 
 #[test]
 fn a_load_has_its_limit(rt: HostRuntime) {
-    let alloc = rt.alloc();
-    assert!(rt; loads_seven(alloc, 5));
-    assert!(rt; is_too_long_at(alloc, 4));
-}
-
-#[test]
-fn a_put_has_its_room(rt: HostRuntime) {
-    assert!(rt; takes_what_fits(rt.alloc()));
-}
-
-fn loads_seven(alloc: Global, limit: u64) -> bool {
-    match three_files(alloc) {
-        Some(files) => loads(
-            &mut MemoryShelf::new(files, Vec::new(alloc)),
-            alloc,
-            "b",
-            limit,
-            b"seven",
-        ),
-        None => false,
-    }
-}
-
-fn is_too_long_at(alloc: Global, limit: u64) -> bool {
-    match three_files(alloc) {
-        Some(files) => refuses(
-            &mut MemoryShelf::new(files, Vec::new(alloc)),
-            alloc,
-            "b",
-            limit,
-            ShelfError::TooLong(limit),
-        ),
-        None => false,
-    }
-}
-
-/// Whether a load gives these bytes.
-pub(crate) fn loads<F: Shelf>(
-    shelf: &mut F,
-    alloc: Global,
-    name: &str,
-    limit: u64,
-    bytes: &[u8],
-) -> bool {
-    match shelf.load(alloc, name, limit) {
-        Ok(loaded) => loaded.as_slice() == bytes,
-        Err(_) => false,
-    }
-}
-
-/// Whether a load ends with this error.
-pub(crate) fn refuses<F: Shelf>(
-    shelf: &mut F,
-    alloc: Global,
-    name: &str,
-    limit: u64,
-    error: ShelfError,
-) -> bool {
-    match shelf.load(alloc, name, limit) {
-        Ok(_) => false,
-        Err(found) => found == error,
-    }
+    let mut shelf = three_files(&rt, 9);
+    assert_loads(&rt, &mut shelf, "b", 5, b"seven");
+    assert_refuses(&rt, &mut shelf, "b", 4, ShelfError::TooLong(4));
 }
 
 // A put that doesn't fit is refused, and leaves the room for one that does.
-fn takes_what_fits(alloc: Global) -> bool {
-    match MemorySink::with_room(alloc, 8, Vec::new(alloc)) {
-        Ok(mut sink) => {
-            sink.put(b"seven").is_ok()
-                && sink.put(b"four").is_err()
-                && sink.put(b"two").is_ok()
-                && sink.written() == b"seventwo".as_slice()
-        }
-        Err(_) => false,
+#[test]
+fn a_put_has_its_room(rt: HostRuntime) {
+    let mut sink = sink_of_8(&rt, 9);
+    assert!(rt; sink.put(b"seven").is_ok());
+    assert!(rt; sink.put(b"four").is_err());
+    assert!(rt; sink.put(b"two").is_ok());
+    assert!(rt; sink.written() == b"seventwo".as_slice());
+}
+
+/// A load gives these bytes.
+pub(crate) fn assert_loads<F: Shelf, R: AllocGlobal + Abort>(
+    rt: &R,
+    shelf: &mut F,
+    name: &str,
+    limit: u64,
+    bytes: &[u8],
+) {
+    let loaded = shelf.load(rt.alloc(), name, limit).expect(rt, "a file");
+    assert!(rt; loaded.as_slice() == bytes);
+}
+
+/// A load ends with this error.
+pub(crate) fn assert_refuses<F: Shelf, R: AllocGlobal + Abort>(
+    rt: &R,
+    shelf: &mut F,
+    name: &str,
+    limit: u64,
+    error: ShelfError,
+) {
+    match shelf.load(rt.alloc(), name, limit) {
+        Ok(_) => panic!(rt; "a file"),
+        Err(found) => assert!(rt; found == error),
     }
 }
 
-fn copy_with(
-    alloc: Global,
-    first: &str,
-    second: &str,
-    load: u64,
-    put: u64,
-) -> Option<(Copied, MemorySink)> {
-    let mut shelf = MemoryShelf::new(three_files(alloc)?, one_number(alloc, load)?);
-    let mut sink = sink_of_8(alloc, put)?;
-    let answer = copy_two(alloc, &mut shelf, &mut sink, first, second, 5);
-    Some((answer, sink))
-}
-
-fn is_copy(copied: &Option<(Copied, MemorySink)>, answer: Copied, written: &str) -> bool {
-    match copied {
-        Some((found, sink)) => *found == answer && sink.written() == written.as_bytes(),
-        None => false,
-    }
-}
-
-fn three_files(alloc: Global) -> Option<Vec<(String, Vec<u8>)>> {
-    let mut files = Vec::new(alloc);
+// A shelf of three files, of whose loads one fails.
+fn three_files<R: AllocGlobal + Abort>(rt: &R, load: u64) -> MemoryShelf {
+    let mut files = Vec::new(rt.alloc());
     for (name, bytes) in [("a", "one"), ("b", "seven"), ("a", "two")].iter() {
-        files.push(file_of(alloc, name, bytes)?).ok()?;
+        let name = String::from_str(rt.alloc(), name).expect(rt, "a name");
+        let bytes = bytes.as_bytes().to_vec(rt.alloc()).expect(rt, "a text");
+        files.push((name, bytes)).expect(rt, "memory for a file");
     }
-    Some(files)
+    MemoryShelf::new(files, one_number(rt, load))
 }
 
-fn file_of(alloc: Global, name: &str, bytes: &str) -> Option<(String, Vec<u8>)> {
-    let name = String::from_str(alloc, name).ok()?;
-    Some((name, bytes.as_bytes().to_vec(alloc).ok()?))
+// A sink with room for eight bytes, of whose puts one fails.
+fn sink_of_8<R: AllocGlobal + Abort>(rt: &R, put: u64) -> MemorySink {
+    MemorySink::with_room(rt.alloc(), 8, one_number(rt, put)).expect(rt, "a sink")
 }
 
-fn sink_of_8(alloc: Global, put: u64) -> Option<MemorySink> {
-    MemorySink::with_room(alloc, 8, one_number(alloc, put)?).ok()
-}
-
-fn one_number(alloc: Global, number: u64) -> Option<Vec<u64>> {
-    [number].to_vec(alloc).ok()
+fn one_number<R: AllocGlobal + Abort>(rt: &R, number: u64) -> Vec<u64> {
+    [number].to_vec(rt.alloc()).expect(rt, "a number")
 }

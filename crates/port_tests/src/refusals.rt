@@ -3,182 +3,133 @@ use crate::said::{ENDS, LINES, RUN, WORDS};
 use first_line::FirstLine;
 use io_port::{MemorySink, Sink};
 use refusal_text::{explain, refused_file};
-use std::alloc::Global;
+use std::process::Abort;
 
-fn strings(alloc: Global, words: &[&str]) -> Option<Vec<String>> {
-    let mut strings = Vec::new(alloc);
-    for word in words {
-        strings.push(String::from_str(alloc, word).ok()?).ok()?;
-    }
-    Some(strings)
+fn add<R: AllocGlobal + Abort>(rt: &R, words: &mut Vec<String>, word: &str) {
+    let word = String::from_str(rt.alloc(), word).expect(rt, "a word");
+    words.push(word).expect(rt, "memory for a word");
 }
 
-/// Whether this is said of a run.
-fn is_said(
-    alloc: Global,
+fn strings<R: AllocGlobal + Abort>(rt: &R, words: &[&str]) -> Vec<String> {
+    let mut strings = Vec::new(rt.alloc());
+    for word in words {
+        add(rt, &mut strings, word);
+    }
+    strings
+}
+
+/// This is said of a run.
+fn assert_said<R: AllocGlobal + Abort>(
+    rt: &R,
     status: u8,
-    words: &[&str],
-    told: &[u8],
+    words: &[String],
+    told: &str,
     bytes: Option<&[u8]>,
     said: &str,
-) -> bool {
-    let Some(words) = strings(alloc, words) else {
-        return false;
-    };
-    match explain(alloc, status, &words, told, bytes) {
-        Ok(text) => text.as_str() == said,
-        Err(_) => false,
-    }
-}
-
-/// The place of the first words of which another thing is said.
-fn other_words(alloc: Global) -> Option<usize> {
-    for (place, (words, said)) in WORDS.iter().enumerate() {
-        if !is_said(alloc, 2, words, b"usage", None, said) {
-            return Some(place);
-        }
-    }
-    None
+) {
+    let text = explain(rt.alloc(), status, words, told.as_bytes(), bytes).expect(rt, "a text");
+    assert!(rt; text.as_str() == said, "{said}");
 }
 
 #[test]
 fn each_wrong_use_is_said_in_words(rt: HostRuntime) {
-    assert_eq!(rt; other_words(rt.alloc()), None);
-}
-
-/// The place of the first end of which another thing is said.
-fn other_end(alloc: Global) -> Option<usize> {
-    for (place, (status, told, said)) in ENDS.iter().enumerate() {
-        if !is_said(alloc, *status, RUN, told.as_bytes(), None, said) {
-            return Some(place);
-        }
+    for (words, said) in WORDS.iter() {
+        assert_said(&rt, 2, &strings(&rt, words), "usage", None, said);
     }
-    None
 }
 
 #[test]
 fn each_end_is_said_in_words(rt: HostRuntime) {
-    assert_eq!(rt; other_end(rt.alloc()), None);
-}
-
-/// The place of the first line of which another thing is said.
-fn other_line(alloc: Global) -> Option<usize> {
-    for (place, (told, bytes, said)) in LINES.iter().enumerate() {
-        if !is_said(alloc, 1, RUN, told.as_bytes(), Some(bytes), said) {
-            return Some(place);
-        }
+    let words = strings(&rt, RUN);
+    for (status, told, said) in ENDS.iter() {
+        assert_said(&rt, *status, &words, told, None, said);
     }
-    None
 }
 
 #[test]
 fn each_flaw_of_a_line_is_said_in_words(rt: HostRuntime) {
-    assert_eq!(rt; other_line(rt.alloc()), None);
-}
-
-/// What is said of too few blocks for so many lanes.
-fn said_of_lanes(alloc: Global, lanes: usize) -> Option<String> {
-    let mut words = strings(alloc, &["run", "s"])?;
-    for _ in 0..lanes {
-        words.push(String::from_str(alloc, "l").ok()?).ok()?;
-    }
-    explain(alloc, 5, &words, b"sizes blocks\n", None).ok()
-}
-
-fn blocks_are_said(alloc: Global, lanes: usize, wanted: &str) -> bool {
-    match said_of_lanes(alloc, lanes) {
-        Some(text) => text.as_str() == wanted,
-        None => false,
+    let words = strings(&rt, RUN);
+    for (told, bytes, said) in LINES.iter() {
+        assert_said(&rt, 1, &words, told, Some(bytes), said);
     }
 }
+
+/// So many lanes, and what is said of too few blocks for them.
+const LANES: [(u8, &str); 2] = [
+    (
+        32,
+        "blocks is to be 264 or more for so many lanes, and at most 65,536",
+    ),
+    (
+        64,
+        "blocks is to be 520 or more for so many lanes, and at most 65,536",
+    ),
+];
 
 #[test]
 fn the_blocks_of_all_lanes_are_counted(rt: HostRuntime) {
-    let alloc = rt.alloc();
-    assert!(rt;
-        blocks_are_said(
-            alloc,
-            32,
-            "blocks is to be 264 or more for so many lanes, and at most 65,536"
-        )
-    );
-    assert!(rt;
-        blocks_are_said(
-            alloc,
-            64,
-            "blocks is to be 520 or more for so many lanes, and at most 65,536"
-        )
-    );
-}
-
-/// What is said of a put whose key and value have so many bytes.
-fn said_of_put(alloc: Global, key: usize, value: usize) -> Option<String> {
-    let mut line = Vec::new(alloc);
-    line.extend_from_slice(b"put t %61,").ok()?;
-    line.resize(key.checked_add(9)?, b'k').ok()?;
-    line.extend_from_slice(b" ").ok()?;
-    line.resize(line.len().checked_add(value)?, b'v').ok()?;
-    let words = strings(alloc, RUN)?;
-    explain(alloc, 1, &words, b"script 1 1 3\n", Some(&line)).ok()
-}
-
-fn is_long(alloc: Global, key: usize, value: usize, part: &str) -> bool {
-    match said_of_put(alloc, key, value) {
-        Some(text) => text.starts_with(part),
-        None => false,
+    for (lanes, said) in LANES.iter() {
+        let mut words = strings(&rt, &["run", "s"]);
+        for _ in 0..*lanes {
+            add(&rt, &mut words, "l");
+        }
+        assert_said(&rt, 5, &words, "sizes blocks\n", None, said);
     }
+}
+
+/// How many bytes the key and the value of a put have, and how what is said of it begins.
+const PUTS: [(usize, usize, &str); 2] = [
+    (
+        768,
+        1,
+        "l1, line 1: its key has more than 767 bytes (put t %61,kkk",
+    ),
+    (
+        767,
+        2049,
+        "l1, line 1: its value has more than 2,048 bytes (put t",
+    ),
+];
+
+/// A line that puts such a row.
+fn long_put<R: AllocGlobal + Abort>(rt: &R, key: usize, value: usize) -> Vec<u8> {
+    let mut line = b"put t %61,".to_vec(rt.alloc()).expect(rt, "a line");
+    line.resize(key.wrapping_add(9), b'k')
+        .expect(rt, "memory for a key");
+    line.push(b' ').expect(rt, "memory for a space");
+    let whole = line.len().wrapping_add(value);
+    line.resize(whole, b'v').expect(rt, "memory for a value");
+    line
+}
+
+/// What is said of such a put begins so.
+fn assert_long<R: AllocGlobal + Abort>(rt: &R, key: usize, value: usize, part: &str) {
+    let (words, line) = (strings(rt, RUN), long_put(rt, key, value));
+    let text = explain(rt.alloc(), 1, &words, b"script 1 1 3\n", Some(&line)).expect(rt, "a text");
+    assert!(rt; text.starts_with(part));
 }
 
 #[test]
 fn the_part_that_is_too_long_is_named(rt: HostRuntime) {
-    let alloc = rt.alloc();
-    assert!(rt;
-        is_long(
-            alloc,
-            768,
-            1,
-            "l1, line 1: its key has more than 767 bytes (put t %61,kkk"
-        )
-    );
-    assert!(rt;
-        is_long(
-            alloc,
-            767,
-            2049,
-            "l1, line 1: its value has more than 2,048 bytes (put t"
-        )
-    );
-}
-
-/// What is kept of these puts, and whether all went on to the sink.
-fn kept(alloc: Global, puts: &[&[u8]]) -> Option<(Vec<u8>, Vec<u8>)> {
-    let memory = MemorySink::with_room(alloc, 1000, Vec::new(alloc)).ok()?;
-    let mut sink = FirstLine::new(alloc, memory);
-    for bytes in puts {
-        sink.put(bytes).ok()?;
-    }
-    let (memory, first) = sink.into_parts();
-    Some((first, memory.written().to_vec(alloc).ok()?))
-}
-
-fn is(bytes: &[u8], wanted: &[u8]) -> bool {
-    bytes == wanted
-}
-
-fn keeps_the_first(alloc: Global) -> bool {
-    match kept(alloc, &[b"shelf 1\n", b"more"]) {
-        Some((first, all)) => is(&first, b"shelf 1\n") && is(&all, b"shelf 1\nmore"),
-        None => false,
+    for (key, value, part) in PUTS.iter() {
+        assert_long(&rt, *key, *value, part);
     }
 }
 
 #[test]
 fn the_first_line_is_kept_and_all_is_passed_on(rt: HostRuntime) {
-    assert!(rt; keeps_the_first(rt.alloc()));
+    let alloc = rt.alloc();
+    let memory = MemorySink::with_room(alloc, 1000, Vec::new(alloc)).expect(&rt, "a sink");
+    let mut sink = FirstLine::new(alloc, memory);
+    assert!(rt; sink.put(b"shelf 1\n").is_ok());
+    assert!(rt; sink.put(b"more").is_ok());
+    let (memory, first) = sink.into_parts();
+    assert!(rt; first.as_slice() == b"shelf 1\n".as_slice());
+    assert!(rt; memory.written() == b"shelf 1\nmore".as_slice());
 }
 
 #[test]
 fn a_refused_line_names_its_file(rt: HostRuntime) {
-    assert_eq!(rt; refused_file(b"script 2 1 1\n"), Some(2));
-    assert_eq!(rt; refused_file(b"shelf 2\n"), None);
+    assert!(rt; refused_file(b"script 2 1 1\n") == Some(2));
+    assert!(rt; refused_file(b"shelf 2\n").is_none());
 }

@@ -5,44 +5,42 @@ use map_history::{Counts, How, Line, Note, Op, Reply, RowBuf, Told};
 use report_print::{Halt, put_report};
 use report_text::Texts;
 use sample_rows::{key_of, value_of};
-use std::alloc::Global;
+use std::process::Abort;
 
 /// A line that puts a row.
-fn put(alloc: Global, line: u32, field: &[u8], bytes: &[u8]) -> Option<Line> {
+fn put<R: AllocGlobal + Abort>(rt: &R, line: u32, field: &[u8], bytes: &[u8]) -> Line {
     let op = Op::Put {
         index: 0,
-        key: key_of(alloc, field)?,
-        value: value_of(alloc, bytes)?,
+        key: key_of(rt.alloc(), field).expect(rt, "a key"),
+        value: value_of(rt.alloc(), bytes).expect(rt, "a value"),
     };
-    Some(Line { line, op })
+    Line { line, op }
 }
 
 /// A line that takes it away.
-fn del(alloc: Global, line: u32, field: &[u8]) -> Option<Line> {
-    let key = key_of(alloc, field)?;
+fn del<R: AllocGlobal + Abort>(rt: &R, line: u32, field: &[u8]) -> Line {
+    let key = key_of(rt.alloc(), field).expect(rt, "a key");
     let op = Op::Del { index: 0, key };
-    Some(Line { line, op })
-}
-
-/// Adds the answer of a line whose change was made.
-fn add_ok(answers: &mut Texts, row: &RowBuf, line: &Line, point: u64) -> Option<()> {
-    let told = Told {
-        reply: Reply::Ok,
-        point: Some(point),
-        how: How::Dash,
-        note: Note::Dash,
-    };
-    answers.add_answer(line.line, &told, row, &line.op).ok()
+    Line { line, op }
 }
 
 /// The answers of a lane whose changes are these.
-fn answers(alloc: Global, changes: &[LaneChange<'_>]) -> Option<Texts> {
-    let row = RowBuf::new(alloc).ok()?;
-    let mut answers = Texts::reserve(alloc, changes.len()).ok()?;
+fn answers<R: AllocGlobal + Abort>(rt: &R, changes: &[LaneChange<'_>]) -> Texts {
+    let row = RowBuf::new(rt.alloc()).expect(rt, "a row buffer");
+    let mut answers = Texts::reserve(rt.alloc(), changes.len()).expect(rt, "texts");
     for change in changes {
-        add_ok(&mut answers, &row, change.line, change.number)?;
+        let told = Told {
+            reply: Reply::Ok,
+            point: Some(change.number),
+            how: How::Dash,
+            note: Note::Dash,
+        };
+        let line = change.line;
+        answers
+            .add_answer(line.line, &told, &row, &line.op)
+            .expect(rt, "memory for an answer");
     }
-    Some(answers)
+    answers
 }
 
 /// The change that a line of a lane made.
@@ -50,38 +48,26 @@ fn made(number: u64, lane: u32, line: &Line) -> LaneChange<'_> {
     LaneChange { number, lane, line }
 }
 
+fn listed<T, const N: usize, R: AllocGlobal + Abort>(rt: &R, items: [T; N]) -> Vec<T> {
+    Vec::from_array(rt.alloc(), items).expect(rt, "memory for a list")
+}
+
 /// The changes of two indexes: of the first, lane 2 made the first change and lane 1 the second.
-fn changes<'a>(alloc: Global, lines: &'a [Line]) -> Option<Vec<Vec<LaneChange<'a>>>> {
-    let [first, second, third] = lines else {
-        return None;
-    };
-    let of_one = Vec::from_array(alloc, [made(1, 2, first), made(2, 1, second)]).ok()?;
-    let of_two = Vec::from_array(alloc, [made(1, 1, third)]).ok()?;
-    Vec::from_array(alloc, [of_one, of_two]).ok()
+fn changes<'a, R: AllocGlobal + Abort>(rt: &R, lines: &'a [Line; 3]) -> Vec<Vec<LaneChange<'a>>> {
+    let of_one = listed(rt, [made(1, 2, &lines[0]), made(2, 1, &lines[1])]);
+    let of_two = listed(rt, [made(1, 1, &lines[2])]);
+    listed(rt, [of_one, of_two])
 }
 
 /// The answers of two lanes: lane 1 has the second and the third line, lane 2 the first.
-fn both_answers(alloc: Global, lines: &[Line]) -> Option<Vec<Texts>> {
-    let [first, second, third] = lines else {
-        return None;
-    };
-    let one = answers(alloc, &[made(2, 1, second), made(1, 1, third)])?;
-    let two = answers(alloc, &[made(1, 2, first)])?;
-    Vec::from_array(alloc, [one, two]).ok()
+fn both_answers<R: AllocGlobal + Abort>(rt: &R, lines: &[Line; 3]) -> Vec<Texts> {
+    let one = answers(rt, &[made(2, 1, &lines[1]), made(1, 1, &lines[2])]);
+    let two = answers(rt, &[made(1, 2, &lines[0])]);
+    listed(rt, [one, two])
 }
 
-fn three_lines(alloc: Global) -> Option<Vec<Line>> {
-    let mut lines = Vec::new(alloc);
-    lines.push(put(alloc, 1, b"a", b"x")?).ok()?;
-    lines.push(del(alloc, 2, b"a")?).ok()?;
-    lines.push(put(alloc, 3, b"b", b"y")?).ok()?;
-    Some(lines)
-}
-
-fn names(alloc: Global) -> Option<Vec<String>> {
-    let one = String::from_str(alloc, "t").ok()?;
-    let two = String::from_str(alloc, "u").ok()?;
-    Vec::from_array(alloc, [one, two]).ok()
+fn name<R: AllocGlobal + Abort>(rt: &R, name: &str) -> String {
+    String::from_str(rt.alloc(), name).expect(rt, "a name")
 }
 
 /// No word is counted of the first index, and of the second each as often as its place says.
@@ -93,30 +79,25 @@ fn counts() -> [Counts; 2] {
 }
 
 /// Puts the report of two lanes over two indexes.
-fn put_two_lanes(alloc: Global, sink: &mut MemorySink) -> Option<Result<(), Halt>> {
-    let lines = three_lines(alloc)?;
-    let answers = both_answers(alloc, &lines)?;
-    let changes = changes(alloc, &lines)?;
-    let names = names(alloc)?;
-    if changes.len() != names.len() || names.len() != 2 {
-        return None;
-    }
-    Some(put_report(alloc, sink, &names, &answers, &changes, &counts()))
+fn put_two_lanes<R: AllocGlobal + Abort>(rt: &R, sink: &mut MemorySink) -> Result<(), Halt> {
+    let lines = [
+        put(rt, 1, b"a", b"x"),
+        del(rt, 2, b"a"),
+        put(rt, 3, b"b", b"y"),
+    ];
+    let answers = both_answers(rt, &lines);
+    let changes = changes(rt, &lines);
+    let names = [name(rt, "t"), name(rt, "u")];
+    assert!(rt; changes.len() == 2);
+    put_report(rt.alloc(), sink, &names, &answers, &changes, &counts())
 }
 
-/// How putting it ends, over a sink whose puts with these numbers fail, and the sink.
-fn put_over(alloc: Global, fail: &[u64]) -> Option<(Result<(), Halt>, MemorySink)> {
-    let mut sink = MemorySink::with_room(alloc, 1000, fail.to_vec(alloc).ok()?).ok()?;
-    let end = put_two_lanes(alloc, &mut sink)?;
-    Some((end, sink))
-}
-
-/// Whether putting it ends so, with these bytes in the sink.
-fn puts(alloc: Global, fail: &[u64], end: Result<(), Halt>, written: &[u8]) -> bool {
-    match put_over(alloc, fail) {
-        Some((found, sink)) => found == end && sink.written() == written,
-        None => false,
-    }
+/// Putting it ends so, over a sink whose puts with these numbers fail, with these bytes in the sink.
+fn assert_put<R: AllocGlobal + Abort>(rt: &R, fail: &[u64], end: Result<(), Halt>, written: &[u8]) {
+    let fail = fail.to_vec(rt.alloc()).expect(rt, "numbers");
+    let mut sink = MemorySink::with_room(rt.alloc(), 1000, fail).expect(rt, "a sink");
+    assert!(rt; put_two_lanes(rt, &mut sink) == end);
+    assert!(rt; sink.written() == written);
 }
 
 const REPORT: &[u8] = b"ahi run\n\
@@ -138,11 +119,15 @@ const REPORT: &[u8] = b"ahi run\n\
 
 #[test]
 fn a_report_of_two_lanes_over_two_indexes(rt: HostRuntime) {
-    assert!(rt; puts(rt.alloc(), &[], Ok(()), REPORT));
+    assert_put(&rt, &[], Ok(()), REPORT);
 }
 
 #[test]
 fn a_put_is_one_line(rt: HostRuntime) {
-    let first = b"ahi run\nlane 1\n2 ok @2 - -\n".as_slice();
-    assert!(rt; puts(rt.alloc(), &[3], Err(Halt::SinkFault), first));
+    assert_put(
+        &rt,
+        &[3],
+        Err(Halt::SinkFault),
+        b"ahi run\nlane 1\n2 ok @2 - -\n",
+    );
 }

@@ -1,9 +1,9 @@
 //! Streams that fail midway, and an output that is written in blocks.
-use crate::ends::{loads, refuses};
+use crate::ends::{assert_loads, assert_refuses};
 use crate::fake_files::Drips;
 use crate::fakes::Narrow;
 use io_port::{FileShelf, OutSink, ShelfError, Sink};
-use std::alloc::Global;
+use std::process::Abort;
 use std::sync::atomic::{AtomicU32, Ordering};
 
 const TEXT: &[u8] = b"0123456789";
@@ -18,25 +18,17 @@ const READINGS: [(u32, u64, Result<(), ShelfError>, u32); 3] = [
     (4, 5, Err(ShelfError::TooLong(5)), 2),
 ];
 
-/// The place of the first of these that ends otherwise.
-fn other_reading(alloc: Global) -> Option<usize> {
-    for (place, (fail_from, limit, end, reads)) in READINGS.iter().enumerate() {
-        if !reads_as(alloc, *fail_from, *limit, *end, *reads) {
-            return Some(place);
-        }
-    }
-    None
-}
-
 #[test]
 fn a_reader_is_read_to_its_end_or_fails(rt: HostRuntime) {
-    assert_eq!(rt; other_reading(rt.alloc()), None);
+    for (fail_from, limit, end, reads) in READINGS.iter() {
+        assert_reading(&rt, *fail_from, *limit, *end, *reads);
+    }
 }
 
 #[test]
 fn a_writer_takes_all_or_fails(rt: HostRuntime) {
-    assert!(rt; takes(rt.alloc(), LONG, true, LONG));
-    assert!(rt; takes(rt.alloc(), 7, false, 7));
+    assert_taken(&rt, LONG, true);
+    assert_taken(&rt, 7, false);
 }
 
 /// The room of the writer, the puts of ten bytes, whether they are taken, and what it has then.
@@ -47,28 +39,22 @@ const BLOCKS: [(usize, u32, bool, Option<usize>); 4] = [
     (65_540, 6_554, true, Some(65_540)),
 ];
 
-/// The place of the first of these that comes otherwise.
-fn other_block(alloc: Global) -> Option<usize> {
-    for (place, (room, puts, is_put, taken)) in BLOCKS.iter().enumerate() {
-        if put_and_finish(alloc, *room, *puts) != Some((*is_put, *taken)) {
-            return Some(place);
-        }
-    }
-    None
-}
-
 #[test]
 fn the_output_is_written_in_blocks(rt: HostRuntime) {
-    assert_eq!(rt; other_block(rt.alloc()), None);
+    for (room, puts, is_put, taken) in BLOCKS.iter() {
+        let mut sink = sink_of(&rt, *room);
+        assert!(rt; put_often(&mut sink, *puts) == *is_put);
+        assert!(rt; count_taken(sink) == *taken);
+    }
 }
 
-fn reads_as(
-    alloc: Global,
+fn assert_reading<R: AllocGlobal + Abort>(
+    rt: &R,
     fail_from: u32,
     limit: u64,
     end: Result<(), ShelfError>,
     reads: u32,
-) -> bool {
+) {
     let count = AtomicU32::new(0);
     let files = Drips {
         text: TEXT,
@@ -76,49 +62,35 @@ fn reads_as(
         fail_from,
     };
     let mut shelf = FileShelf::new(&files);
-    let is_end = match end {
-        Ok(()) => loads(&mut shelf, alloc, "a", limit, TEXT),
-        Err(error) => refuses(&mut shelf, alloc, "a", limit, error),
-    };
-    // after a failure nothing more is asked of the reader
-    is_end && count.load(Ordering::SeqCst) == reads
-}
-
-fn long_text(alloc: Global) -> Option<Vec<u8>> {
-    let mut text = TEXT.to_vec(alloc).ok()?;
-    text.resize(LONG, b'x').ok()?;
-    Some(text)
-}
-
-// Whether these bytes are taken at once, and what the writer has after the end.
-fn put_once(alloc: Global, room: usize, bytes: &[u8]) -> Option<(bool, Narrow)> {
-    let writer = Narrow::with_room(alloc, room).ok()?;
-    let mut sink = OutSink::new(alloc, writer).ok()?;
-    let is_put = sink.put(bytes).is_ok();
-    Some((is_put, sink.finish().ok()?))
-}
-
-// Whether a long put is taken whole, or of it so many bytes.
-fn takes(alloc: Global, room: usize, is_whole: bool, count: usize) -> bool {
-    let Some(text) = long_text(alloc) else {
-        return false;
-    };
-    match put_once(alloc, room, &text) {
-        Some((is_put, writer)) => {
-            is_put == is_whole && text.get(..count) == Some(writer.taken())
-        }
-        None => false,
+    match end {
+        Ok(()) => assert_loads(rt, &mut shelf, "a", limit, TEXT),
+        Err(error) => assert_refuses(rt, &mut shelf, "a", limit, error),
     }
+    // after a failure nothing more is asked of the reader
+    assert!(rt; count.load(Ordering::SeqCst) == reads);
 }
 
-// Whether so many puts are taken, and how many bytes the writer has after the end.
-fn put_and_finish(alloc: Global, room: usize, puts: u32) -> Option<(bool, Option<usize>)> {
-    let writer = Narrow::with_room(alloc, room).ok()?;
-    let mut sink = OutSink::new(alloc, writer).ok()?;
-    let is_put = put_often(&mut sink, puts);
+// An output over a writer with room for so many bytes.
+fn sink_of<R: AllocGlobal + Abort>(rt: &R, room: usize) -> OutSink<Narrow> {
+    let writer = Narrow::with_room(rt.alloc(), room).expect(rt, "a writer");
+    OutSink::new(rt.alloc(), writer).expect(rt, "an output")
+}
+
+// A long put is taken whole, or of it as many bytes as there is room for.
+fn assert_taken<R: AllocGlobal + Abort>(rt: &R, room: usize, is_whole: bool) {
+    let mut text = TEXT.to_vec(rt.alloc()).expect(rt, "a text");
+    text.resize(LONG, b'x').expect(rt, "memory for a long text");
+    let mut sink = sink_of(rt, room);
+    assert!(rt; sink.put(&text).is_ok() == is_whole);
+    let writer = sink.finish().expect(rt, "a writer");
+    assert!(rt; text.get(..room) == Some(writer.taken()));
+}
+
+// How many bytes the writer has after the end, which may fail.
+fn count_taken(sink: OutSink<Narrow>) -> Option<usize> {
     match sink.finish() {
-        Ok(writer) => Some((is_put, Some(writer.taken().len()))),
-        Err(_) => Some((is_put, None)),
+        Ok(writer) => Some(writer.taken().len()),
+        Err(_) => None,
     }
 }
 
