@@ -6,14 +6,14 @@ ghost use Rattle.latch_space.specs.Spaces.{IsPassOf};
 ghost use Rattle.forest_law.specs.State.{fields_for};
 ghost use Rattle.buffer_pool.specs.Forests.{IsForest};
 
-use crate::guesses::{first_cause, is_hit, open_learner};
+use crate::guesses::{assert_hit, first_cause, open_learner};
 use crate::names::{Name, SIZES, key_of, value_of};
-use crate::plot::{call_of, hashes, makes_room, puts};
+use crate::plot::{call_of, give_room, hash, put};
 use buffer_pool::give_back;
 use forest_world::{ForestPass, ForestSpace, open_forest};
 use hash_guess::Cause;
 use key_tuple::{Key, Mode};
-use std::alloc::Global;
+use std::process::Abort;
 use std::sync::Wait;
 use tree_descent::descend;
 
@@ -50,80 +50,56 @@ struct Plot {
 }
 
 impl Plot {
-    fn open(alloc: Global) -> Option<Plot> {
-        let (space, mut pass) = open_forest(alloc, &SIZES, &[2], 2).ok()?;
-        let other = space.split(alloc, &mut pass).ok()?;
-        Some(Plot { space, pass, other })
+    fn open<R: AllocGlobal + Abort>(rt: &R) -> Plot {
+        let (space, mut pass) = open_forest(rt.alloc(), &SIZES, &[2], 2).expect(rt, "a space");
+        let other = space
+            .split(rt.alloc(), &mut pass)
+            .expect(rt, "another pass");
+        Plot { space, pass, other }
     }
 
-    /// Whether a row is put.
-    fn put<R: Wait>(&mut self, alloc: Global, name: Name, wait: &R) -> bool {
-        let (Some(key), Some(value)) = (key_of(alloc, name), value_of(alloc, name)) else {
-            return false;
-        };
-        let call = call_of(alloc, &self.space, &key, wait);
-        puts(&call, &mut self.pass, 100, &value)
+    /// Puts a row in.
+    fn put<R: AllocGlobal + Abort + Wait>(&mut self, rt: &R, name: Name) {
+        let (key, value) = (key_of(rt, name), value_of(rt, name));
+        let call = call_of(rt, &self.space, &key);
+        put(rt, &call, &mut self.pass, 100, &value);
     }
 
-    /// Whether the leaf of a key gets room for its row.
-    fn make_room<R: Wait>(&mut self, alloc: Global, name: Name, wait: &R) -> bool {
-        let Some(key) = key_of(alloc, name) else {
-            return false;
-        };
-        let call = call_of(alloc, &self.space, &key, wait);
-        makes_room(&call, &mut self.pass)
+    /// Gives the leaf of a key room for its row.
+    fn give_room<R: AllocGlobal + Abort + Wait>(&mut self, rt: &R, name: Name) {
+        let key = key_of(rt, name);
+        let call = call_of(rt, &self.space, &key);
+        give_room(rt, &call, &mut self.pass);
     }
 
-    /// The same space, once the leaf of a key is hashed.
-    fn hashed<R: Wait>(self, alloc: Global, name: Name, wait: &R) -> Option<Plot> {
-        let (Some(key), Some((learner, mut learn))) = (key_of(alloc, name), open_learner(alloc))
-        else {
-            return None;
-        };
-        let Plot {
-            space,
-            mut pass,
-            other,
-            ..
-        } = self;
-        match hashes(&space, &mut pass, &learner, &mut learn, &key, wait) {
-            Some(true) => Some(Plot { space, pass, other }),
-            _ => None,
-        }
+    /// Has the leaf of a key hashed.
+    fn hash<R: AllocGlobal + Abort + Wait>(&mut self, rt: &R, name: Name) {
+        let key = key_of(rt, name);
+        let (learner, mut learn) = open_learner(rt);
+        hash(rt, &self.space, &mut self.pass, &learner, &mut learn, &key);
     }
-}
-
-fn put_all<R: Wait>(alloc: Global, plot: &mut Plot, wait: &R) -> bool {
-    for name in ROWS.iter() {
-        if !plot.put(alloc, *name, wait) {
-            return false;
-        }
-    }
-    true
 }
 
 /// The rows on two leaves, of which the right one is hashed.
-fn hashed<R: Wait>(alloc: Global, wait: &R) -> Option<Plot> {
-    let Some(mut plot) = Plot::open(alloc) else {
-        return None;
-    };
-    if put_all(alloc, &mut plot, wait) && plot.make_room(alloc, NEXT, wait) {
-        plot.hashed(alloc, FIRST, wait)
-    } else {
-        None
+fn hashed<R: AllocGlobal + Abort + Wait>(rt: &R) -> Plot {
+    let mut plot = Plot::open(rt);
+    for name in ROWS.iter() {
+        plot.put(rt, *name);
     }
+    plot.give_room(rt, NEXT);
+    plot.hash(rt, FIRST);
+    plot
 }
 
-/// Why a guess by the key leads nowhere while the other pass holds its leaf, and whether one leads to
-/// its row there once that is given back.
-fn told_of<R: Wait>(
-    alloc: Global,
+/// Why a guess by the key leads nowhere while the other pass holds its leaf. One leads to its row
+/// there once that is given back.
+fn cause_meanwhile<R: AllocGlobal + Abort + Wait>(
+    rt: &R,
     space: &ForestSpace,
     pass: &mut ForestPass,
     other: &mut ForestPass,
     key: &Key,
-    wait: &R,
-) -> Option<(Cause, bool)>
+) -> Cause
     requires forest { IsForest space.now }
     requires own { IsPassOf space.now pass.old }
     requires other { IsPassOf space.now other.old }
@@ -132,51 +108,32 @@ fn told_of<R: Wait>(
     requires nothing { count pass.old ≡ 0 }
     requires none { count other.old ≡ 0 }
 {
-    let leaf = descend(space, other, 0, key, Mode::Ge, wait);
-    let cause = first_cause(alloc, space, pass, key);
+    let leaf = descend(space, other, 0, key, Mode::Ge, rt);
+    let cause = first_cause(rt, space, pass, key);
     give_back(space, other, leaf.block);
-    match cause {
-        Some(cause) => Some((cause, is_hit(alloc, space, pass, key, &leaf))),
-        None => None,
-    }
+    assert_hit(rt, space, pass, key, &leaf);
+    cause
 }
 
-/// The same of the first row of the right leaf.
-fn told<R: Wait>(alloc: Global, wait: &R) -> Option<(Cause, bool)> {
-    let (Some(plot), Some(key)) = (hashed(alloc, wait), key_of(alloc, FIRST)) else {
-        return None;
-    };
+#[test]
+fn a_leaf_is_busy_while_another_pass_holds_it_and_hit_once_it_is_free(rt: HostRuntime) {
     let Plot {
         space,
         mut pass,
         mut other,
         ..
-    } = plot;
-    told_of(alloc, &space, &mut pass, &mut other, &key, wait)
-}
-
-/// Why a guess for the first row that isn't below a key leads nowhere.
-fn cause_below<R: Wait>(alloc: Global, wait: &R) -> Option<Cause> {
-    let (Some(plot), Some(key)) = (hashed(alloc, wait), key_of(alloc, BELOW)) else {
-        return None;
-    };
-    let Plot {
-        space,
-        mut pass,
-        ..
-    } = plot;
-    first_cause(alloc, &space, &mut pass, &key)
-}
-
-#[test]
-fn a_leaf_is_busy_while_another_pass_holds_it_and_hit_once_it_is_free(rt: HostRuntime) {
-    let told = told(rt.alloc(), &rt).expect(&rt, "a cause");
-    assert!(rt; told.0 == Cause::BlockBusy { holder: 1 });
-    assert!(rt; told.1);
+    } = hashed(&rt);
+    let cause = cause_meanwhile(&rt, &space, &mut pass, &mut other, &key_of(&rt, FIRST));
+    assert!(rt; cause == Cause::BlockBusy { holder: 1 });
 }
 
 #[test]
 fn a_leaf_with_another_to_its_left_shows_no_key_below_its_first_row(rt: HostRuntime) {
-    let told = cause_below(rt.alloc(), &rt).expect(&rt, "a cause");
-    assert!(rt; matches!(&told, Cause::Unequal { .. }));
+    let Plot {
+        space,
+        mut pass,
+        ..
+    } = hashed(&rt);
+    let cause = first_cause(&rt, &space, &mut pass, &key_of(&rt, BELOW));
+    assert!(rt; matches!(&cause, Cause::Unequal { .. }));
 }

@@ -1,6 +1,6 @@
 //! The calls one after another, until the list is full.
-use crate::setup::{Caller, Order, open};
-use crate::steps::{Step, other_step};
+use crate::setup::Order;
+use crate::steps::{Step, assert_steps};
 use map_history::Reply;
 
 const STEPS: [Step; 14] = [
@@ -22,8 +22,5 @@ const STEPS: [Step; 14] = [
 
 #[test]
 fn a_row_comes_and_goes_until_the_list_is_full(rt: HostRuntime) {
-    let (engine, pass) = open(rt.alloc(), 1, 3).expect(&rt, "an engine");
-    let mut caller = Caller::new(rt.alloc(), &engine, pass).expect(&rt, "a row buffer");
-    assert_eq!(rt; other_step(rt.alloc(), &mut caller, &STEPS, &rt), None);
-    assert!(rt; caller.out.value() == b"z".as_slice());
+    assert_steps(&rt, 3, &STEPS, b"z");
 }

@@ -3,10 +3,9 @@
 use crate::recount::{Counted, recount};
 use crate::rounds::{Round, each, ended, worked};
 use crate::setup::{Order, open_sized};
-use forest_law::Object;
 use key_tuple::Mode;
 use map_history::Sizes;
-use std::alloc::Global;
+use std::process::Abort;
 use std::sync::Wait;
 
 /// Sixteen blocks, and two partitions.
@@ -120,87 +119,58 @@ const CASES: [Case; 5] = [
     },
 ];
 
-/// What lay in an engine of these sizes when one caller had worked these rounds.
-fn remains<R: Wait>(
-    alloc: Global,
+/// The recount of what lay in an engine of these sizes when one caller had worked these rounds.
+fn recount_after<R: AllocGlobal + Abort + Wait>(
+    rt: &R,
     sizes: &Sizes,
     rounds: &[Round],
-    wait: &R,
-) -> Option<Vec<Object>> {
-    let (engine, pass) = open_sized(alloc, sizes, 1)?;
-    match worked(alloc, &engine, pass, rounds, 0, wait) {
-        Some(pass) => ended(alloc, engine, pass),
-        None => None,
-    }
-}
-
-/// The recount of that.
-fn recount_after<R: Wait>(
-    alloc: Global,
-    sizes: &Sizes,
-    rounds: &[Round],
-    wait: &R,
-) -> Option<Counted> {
-    match remains(alloc, sizes, rounds, wait) {
-        Some(objects) => recount(alloc, objects, sizes),
-        None => None,
-    }
+) -> Counted {
+    let (engine, pass) = open_sized(rt, sizes, 1);
+    let pass = worked(rt, &engine, pass, rounds, 0);
+    recount(rt, ended(rt, engine, pass), sizes)
 }
 
 /// Whether so many nodes were counted, or some where none are named, and leaves where there are
 /// nodes.
-fn is_as_wanted(told: Option<Counted>, nodes: Option<u32>) -> bool {
-    match (told, nodes) {
-        (Some(told), Some(nodes)) => told.nodes == nodes && (told.leaves > 0) == (nodes > 0),
-        (Some(told), None) => told.nodes > 0 && told.leaves > 0,
-        (None, _) => false,
-    }
+fn is_as_wanted(told: Counted, nodes: Option<u32>) -> bool {
+    let is_so = match nodes {
+        Some(nodes) => told.nodes == nodes,
+        None => told.nodes > 0,
+    };
+    is_so && (told.leaves > 0) == (told.nodes > 0)
 }
 
-/// The first round of a case behind which something else is counted.
-fn other_round<R: Wait>(alloc: Global, case: &Case, wait: &R) -> Option<usize> {
+/// Behind each round of the case so much is counted.
+fn assert_case<R: AllocGlobal + Abort + Wait>(rt: &R, case: &Case) {
     let sizes = sizes_for(case.fold_bits);
     let rounds = rounds(case.order);
     for (place, nodes) in case.nodes.iter().enumerate() {
-        let done = rounds.get(..place.wrapping_add(1)).unwrap_or(&[]);
-        if !is_as_wanted(recount_after(alloc, &sizes, done, wait), *nodes) {
-            return Some(place);
-        }
+        let done = rounds.get(..place.wrapping_add(1)).expect(rt, "a round");
+        assert!(rt;
+            is_as_wanted(recount_after(rt, &sizes, done), *nodes),
+            "round {place}"
+        );
     }
-    None
-}
-
-/// The first case with such a round, and the round.
-fn other_case<R: Wait>(alloc: Global, wait: &R) -> Option<(usize, usize)> {
-    for (place, case) in CASES.iter().enumerate() {
-        if let Some(round) = other_round(alloc, case, wait) {
-            return Some((place, round));
-        }
-    }
-    None
 }
 
 #[test]
 fn hashed_leaves_and_partitions_agree(rt: HostRuntime) {
-    assert_eq!(rt; other_case(rt.alloc(), &rt), None);
+    for case in CASES.iter() {
+        assert_case(&rt, case);
+    }
 }
 
 /// How many leaves are hashed after so many rounds.
-fn leaves_after<R: Wait>(alloc: Global, count: usize, wait: &R) -> Option<u32> {
+fn leaves_after<R: AllocGlobal + Abort + Wait>(rt: &R, count: usize) -> u32 {
     let rounds = rounds(Order::Get);
-    let done = rounds.get(..count)?;
-    match recount_after(alloc, &sizes_for(64), done, wait) {
-        Some(told) => Some(told.leaves),
-        None => None,
-    }
+    let done = rounds.get(..count).expect(rt, "so many rounds");
+    recount_after(rt, &sizes_for(64), done).leaves
 }
 
 /// Six leaves are hashed; two of them split and both halves are; and some are merged.
 #[test]
 fn hashed_leaves_split_and_merge(rt: HostRuntime) {
-    let hashed = leaves_after(rt.alloc(), 2, &rt).unwrap_or(0);
-    let split = leaves_after(rt.alloc(), 3, &rt).unwrap_or(0);
-    let merged = leaves_after(rt.alloc(), 7, &rt).unwrap_or(99);
-    assert_eq!(rt; hashed, 6);
-    assert!(rt; split >= 8 && merged < 7);
+    assert!(rt; leaves_after(&rt, 2) == 6);
+    assert!(rt; leaves_after(&rt, 3) >= 8);
+    assert!(rt; leaves_after(&rt, 7) < 7);
 }

@@ -1,16 +1,15 @@
 //! Eight callers on eight threads over leaves that are hashed, changed and evicted: a recount at the
 //! end.
-ghost use Rattle.std.specs.Prelude.{◌≡◌, ◌<◌, [], ◌∷◌, IfSome};
+ghost use Rattle.std.specs.Prelude.{◌≡◌, ◌<◌, [], ◌∷◌};
 ghost use Rattle.index_engine.specs.Engines.{indexes_of, IsOf, FitsKey};
 
 use crate::recount::{Counted, recount};
 use crate::rounds::{Round, each, ended, worked};
 use crate::setup::{Order, open_sized};
-use forest_law::Object;
 use index_engine::{Engine, EnginePass};
 use key_tuple::Mode;
 use map_history::Sizes;
-use std::alloc::Global;
+use std::process::Abort;
 use std::sync::Wait;
 use std::thread::{Threads, join};
 
@@ -52,168 +51,132 @@ fn rounds() -> [Round; 9] {
     ]
 }
 
-/// The pass of one caller, once it has done that.
-fn one_lane<R: Wait>(
-    alloc: Global,
+/// Gives the upper half of a pass's numbers away.
+fn split<R: AllocGlobal + Abort>(
+    rt: &R,
     engine: &Engine,
-    pass: EnginePass,
-    ahead: u32,
-    wait: &R,
-) -> Option<EnginePass>
+    mut pass: EnginePass,
+) -> (EnginePass, EnginePass)
     requires own { IsOf engine.now pass }
-    requires one { (0 < indexes_of engine.now) × FitsKey engine.now 0 ([] ∷ []) }
-    ensures own { IfSome result (λ p. IsOf engine.now p) }
-{
-    worked(alloc, engine, pass, &rounds(), ahead, wait)
-}
-
-/// Cuts the pass in two, if it has two numbers.
-fn halves(alloc: Global, engine: &Engine, mut pass: EnginePass) -> Option<(EnginePass, EnginePass)>
-    requires own { IsOf engine.now pass }
-    ensures own { IfSome result (λ r. IsOf engine.now r.0 × IsOf engine.now r.1) }
+    ensures own { IsOf engine.now result.0 × IsOf engine.now result.1 }
 {
     let (low, end) = pass.numbers();
-    if end < 2 || low > end - 2 {
-        return None;
-    }
-    match engine.split(alloc, &mut pass) {
-        Ok(other) => Some((pass, other)),
-        Err(_) => None,
-    }
+    assert!(rt; end > low && end - low >= 2);
+    let upper = engine
+        .split(rt.alloc(), &mut pass)
+        .expect(rt, "the upper half");
+    (pass, upper)
 }
 
 /// Puts two neighbours together.
-fn glued(engine: &Engine, one: Option<EnginePass>, two: Option<EnginePass>) -> Option<EnginePass>
-    requires own { IfSome one (λ p. IsOf engine.now p) × IfSome two (λ p. IsOf engine.now p) }
-    ensures own { IfSome result (λ p. IsOf engine.now p) }
+fn joined<R: Abort>(rt: &R, engine: &Engine, mut one: EnginePass, two: EnginePass) -> EnginePass
+    requires own { IsOf engine.now one × IsOf engine.now two }
+    ensures own { IsOf engine.now result }
 {
-    let (Some(mut one), Some(two)) = (one, two) else {
-        return None;
-    };
     let (_, middle) = one.numbers();
     let (next, _) = two.numbers();
-    if middle != next {
-        return None;
-    }
+    assert!(rt; middle == next);
     engine.join(&mut one, two);
-    Some(one)
+    one
+}
+
+/// The pass of one caller, once it has worked the rounds on the rows from its number on.
+fn one_lane<R: AllocGlobal + Abort + Wait>(rt: &R, engine: &Engine, pass: EnginePass) -> EnginePass
+    requires own { IsOf engine.now pass }
+    requires one { (0 < indexes_of engine.now) × FitsKey engine.now 0 ([] ∷ []) }
+    ensures own { IsOf engine.now result }
+{
+    let (number, _) = pass.numbers();
+    worked(rt, engine, pass, &rounds(), number)
 }
 
 /// Two callers work the rounds at once.
-fn two_lanes<R: AllocGlobal + Threads + Wait + Sync>(
+fn two_lanes<R: AllocGlobal + Abort + Threads + Wait + Sync>(
     rt: &R,
     engine: &Engine,
     pass: EnginePass,
-    ahead: u32,
-) -> Option<EnginePass>
+) -> EnginePass
     requires own { IsOf engine.now pass }
     requires one { (0 < indexes_of engine.now) × FitsKey engine.now 0 ([] ∷ []) }
-    ensures own { IfSome result (λ p. IsOf engine.now p) }
+    ensures own { IsOf engine.now result }
 {
-    let alloc = rt.alloc();
-    let Some((one, two)) = halves(alloc, engine, pass) else {
-        return None;
-    };
+    let (one, two) = split(rt, engine, pass);
     let (one, two) = join(
         rt,
-        || -> Option<EnginePass>
+        || -> EnginePass
             requires { IsOf engine.now one × (0 < indexes_of engine.now)
                 × FitsKey engine.now 0 ([] ∷ []) }
-            ensures { IfSome result (λ p. IsOf engine.entry.now p) }
-        { one_lane(alloc, engine, one, ahead, rt) },
-        || -> Option<EnginePass>
+            ensures { IsOf engine.entry.now result }
+        { one_lane(rt, engine, one) },
+        || -> EnginePass
             requires { IsOf engine.now two × (0 < indexes_of engine.now)
                 × FitsKey engine.now 0 ([] ∷ []) }
-            ensures { IfSome result (λ p. IsOf engine.entry.now p) }
-        { one_lane(alloc, engine, two, ahead.wrapping_add(1), rt) },
+            ensures { IsOf engine.entry.now result }
+        { one_lane(rt, engine, two) },
     );
-    glued(engine, one, two)
+    joined(rt, engine, one, two)
 }
 
 /// Four do.
-fn four_lanes<R: AllocGlobal + Threads + Wait + Sync>(
+fn four_lanes<R: AllocGlobal + Abort + Threads + Wait + Sync>(
     rt: &R,
     engine: &Engine,
     pass: EnginePass,
-    ahead: u32,
-) -> Option<EnginePass>
+) -> EnginePass
     requires own { IsOf engine.now pass }
     requires one { (0 < indexes_of engine.now) × FitsKey engine.now 0 ([] ∷ []) }
-    ensures own { IfSome result (λ p. IsOf engine.now p) }
+    ensures own { IsOf engine.now result }
 {
-    let Some((one, two)) = halves(rt.alloc(), engine, pass) else {
-        return None;
-    };
+    let (one, two) = split(rt, engine, pass);
     let (one, two) = join(
         rt,
-        || -> Option<EnginePass>
+        || -> EnginePass
             requires { IsOf engine.now one × (0 < indexes_of engine.now)
                 × FitsKey engine.now 0 ([] ∷ []) }
-            ensures { IfSome result (λ p. IsOf engine.entry.now p) }
-        { two_lanes(rt, engine, one, ahead) },
-        || -> Option<EnginePass>
+            ensures { IsOf engine.entry.now result }
+        { two_lanes(rt, engine, one) },
+        || -> EnginePass
             requires { IsOf engine.now two × (0 < indexes_of engine.now)
                 × FitsKey engine.now 0 ([] ∷ []) }
-            ensures { IfSome result (λ p. IsOf engine.entry.now p) }
-        { two_lanes(rt, engine, two, ahead.wrapping_add(2)) },
+            ensures { IsOf engine.entry.now result }
+        { two_lanes(rt, engine, two) },
     );
-    glued(engine, one, two)
+    joined(rt, engine, one, two)
 }
 
 /// All eight do.
-fn eight_lanes<R: AllocGlobal + Threads + Wait + Sync>(
+fn eight_lanes<R: AllocGlobal + Abort + Threads + Wait + Sync>(
     rt: &R,
     engine: &Engine,
     pass: EnginePass,
-) -> Option<EnginePass>
+) -> EnginePass
     requires own { IsOf engine.now pass }
     requires one { (0 < indexes_of engine.now) × FitsKey engine.now 0 ([] ∷ []) }
-    ensures own { IfSome result (λ p. IsOf engine.now p) }
+    ensures own { IsOf engine.now result }
 {
-    let Some((one, two)) = halves(rt.alloc(), engine, pass) else {
-        return None;
-    };
+    let (one, two) = split(rt, engine, pass);
     let (one, two) = join(
         rt,
-        || -> Option<EnginePass>
+        || -> EnginePass
             requires { IsOf engine.now one × (0 < indexes_of engine.now)
                 × FitsKey engine.now 0 ([] ∷ []) }
-            ensures { IfSome result (λ p. IsOf engine.entry.now p) }
-        { four_lanes(rt, engine, one, 0) },
-        || -> Option<EnginePass>
+            ensures { IsOf engine.entry.now result }
+        { four_lanes(rt, engine, one) },
+        || -> EnginePass
             requires { IsOf engine.now two × (0 < indexes_of engine.now)
                 × FitsKey engine.now 0 ([] ∷ []) }
-            ensures { IfSome result (λ p. IsOf engine.entry.now p) }
-        { four_lanes(rt, engine, two, 4) },
+            ensures { IsOf engine.entry.now result }
+        { four_lanes(rt, engine, two) },
     );
-    glued(engine, one, two)
+    joined(rt, engine, one, two)
 }
 
-/// What lay in the engine when all had worked, and one had looked again.
-fn remains<R: AllocGlobal + Threads + Wait + Sync>(rt: &R) -> Option<Vec<Object>> {
-    let alloc = rt.alloc();
-    let (engine, pass) = open_sized(alloc, &SIZES, 8)?;
-    let Some(pass) = eight_lanes(rt, &engine, pass) else {
-        return None;
-    };
-    match worked(alloc, &engine, pass, &[again(Order::Get)], 0, rt) {
-        Some(pass) => ended(alloc, engine, pass),
-        None => None,
-    }
-}
-
-/// Whether a recount finds hashed leaves and nodes.
-fn is_hashed_exactly<R: AllocGlobal + Threads + Wait + Sync>(rt: &R) -> bool {
-    match remains(rt) {
-        Some(objects) => match recount(rt.alloc(), objects, &SIZES) {
-            Some(Counted { leaves, nodes }) => leaves > 0 && nodes > 0,
-            None => false,
-        },
-        None => false,
-    }
-}
-
+/// Hashed leaves and nodes are there when all have worked, and one has looked again.
 #[test]
 fn eight_lanes_leave_an_exact_hash(rt: HostRuntime) {
-    assert!(rt; is_hashed_exactly(&rt));
+    let (engine, pass) = open_sized(&rt, &SIZES, 8);
+    let pass = eight_lanes(&rt, &engine, pass);
+    let pass = worked(&rt, &engine, pass, &[again(Order::Get)], 0);
+    let Counted { leaves, nodes } = recount(&rt, ended(&rt, engine, pass), &SIZES);
+    assert!(rt; leaves > 0 && nodes > 0);
 }

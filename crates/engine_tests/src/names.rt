@@ -1,9 +1,10 @@
 //! Keys of two fields and their values, by short names, and the sizes of what has room for them.
-ghost use Rattle.std.specs.Prelude.{◌≡◌, ◌≤◌, length, IfSome};
+ghost use Rattle.std.specs.Prelude.{◌≡◌, ◌≤◌, length};
 
+use crate::setup::value;
 use key_tuple::{Fields, Key, Tuple, Value};
 use map_history::Sizes;
-use std::alloc::Global;
+use std::process::Abort;
 
 /// One index with a few pages and one partition.
 pub(crate) const SIZES: Sizes = Sizes {
@@ -19,66 +20,46 @@ pub(crate) const SIZES: Sizes = Sizes {
 /// The first field, and the first byte of the second one, if there is one.
 pub(crate) type Name = (u8, Option<u8>);
 
-/// A second field that begins with this byte.
-fn second(alloc: Global, byte: u8) -> Option<Vec<u8>> {
-    let mut field = [b'k'; 766];
-    field[0] = byte;
-    field.to_vec(alloc).ok()
-}
-
-fn first(alloc: Global, byte: u8) -> Option<Vec<u8>> {
-    [byte].to_vec(alloc).ok()
+/// The fields of a name.
+fn fields_of<R: AllocGlobal + Abort>(rt: &R, name: Name) -> Vec<Vec<u8>> {
+    let mut fields = Vec::new(rt.alloc());
+    add_field(rt, &mut fields, &[name.0]);
+    if let Some(byte) = name.1 {
+        let mut second = [b'k'; 766];
+        second[0] = byte;
+        add_field(rt, &mut fields, &second);
+    }
+    fields
 }
 
 /// Puts a field behind the others.
-fn add_field(fields: &mut Vec<Vec<u8>>, field: Option<Vec<u8>>) -> bool {
-    match field {
-        Some(field) => fields.push(field).is_ok(),
-        None => false,
-    }
+fn add_field<R: AllocGlobal + Abort>(rt: &R, fields: &mut Vec<Vec<u8>>, bytes: &[u8]) {
+    let field = bytes.to_vec(rt.alloc()).expect(rt, "a field");
+    fields.push(field).expect(rt, "memory for a field");
 }
 
-/// The fields of a name.
-fn fields_of(alloc: Global, name: Name) -> Option<Vec<Vec<u8>>> {
-    let mut fields = Vec::new(alloc);
-    let one = add_field(&mut fields, first(alloc, name.0));
-    let two = match name.1 {
-        Some(byte) => add_field(&mut fields, second(alloc, byte)),
-        None => true,
-    };
-    (one && two).then_some(fields)
-}
-
-pub(crate) fn key_of(alloc: Global, name: Name) -> Option<Key>
-    ensures { IfSome result (λ key. length key.tuple ≡ 2) }
+pub(crate) fn key_of<R: AllocGlobal + Abort>(rt: &R, name: Name) -> Key
+    ensures { length result.tuple ≡ 2 }
 {
-    let fields = fields_of(alloc, name)?;
-    if fields.is_empty() {
-        return None;
-    }
-    match Key::try_new(alloc, fields) {
-        Ok(key) if key.count() == 2 => Some(key),
-        _ => None,
-    }
+    let fields = fields_of(rt, name);
+    assert!(rt; !fields.is_empty());
+    let key = Key::try_new(rt.alloc(), fields).expect(rt, "a key");
+    assert!(rt; key.count() == 2);
+    key
 }
 
-pub(crate) fn tuple_of(alloc: Global, name: Name) -> Option<Tuple>
-    ensures { IfSome result (λ tuple. length tuple ≤ 2) }
+pub(crate) fn tuple_of<R: AllocGlobal + Abort>(rt: &R, name: Name) -> Tuple
+    ensures { length result ≤ 2 }
 {
-    let fields = fields_of(alloc, name)?;
-    match Tuple::try_new(alloc, fields) {
-        Ok(tuple) if tuple.count() <= 2 => Some(tuple),
-        _ => None,
-    }
+    let tuple = Tuple::try_new(rt.alloc(), fields_of(rt, name)).expect(rt, "a tuple");
+    assert!(rt; tuple.count() <= 2);
+    tuple
 }
 
 /// The value of a row.
-pub(crate) fn value_of(alloc: Global, name: Name) -> Option<Value> {
+pub(crate) fn value_of<R: AllocGlobal + Abort>(rt: &R, name: Name) -> Value {
     let mut bytes = [b'v'; 2048];
     bytes[0] = name.0;
     bytes[1] = name.1.unwrap_or(0);
-    match bytes.to_vec(alloc) {
-        Ok(bytes) => Value::try_new(bytes).ok(),
-        Err(_) => None,
-    }
+    value(rt, &bytes)
 }

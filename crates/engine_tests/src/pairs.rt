@@ -8,7 +8,7 @@ use forest_law::Object;
 use index_engine::{Engine, EnginePass};
 use key_tuple::Mode;
 use map_history::{Reply, RowBuf, Told};
-use std::alloc::Global;
+use std::process::Abort;
 use std::sync::Wait;
 
 /// An engine of one index, whose keys have two fields, and its only pass.
@@ -22,55 +22,39 @@ pub(crate) struct Pairs {
 }
 
 impl Pairs {
-    pub(crate) fn open(alloc: Global) -> Option<Pairs> {
-        let Ok(out) = RowBuf::new(alloc) else {
-            return None;
-        };
-        match Engine::open(alloc, &SIZES, &[2], 1) {
-            Ok((engine, pass)) => Some(Pairs { engine, pass, out }),
-            Err(_) => None,
-        }
+    pub(crate) fn open<R: AllocGlobal + Abort>(rt: &R) -> Pairs {
+        let out = RowBuf::new(rt.alloc()).expect(rt, "a row buffer");
+        let (engine, pass) = Engine::open(rt.alloc(), &SIZES, &[2], 1).expect(rt, "an engine");
+        Pairs { engine, pass, out }
     }
 
-    /// Whether a row is put.
-    pub(crate) fn put<R: Wait>(&mut self, alloc: Global, name: Name, wait: &R) -> bool {
-        let (Some(key), Some(value)) = (key_of(alloc, name), value_of(alloc, name)) else {
-            return false;
-        };
-        match self.engine.put(&mut self.pass, 0, &key, &value, wait) {
-            Ok(told) => told.reply == Reply::Ok,
-            Err(_) => false,
-        }
+    /// Puts a row in.
+    pub(crate) fn put<R: AllocGlobal + Abort + Wait>(&mut self, rt: &R, name: Name) {
+        let (key, value) = (key_of(rt, name), value_of(rt, name));
+        let told = self
+            .engine
+            .put(&mut self.pass, 0, &key, &value, rt)
+            .expect(rt, "memory");
+        assert!(rt; told.reply == Reply::Ok);
     }
 
     /// What a seek is told.
-    pub(crate) fn seek<R: Wait>(
+    pub(crate) fn seek<R: AllocGlobal + Abort + Wait>(
         &mut self,
-        alloc: Global,
+        rt: &R,
         mode: Mode,
         name: Name,
-        wait: &R,
-    ) -> Option<Told> {
-        let tuple = tuple_of(alloc, name)?;
+    ) -> Told {
+        let tuple = tuple_of(rt, name);
         let (engine, pass) = (&self.engine, &mut self.pass);
-        Some(engine.seek(pass, 0, mode, &tuple, &mut self.out, wait))
+        engine.seek(pass, 0, mode, &tuple, &mut self.out, rt)
     }
 
-    /// Seeks the first row that isn't below a tuple, so often.
-    pub(crate) fn look<R: Wait>(
-        &mut self,
-        alloc: Global,
-        name: Name,
-        times: u32,
-        wait: &R,
-    ) -> bool {
+    /// Seeks the first row that isn't below a tuple, so often, and finds one.
+    pub(crate) fn look<R: AllocGlobal + Abort + Wait>(&mut self, rt: &R, name: Name, times: u32) {
         for _ in 0..times {
-            match self.seek(alloc, Mode::Ge, name, wait) {
-                Some(told) if told.reply == Reply::Found => {}
-                _ => return false,
-            }
+            assert!(rt; self.seek(rt, Mode::Ge, name).reply == Reply::Found);
         }
-        true
     }
 
     /// Whether the row that was found has this name.
@@ -80,8 +64,8 @@ impl Pairs {
     }
 
     /// What lies in the engine.
-    pub(crate) fn remains(self, alloc: Global) -> Option<Vec<Object>> {
+    pub(crate) fn remains<R: AllocGlobal + Abort>(self, rt: &R) -> Vec<Object> {
         let Pairs { engine, pass, .. } = self;
-        ended(alloc, engine, pass)
+        ended(rt, engine, pass)
     }
 }

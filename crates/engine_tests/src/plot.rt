@@ -1,5 +1,5 @@
 //! Rows of a space of one index, by calls on a pass that holds nothing between two of them.
-ghost use Rattle.std.specs.Prelude.{◌≡◌, ◌≤◌, ◌<◌, length, OnSome};
+ghost use Rattle.std.specs.Prelude.{◌≡◌, ◌≤◌, ◌<◌, length};
 ghost use Rattle.latch_space.specs.Passes.{count, IsSamePass};
 ghost use Rattle.latch_space.specs.Spaces.{IsPassOf};
 ghost use Rattle.search_info.specs.Passes.{HasUnique, IsLearnPassOf};
@@ -7,7 +7,7 @@ ghost use Rattle.forest_law.specs.State.{fields_for};
 ghost use Rattle.buffer_pool.specs.Forests.{IsForest};
 ghost use Rattle.leaf_changes.specs.Holds.{HoldsFreshAlone};
 
-use buffer_pool::{PoolError, give_back};
+use buffer_pool::give_back;
 use engine_law::Found;
 use forest_world::{ForestPass, ForestSpace};
 use index_page::MAX_CHARGE;
@@ -16,17 +16,16 @@ use leaf_changes::TreeCall;
 use leaf_search::{KeySearch, search_key};
 use map_history::{How, Note, Reply};
 use search_info::{LearnPass, Learner};
-use std::alloc::Global;
+use std::process::Abort;
 use std::sync::Wait;
 use tree_descent::{Leaf, descend};
 use tree_growth::make_room;
 
 /// A call about a key of the index.
-pub(crate) fn call_of<'a, R>(
-    alloc: Global,
+pub(crate) fn call_of<'a, R: AllocGlobal>(
+    rt: &'a R,
     space: &'a ForestSpace,
     key: &'a Key,
-    wait: &'a R,
 ) -> TreeCall<'a, R>
     requires forest { IsForest space.now }
     requires few { space.now.terms.shape.pages ≤ 65536 }
@@ -40,11 +39,11 @@ pub(crate) fn call_of<'a, R>(
     };
     TreeCall {
         space,
-        alloc,
+        alloc: rt.alloc(),
         index: 0,
         key,
         found,
-        wait,
+        wait: rt,
     }
 }
 
@@ -59,13 +58,14 @@ fn hold_leaf<R: Wait>(call: &TreeCall<'_, R>, pass: &mut ForestPass) -> Leaf
     descend(call.space, pass, call.index, call.key, Mode::Ge, call.wait)
 }
 
-/// Whether the row is put, of at most so many changes.
-pub(crate) fn puts<R: Wait>(
+/// Puts the row, of at most so many changes.
+pub(crate) fn put<R: Abort + Wait>(
+    rt: &R,
     call: &TreeCall<'_, R>,
     pass: &mut ForestPass,
     most: u64,
     value: &Value,
-) -> bool
+)
     requires own { IsPassOf call.now.space.now pass.old }
     requires most { most ≡ call.now.space.now.terms.max_changes }
     requires nothing { count pass.old ≡ 0 }
@@ -76,14 +76,11 @@ pub(crate) fn puts<R: Wait>(
     let part = call.hold_to_change(pass, &leaf);
     let told = call.put_held(pass, &leaf, most, value);
     call.let_both_go(pass, leaf.block, part);
-    match told {
-        Ok(told) => told.reply == Reply::Ok,
-        Err(_) => false,
-    }
+    assert!(rt; told.expect(rt, "memory for a row").reply == Reply::Ok);
 }
 
-/// Whether the leaf of the key has room then for the largest row.
-pub(crate) fn makes_room<R: Wait>(call: &TreeCall<'_, R>, pass: &mut ForestPass) -> bool
+/// Gives the leaf of the key room for the largest row.
+pub(crate) fn give_room<R: Abort + Wait>(rt: &R, call: &TreeCall<'_, R>, pass: &mut ForestPass)
     requires own { IsPassOf call.now.space.now pass.old }
     requires nothing { count pass.old ≡ 0 }
     ensures own { IsSamePass pass.old pass.new × IsPassOf call.now.space.now pass.new }
@@ -93,24 +90,18 @@ pub(crate) fn makes_room<R: Wait>(call: &TreeCall<'_, R>, pass: &mut ForestPass)
     let room = make_room(
         call.alloc, call.space, pass, call.index, call.key, need, call.wait,
     );
-    match room {
-        Ok(()) => true,
-        Err(refusal) => match refusal {
-            PoolError::SpaceFull => false,
-            PoolError::NoMemory => false,
-        },
-    }
+    assert!(rt; room.is_ok());
 }
 
-/// Whether a search that goes down to the leaf of the key has it hashed.
-pub(crate) fn hashes<R: Wait>(
+/// Lets a search go down to the leaf of the key, which has it hashed.
+pub(crate) fn hash<R: Abort + Wait>(
+    rt: &R,
     space: &ForestSpace,
     pass: &mut ForestPass,
     learner: &Learner,
     learn: &mut LearnPass,
     key: &Key,
-    wait: &R,
-) -> Option<bool>
+)
     requires forest { IsForest space.now }
     requires own { IsPassOf space.now pass.old }
     requires there { 0 < space.now.terms.shape.indexes }
@@ -120,13 +111,13 @@ pub(crate) fn hashes<R: Wait>(
     requires learner { IsLearnPassOf learner.now learn.old }
     requires unique { HasUnique learner.now 0 2 }
     ensures own { IsPassOf space.now pass.new }
-    ensures nothing { OnSome result (count pass.new ≡ 0) }
+    ensures nothing { count pass.new ≡ 0 }
 {
-    match search_key(space, pass, learner, learn, 0, key, Mode::Ge, wait) {
+    match search_key(space, pass, learner, learn, 0, key, Mode::Ge, rt) {
         KeySearch::Leaf(searched) => {
             give_back(space, pass, searched.leaf.block);
-            Some(searched.note == Note::Built)
+            assert!(rt; searched.note == Note::Built);
         }
-        KeySearch::Row { .. } => None,
+        KeySearch::Row { .. } => panic!(rt; "it was hashed"),
     }
 }

@@ -8,7 +8,7 @@ use hash_partition::Partition;
 use index_page::{Page, Place};
 use key_tuple::{Blank, Fields, Mode, Params, fold};
 use map_history::Sizes;
-use std::alloc::Global;
+use std::process::Abort;
 
 /// How many leaves are hashed, and how many nodes all partitions have.
 #[derive(Debug, Clone, Copy, PartialEq, Eq)]
@@ -27,24 +27,22 @@ struct Hashed {
 }
 
 /// Puts an object behind those of its kind.
-fn sort_in(object: Object, frames: &mut Vec<Frame>, parts: &mut Vec<Partition>) -> bool {
+fn sort_in<R: Abort>(rt: &R, object: Object, frames: &mut Vec<Frame>, parts: &mut Vec<Partition>) {
     match object {
-        Object::Frame(frame) => frames.push(frame).is_ok(),
-        Object::Part(part) => parts.push(part).is_ok(),
-        Object::Pool(_) | Object::Tree(_) => true,
+        Object::Frame(frame) => frames.push(frame).expect(rt, "memory for a frame"),
+        Object::Part(part) => parts.push(part).expect(rt, "memory for a partition"),
+        Object::Pool(_) | Object::Tree(_) => {}
     }
 }
 
 /// The frames and the partitions of these objects, each in the order of their numbers.
-fn sorted(alloc: Global, objects: Vec<Object>) -> Option<(Vec<Frame>, Vec<Partition>)> {
-    let mut frames = Vec::new(alloc);
-    let mut parts = Vec::new(alloc);
+fn sorted<R: AllocGlobal + Abort>(rt: &R, objects: Vec<Object>) -> (Vec<Frame>, Vec<Partition>) {
+    let mut frames = Vec::new(rt.alloc());
+    let mut parts = Vec::new(rt.alloc());
     for object in objects {
-        if !sort_in(object, &mut frames, &mut parts) {
-            return None;
-        }
+        sort_in(rt, object, &mut frames, &mut parts);
     }
-    Some((frames, parts))
+    (frames, parts)
 }
 
 /// The place of the first row.
@@ -62,78 +60,66 @@ fn next(page: &Page, place: Place) -> Option<Place>
     page.next(place)
 }
 
-/// The node of a row, if it has the fields that its fold is made of.
-fn node_at(page: &Page, place: Place, how: &Hashed) -> Option<Node>
+/// The node of a row, which has the fields that its fold is made of.
+fn node_at<R: Abort>(rt: &R, page: &Page, place: Place, how: &Hashed) -> Node
     requires { IsSome (find_row place page.now.rows) }
 {
     let row = page.row(place);
-    let asked = how.params.asked_fields();
-    if asked > u16::from(row.count()) || how.bits == 0 || how.bits > 64 {
-        return None;
-    }
-    Some(Node {
+    assert!(rt; how.params.asked_fields() <= u16::from(row.count()));
+    assert!(rt; how.bits > 0 && how.bits <= 64);
+    Node {
         fold: fold(how.index, &row, &how.params, how.bits),
         block: how.block,
         place,
-    })
-}
-
-fn add_node(nodes: &mut Vec<Node>, page: &Page, place: Place, how: &Hashed) -> bool
-    requires { IsSome (find_row place page.now.rows) }
-{
-    match node_at(page, place, how) {
-        Some(node) => nodes.push(node).is_ok(),
-        None => false,
     }
 }
 
 /// The node of each row, in the order of the rows.
-fn nodes_of(alloc: Global, page: &Page, how: &Hashed) -> Option<Vec<Node>> {
-    let mut nodes = Vec::new(alloc);
+fn nodes_of<R: AllocGlobal + Abort>(rt: &R, page: &Page, how: &Hashed) -> Vec<Node> {
+    let mut nodes = Vec::new(rt.alloc());
     let mut at = first(page);
     for _ in 0..page.count() {
-        let Some(place) = at else { return None };
-        if !add_node(&mut nodes, page, place, how) {
-            return None;
-        }
+        let place = at.expect(rt, "a row");
+        nodes
+            .push(node_at(rt, page, place, how))
+            .expect(rt, "memory for a node");
         at = next(page, place);
     }
-    Some(nodes)
+    nodes
 }
 
-/// Takes out the first or the last node of each run with one fold, and answers whether each was
-/// there.
-fn take_runs(part: &mut Partition, nodes: &[Node], left: bool) -> bool {
+/// Takes out the first or the last node of each run with one fold, each of which is there.
+fn take_runs<R: Abort>(rt: &R, part: &mut Partition, nodes: &[Node], left: bool) {
     for run in nodes.chunk_by(|a, b| a.fold == b.fold) {
         let node = if left { run.first() } else { run.last() };
-        let taken = match node {
-            Some(node) => part.leave(node),
-            None => false,
-        };
-        if !taken {
-            return false;
-        }
+        assert!(rt; part.leave(node.expect(rt, "a node")));
     }
-    true
 }
 
 /// The same of a leaf and the partition of its index.
-fn take_leaf(alloc: Global, parts: &mut [Partition], page: &Page, how: &Hashed) -> bool {
+fn take_leaf<R: AllocGlobal + Abort>(rt: &R, parts: &mut [Partition], page: &Page, how: &Hashed) {
     let head = *page.head();
-    if head.level != 0 || head.index != how.index || parts.is_empty() {
-        return false;
-    }
+    assert!(rt; head.level == 0 && head.index == how.index && !parts.is_empty());
     let place = how.index as usize % parts.len();
-    match nodes_of(alloc, page, how) {
-        Some(nodes) => take_runs(&mut parts[place], &nodes, how.params.left),
-        None => false,
-    }
+    take_runs(
+        rt,
+        &mut parts[place],
+        &nodes_of(rt, page, how),
+        how.params.left,
+    );
 }
 
 /// The same of a block, which is hashed for an index where it is hashed somehow.
-fn take_frame(alloc: Global, parts: &mut [Partition], block: u32, frame: &Frame, bits: u8) -> bool {
+fn take_frame<R: AllocGlobal + Abort>(
+    rt: &R,
+    parts: &mut [Partition],
+    block: u32,
+    frame: &Frame,
+    bits: u8,
+) {
+    assert!(rt; frame.hashed.is_some() == frame.figures.built.is_some());
     let (Some(index), Some(params)) = (frame.hashed, frame.figures.built) else {
-        return frame.hashed.is_none() && frame.figures.built.is_none();
+        return;
     };
     let how = Hashed {
         index,
@@ -142,21 +128,18 @@ fn take_frame(alloc: Global, parts: &mut [Partition], block: u32, frame: &Frame,
         bits,
     };
     match &frame.page {
-        Some(page) => take_leaf(alloc, parts, page, &how),
-        None => false,
+        Some(page) => take_leaf(rt, parts, page, &how),
+        None => panic!(rt; "no page is hashed"),
     }
 }
 
 /// The same of all blocks.
-fn take_all(alloc: Global, parts: &mut [Partition], frames: &[Frame], bits: u8) -> bool {
+fn take_all<R: AllocGlobal + Abort>(rt: &R, parts: &mut [Partition], frames: &[Frame], bits: u8) {
     let mut block: u32 = 0;
-    for frame in frames.iter() {
-        if !take_frame(alloc, parts, block, frame, bits) {
-            return false;
-        }
+    for frame in frames {
+        take_frame(rt, parts, block, frame, bits);
         block = block.wrapping_add(1);
     }
-    true
 }
 
 fn count_leaves(frames: &[Frame]) -> u32 {
@@ -181,17 +164,18 @@ fn count_nodes(parts: &[Partition], room: u32) -> u32 {
 /// Counts what is hashed of what lay in an engine of these sizes. Of each run of rows with one fold
 /// on a hashed leaf the first or the last has to have its node once in the partition of its index,
 /// and no partition may have any other.
-pub(crate) fn recount(alloc: Global, objects: Vec<Object>, sizes: &Sizes) -> Option<Counted> {
-    let Some((frames, mut parts)) = sorted(alloc, objects) else {
-        return None;
-    };
+pub(crate) fn recount<R: AllocGlobal + Abort>(
+    rt: &R,
+    objects: Vec<Object>,
+    sizes: &Sizes,
+) -> Counted {
+    let (frames, mut parts) = sorted(rt, objects);
     let bits = u8::try_from(sizes.fold_bits).unwrap_or(0);
-    let leaves = count_leaves(&frames);
     let nodes = count_nodes(&parts, sizes.nodes);
-    let taken = take_all(alloc, &mut parts, &frames, bits);
-    if taken && count_nodes(&parts, sizes.nodes) == 0 {
-        Some(Counted { leaves, nodes })
-    } else {
-        None
+    take_all(rt, &mut parts, &frames, bits);
+    assert!(rt; count_nodes(&parts, sizes.nodes) == 0);
+    Counted {
+        leaves: count_leaves(&frames),
+        nodes,
     }
 }

@@ -1,5 +1,5 @@
 //! Rounds of calls of an engine of one index: what is asked of many rows one after another.
-ghost use Rattle.std.specs.Prelude.{◌≡◌, ◌≤◌, ◌<◌, [], ◌∷◌, IfSome};
+ghost use Rattle.std.specs.Prelude.{◌≡◌, ◌<◌, [], ◌∷◌};
 ghost use Rattle.index_engine.specs.Engines.{indexes_of, IsOf, FitsKey};
 
 use crate::setup::{Caller, Order};
@@ -7,7 +7,7 @@ use forest_law::Object;
 use index_engine::{Engine, EnginePass};
 use key_tuple::Mode;
 use map_history::Reply;
-use std::alloc::Global;
+use std::process::Abort;
 use std::sync::Wait;
 
 /// An order that is given so often, to rows that are numbered from the first one on, in steps; when
@@ -47,20 +47,19 @@ fn key_bytes(number: u32) -> [u8; 2] {
 }
 
 /// Gives the order for a row. A seek goes before its group, or behind it.
-fn ask<R: Wait>(
-    alloc: Global,
+fn ask<R: AllocGlobal + Abort + Wait>(
+    rt: &R,
     caller: &mut Caller<'_>,
     number: u32,
     order: Order<'_>,
-    wait: &R,
-) -> Option<Reply>
+) -> Reply
     ensures same { caller.new.engine.now ≡ caller.old.engine.now }
 {
     let key = key_bytes(number);
     match order {
-        Order::Seek(Mode::Ge) => caller.reply(alloc, &key[..1], order, wait),
-        Order::Seek(_) => caller.reply(alloc, &[key[0], 255], order, wait),
-        _ => caller.reply(alloc, &key, order, wait),
+        Order::Seek(Mode::Ge) => caller.reply(rt, &key[..1], order),
+        Order::Seek(_) => caller.reply(rt, &[key[0], 255], order),
+        _ => caller.reply(rt, &key, order),
     }
 }
 
@@ -72,73 +71,48 @@ fn wanted(order: &Order<'_>) -> Reply {
     }
 }
 
-/// Works a round whose rows have numbers higher by so much, and answers whether each was told what
-/// it has to be.
-fn work_round<R: Wait>(
-    alloc: Global,
+/// Works a round whose rows have numbers higher by so much. Each is told what it has to be.
+fn work_round<R: AllocGlobal + Abort + Wait>(
+    rt: &R,
     caller: &mut Caller<'_>,
     round: &Round,
     ahead: u32,
-    wait: &R,
-) -> bool
+)
     ensures same { caller.new.engine.now ≡ caller.old.engine.now }
 {
+    let wanted = wanted(&round.order);
     for before in 0..round.times {
         let number = round.number(before).wrapping_add(ahead);
-        if ask(alloc, caller, number, round.order, wait) != Some(wanted(&round.order)) {
-            return false;
-        }
+        assert!(rt; ask(rt, caller, number, round.order) == wanted);
     }
-    true
 }
 
-fn work_rounds<R: Wait>(
-    alloc: Global,
-    caller: &mut Caller<'_>,
-    rounds: &[Round],
-    ahead: u32,
-    wait: &R,
-) -> bool
-    ensures same { caller.new.engine.now ≡ caller.old.engine.now }
-{
-    for round in rounds.iter() {
-        if !work_round(alloc, caller, round, ahead, wait) {
-            return false;
-        }
-    }
-    true
-}
-
-/// The pass, once it has worked the rounds and each order was told what it has to be.
-pub(crate) fn worked<R: Wait>(
-    alloc: Global,
+/// The pass, once it has worked the rounds, whose rows have numbers higher by so much.
+pub(crate) fn worked<R: AllocGlobal + Abort + Wait>(
+    rt: &R,
     engine: &Engine,
     pass: EnginePass,
     rounds: &[Round],
     ahead: u32,
-    wait: &R,
-) -> Option<EnginePass>
+) -> EnginePass
     requires own { IsOf engine.now pass }
     requires one { (0 < indexes_of engine.now) × FitsKey engine.now 0 ([] ∷ []) }
-    ensures own { IfSome result (λ p. IsOf engine.now p) }
+    ensures own { IsOf engine.now result }
 {
-    let Some(mut caller) = Caller::new(alloc, engine, pass) else {
-        return None;
-    };
-    if work_rounds(alloc, &mut caller, rounds, ahead, wait) {
-        Some(caller.into_pass())
-    } else {
-        None
+    let mut caller = Caller::new(rt, engine, pass);
+    for round in rounds {
+        work_round(rt, &mut caller, round, ahead);
     }
+    caller.into_pass()
 }
 
 /// What lay in an engine whose only pass this is.
-pub(crate) fn ended(alloc: Global, engine: Engine, pass: EnginePass) -> Option<Vec<Object>>
+pub(crate) fn ended<R: AllocGlobal + Abort>(rt: &R, engine: Engine, pass: EnginePass) -> Vec<Object>
     requires own { IsOf engine pass }
 {
     let (low, end) = pass.numbers();
-    if low != 0 || end != engine.lanes() {
-        return None;
-    }
-    engine.close(alloc, pass).ok()
+    assert!(rt; low == 0 && end == engine.lanes());
+    engine
+        .close(rt.alloc(), pass)
+        .expect(rt, "memory for what lay there")
 }

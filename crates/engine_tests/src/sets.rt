@@ -1,6 +1,6 @@
 //! Sets one after another: until the list is full, and on a leaf without room.
-use crate::setup::{Caller, Order, open};
-use crate::steps::{Asked, Step, other_reply, other_step};
+use crate::setup::Order;
+use crate::steps::{Asked, Step, assert_replies, assert_steps};
 use map_history::Reply;
 
 const STEPS: [Step; 10] = [
@@ -18,23 +18,12 @@ const STEPS: [Step; 10] = [
 
 #[test]
 fn a_value_is_set_until_the_list_is_full(rt: HostRuntime) {
-    let (engine, pass) = open(rt.alloc(), 1, 4).expect(&rt, "an engine");
-    let mut caller = Caller::new(rt.alloc(), &engine, pass).expect(&rt, "a row buffer");
-    assert_eq!(rt; other_step(rt.alloc(), &mut caller, &STEPS, &rt), None);
-    assert!(rt; caller.out.value() == b"long".as_slice());
+    assert_steps(&rt, 4, &STEPS, b"long");
 }
 
-/// What is asked where there is one page. A row is charged 13 bytes more than its value of 2,000 has, of
-/// the page's 16,252: so eight rows leave 148 bytes, of which each longer value takes 48.
-const ROOM: [Asked; 19] = [
-    (1, Order::Put(&[b'v'; 2000]), Reply::Ok),
-    (2, Order::Put(&[b'v'; 2000]), Reply::Ok),
-    (3, Order::Put(&[b'v'; 2000]), Reply::Ok),
-    (4, Order::Put(&[b'v'; 2000]), Reply::Ok),
-    (5, Order::Put(&[b'v'; 2000]), Reply::Ok),
-    (6, Order::Put(&[b'v'; 2000]), Reply::Ok),
-    (7, Order::Put(&[b'v'; 2000]), Reply::Ok),
-    (8, Order::Put(&[b'v'; 2000]), Reply::Ok),
+/// What is asked where eight rows have a page. A row is charged 13 bytes more than its value of 2,000
+/// has, of the page's 16,252: so the rows leave 148 bytes, of which each longer value takes 48.
+const ROOM: [Asked; 11] = [
     (1, Order::Set(&[b's'; 2000]), Reply::Ok),
     (1, Order::Set(&[b's'; 2048]), Reply::Ok),
     (2, Order::Set(&[b's'; 2048]), Reply::Ok),
@@ -50,8 +39,5 @@ const ROOM: [Asked; 19] = [
 
 #[test]
 fn a_longer_value_wants_room_on_its_leaf(rt: HostRuntime) {
-    let alloc = rt.alloc();
-    let (engine, pass) = open(alloc, 1, 100).expect(&rt, "an engine");
-    let mut caller = Caller::new(alloc, &engine, pass).expect(&rt, "a row buffer");
-    assert_eq!(rt; other_reply(alloc, &mut caller, &ROOM, &rt), None);
+    assert_replies(&rt, 1, 8, Order::Put(&[b'v'; 2000]), &ROOM);
 }

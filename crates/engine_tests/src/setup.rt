@@ -1,13 +1,13 @@
 //! An engine of one index, whose keys have one field, and what it is told by one caller.
-ghost use Rattle.std.specs.Prelude.{◌≡◌, ◌<◌, ◌≤◌, [], ◌∷◌, length, IfSome};
+ghost use Rattle.std.specs.Prelude.{◌≡◌, ◌<◌, ◌≤◌, [], ◌∷◌};
 ghost use Rattle.map_history.specs.declared.TheConstants.{MAX_LANES};
 ghost use Rattle.index_engine.specs.Engines.{indexes_of, IsOf, FitsKey};
 
 use index_engine::{Engine, EnginePass};
-use key_tuple::{Key, Mode};
+use key_tuple::{Mode, Value};
 use map_history::{Reply, RowBuf, Sizes, Told};
 use sample_rows::{key_of, value_of};
-use std::alloc::Global;
+use std::process::Abort;
 use std::sync::Wait;
 
 /// The smallest sizes for one index and some lanes, but for pages and changes.
@@ -26,20 +26,33 @@ pub(crate) fn smallest(lanes: u32, pages: u32, max_changes: u32) -> Sizes
 }
 
 /// An engine with so many pages and changes, and its pass.
-pub(crate) fn open(alloc: Global, pages: u32, max_changes: u32) -> Option<(Engine, EnginePass)>
-    ensures own { IfSome result (λ r. IsOf r.0 r.1) }
-    ensures one { IfSome result (λ r. (0 < indexes_of r.0) × FitsKey r.0 0 ([] ∷ [])) }
+pub(crate) fn open<R: AllocGlobal + Abort>(
+    rt: &R,
+    pages: u32,
+    max_changes: u32,
+) -> (Engine, EnginePass)
+    ensures own { IsOf result.0 result.1 }
+    ensures one { (0 < indexes_of result.0) × FitsKey result.0 0 ([] ∷ []) }
 {
-    open_sized(alloc, &smallest(1, pages, max_changes), 1)
+    open_sized(rt, &smallest(1, pages, max_changes), 1)
 }
 
 /// An engine of these sizes for so many callers, and its pass.
-pub(crate) fn open_sized(alloc: Global, sizes: &Sizes, lanes: u32) -> Option<(Engine, EnginePass)>
+pub(crate) fn open_sized<R: AllocGlobal + Abort>(
+    rt: &R,
+    sizes: &Sizes,
+    lanes: u32,
+) -> (Engine, EnginePass)
     requires { (0 < lanes) × (lanes ≤ MAX_LANES) }
-    ensures own { IfSome result (λ r. IsOf r.0 r.1) }
-    ensures one { IfSome result (λ r. (0 < indexes_of r.0) × FitsKey r.0 0 ([] ∷ [])) }
+    ensures own { IsOf result.0 result.1 }
+    ensures one { (0 < indexes_of result.0) × FitsKey result.0 0 ([] ∷ []) }
 {
-    Engine::open(alloc, sizes, &[1], lanes).ok()
+    Engine::open(rt.alloc(), sizes, &[1], lanes).expect(rt, "an engine")
+}
+
+/// The value of these bytes.
+pub(crate) fn value<R: AllocGlobal + Abort>(rt: &R, bytes: &[u8]) -> Value {
+    value_of(rt.alloc(), bytes).expect(rt, "a value")
 }
 
 /// One who calls an engine of one index, whose keys have one field.
@@ -63,54 +76,17 @@ pub(crate) enum Order<'a> {
 }
 
 impl<'a> Caller<'a> {
-    pub(crate) fn new(alloc: Global, engine: &'a Engine, pass: EnginePass) -> Option<Caller<'a>>
+    pub(crate) fn new<R: AllocGlobal + Abort>(
+        rt: &R,
+        engine: &'a Engine,
+        pass: EnginePass,
+    ) -> Caller<'a>
         requires own { IsOf engine.now pass }
         requires one { (0 < indexes_of engine.now) × FitsKey engine.now 0 ([] ∷ []) }
-        ensures same { IfSome result (λ caller. caller.engine.now ≡ engine.now) }
+        ensures same { result.engine.now ≡ engine.now }
     {
-        match RowBuf::new(alloc) {
-            Ok(out) => Some(Caller { engine, pass, out }),
-            Err(_) => None,
-        }
-    }
-
-    fn put<R: Wait>(&mut self, alloc: Global, key: &Key, value: &[u8], wait: &R) -> Option<Told>
-        requires { length key.now.tuple ≡ 1 }
-        ensures same { self.new.engine.now ≡ self.old.engine.now }
-    {
-        let value = value_of(alloc, value)?;
-        self.engine.put(&mut self.pass, 0, key, &value, wait).ok()
-    }
-
-    fn set<R: Wait>(&mut self, alloc: Global, key: &Key, value: &[u8], wait: &R) -> Option<Told>
-        requires { length key.now.tuple ≡ 1 }
-        ensures same { self.new.engine.now ≡ self.old.engine.now }
-    {
-        let value = value_of(alloc, value)?;
-        self.engine.set(&mut self.pass, 0, key, &value, wait).ok()
-    }
-
-    fn del<R: Wait>(&mut self, key: &Key, wait: &R) -> Told
-        requires { length key.now.tuple ≡ 1 }
-        ensures same { self.new.engine.now ≡ self.old.engine.now }
-    {
-        self.engine.del(&mut self.pass, 0, key, wait)
-    }
-
-    fn get<R: Wait>(&mut self, key: &Key, wait: &R) -> Told
-        requires { length key.now.tuple ≡ 1 }
-        ensures same { self.new.engine.now ≡ self.old.engine.now }
-    {
-        self.engine.get(&mut self.pass, 0, key, &mut self.out, wait)
-    }
-
-    fn seek<R: Wait>(&mut self, mode: Mode, key: &Key, wait: &R) -> Told
-        requires { length key.now.tuple ≡ 1 }
-        ensures same { self.new.engine.now ≡ self.old.engine.now }
-    {
-        let tuple = key.tuple();
-        self.engine
-            .seek(&mut self.pass, 0, mode, tuple, &mut self.out, wait)
+        let out = RowBuf::new(rt.alloc()).expect(rt, "a row buffer");
+        Caller { engine, pass, out }
     }
 
     /// The pass, which calls no more.
@@ -121,38 +97,38 @@ impl<'a> Caller<'a> {
     }
 
     /// What an order with this key is told.
-    pub(crate) fn ask<R: Wait>(
+    pub(crate) fn ask<R: AllocGlobal + Abort + Wait>(
         &mut self,
-        alloc: Global,
+        rt: &R,
         key: &[u8],
         order: Order<'_>,
-        wait: &R,
-    ) -> Option<Told>
+    ) -> Told
         ensures same { self.new.engine.now ≡ self.old.engine.now }
     {
-        let key = key_of(alloc, key)?;
+        let key = key_of(rt.alloc(), key).expect(rt, "a key");
+        let (engine, pass, out) = (self.engine, &mut self.pass, &mut self.out);
         match order {
-            Order::Put(value) => self.put(alloc, &key, value, wait),
-            Order::Set(value) => self.set(alloc, &key, value, wait),
-            Order::Del => Some(self.del(&key, wait)),
-            Order::Get => Some(self.get(&key, wait)),
-            Order::Seek(mode) => Some(self.seek(mode, &key, wait)),
+            Order::Put(bytes) => engine
+                .put(pass, 0, &key, &value(rt, bytes), rt)
+                .expect(rt, "memory for a row"),
+            Order::Set(bytes) => engine
+                .set(pass, 0, &key, &value(rt, bytes), rt)
+                .expect(rt, "memory for a value"),
+            Order::Del => engine.del(pass, 0, &key, rt),
+            Order::Get => engine.get(pass, 0, &key, out, rt),
+            Order::Seek(mode) => engine.seek(pass, 0, mode, key.tuple(), out, rt),
         }
     }
 
     /// What an order with this key is told, without its point.
-    pub(crate) fn reply<R: Wait>(
+    pub(crate) fn reply<R: AllocGlobal + Abort + Wait>(
         &mut self,
-        alloc: Global,
+        rt: &R,
         key: &[u8],
         order: Order<'_>,
-        wait: &R,
-    ) -> Option<Reply>
+    ) -> Reply
         ensures same { self.new.engine.now ≡ self.old.engine.now }
     {
-        match self.ask(alloc, key, order, wait) {
-            Some(told) => Some(told.reply),
-            None => None,
-        }
+        self.ask(rt, key, order).reply
     }
 }

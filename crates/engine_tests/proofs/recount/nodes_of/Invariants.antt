@@ -4,4 +4,4 @@ use Rattle.engine_tests.proofs.recount.nodes_of.Given as goal
 
 -- a row stands at the place
 abbrev pub invariant-loop : goal.invariant-loop
-invariant-loop l = IfSome l.at (λ place. IsSome (find_row place l.page.rows))
+invariant-loop g l = IfSome l.at (λ place. IsSome (find_row place l.page.rows))

@@ -3,7 +3,7 @@ use Rattle.map_history.specs.Map as map
 use Rattle.map_history.specs.Operation.{Make}
 use Rattle.index_law.specs.Meanings.{lent_row}
 use Rattle.index_engine.proofs.HeldLemmas.{held_then}
-use Rattle.engine_tests.proofs.plot.puts.Goals as goal
+use Rattle.engine_tests.proofs.plot.put.Goals as goal
 
 pub let_both_go-requires-clause-held : goal.let_both_go-requires-clause-held
 let_both_go-requires-clause-held g c = let call = c.args.call.now in

@@ -3,7 +3,7 @@ use Rattle.search_info.specs.Passes.{HasUnique}
 use Rattle.forest_law.specs.State.{fields_for}
 use Rattle.tree_descent.proofs.PageLemmas.{may_give_back}
 use Rattle.engine_tests.proofs.EmptyLemmas.{none_has_frame, none_has_table}
-use Rattle.engine_tests.proofs.plot.hashes.Goals as goal
+use Rattle.engine_tests.proofs.plot.hash.Goals as goal
 
 pub search_key-requires-clause-unique : goal.search_key-requires-clause-unique
 search_key-requires-clause-unique g c = subst (λ n. HasUnique c.args.learner.now 0 n)

@@ -1,5 +1,5 @@
 use Rattle.std.proofs.Common.{◌≡◌}
-use Rattle.engine_tests.proofs.rounds.work_rounds.Given as goal
+use Rattle.engine_tests.proofs.rounds.worked.Given as goal
 
 -- the caller calls the same engine
 abbrev pub invariant-loop-round : goal.invariant-loop-round
