@@ -1,5 +1,5 @@
 //! Guesses where nothing is hashed: why they lead nowhere, and that the index learns of a miss.
-ghost use Rattle.std.specs.Prelude.{◌≡◌, ◌<◌, ◌≤◌, length, IfSome, OnSome};
+ghost use Rattle.std.specs.Prelude.{◌≡◌, ◌<◌, ◌≤◌, length};
 ghost use Rattle.latch_space.specs.Passes.{count};
 ghost use Rattle.latch_space.specs.Spaces.{IsPassOf};
 ghost use Rattle.search_info.specs.Passes.{opening, IsLearnPassOf};
@@ -15,7 +15,7 @@ use learning::{Info, is_info_of};
 use map_history::Sizes;
 use sample_rows::key_of;
 use search_info::{LearnPass, Learner};
-use std::alloc::Global;
+use std::process::Abort;
 
 /// The sizes of one index with two pages.
 const SIZES: Sizes = Sizes {
@@ -44,28 +44,28 @@ fn warm(fields: u8) -> Info {
 }
 
 /// A learner of one index of two fields that knows this first.
-fn open_learner(alloc: Global, info: &Info) -> Option<(Learner, LearnPass)>
-    ensures own { IfSome result (λ r. IsLearnPassOf r.0 r.1) }
-    ensures one { IfSome result (λ r. 0 < length (opening r.0).starts) }
+fn open_learner<R: AllocGlobal + Abort>(rt: &R, info: &Info) -> (Learner, LearnPass)
+    ensures own { IsLearnPassOf result.0 result.1 }
+    ensures one { 0 < length (opening result.0).starts }
 {
-    if !is_info_of(2, info) {
-        return None;
-    }
-    let (learner, learn) = Learner::open(alloc, [*info].as_slice(), [2].as_slice(), 1).ok()?;
-    if learner.indexes() == 0 {
-        return None;
-    }
-    Some((learner, learn))
+    assert!(rt; is_info_of(2, info));
+    let (learner, learn) = Learner::open(rt.alloc(), [*info].as_slice(), [2].as_slice(), 1).expect(
+        rt,
+        "a learner",
+    );
+    assert!(rt; learner.indexes() != 0);
+    (learner, learn)
 }
 
 /// Why a guess leads nowhere.
-fn cause_of(
+fn cause_of<R: Abort>(
+    rt: &R,
     space: &ForestSpace,
     pass: &mut ForestPass,
     learner: &Learner,
     learn: &mut LearnPass,
     key: &Key,
-) -> Option<Cause>
+) -> Cause
     requires forest { IsForest space.now }
     requires own { IsPassOf space.now pass.old }
     requires fields { length key.now.tuple ≤ fields_for space.now.terms.shape 0 }
@@ -73,41 +73,32 @@ fn cause_of(
     requires learner { IsLearnPassOf learner.now learn.old }
     requires one { 0 < length (opening learner.now).starts }
     ensures own { IsPassOf space.now pass.new × IsLearnPassOf learner.now learn.new }
-    ensures nothing { OnSome result (count pass.new ≡ 0) }
+    ensures nothing { count pass.new ≡ 0 }
 {
     match guess(space, pass, learner, learn, 0, key, Mode::Ge) {
-        Guess::Miss { cause, .. } => Some(cause),
-        Guess::Hit { .. } => None,
+        Guess::Miss { cause, .. } => cause,
+        Guess::Hit { .. } => panic!(rt; "a hit"),
     }
 }
 
 /// Why two guesses by a key of one field lead nowhere, one after the other.
-fn causes(alloc: Global, info: &Info) -> Option<(Cause, Cause)> {
-    let (learner, mut learn) = open_learner(alloc, info)?;
-    two_causes(alloc, &learner, &mut learn)
-}
-
-/// The same by what this learner knows.
-fn two_causes(alloc: Global, learner: &Learner, learn: &mut LearnPass) -> Option<(Cause, Cause)>
-    requires learner { IsLearnPassOf learner.now learn.old }
-    requires one { 0 < length (opening learner.now).starts }
-{
-    let key = key_of(alloc, b"oak")?;
-    let (space, mut pass) = open_forest(alloc, &SIZES, &[2], 1).ok()?;
-    let first = cause_of(&space, &mut pass, learner, learn, &key)?;
-    let second = cause_of(&space, &mut pass, learner, learn, &key)?;
-    Some((first, second))
+fn two_causes<R: AllocGlobal + Abort>(rt: &R, info: &Info) -> (Cause, Cause) {
+    let key = key_of(rt.alloc(), b"oak").expect(rt, "a key");
+    let (learner, mut learn) = open_learner(rt, info);
+    let (space, mut pass) = open_forest(rt.alloc(), &SIZES, &[2], 1).expect(rt, "a space");
+    let first = cause_of(rt, &space, &mut pass, &learner, &mut learn, &key);
+    let second = cause_of(rt, &space, &mut pass, &learner, &mut learn, &key);
+    (first, second)
 }
 
 /// Why a guess leads nowhere while another pass holds the partition.
-fn cause_meanwhile(
+fn cause_meanwhile<R: AllocGlobal + Abort>(
+    rt: &R,
     space: &ForestSpace,
     pass: &mut ForestPass,
     other: &mut ForestPass,
-    learner: &Learner,
-    learn: &mut LearnPass,
     key: &Key,
-) -> Option<Cause>
+) -> Cause
     requires forest { IsForest space.now }
     requires own { IsPassOf space.now pass.old }
     requires other { IsPassOf space.now other.old }
@@ -115,42 +106,39 @@ fn cause_meanwhile(
     requires fields { length key.now.tuple ≤ fields_for space.now.terms.shape 0 }
     requires nothing { count pass.old ≡ 0 }
     requires none { count other.old ≡ 0 }
-    requires learner { IsLearnPassOf learner.now learn.old }
-    requires one { 0 < length (opening learner.now).starts }
 {
-    if try_part(space, other, 0) != Take::Taken {
-        return None;
-    }
-    let cause = cause_of(space, pass, learner, learn, key);
+    let (learner, mut learn) = open_learner(rt, &warm(1));
+    assert!(rt; try_part(space, other, 0) == Take::Taken);
+    let cause = cause_of(rt, space, pass, &learner, &mut learn, key);
     give_part_back(space, other, 0);
     cause
 }
 
 /// The same in a space of its own.
-fn cause_beside(alloc: Global) -> Option<Cause> {
-    let key = key_of(alloc, b"oak")?;
-    let (learner, mut learn) = open_learner(alloc, &warm(1))?;
-    let (space, mut pass) = open_forest(alloc, &SIZES, &[2], 2).ok()?;
-    let mut other = space.split(alloc, &mut pass).ok()?;
-    cause_meanwhile(&space, &mut pass, &mut other, &learner, &mut learn, &key)
+fn cause_beside<R: AllocGlobal + Abort>(rt: &R) -> Cause {
+    let key = key_of(rt.alloc(), b"oak").expect(rt, "a key");
+    let (space, mut pass) = open_forest(rt.alloc(), &SIZES, &[2], 2).expect(rt, "a space");
+    let mut other = space
+        .split(rt.alloc(), &mut pass)
+        .expect(rt, "another pass");
+    cause_meanwhile(rt, &space, &mut pass, &mut other, &key)
 }
 
 #[test]
 fn a_miss_is_learnt(rt: HostRuntime) {
-    let told = causes(rt.alloc(), &warm(1)).expect(&rt, "two causes");
-    assert!(rt; matches!(&told.0, Cause::NoEntry { .. }));
-    assert!(rt; told.1 == Cause::Cold);
+    let (first, second) = two_causes(&rt, &warm(1));
+    assert!(rt; matches!(&first, Cause::NoEntry { .. }));
+    assert!(rt; second == Cause::Cold);
 }
 
 #[test]
 fn a_short_tuple_is_no_miss(rt: HostRuntime) {
-    let told = causes(rt.alloc(), &warm(2)).expect(&rt, "two causes");
+    let (first, second) = two_causes(&rt, &warm(2));
     let short = Cause::Short { have: 1, need: 2 };
-    assert!(rt; told.0 == short && told.1 == short);
+    assert!(rt; first == short && second == short);
 }
 
 #[test]
 fn a_partition_is_busy_while_another_pass_holds_it(rt: HostRuntime) {
-    let told = cause_beside(rt.alloc()).expect(&rt, "a cause");
-    assert!(rt; told == Cause::PartBusy { holder: 1 });
+    assert!(rt; cause_beside(&rt) == Cause::PartBusy { holder: 1 });
 }

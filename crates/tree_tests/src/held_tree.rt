@@ -10,7 +10,7 @@ use forest_world::{ForestPass, ForestSpace, open_forest};
 use key_tuple::{Key, Mode};
 use map_history::Sizes;
 use sample_rows::key_of;
-use std::alloc::Global;
+use std::process::Abort;
 use std::sync::Wait;
 use tree_descent::descend;
 
@@ -50,14 +50,16 @@ fn found_meanwhile<R: Wait>(
 }
 
 /// The same of an empty tree.
-fn found<R: Wait>(alloc: Global, wait: &R) -> Option<u32> {
-    let key = key_of(alloc, b"oak")?;
-    let (space, mut pass) = open_forest(alloc, &SIZES, &[1], 2).ok()?;
-    let mut other = space.split(alloc, &mut pass).ok()?;
-    Some(found_meanwhile(&space, &mut pass, &mut other, &key, wait))
+fn found<R: AllocGlobal + Abort + Wait>(rt: &R) -> u32 {
+    let key = key_of(rt.alloc(), b"oak").expect(rt, "a key");
+    let (space, mut pass) = open_forest(rt.alloc(), &SIZES, &[1], 2).expect(rt, "a space");
+    let mut other = space
+        .split(rt.alloc(), &mut pass)
+        .expect(rt, "another pass");
+    found_meanwhile(&space, &mut pass, &mut other, &key, rt)
 }
 
 #[test]
 fn a_descent_waits_for_no_tree(rt: HostRuntime) {
-    assert_eq!(rt; found(rt.alloc(), &rt), Some(0));
+    assert!(rt; found(&rt) == 0);
 }

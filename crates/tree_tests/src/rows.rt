@@ -11,10 +11,10 @@ use leaf_rows::{
 };
 use learning::BlockFigures;
 use sample_rows::{key_of, value_of};
-use std::alloc::Global;
+use std::process::Abort;
 
-/// An empty leaf for keys of one field.
-fn empty_leaf(alloc: Global) -> Option<Page> {
+/// A frame with an empty leaf for keys of one field.
+fn leaf_frame<R: AllocGlobal + Abort>(rt: &R) -> Frame {
     let head = PageHead {
         number: 3,
         index: 1,
@@ -23,13 +23,8 @@ fn empty_leaf(alloc: Global) -> Option<Page> {
         next: None,
         fields: 1,
     };
-    Page::empty(alloc, head).ok()
-}
-
-/// A frame with an empty leaf.
-fn leaf_frame(alloc: Global) -> Frame {
     Frame {
-        page: empty_leaf(alloc),
+        page: Some(Page::empty(rt.alloc(), head).expect(rt, "a page")),
         low: None,
         high: None,
         clock: 5,
@@ -38,157 +33,115 @@ fn leaf_frame(alloc: Global) -> Frame {
     }
 }
 
-/// Where the key belongs, if the page is a leaf for such keys.
-fn spot_of(page: &Page, key: &Key) -> Option<Spot>
-    ensures { IfSome result (λ spot. HasSpot page.now key.now.tuple spot) }
-{
-    if page.head().level == 0 && page.head().fields == key.count() {
-        Some(page.search(key, Mode::Ge))
-    } else {
-        None
-    }
+fn key<R: AllocGlobal + Abort>(rt: &R) -> Key {
+    key_of(rt.alloc(), b"oak").expect(rt, "a key")
 }
 
-/// Where the key belongs, if its row is missing.
-fn free_spot(frame: &Frame, key: &Key) -> Option<Spot>
-    ensures { IfSome result (λ spot. LacksRow frame.now key.now.tuple spot) }
+fn value<R: AllocGlobal + Abort>(rt: &R, bytes: &[u8]) -> Value {
+    value_of(rt.alloc(), bytes).expect(rt, "a value")
+}
+
+/// Where the key belongs on the page, which is a leaf for such keys.
+fn spot_of<R: Abort>(rt: &R, page: &Page, key: &Key) -> Spot
+    ensures { HasSpot page.now key.now.tuple result }
 {
-    let Some(page) = &frame.page else { return None };
-    let Some(spot) = spot_of(page, key) else {
-        return None;
+    assert!(rt; page.head().level == 0 && page.head().fields == key.count());
+    page.search(key, Mode::Ge)
+}
+
+/// Where the key belongs, whose row is missing.
+fn free_spot<R: Abort>(rt: &R, frame: &Frame, key: &Key) -> Spot
+    ensures { LacksRow frame.now key.now.tuple result }
+{
+    let Some(page) = &frame.page else {
+        panic!(rt; "no page")
     };
-    match find_key(page, key, &spot) {
-        Some(_) => None,
-        None => Some(spot),
-    }
+    let spot = spot_of(rt, page, key);
+    assert!(rt; find_key(page, key, &spot).is_none());
+    spot
 }
 
 /// Where the key's row stands.
-fn place_of(frame: &Frame, key: &Key) -> Option<Place>
+fn place_of<R: Abort>(rt: &R, frame: &Frame, key: &Key) -> Option<Place>
     ensures { IfSome result (λ place. HasRowOf frame.now place key.now.tuple) }
 {
-    let Some(page) = &frame.page else { return None };
-    let Some(spot) = spot_of(page, key) else {
-        return None;
+    let Some(page) = &frame.page else {
+        panic!(rt; "no page")
     };
-    find_key(page, key, &spot)
+    find_key(page, key, &spot_of(rt, page, key))
 }
 
 /// Puts a row in whose key is missing.
-fn put_in(frame: &mut Frame, key: &Key, value: &Value) -> Option<Place>
-    ensures { IfSome result (λ place. WasPut frame.new place) }
+fn put_in<R: Abort>(rt: &R, frame: &mut Frame, key: &Key, value: &Value) -> Place
+    ensures { WasPut frame.new result }
 {
-    let Some(spot) = free_spot(frame, key) else {
-        return None;
-    };
-    match put_row(frame, &spot, key, value) {
-        Ok(place) => Some(place),
-        Err(_) => None,
-    }
+    let spot = free_spot(rt, frame, key);
+    put_row(frame, &spot, key, value).expect(rt, "room for a row")
 }
 
 /// The row is there once it is put in, and isn't when it is taken back.
-fn comes_and_goes_back(frame: &mut Frame, key: &Key, value: &Value) -> bool {
-    let Some(place) = put_in(frame, key, value) else {
-        return false;
-    };
-    let there = place_of(frame, key) == Some(place);
+fn come_and_go_back<R: AllocGlobal + Abort>(rt: &R, frame: &mut Frame) {
+    let (key, value) = (key(rt), value(rt, b"tree"));
+    let place = put_in(rt, frame, &key, &value);
+    assert!(rt; place_of(rt, frame, &key) == Some(place));
     take_back(frame, place);
-    there && place_of(frame, key).is_none()
-}
-
-/// The row is there once it is put in, and isn't when it is deleted.
-fn comes_and_goes(frame: &mut Frame, key: &Key, value: &Value) -> bool {
-    if put_in(frame, key, value).is_none() {
-        return false;
-    }
-    let Some(place) = place_of(frame, key) else {
-        return false;
-    };
-    delete_row(frame, place);
-    place_of(frame, key).is_none()
-}
-
-/// So it is with a row of three letters, and the clock ends there.
-fn tries(alloc: Global, back: bool, clock: u64) -> bool {
-    let (Some(key), Some(value)) = (key_of(alloc, b"oak"), value_of(alloc, b"tree")) else {
-        return false;
-    };
-    let mut frame = leaf_frame(alloc);
-    let went = if back {
-        comes_and_goes_back(&mut frame, &key, &value)
-    } else {
-        comes_and_goes(&mut frame, &key, &value)
-    };
-    went && frame.clock == clock
+    assert!(rt; place_of(rt, frame, &key).is_none());
 }
 
 #[test]
 fn a_row_is_taken_back(rt: HostRuntime) {
-    assert!(rt; tries(rt.alloc(), true, 5));
+    let mut frame = leaf_frame(&rt);
+    come_and_go_back(&rt, &mut frame);
+    assert!(rt; frame.clock == 5);
+}
+
+/// The row is there once it is put in, and isn't when it is deleted.
+fn come_and_go<R: AllocGlobal + Abort>(rt: &R, frame: &mut Frame) {
+    let (key, value) = (key(rt), value(rt, b"tree"));
+    put_in(rt, frame, &key, &value);
+    let place = place_of(rt, frame, &key).expect(rt, "a row");
+    delete_row(frame, place);
+    assert!(rt; place_of(rt, frame, &key).is_none());
 }
 
 #[test]
 fn a_row_that_is_deleted_raises_the_clock(rt: HostRuntime) {
-    assert!(rt; tries(rt.alloc(), false, 6));
+    let mut frame = leaf_frame(&rt);
+    come_and_go(&rt, &mut frame);
+    assert!(rt; frame.clock == 6);
 }
 
-/// Gives the row at the place a longer value.
-fn grow(alloc: Global, frame: &mut Frame, key: &Key, longer: &Value) -> Option<LeafBefore>
-    ensures { IfSome result (λ before. IsSome before.page) }
+/// Gives the key's row a longer value.
+fn grow<R: AllocGlobal + Abort>(rt: &R, frame: &mut Frame, key: &Key, longer: &Value) -> LeafBefore
+    ensures { IsSome result.page }
 {
-    let Some(place) = place_of(frame, key) else {
-        return None;
-    };
+    let place = place_of(rt, frame, key).expect(rt, "a row");
     if longer.as_bytes().len() <= value_len(frame, place) {
-        return None;
+        panic!(rt; "it isn't longer");
     }
-    match grow_value(alloc, frame, place, longer) {
-        Ok(grown) => Some(grown.before),
-        Err(_) => None,
-    }
+    grow_value(rt.alloc(), frame, place, longer)
+        .expect(rt, "room for a value")
+        .before
 }
 
 /// How long the key's value is.
-fn length_of(frame: &Frame, key: &Key) -> Option<usize> {
-    match place_of(frame, key) {
-        Some(place) => Some(value_len(frame, place)),
-        None => None,
-    }
+fn length_of<R: Abort>(rt: &R, frame: &Frame, key: &Key) -> usize {
+    let place = place_of(rt, frame, key).expect(rt, "a row");
+    value_len(frame, place)
 }
 
-/// The leaf is what it was before, clock and all.
-fn is_put_back(frame: &mut Frame, key: &Key, before: LeafBefore) -> bool
-    requires { IsSome before.page }
-{
-    if frame.page.is_none() {
-        return false;
-    }
+/// The row gets a longer value, and then the leaf is put back, clock and all.
+fn grow_and_shrink<R: AllocGlobal + Abort>(rt: &R, frame: &mut Frame, key: &Key) {
+    let before = grow(rt, frame, key, &value(rt, b"tall tree"));
+    assert!(rt; frame.clock == 6 && length_of(rt, frame, key) == 9);
+    assert!(rt; frame.page.is_some());
     put_back(frame, before);
-    frame.clock == 5 && length_of(frame, key) == Some(4)
-}
-
-/// A row of three letters gets a longer value, and its leaf is put back.
-fn grows_and_shrinks(alloc: Global, key: &Key, value: &Value, longer: &Value) -> bool {
-    let mut frame = leaf_frame(alloc);
-    if put_in(&mut frame, key, value).is_none() {
-        return false;
-    }
-    let Some(before) = grow(alloc, &mut frame, key, longer) else {
-        return false;
-    };
-    let grown = frame.clock == 6 && length_of(&frame, key) == Some(9);
-    grown && is_put_back(&mut frame, key, before)
+    assert!(rt; frame.clock == 5 && length_of(rt, frame, key) == 4);
 }
 
 #[test]
 fn a_grown_value_is_put_back(rt: HostRuntime) {
-    let alloc = rt.alloc();
-    if let (Some(key), Some(value), Some(longer)) = (
-        key_of(alloc, b"oak"),
-        value_of(alloc, b"tree"),
-        value_of(alloc, b"tall tree"),
-    ) {
-        assert!(rt; grows_and_shrinks(alloc, &key, &value, &longer));
-    }
+    let (mut frame, key) = (leaf_frame(&rt), key(&rt));
+    put_in(&rt, &mut frame, &key, &value(&rt, b"tree"));
+    grow_and_shrink(&rt, &mut frame, &key);
 }

@@ -1,5 +1,5 @@
 //! A space of two empty trees, and a pass of it that holds nothing between two calls.
-ghost use Rattle.std.specs.Prelude.{◌≡◌, ◌≤◌, [], ◌∷◌, length, IfSome};
+ghost use Rattle.std.specs.Prelude.{◌≡◌, ◌≤◌, [], ◌∷◌, length};
 ghost use Rattle.latch_space.specs.Passes.{view, count};
 ghost use Rattle.latch_space.specs.Spaces.{IsPassOf};
 ghost use Rattle.buffer_pool.specs.Forests.{IsForest};
@@ -9,6 +9,7 @@ use forest_world::{ForestPass, ForestSpace, open_forest};
 use index_page::PageHead;
 use map_history::Sizes;
 use std::alloc::Global;
+use std::process::Abort;
 use std::sync::Wait;
 
 /// Two indexes, whose keys have one field, and so many pages in all.
@@ -36,7 +37,7 @@ const HEAD: PageHead = PageHead {
 };
 
 impl Grove {
-    pub(crate) fn open(alloc: Global, pages: u32) -> Option<Grove>
+    pub(crate) fn open<R: AllocGlobal + Abort>(rt: &R, pages: u32) -> Grove
         requires { (2 ≤ pages) × (pages ≤ 100) }
     {
         let sizes = Sizes {
@@ -48,10 +49,8 @@ impl Grove {
             fold_bits: 1,
             max_changes: 1,
         };
-        match open_forest(alloc, &sizes, &[1, 1], 1) {
-            Ok((space, pass)) => Some(Grove { space, pass, pages }),
-            Err(_) => None,
-        }
+        let (space, pass) = open_forest(rt.alloc(), &sizes, &[1, 1], 1).expect(rt, "a space");
+        Grove { space, pass, pages }
     }
 
     /// The number of a new page, which is freed again.

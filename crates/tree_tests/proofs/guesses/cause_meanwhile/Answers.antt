@@ -6,7 +6,7 @@ use Rattle.buffer_pool.proofs.SpaceLemmas.{objects_of}
 use Rattle.tree_tests.proofs.guesses.cause_meanwhile.Goals as goal
 
 pub try_part-requires-clause-lacks : goal.try_part-requires-clause-lacks
-try_part-requires-clause-lacks c = let p = c.args.other.now in
+try_part-requires-clause-lacks g c = let p = c.args.other.now in
     let objects = objects_of c.args.space.now p c.requires.forest c.requires.other in
     let there = ap (λ t. t.shape.parts) c.requires.other.1 in
     lacks_each p (part_id (shape_of_pass p) 0) c.requires.none
