@@ -1,6 +1,6 @@
 //! Leaves drawn by number, as the nodes that their rows have.
 use chain_arena::Node;
-use std::alloc::{AllocError, Global};
+use std::process::Abort;
 
 /// The block of the leaves.
 const BLOCK: u32 = 7;
@@ -36,22 +36,24 @@ fn draw_node(state: &mut u64, place: u16) -> Node {
 }
 
 /// The nodes of up to 30 rows, at places from the first one on.
-fn draw_half(alloc: Global, state: &mut u64, first: u16) -> Result<Vec<Node>, AllocError> {
-    let mut nodes = Vec::new(alloc);
+fn draw_half<R: AllocGlobal + Abort>(rt: &R, state: &mut u64, first: u16) -> Vec<Node> {
+    let mut nodes = Vec::new(rt.alloc());
     let count = (draw(state) % 31) as u16;
     for place in first..first.saturating_add(count) {
-        nodes.push(draw_node(state, place))?;
+        nodes
+            .push(draw_node(state, place))
+            .expect(rt, "memory for a node");
     }
-    Ok(nodes)
+    nodes
 }
 
 /// The leaf of this number.
-pub(crate) fn draw_cut(alloc: Global, number: u64) -> Result<Cut, AllocError> {
+pub(crate) fn draw_cut<R: AllocGlobal + Abort>(rt: &R, number: u64) -> Cut {
     let mut state = number;
-    Ok(Cut {
+    Cut {
         left: draw(&mut state) % 2 == 0,
-        before: draw_half(alloc, &mut state, 0)?,
+        before: draw_half(rt, &mut state, 0),
         node: draw_node(&mut state, PLACE),
-        after: draw_half(alloc, &mut state, PLACE + 1)?,
-    })
+        after: draw_half(rt, &mut state, PLACE + 1),
+    }
 }

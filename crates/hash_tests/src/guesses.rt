@@ -1,83 +1,63 @@
 //! The check of a guess on a page with a page before it.
-ghost use Rattle.std.specs.Prelude.{◌<◌, length, IfSome};
-
 use guess_check::check;
 use index_page::{Body, Page, PageHead};
-use key_tuple::{Fields, Key, Mode, Tuple, Value};
+use key_tuple::{Fields, Key, Mode, Tuple};
 use sample_rows::value_of;
-use std::alloc::Global;
+use std::process::Abort;
 
-// The page has (m, 5) and (m, 7), and a page stands before it: each check is of the row (m, 5).
+/// The digit of the second field that is sought, if there is one, how, and what the check tells of the
+/// page's first row. The page has (m, 5) and (m, 7).
+const CHECKS: [(Option<u8>, Mode, Option<bool>); 5] = [
+    // A first row passes by its whole key alone, since a page stands before it,
+    (Some(b'3'), Mode::Ge, None),
+    (Some(b'5'), Mode::Ge, Some(true)),
+    // on which its group may begin;
+    (None, Mode::Ge, None),
+    // and where the next row is past the cut.
+    (Some(b'7'), Mode::Le, None),
+    (Some(b'6'), Mode::Le, Some(false)),
+];
+
 #[test]
-fn a_first_row_passes_by_its_whole_key_alone(rt: HostRuntime) {
-    assert!(rt; checked(rt.alloc(), Some(b'3'), Mode::Ge) == Some(None));
-    assert!(rt; checked(rt.alloc(), Some(b'5'), Mode::Ge) == Some(Some(true)));
+fn a_first_row_passes_by_its_key_or_by_the_next_row(rt: HostRuntime) {
+    let mut page = empty_leaf(&rt);
+    put(&rt, &mut page, b'5');
+    put(&rt, &mut page, b'7');
+    for (digit, mode, told) in CHECKS.iter() {
+        assert!(rt; checked(&rt, &page, *digit, *mode) == *told);
+    }
 }
 
-#[test]
-fn a_group_may_begin_on_the_page_before(rt: HostRuntime) {
-    assert!(rt; checked(rt.alloc(), None, Mode::Ge) == Some(None));
+fn add_field<R: AllocGlobal + Abort>(rt: &R, fields: &mut Vec<Vec<u8>>, byte: u8) {
+    let field = vec![in rt.alloc(); byte].expect(rt, "a field");
+    fields.push(field).expect(rt, "memory for a field");
 }
 
-#[test]
-fn a_row_passes_where_the_next_is_past_the_cut(rt: HostRuntime) {
-    assert!(rt; checked(rt.alloc(), Some(b'7'), Mode::Le) == Some(None));
-    assert!(rt; checked(rt.alloc(), Some(b'6'), Mode::Le) == Some(Some(false)));
+// The fields m and the digit, or where none is given m alone.
+fn fields_of<R: AllocGlobal + Abort>(rt: &R, digit: Option<u8>) -> Vec<Vec<u8>> {
+    let mut fields = Vec::new(rt.alloc());
+    add_field(rt, &mut fields, b'm');
+    if let Some(digit) = digit {
+        add_field(rt, &mut fields, digit);
+    }
+    fields
 }
 
-fn bytes_of(alloc: Global, byte: u8) -> Option<Vec<u8>> {
-    vec![in alloc; byte].ok()
-}
-
-fn pair(alloc: Global, digit: u8) -> Option<Vec<Vec<u8>>>
-    ensures { IfSome result (λ fields. 0 < length fields.items) }
-{
-    let first = bytes_of(alloc, b'm')?;
-    let second = bytes_of(alloc, digit)?;
-    vec![in alloc; first, second].ok()
-}
-
-fn key_of(alloc: Global, digit: u8) -> Option<Key> {
-    let fields = pair(alloc, digit)?;
-    Key::try_new(alloc, fields).ok()
-}
-
-// The pair, or where no digit is given its first field alone.
-fn tuple_of(alloc: Global, digit: Option<u8>) -> Option<Tuple> {
-    let fields = match digit {
-        Some(digit) => pair(alloc, digit)?,
-        None => first_alone(alloc)?,
-    };
-    Tuple::try_new(alloc, fields).ok()
-}
-
-fn first_alone(alloc: Global) -> Option<Vec<Vec<u8>>> {
-    let first = bytes_of(alloc, b'm')?;
-    vec![in alloc; first].ok()
-}
-
-// Puts a row in whose key isn't there.
-fn put(page: &mut Page, key: &Key, value: &Value) -> bool {
+// Puts a row in whose key has this digit, and isn't there.
+fn put<R: AllocGlobal + Abort>(rt: &R, page: &mut Page, digit: u8) {
+    let fields = fields_of(rt, Some(digit));
+    assert!(rt; !fields.is_empty());
+    let key = Key::try_new(rt.alloc(), fields).expect(rt, "a key");
+    let value = value_of(rt.alloc(), b"v").expect(rt, "a value");
     let head = *page.head();
-    if head.level != 0 || key.count() != head.fields {
-        return false;
-    }
-    let spot = page.search(key, Mode::Ge);
-    if spot.up.fields == key.count() {
-        return false;
-    }
+    assert!(rt; head.level == 0 && key.count() == head.fields);
+    let spot = page.search(&key, Mode::Ge);
+    assert!(rt; spot.up.fields != key.count());
     key.tuple().is_within_limits();
-    page.insert_at(&spot, key, Body::Value(value)).is_ok()
+    assert!(rt; page.insert_at(&spot, &key, Body::Value(&value)).is_ok());
 }
 
-// Puts a row in whose key has this digit.
-fn put_digit(alloc: Global, page: &mut Page, digit: u8) -> Option<bool> {
-    let key = key_of(alloc, digit)?;
-    let value = value_of(alloc, b"v")?;
-    Some(put(page, &key, &value))
-}
-
-fn empty_leaf(alloc: Global) -> Option<Page> {
+fn empty_leaf<R: AllocGlobal + Abort>(rt: &R) -> Page {
     let head = PageHead {
         number: 1,
         index: 0,
@@ -86,29 +66,18 @@ fn empty_leaf(alloc: Global) -> Option<Page> {
         next: None,
         fields: 2,
     };
-    Page::empty(alloc, head).ok()
-}
-
-fn page_of_two(alloc: Global) -> Option<Page> {
-    let mut page = empty_leaf(alloc)?;
-    if put_digit(alloc, &mut page, b'5')? && put_digit(alloc, &mut page, b'7')? {
-        Some(page)
-    } else {
-        None
-    }
+    Page::empty(rt.alloc(), head).expect(rt, "a page")
 }
 
 // What the check tells of the page's first row.
-fn checked(alloc: Global, digit: Option<u8>, mode: Mode) -> Option<Option<bool>> {
-    let page = page_of_two(alloc)?;
-    let tuple = tuple_of(alloc, digit)?;
-    check_first(&page, &tuple, mode)
-}
-
-fn check_first(page: &Page, tuple: &Tuple, mode: Mode) -> Option<Option<bool>> {
-    let place = page.first()?;
-    if tuple.count() > page.head().fields {
-        return None;
-    }
-    Some(check(page, place, tuple, mode))
+fn checked<R: AllocGlobal + Abort>(
+    rt: &R,
+    page: &Page,
+    digit: Option<u8>,
+    mode: Mode,
+) -> Option<bool> {
+    let tuple = Tuple::try_new(rt.alloc(), fields_of(rt, digit)).expect(rt, "a tuple");
+    let place = page.first().expect(rt, "a row");
+    assert!(rt; tuple.count() <= page.head().fields);
+    check(page, place, &tuple, mode)
 }

@@ -1,7 +1,9 @@
 //! A partition that a leaf shares with another block, and claims of it.
+ghost use Rattle.std.specs.Prelude.{◌≤◌};
+
 use chain_arena::Node;
 use hash_partition::Partition;
-use std::alloc::Global;
+use std::process::Abort;
 
 /// So many nodes the partition has.
 const NODES: u32 = 200;
@@ -26,35 +28,45 @@ const OTHERS: [Node; 3] = [
 ];
 
 /// Enters the nodes, for which there is room.
-pub(crate) fn enter_all(part: &mut Partition, nodes: &[Node]) -> bool {
+pub(crate) fn enter_all<R: Abort>(rt: &R, part: &mut Partition, nodes: &[Node]) {
     for node in nodes {
-        if part.spare() == 0 {
-            return false;
-        }
+        assert!(rt; part.spare() > 0);
         part.enter(*node);
     }
-    true
 }
 
-/// Takes the nodes out. Each of them has to be there.
-pub(crate) fn leave_all(part: &mut Partition, nodes: &[Node]) -> bool {
+/// Takes the nodes out, each of which is there.
+pub(crate) fn leave_all<R: Abort>(rt: &R, part: &mut Partition, nodes: &[Node]) {
     for node in nodes {
-        if !part.leave(node) {
-            return false;
-        }
+        assert!(rt; part.leave(node));
     }
-    true
+}
+
+/// A partition with these nodes, and room for so many.
+pub(crate) fn part_of<R: AllocGlobal + Abort>(
+    rt: &R,
+    cells: u32,
+    room: u32,
+    nodes: &[Node],
+) -> Partition
+    requires { 1 ≤ cells }
+{
+    let mut part = Partition::new(rt.alloc(), cells, room, 16).expect(rt, "a partition");
+    enter_all(rt, &mut part, nodes);
+    part
 }
 
 /// A partition with the nodes of the other block and these.
-pub(crate) fn shared_part(alloc: Global, nodes: &[Node]) -> Option<Partition> {
-    let mut part = Partition::new(alloc, 16, NODES, 16).ok()?;
-    let is_entered = enter_all(&mut part, &OTHERS) && enter_all(&mut part, nodes);
-    is_entered.then_some(part)
+pub(crate) fn shared_part<R: AllocGlobal + Abort>(rt: &R, nodes: &[Node]) -> Partition {
+    let mut part = part_of(rt, 16, NODES, &OTHERS);
+    enter_all(rt, &mut part, nodes);
+    part
 }
 
-/// Whether the partition has these nodes and the other block's, and no more: all of them leave, and
-/// then all its nodes are spare.
-pub(crate) fn has_just(mut part: Partition, nodes: &[Node]) -> bool {
-    leave_all(&mut part, nodes) && leave_all(&mut part, &OTHERS) && part.spare() == NODES
+/// The partition has these nodes and the other block's, and no more: all of them leave, and then all
+/// its nodes are spare.
+pub(crate) fn assert_just<R: Abort>(rt: &R, part: &mut Partition, nodes: &[Node]) {
+    leave_all(rt, part, nodes);
+    leave_all(rt, part, &OTHERS);
+    assert!(rt; part.spare() == NODES);
 }
