@@ -1,6 +1,7 @@
 //! Worked leaves: their entries are built, and kept up with a row.
 ghost use Rattle.std.specs.Prelude.{◌≡◌};
 ghost use Rattle.key_tuple.specs.Fold.{asked_fields};
+ghost use Rattle.hash_partition.specs.Part.{empty_part};
 ghost use Rattle.hash_law.specs.Entries.{NodesAt};
 ghost use Rattle.hash_upkeep.specs.Hashing.{CanHash, row_entries};
 
@@ -12,37 +13,41 @@ use hash_upkeep::{
 };
 use index_page::Page;
 use key_tuple::Params;
-use std::alloc::Global;
+use std::process::Abort;
 
 #[test]
 fn a_leaf_of_three_is_built_once(rt: HostRuntime) {
-    let built = Build::Built { nodes: 3 };
-    assert!(rt; builds_twice(rt.alloc(), 3) == Some((built, Build::NotNeeded)));
+    let (first, second) = builds_twice(&rt, 3);
+    assert!(rt; first == Build::Built { nodes: 3 } && second == Build::NotNeeded);
 }
 
 #[test]
 fn three_entries_need_three_nodes(rt: HostRuntime) {
+    let (first, second) = builds_twice(&rt, 2);
     let full = Build::ArenaFull { need: 3, spare: 2 };
-    assert!(rt; builds_twice(rt.alloc(), 2) == Some((full, full)));
+    assert!(rt; first == full && second == full);
 }
 
-// The lowest bit of the folds of a, c and e is 1, and that of b is 0. So a is the one entry of the
-// three, and b brings itself in and parts c from a.
-#[test]
-fn a_row_in_a_run_brings_two_in(rt: HostRuntime) {
-    assert!(rt; keeps_up(rt.alloc(), 3) == Some((Upkeep::Kept, 0)));
-    let dropped = Upkeep::Dropped { need: 2, spare: 1 };
-    assert!(rt; keeps_up(rt.alloc(), 2) == Some((dropped, 2)));
-}
+/// The nodes of a partition, whether a row of b goes again once it came, what the last of both is told,
+/// and what is spare then. The lowest bit of the folds of a, c and e is 1, and that of b is 0. So a
+/// is the one entry of the three, and b brings itself in and parts c from a.
+const ROWS: [(u32, bool, Upkeep, u32); 3] = [
+    (3, false, Upkeep::Kept, 0),
+    (2, false, Upkeep::Dropped { need: 2, spare: 1 }, 2),
+    (3, true, Upkeep::Kept, 2),
+];
 
 #[test]
-fn a_row_that_goes_again_leaves_its_run(rt: HostRuntime) {
-    assert!(rt; keeps_down(rt.alloc(), 3) == Some((Upkeep::Kept, 2)));
+fn a_row_in_a_run_brings_two_in_and_takes_two_out(rt: HostRuntime) {
+    for (nodes, goes, upkeep, spare) in ROWS.iter() {
+        let (told, left) = keeps_up(&rt, *nodes, *goes);
+        assert!(rt; told == *upkeep && left == *spare);
+    }
 }
 
 #[test]
 fn a_dropped_leaf_has_no_entries(rt: HostRuntime) {
-    assert!(rt; drops(rt.alloc()) == Some(5));
+    assert!(rt; drops(&rt) == 5);
 }
 
 fn hashing(bits: u8) -> Hashing
@@ -61,89 +66,65 @@ fn hashing(bits: u8) -> Hashing
     }
 }
 
+// A partition with so many nodes.
+fn part_of<R: AllocGlobal + Abort>(rt: &R, nodes: u32) -> Partition
+    ensures { result ≡ empty_part nodes 8 }
+{
+    Partition::new(rt.alloc(), 4, nodes, 8).expect(rt, "a partition")
+}
+
 // Builds a leaf of a, b and c, and builds it again.
-fn builds_twice(alloc: Global, nodes: u32) -> Option<(Build, Build)> {
-    let page = lettered(alloc, b"abc")?;
-    let mut part = Partition::new(alloc, 4, nodes, 8).ok()?;
+fn builds_twice<R: AllocGlobal + Abort>(rt: &R, nodes: u32) -> (Build, Build) {
+    let (page, mut part) = (lettered(rt, b"abc"), part_of(rt, nodes));
     let how = hashing(64);
     let need = count_entries(&page, &how);
     let first = build(&mut part, &page, None, &how, need);
     let built = first.built_after(how.params);
-    Some((first, build(&mut part, &page, built, &how, need)))
+    (first, build(&mut part, &page, built, &how, need))
 }
 
-// Keeps up with the row of a letter that comes.
-fn comes(
-    alloc: Global,
+// Keeps up with the row of b that comes, and where it is to, goes again.
+fn comes<R: AllocGlobal + Abort>(
+    rt: &R,
     part: &mut Partition,
     page: &mut Page,
     how: &Hashing,
-    letter: u8,
-) -> Option<Upkeep>
+    goes: bool,
+) -> Upkeep
     requires hash { CanHash how.now page.old }
     requires exact { NodesAt how.now.block part.old.nodes (row_entries how.now page.old.rows) }
 {
-    let place = put_letter(alloc, page, letter)?;
-    Some(on_insert(part, page, place, how))
-}
-
-// The same, and with the row that goes again.
-fn comes_and_goes(
-    alloc: Global,
-    part: &mut Partition,
-    page: &mut Page,
-    how: &Hashing,
-    letter: u8,
-) -> Option<Upkeep>
-    requires hash { CanHash how.now page.old }
-    requires exact { NodesAt how.now.block part.old.nodes (row_entries how.now page.old.rows) }
-{
-    let place = put_letter(alloc, page, letter)?;
+    let place = put_letter(rt, page, b'b');
     match on_insert(part, page, place, how) {
-        Upkeep::Kept => Some(on_delete(part, page, place, how)),
-        Upkeep::Dropped { .. } => None,
+        Upkeep::Kept if goes => on_delete(part, page, place, how),
+        told => told,
     }
 }
 
 // Builds a leaf of a, c and e with folds of one bit, and puts b in: the answer, and what is spare.
-fn keeps_up(alloc: Global, nodes: u32) -> Option<(Upkeep, u32)> {
-    let mut page = lettered(alloc, b"ace")?;
-    let mut part = Partition::new(alloc, 4, nodes, 8).ok()?;
+fn keeps_up<R: AllocGlobal + Abort>(rt: &R, nodes: u32, goes: bool) -> (Upkeep, u32) {
+    let (mut page, mut part) = (lettered(rt, b"ace"), part_of(rt, nodes));
     let how = hashing(1);
     match build(&mut part, &page, None, &how, count_entries(&page, &how)) {
         Build::Built { .. } => {
-            let upkeep = comes(alloc, &mut part, &mut page, &how, b'b')?;
-            Some((upkeep, part.spare()))
+            let told = comes(rt, &mut part, &mut page, &how, goes);
+            (told, part.spare())
         }
-        _ => None,
-    }
-}
-
-// The same, and takes b out again.
-fn keeps_down(alloc: Global, nodes: u32) -> Option<(Upkeep, u32)> {
-    let mut page = lettered(alloc, b"ace")?;
-    let mut part = Partition::new(alloc, 4, nodes, 8).ok()?;
-    let how = hashing(1);
-    match build(&mut part, &page, None, &how, count_entries(&page, &how)) {
-        Build::Built { .. } => {
-            let upkeep = comes_and_goes(alloc, &mut part, &mut page, &how, b'b')?;
-            Some((upkeep, part.spare()))
-        }
-        _ => None,
+        _ => panic!(rt; "it isn't built"),
     }
 }
 
 // Builds a leaf of a, b and c with five nodes, and drops it: what is spare then.
-fn drops(alloc: Global) -> Option<u32> {
-    let page = lettered(alloc, b"abc")?;
-    let mut part = Partition::new(alloc, 4, 5, 8).ok()?;
+fn drops<R: AllocGlobal + Abort>(rt: &R) -> u32 {
+    let page = lettered(rt, b"abc");
+    let mut part = part_of(rt, 5);
     let how = hashing(64);
     exact_nodes_are_covered();
     match build(&mut part, &page, None, &how, count_entries(&page, &how)) {
         Build::Built { .. } => {
             drop_block(&mut part, &page, &how);
-            Some(part.spare())
+            part.spare()
         }
-        _ => None,
+        _ => panic!(rt; "it isn't built"),
     }
 }

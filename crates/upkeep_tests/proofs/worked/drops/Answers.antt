@@ -1,6 +1,6 @@
 use Rattle.upkeep_tests.proofs.worked.drops.Goals as goal
 
 pub drop_block-requires-clause-covered : goal.drop_block-requires-clause-covered
-drop_block-requires-clause-covered c =
+drop_block-requires-clause-covered g c =
     (c.exact_nodes_are_covered.ensures c.hashing-how.result c.build.new.part.nodes).here
-    c.in_ok-page.page.rows c.in-Built.ensures.part.nodes
+    c.lettered-page.result.rows c.in-Built.ensures.part.nodes
