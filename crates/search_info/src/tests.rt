@@ -1,5 +1,5 @@
 //! The learner from outside: whole runs, a race, a worn word, and threads.
-ghost use Rattle.std.specs.Prelude.{◌≡◌, ◌<◌, ◌≤◌, IfSome, Some};
+ghost use Rattle.std.specs.Prelude.{◌≡◌, ◌<◌, IfSome, Some};
 ghost use Rattle.learning.specs.declared.event.Event.TheVariants as kind;
 ghost use Rattle.search_info.specs.Exchanges.{HasRead};
 ghost use Rattle.search_info.specs.Passes.{knowledge, IsLearnPassOf, HasUnique};
@@ -7,9 +7,8 @@ ghost use Rattle.search_info.specs.Passes.{knowledge, IsLearnPassOf, HasUnique};
 use crate::{Learn, LearnPass, Learner};
 use key_tuple::Match;
 use learning::{BlockFigures, Event, Figures, Info, is_info_of, pack, unpack};
-use std::alloc::Global;
 use std::marker::Brand;
-use std::test::Fail;
+use std::process::Abort;
 use std::thread::join;
 
 const NONE: Match = Match {
@@ -23,31 +22,27 @@ const ONE: Match = Match {
 };
 
 /// A learner of one index with one field.
-fn open_one(alloc: Global, first: &Info, passes: u32) -> Option<(Learner, LearnPass)>
+fn open_one<R: AllocGlobal + Abort>(rt: &R, first: &Info, passes: u32) -> (Learner, LearnPass)
     requires one { 0 < passes }
-    ensures own { IfSome result (λ r. IsLearnPassOf r.0 r.1 × HasUnique r.0 0 1) }
+    ensures own { IsLearnPassOf result.0 result.1 × HasUnique result.0 0 1 }
 {
-    if !is_info_of(1, first) {
-        return None;
-    }
-    let Ok((learner, pass)) = Learner::open(alloc, [*first].as_slice(), [1].as_slice(), passes)
+    assert!(rt; is_info_of(1, first));
+    let Ok((learner, pass)) = Learner::open(rt.alloc(), [*first].as_slice(), [1].as_slice(), passes)
     else {
-        return None;
+        panic!(rt; "no memory")
     };
-    Some((learner, pass))
+    (learner, pass)
 }
 
-/// Cuts the pass in two, if it has these numbers.
-fn cut(learner: &Learner, pass: &mut LearnPass, numbers: (u32, u32)) -> Option<LearnPass>
+/// Cuts the pass in two, which has all numbers up to this one.
+fn cut<R: Abort>(rt: &R, learner: &Learner, pass: &mut LearnPass, all: u32) -> LearnPass
     requires own { IsLearnPassOf learner.now pass.old }
     ensures own { IsLearnPassOf learner.now pass.new }
-    ensures given { IfSome result (λ p. IsLearnPassOf learner.now p) }
+    ensures given { IsLearnPassOf learner.now result }
 {
     let (low, end) = pass.numbers();
-    if (low, end) != numbers || end < 2 || low > end - 2 {
-        return None;
-    }
-    learner.split(pass).ok()
+    assert!(rt; low == 0 && end == all && end >= 2);
+    learner.split(pass).expect(rt, "another pass")
 }
 
 /// Whether a descent on the block lets build.
@@ -97,22 +92,12 @@ fn counts_hits(learner: &Learner, pass: &mut LearnPass) -> bool
     counted
 }
 
-fn word_of_a_run(alloc: Global) -> Option<u64> {
-    let (learner, mut pass) = open_one(alloc, &Info::opening(), 1)?;
-    let as_told = builds_once(&learner, &mut pass) && counts_hits(&learner, &mut pass);
-    let info = learner.recommend(&mut pass, 0);
-    if as_told && is_info_of(1, &info) {
-        Some(pack(&info))
-    } else {
-        None
-    }
-}
-
 #[test]
-fn one_key_of_three_ends_with_its_word(rt: HostRuntime) -> Result<(), Fail> {
-    let word = word_of_a_run(rt.alloc());
-    assert_eq!(rt; word, Some(0x0000_012f_0000_63a7));
-    Ok(())
+fn one_key_of_three_ends_with_its_word(rt: HostRuntime) {
+    let (learner, mut pass) = open_one(&rt, &Info::opening(), 1);
+    assert!(rt; builds_once(&learner, &mut pass) && counts_hits(&learner, &mut pass));
+    let info = learner.recommend(&mut pass, 0);
+    assert!(rt; is_info_of(1, &info) && pack(&info) == 0x0000_012f_0000_63a7);
 }
 
 /// Whether the learner says just this of its index.
@@ -135,20 +120,14 @@ fn is_worn(learner: &Learner, pass: &mut LearnPass) -> bool
     hit == Learn::Worn && miss == Learn::Worn && !builds && block == BlockFigures::opening()
 }
 
-fn stays_worn(alloc: Global) -> Option<bool> {
+#[test]
+fn a_worn_word_stays(rt: HostRuntime) {
     let first = Info {
         events: u32::MAX,
         ..Info::opening()
     };
-    let (learner, mut pass) = open_one(alloc, &first, 1)?;
-    Some(is_worn(&learner, &mut pass) && says(&learner, &mut pass, &first))
-}
-
-#[test]
-fn a_worn_word_stays(rt: HostRuntime) -> Result<(), Fail> {
-    let stays = stays_worn(rt.alloc());
-    assert_eq!(rt; stays, Some(true));
-    Ok(())
+    let (learner, mut pass) = open_one(&rt, &first, 1);
+    assert!(rt; is_worn(&learner, &mut pass) && says(&learner, &mut pass, &first));
 }
 
 /// The load of a hit, without its exchange.
@@ -166,42 +145,39 @@ fn read_hit(learner: &Learner, pass: &mut LearnPass) -> Option<(u64, Info)>
 }
 
 /// Whether a hit that a miss of another pass overtakes is told so, and isn't counted.
-fn is_overtaken(learner: &Learner, pass: &mut LearnPass, other: &mut LearnPass) -> Option<bool>
+fn is_overtaken(learner: &Learner, pass: &mut LearnPass, other: &mut LearnPass) -> bool
     requires own { IsLearnPassOf learner.now pass.old × HasUnique learner.now 0 1 }
     requires others { IsLearnPassOf learner.now other.old }
 {
     let read = Info::opening();
     let found = Info { events: 1, ..read };
-    let (word, before) = read_hit(learner, pass)?;
+    let Some((word, before)) = read_hit(learner, pass) else {
+        return false
+    };
     let counted = learner.after_miss(other, 0);
     let raced = learner.exchange(pass, 0, &Event::Hit, word, &before);
     let told = matches!(&counted, Learn::Learnt { .. }) && raced == Learn::Raced { read, found };
-    Some(word == 0x4002 && told && says(learner, pass, &found))
-}
-
-fn races(alloc: Global) -> Option<bool> {
-    let (learner, mut pass) = open_one(alloc, &Info::opening(), 7)?;
-    let mut other = cut(&learner, &mut pass, (0, 7))?;
-    let upper = other.numbers() == (3, 7);
-    Some(upper && is_overtaken(&learner, &mut pass, &mut other)?)
+    word == 0x4002 && told && says(learner, pass, &found)
 }
 
 #[test]
-fn an_event_that_another_overtakes_is_not_counted(rt: HostRuntime) -> Result<(), Fail> {
-    let overtaken = races(rt.alloc());
-    assert_eq!(rt; overtaken, Some(true));
-    Ok(())
+fn an_event_that_another_overtakes_is_not_counted(rt: HostRuntime) {
+    let (learner, mut pass) = open_one(&rt, &Info::opening(), 7);
+    let mut other = cut(&rt, &learner, &mut pass, 7);
+    assert!(rt; other.numbers() == (3, 7));
+    assert!(rt; is_overtaken(&learner, &mut pass, &mut other));
 }
 
+/// Whether an event is counted.
 fn event(learner: &Learner, pass: &mut LearnPass, is_hit: bool) -> bool
     requires own { IsLearnPassOf learner.now pass.old × HasUnique learner.now 0 1 }
     ensures { IsLearnPassOf learner.now pass.new }
 {
-    if is_hit {
-        let learn = learner.after_hit(pass, 0);
-        return matches!(&learn, Learn::Learnt { .. });
-    }
-    let learn = learner.after_miss(pass, 0);
+    let learn = if is_hit {
+        learner.after_hit(pass, 0)
+    } else {
+        learner.after_miss(pass, 0)
+    };
     matches!(&learn, Learn::Learnt { .. })
 }
 
@@ -219,32 +195,23 @@ fn events(learner: &Learner, mut pass: LearnPass) -> (LearnPass, u32)
     (pass, counted)
 }
 
-/// Whether the word has counted what both passes counted.
-fn has_counted(learner: &Learner, one: (LearnPass, u32), two: (LearnPass, u32)) -> bool
-    requires own { IsLearnPassOf learner.now one.0 × HasUnique learner.now 0 1 }
-    requires others { IsLearnPassOf learner.now two.0 }
+/// The event count that the word has once two passes are one again.
+fn count_of<R: Abort>(rt: &R, learner: &Learner, mut one: LearnPass, two: LearnPass) -> u32
+    requires own { IsLearnPassOf learner.now one × HasUnique learner.now 0 1 }
+    requires others { IsLearnPassOf learner.now two }
 {
-    let (mut one, here) = one;
-    let (two, there) = two;
     let (_, middle) = one.numbers();
     let (next, _) = two.numbers();
-    if middle != next {
-        return false;
-    }
+    assert!(rt; middle == next);
     learner.join(&mut one, two);
-    let info = learner.recommend(&mut one, 0);
-    u64::from(info.events) == u64::from(here) + u64::from(there)
+    learner.recommend(&mut one, 0).events
 }
 
 #[test]
-fn two_threads_count_what_the_word_counts(rt: HostRuntime) -> Result<(), Fail> {
-    let Some((learner, mut pass)) = open_one(rt.alloc(), &Info::opening(), 2) else {
-        panic!(rt; "no memory")
-    };
-    let Some(other) = cut(&learner, &mut pass, (0, 2)) else {
-        panic!(rt; "other numbers")
-    };
-    let (one, two) = join(
+fn two_threads_count_what_the_word_counts(rt: HostRuntime) {
+    let (learner, mut pass) = open_one(&rt, &Info::opening(), 2);
+    let other = cut(&rt, &learner, &mut pass, 2);
+    let ((one, here), (two, there)) = join(
         &rt,
         || -> (LearnPass, u32)
             requires { IsLearnPassOf learner pass × HasUnique learner 0 1 }
@@ -255,6 +222,6 @@ fn two_threads_count_what_the_word_counts(rt: HostRuntime) -> Result<(), Fail> {
             ensures { IsLearnPassOf learner result.0 }
         { events(&learner, other) },
     );
-    assert!(rt; has_counted(&learner, one, two));
-    Ok(())
+    let counted = u64::from(count_of(&rt, &learner, one, two));
+    assert!(rt; counted == u64::from(here) + u64::from(there));
 }

@@ -6,5 +6,5 @@ use Rattle.search_info.specs.History.{Start}
 use Rattle.search_info.proofs.tests.open_one.Goals as goal
 
 pub returns : goal.returns
-returns c = let starts = ap (λ (o : Opening). o.starts) c.in-Ok.ensures.opening ∙ (λ k. zip (c.as_slice.ensures k) (c.as_slice-2.ensures k)) in
+returns g c = let starts = ap (λ (o : Opening). o.starts) c.in-Ok.ensures.opening ∙ (λ k. zip (c.as_slice.ensures k) (c.as_slice-2.ensures k)) in
     record { own = (c.in-Ok.ensures.own, ((c.args.first.now, 1), ap (λ (l : List Start). get_elem? l 0) starts, refl)) }
