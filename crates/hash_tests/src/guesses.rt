@@ -21,8 +21,8 @@ const CHECKS: [(Option<u8>, Mode, Option<bool>); 5] = [
 #[test]
 fn a_first_row_passes_by_its_key_or_by_the_next_row(rt: HostRuntime) {
     let mut page = empty_leaf(&rt);
-    put(&rt, &mut page, b'5');
-    put(&rt, &mut page, b'7');
+    put(&rt, &mut page, &key_of(&rt, b'5'));
+    put(&rt, &mut page, &key_of(&rt, b'7'));
     for (digit, mode, told) in CHECKS.iter() {
         assert!(rt; checked(&rt, &page, *digit, *mode) == *told);
     }
@@ -43,18 +43,22 @@ fn fields_of<R: AllocGlobal + Abort>(rt: &R, digit: Option<u8>) -> Vec<Vec<u8>> 
     fields
 }
 
-// Puts a row in whose key has this digit, and isn't there.
-fn put<R: AllocGlobal + Abort>(rt: &R, page: &mut Page, digit: u8) {
-    let fields = fields_of(rt, Some(digit));
-    assert!(rt; !fields.is_empty());
-    let key = Key::try_new(rt.alloc(), fields).expect(rt, "a key");
+// Puts a row in whose key isn't there.
+fn put<R: AllocGlobal + Abort>(rt: &R, page: &mut Page, key: &Key) {
     let value = value_of(rt.alloc(), b"v").expect(rt, "a value");
     let head = *page.head();
     assert!(rt; head.level == 0 && key.count() == head.fields);
-    let spot = page.search(&key, Mode::Ge);
+    let spot = page.search(key, Mode::Ge);
     assert!(rt; spot.up.fields != key.count());
     key.tuple().is_within_limits();
-    assert!(rt; page.insert_at(&spot, &key, Body::Value(&value)).is_ok());
+    assert!(rt; page.insert_at(&spot, key, Body::Value(&value)).is_ok());
+}
+
+// The key of a row, which has this digit.
+fn key_of<R: AllocGlobal + Abort>(rt: &R, digit: u8) -> Key {
+    let fields = fields_of(rt, Some(digit));
+    assert!(rt; !fields.is_empty());
+    Key::try_new(rt.alloc(), fields).expect(rt, "a key")
 }
 
 fn empty_leaf<R: AllocGlobal + Abort>(rt: &R) -> Page {
