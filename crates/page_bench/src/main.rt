@@ -36,14 +36,22 @@ fn main(rt: HostRuntime) -> ExitCode {
 /// The command's words: the page, how many rows, how long a value, how many rounds, and `times`.
 fn read_plan(rt: &HostRuntime) -> Option<Plan> {
     let mut words = env::args(rt).ok()?;
-    let page = words.nth(1)?;
+    let in_bytes = words.nth(1)?.as_str() == "bytes";
     Some(Plan {
-        in_bytes: page.as_str() == "bytes",
-        rows: words.next()?.as_str().parse::<u32>().ok()?,
-        value: words.next()?.as_str().parse::<u32>().ok()?,
-        rounds: words.next()?.as_str().parse::<u32>().ok()?,
+        in_bytes,
+        rows: number(words.next())?,
+        value: number(words.next())?,
+        rounds: number(words.next())?,
         timed: words.next().is_some(),
     })
+}
+
+/// The number that a word tells, if there is one.
+fn number(word: Option<String>) -> Option<u32> {
+    match word {
+        Some(word) => word.as_str().parse::<u32>().ok(),
+        None => None,
+    }
 }
 
 fn report(rt: &HostRuntime, plan: Plan) -> ExitCode {
