@@ -2,11 +2,11 @@
 use crate::asked::Line;
 use crate::columns::may_stand;
 use crate::judging::Lie;
-use crate::words::{Reader, number_of, words_of};
+use crate::words::{Reader, number_of};
 use std::alloc::Global;
 
 /// What a line was told.
-#[derive(Clone, Copy, PartialEq, Eq)]
+#[derive(Clone, Copy)]
 pub(crate) enum Said<'a> {
     Done,
     Found(&'a str),
@@ -36,8 +36,7 @@ pub(crate) fn read_lanes<'a>(
     let mut lane: u64 = 0;
     for lines in asked {
         lane = lane.wrapping_add(1);
-        reader.expect_line(format!(in alloc; "lane {lane}")?.as_str())?;
-        lanes.push(read_answers(alloc, reader, lines)?)?;
+        lanes.push(read_answers(alloc, reader, lane, lines)?)?;
     }
     Ok(lanes)
 }
@@ -45,8 +44,10 @@ pub(crate) fn read_lanes<'a>(
 fn read_answers<'a>(
     alloc: Global,
     reader: &mut Reader<'a>,
+    lane: u64,
     lines: &[Line<'a>],
 ) -> Result<Vec<Answer<'a>>, Lie> {
+    reader.expect_lane(lane)?;
     let mut answers = Vec::new(alloc);
     for line in lines {
         answers.push(read_answer(alloc, reader, *line)?)?;
@@ -59,7 +60,7 @@ fn read_answer<'a>(
     reader: &mut Reader<'a>,
     line: Line<'a>,
 ) -> Result<Answer<'a>, Lie> {
-    let words = words_of(alloc, reader.take_line()?)?;
+    let words = reader.take_words(alloc)?;
     answer_of(line, &words).ok_or(reader.lie())
 }
 
@@ -91,20 +92,21 @@ fn said_of<'a>(words: &[&'a str]) -> Option<(u64, Said<'a>, Option<u64>)> {
 
 /// What a line was told by a verb, and its point, from the words behind it.
 fn told_of<'a>(verb: &str, words: &[&'a str]) -> Option<(Said<'a>, Option<u64>)> {
-    match words {
-        [] if verb == "space-full" => Some((Said::SpaceFull, None)),
-        [count] if verb == "log-full" => Some((Said::LogFull, Some(number_of(count)?))),
-        [shown @ .., point] => Some((said_with(verb, shown)?, Some(point_of(point)?))),
-        _ => None,
-    }
+    let [shown @ .., last] = words else {
+        return (verb == "space-full").then_some((Said::SpaceFull, None));
+    };
+    let said = said_with(verb, shown)?;
+    let point = point_of(said, last)?;
+    Some((said, Some(point)))
 }
 
 /// What a verb says with the words between it and the point.
 fn said_with<'a>(verb: &str, shown: &[&'a str]) -> Option<Said<'a>> {
     match shown {
         [] => said_alone(verb),
-        [value] if verb == "found" => Some(Said::Found(value)),
-        [key, value] if verb == "found" => Some(Said::Row(key, value)),
+        _ if verb != "found" => None,
+        [value] => Some(Said::Found(value)),
+        [key, value] => Some(Said::Row(key, value)),
         _ => None,
     }
 }
@@ -114,15 +116,15 @@ fn said_alone<'a>(verb: &str) -> Option<Said<'a>> {
         "ok" => Some(Said::Done),
         "absent" => Some(Said::Absent),
         "duplicate" => Some(Said::Duplicate),
+        "log-full" => Some(Said::LogFull),
         _ => None,
     }
 }
 
-fn point_of(word: &str) -> Option<u64> {
-    let (before, number) = word.split_once('@')?;
-    if before.is_empty() {
-        number_of(number)
-    } else {
-        None
+/// The point that a word spells behind what was said: the count of `log-full` stands alone.
+fn point_of(said: Said<'_>, word: &str) -> Option<u64> {
+    match said {
+        Said::LogFull => number_of(word),
+        _ => number_of(word.strip_prefix('@')?),
     }
 }

@@ -95,21 +95,34 @@ fn line_of<'a>(indexes: &[Index<'_>], number: u64, words: &[&'a str]) -> Option<
     let [verb, name, rest @ ..] = words else {
         return None;
     };
-    let (key, act) = match rest {
-        [key] => (*key, act_alone(verb)?),
-        [first, second] => act_with(verb, first, second)?,
-        _ => return None,
-    };
-    let index = indexes.iter().position(|index| index.name == *name)?;
-    if !fits(act, count_fields(key)?, indexes.get(index)?.fields) {
-        return None;
-    }
-    Some(Line {
+    let (key, act) = asked_of(verb, rest)?;
+    let (index, fields) = index_named(indexes, name)?;
+    let line = Line {
         number,
         index,
         act,
         key,
-    })
+    };
+    fits(act, count_fields(key)?, fields).then_some(line)
+}
+
+/// The place of the index of this name, and how many fields its keys have.
+fn index_named(indexes: &[Index<'_>], name: &str) -> Option<(usize, u64)> {
+    for (place, index) in indexes.iter().enumerate() {
+        if index.name == name {
+            return Some((place, index.fields));
+        }
+    }
+    None
+}
+
+/// The key or the tuple in the words behind an index, and what the verb asks of it.
+fn asked_of<'a>(verb: &str, words: &[&'a str]) -> Option<(&'a str, Act<'a>)> {
+    match words {
+        [key] => Some((key, act_alone(verb)?)),
+        [first, second] => act_with(verb, first, second),
+        _ => None,
+    }
 }
 
 /// What a verb asks of a key, without another word.

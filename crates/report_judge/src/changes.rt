@@ -1,7 +1,7 @@
 //! The lists of changes, one of each index.
 use crate::asked::{Act, Index};
 use crate::judging::Lie;
-use crate::words::{Reader, number_of, words_of};
+use crate::words::{Reader, number_of};
 use std::alloc::Global;
 
 /// A change, with the lane and the line that it names.
@@ -20,14 +20,13 @@ pub(crate) fn read_lists<'a>(
 ) -> Result<Vec<Vec<Change<'a>>>, Lie> {
     let mut lists = Vec::new(alloc);
     for index in indexes {
-        let count = read_count(alloc, reader, index.name)?;
-        lists.push(read_changes(alloc, reader, count)?)?;
+        lists.push(read_changes(alloc, reader, index.name)?)?;
     }
     Ok(lists)
 }
 
 fn read_count(alloc: Global, reader: &mut Reader<'_>, name: &str) -> Result<u64, Lie> {
-    let words = words_of(alloc, reader.take_line()?)?;
+    let words = reader.take_words(alloc)?;
     count_of(name, &words).ok_or(reader.lie())
 }
 
@@ -41,8 +40,9 @@ fn count_of(name: &str, words: &[&str]) -> Option<u64> {
 fn read_changes<'a>(
     alloc: Global,
     reader: &mut Reader<'a>,
-    count: u64,
+    name: &str,
 ) -> Result<Vec<Change<'a>>, Lie> {
+    let count = read_count(alloc, reader, name)?;
     let mut changes = Vec::new(alloc);
     for before in 0..count {
         changes.push(read_change(alloc, reader, before.wrapping_add(1))?)?;
@@ -51,7 +51,7 @@ fn read_changes<'a>(
 }
 
 fn read_change<'a>(alloc: Global, reader: &mut Reader<'a>, number: u64) -> Result<Change<'a>, Lie> {
-    let words = words_of(alloc, reader.take_line()?)?;
+    let words = reader.take_words(alloc)?;
     change_of(number, &words).ok_or(reader.lie())
 }
 

@@ -1,6 +1,5 @@
 //! The two last words of answers, and the statistics that count them.
 use crate::answers::Answer;
-use crate::drawn::add;
 use std::alloc::{AllocError, Global};
 
 /// What a line of statistics says after the name, where all answers have two dashes.
@@ -41,28 +40,29 @@ const DESCENTS: [&str; 8] = [
     "unequal",
 ];
 
+/// What became of a build.
+const BUILDS: [&str; 4] = ["no", "built", "same", "arena"];
+
+/// Why a search wasn't counted.
+const UNCOUNTED: [&str; 2] = ["raced", "worn"];
+
 /// Whether the two words may stand beside one another.
 pub(crate) fn may_stand(how: &str, note: &str) -> bool {
     match how {
         "-" => note == "-",
-        "hit" => note == "-" || is_uncounted(note),
-        _ => is_descent(how) && (is_build(note) || is_uncounted(note)),
+        "hit" => note == "-" || is_among(note, &UNCOUNTED),
+        _ => is_among(how, &DESCENTS) && (is_among(note, &BUILDS) || is_among(note, &UNCOUNTED)),
     }
 }
 
-/// Whether a word tells why a search went down the tree.
-fn is_descent(how: &str) -> bool {
-    DESCENTS.iter().any(|word| *word == how)
-}
-
-/// Whether a note tells what became of a build.
-fn is_build(note: &str) -> bool {
-    note == "no" || note == "built" || note == "same" || note == "arena"
-}
-
-/// Whether a note tells that a search wasn't counted.
-fn is_uncounted(note: &str) -> bool {
-    note == "raced" || note == "worn"
+/// Whether a word is one of these.
+fn is_among(word: &str, words: &[&str]) -> bool {
+    for one in words {
+        if *one == word {
+            return true;
+        }
+    }
+    false
 }
 
 /// The line of an index's statistics, by the answers of all lanes.
@@ -72,10 +72,10 @@ pub(crate) fn statistics_of(
     index: usize,
     lanes: &[Vec<Answer<'_>>],
 ) -> Result<String, AllocError> {
-    let mut line = format!(in alloc; "stats {name}")?;
+    let mut line = String::new(alloc);
+    write!(line, "stats {name}")?;
     for word in COUNTED.iter() {
-        let times = times(word, index, lanes);
-        add(&mut line, format!(in alloc; " {word} {times}"))?;
+        write!(line, " {word} {}", times(word, index, lanes))?;
     }
     Ok(line)
 }

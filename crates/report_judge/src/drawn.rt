@@ -14,17 +14,11 @@ fn draw_below(state: &mut u64, most: u64) -> u64 {
     draw(state).checked_rem(most).unwrap_or(0)
 }
 
-/// Adds what was made to the text.
-pub(crate) fn add(text: &mut String, made: Result<String, AllocError>) -> Result<(), AllocError> {
-    text.push_str(made?.as_str())
-}
-
 /// The schema of so many indexes, `t0` first, with keys of 1 to 4 fields.
 pub fn schema_text(alloc: Global, indexes: u64) -> Result<String, AllocError> {
     let mut schema = String::new(alloc);
     for index in 0..indexes {
-        let fields = index % 4 + 1;
-        add(&mut schema, format!(in alloc; "index t{index} {fields}\n"))?;
+        write!(schema, "index t{index} {}\n", index % 4 + 1)?;
     }
     Ok(schema)
 }
@@ -45,33 +39,54 @@ pub fn lane_text(
         let index = draw_below(&mut state, indexes);
         let number = draw_below(&mut state, keys);
         let line = before.wrapping_add(1);
-        add(
-            &mut text,
-            lane_line(alloc, &mut state, lane, line, index, number),
-        )?;
+        add_line(&mut text, &mut state, lane, line, index, number)?;
     }
     Ok(text)
 }
 
-/// A line of such a lane, about the key of this number.
-fn lane_line(
-    alloc: Global,
+/// Adds a line of such a lane, about the key of this number.
+fn add_line(
+    text: &mut String,
     state: &mut u64,
     lane: u64,
     line: u64,
     index: u64,
     number: u64,
-) -> Result<String, AllocError> {
-    let key = key_text(alloc, index, number)?;
-    let key = key.as_str();
-    match draw_below(state, 40) {
-        0 => String::from_str(alloc, "\n"),
-        1 => String::from_str(alloc, "# says nothing\n"),
-        2..10 => format!(in alloc; "get t{index} {key}\n"),
-        10..16 => seek_line(alloc, state, index, number),
-        16..25 => format!(in alloc; "put t{index} {key} v{lane}-{line}\n"),
-        25..30 => format!(in alloc; "set t{index} {key} w{line}-{lane}-{line}\n"),
-        _ => format!(in alloc; "del t{index} {key}\n"),
+) -> Result<(), AllocError> {
+    let drawn = draw_below(state, 40);
+    match drawn {
+        0 => text.push('\n'),
+        1 => text.push_str("# says nothing\n"),
+        10..16 => add_seek(text, state, index, number),
+        _ => {
+            add_asked(text, verb_of(drawn), index, number)?;
+            add_value(text, drawn, lane, line)
+        }
+    }
+}
+
+/// The verb of such a line, by the number that was drawn for it.
+fn verb_of(drawn: u64) -> &'static str {
+    match drawn {
+        2..10 => "get",
+        16..25 => "put",
+        25..30 => "set",
+        _ => "del",
+    }
+}
+
+/// Adds a verb, an index, and its key of this number.
+fn add_asked(text: &mut String, verb: &str, index: u64, number: u64) -> Result<(), AllocError> {
+    write!(text, "{verb} t{index} ")?;
+    add_key(text, index, number)
+}
+
+/// Adds the value of a put or a set, and ends the line.
+fn add_value(text: &mut String, drawn: u64, lane: u64, line: u64) -> Result<(), AllocError> {
+    match drawn {
+        16..25 => write!(text, " v{lane}-{line}\n"),
+        25..30 => write!(text, " w{line}-{lane}-{line}\n"),
+        _ => text.push('\n'),
     }
 }
 
@@ -89,28 +104,29 @@ pub fn seek_lane_text(
     for _ in 0..lines {
         let index = draw_below(&mut state, 4);
         let number = draw_below(&mut state, keys);
-        add(
-            &mut text,
-            seek_or_change(alloc, &mut state, index, number, value),
-        )?;
+        add_seek_or_change(&mut text, &mut state, index, number, value)?;
     }
     Ok(text)
 }
 
-/// A line of such a lane.
-fn seek_or_change(
-    alloc: Global,
+/// Adds a line of such a lane.
+fn add_seek_or_change(
+    text: &mut String,
     state: &mut u64,
     index: u64,
     number: u64,
     value: &str,
-) -> Result<String, AllocError> {
-    let key = key_text(alloc, index, number)?;
-    let key = key.as_str();
+) -> Result<(), AllocError> {
     match draw_below(state, 4) {
-        0 => format!(in alloc; "put t{index} {key} {value}\n"),
-        1 => format!(in alloc; "del t{index} {key}\n"),
-        _ => seek_line(alloc, state, index, number),
+        0 => {
+            add_asked(text, "put", index, number)?;
+            write!(text, " {value}\n")
+        }
+        1 => {
+            add_asked(text, "del", index, number)?;
+            text.push('\n')
+        }
+        _ => add_seek(text, state, index, number),
     }
 }
 
@@ -140,26 +156,22 @@ pub fn slices_of<'a>(alloc: Global, texts: &'a [String]) -> Result<Vec<&'a str>,
     Ok(slices)
 }
 
-/// A key of the index by its number. Keys of two fields and more share their beginnings.
-fn key_text(alloc: Global, index: u64, key: u64) -> Result<String, AllocError> {
-    let mut text = String::new(alloc);
+/// Adds a key of the index by its number. Keys of two fields and more share their beginnings.
+fn add_key(text: &mut String, index: u64, key: u64) -> Result<(), AllocError> {
     for _ in 0..index % 4 {
-        add(&mut text, format!(in alloc; "{},", key / 4))?;
+        write!(text, "{},", key / 4)?;
     }
-    add(&mut text, format!(in alloc; "k{key}"))?;
-    Ok(text)
+    write!(text, "k{key}")
 }
 
-/// A seek by the key of this number, or by its first fields.
-fn seek_line(alloc: Global, state: &mut u64, index: u64, key: u64) -> Result<String, AllocError> {
-    let mode = mode_word(state);
-    let shared = draw_below(state, index % 4 + 1);
-    let tuple = if shared == 0 {
-        key_text(alloc, index, key)?
-    } else {
-        beginning_text(alloc, key, shared)?
-    };
-    format!(in alloc; "seek t{index} {mode} {}\n", tuple.as_str())
+/// Adds a seek by the key of this number, or by its first fields.
+fn add_seek(text: &mut String, state: &mut u64, index: u64, key: u64) -> Result<(), AllocError> {
+    write!(text, "seek t{index} {} ", mode_word(state))?;
+    match draw_below(state, index % 4 + 1) {
+        0 => add_key(text, index, key)?,
+        shared => add_beginning(text, key, shared)?,
+    }
+    text.push('\n')
 }
 
 /// A mode's word.
@@ -172,11 +184,11 @@ fn mode_word(state: &mut u64) -> &'static str {
     }
 }
 
-/// So many of the fields that a key shares with others, one at least.
-fn beginning_text(alloc: Global, key: u64, fields: u64) -> Result<String, AllocError> {
-    let mut text = format!(in alloc; "{}", key / 4)?;
+/// Adds so many of the fields that a key shares with others, one at least.
+fn add_beginning(text: &mut String, key: u64, fields: u64) -> Result<(), AllocError> {
+    write!(text, "{}", key / 4)?;
     for _ in 1..fields {
-        add(&mut text, format!(in alloc; ",{}", key / 4))?;
+        write!(text, ",{}", key / 4)?;
     }
-    Ok(text)
+    Ok(())
 }

@@ -1,6 +1,6 @@
 //! The answers against the changes.
 use crate::answers::{Answer, Said};
-use crate::asked::Act;
+use crate::asked::{Act, Line};
 use crate::changes::Change;
 use crate::history::History;
 use crate::judging::Lie;
@@ -43,19 +43,22 @@ fn check_list(report: &Report<'_>, index: usize, list: &[Change<'_>]) -> Result<
     Ok(())
 }
 
+/// The item of this number, counted from 1.
+fn numbered<T>(items: &[T], number: u64) -> Option<&T> {
+    let place = number.checked_sub(1)?;
+    items.get(usize::try_from(place).ok()?)
+}
+
 /// The answer to the line that a change names.
 fn answer_to<'a>(report: &Report<'a>, change: &Change<'_>) -> Option<Answer<'a>> {
-    let place = usize::try_from(change.lane.checked_sub(1)?).ok()?;
-    let answers = report.lanes.get(place)?;
-    let found = answers
-        .binary_search_by_key(&change.line, |answer| answer.line.number)
-        .ok()?;
-    answers.get(found).copied()
+    let answers = numbered(&report.lanes, change.lane)?;
+    let found = answers.binary_search_by_key(&change.line, |answer| answer.line.number);
+    answers.get(found.ok()?).copied()
 }
 
 fn makes(answer: &Answer<'_>, index: usize, number: u64, change: &Change<'_>) -> bool {
     let line = answer.line;
-    answer.said == Said::Done
+    matches!(answer.said, Said::Done)
         && answer.point == Some(number)
         && line.index == index
         && line.act == change.act
@@ -81,10 +84,9 @@ impl<'r, 'a> Evidence<'r, 'a> {
     /// Whether the answer is one to such a line, and that of the map at its point. One without a
     /// point may come of a put or a set alone, and only where the pages are few.
     fn is_true(&self, answer: &Answer<'_>) -> bool {
-        match (answer.line.act, answer.point) {
-            (_, Some(point)) => self.is_true_at(answer, point),
-            (Act::Put(_), None) | (Act::Set(_), None) => self.pages_are_few,
-            _ => false,
+        match answer.point {
+            Some(point) => self.is_true_at(answer, point),
+            None => self.pages_are_few && writes_row(answer.line.act),
         }
     }
 
@@ -96,27 +98,11 @@ impl<'r, 'a> Evidence<'r, 'a> {
         if point > history.length() {
             return false;
         }
-        let held = history.value_at(answer.line.key, point);
         let is_full = point == self.most_changes && point == history.length();
-        match (answer.line.act, answer.said) {
-            (Act::Get, Said::Found(value)) => held == Some(value),
-            (Act::Get, Said::Absent) => held.is_none(),
-            (Act::Put(_), Said::Done) => self.is_listed(answer, point),
-            (Act::Put(_), Said::Duplicate) => held.is_some(),
-            (Act::Put(_), Said::LogFull) => is_full && held.is_none(),
-            (Act::Set(_), Said::Done) => self.is_listed(answer, point),
-            (Act::Set(_), Said::Absent) => held.is_none(),
-            (Act::Set(_), Said::LogFull) => is_full && held.is_some(),
-            (Act::Del, Said::Done) => self.is_listed(answer, point),
-            (Act::Del, Said::Absent) => held.is_none(),
-            (Act::Del, Said::LogFull) => is_full && held.is_some(),
-            (Act::Seek(reach), Said::Row(key, value)) => {
-                history.row_at(reach, answer.line.key, point) == Some((key, value))
-            }
-            (Act::Seek(reach), Said::Absent) => {
-                history.row_at(reach, answer.line.key, point).is_none()
-            }
-            _ => false,
+        match answer.said {
+            Said::Done => is_change(answer.line.act) && self.is_listed(answer, point),
+            Said::LogFull => is_full && is_allowed(&answer.line, history, point),
+            _ => shows(answer, history, point),
         }
     }
 
@@ -129,8 +115,48 @@ impl<'r, 'a> Evidence<'r, 'a> {
     }
 
     fn change_at(&self, index: usize, number: u64) -> Option<Change<'a>> {
-        let place = usize::try_from(number.checked_sub(1)?).ok()?;
-        self.lists.get(index)?.get(place).copied()
+        numbered(self.lists.get(index)?, number).copied()
+    }
+}
+
+/// Whether an act changes the map where it is done.
+fn is_change(act: Act<'_>) -> bool {
+    !matches!(act, Act::Get | Act::Seek(_))
+}
+
+/// Whether an act writes a row where it is done.
+fn writes_row(act: Act<'_>) -> bool {
+    matches!(act, Act::Put(_) | Act::Set(_))
+}
+
+/// Whether the map after so many changes allows the change that the line asks for.
+fn is_allowed(line: &Line<'_>, history: &History<'_>, point: u64) -> bool {
+    let is_there = history.value_at(line.key, point).is_some();
+    match line.act {
+        Act::Put(_) => !is_there,
+        Act::Set(_) | Act::Del => is_there,
+        _ => false,
+    }
+}
+
+/// Whether the answer tells of the row that its line asks about as it is after so many changes.
+fn shows(answer: &Answer<'_>, history: &History<'_>, point: u64) -> bool {
+    let row = row_asked(&answer.line, history, point);
+    match (answer.line.act, answer.said) {
+        (Act::Get, Said::Found(value)) => row == Some((answer.line.key, value)),
+        (Act::Seek(_), Said::Row(key, value)) => row == Some((key, value)),
+        (Act::Put(_), Said::Duplicate) => row.is_some(),
+        (Act::Put(_), _) => false,
+        (_, Said::Absent) => row.is_none(),
+        _ => false,
+    }
+}
+
+/// The row that the line asks about, after so many changes of the list.
+fn row_asked<'k>(line: &Line<'k>, history: &History<'k>, point: u64) -> Option<(&'k str, &'k str)> {
+    match line.act {
+        Act::Seek(reach) => history.row_at(reach, line.key, point),
+        _ => Some((line.key, history.value_at(line.key, point)?)),
     }
 }
 
@@ -163,7 +189,7 @@ pub(crate) fn rows_written(lists: &[Vec<Change<'_>>]) -> u64 {
 fn rows_of(list: &[Change<'_>]) -> u64 {
     let mut rows: u64 = 0;
     for change in list {
-        if let Act::Put(_) | Act::Set(_) = change.act {
+        if writes_row(change.act) {
             rows = rows.wrapping_add(1);
         }
     }

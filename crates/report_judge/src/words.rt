@@ -19,6 +19,11 @@ pub(crate) fn number_of(word: &str) -> Option<u64> {
     word.parse::<u64>().ok()
 }
 
+/// The number of the lane whose answers begin with a line.
+fn lane_of(line: &str) -> Option<u64> {
+    number_of(line.strip_prefix("lane ")?)
+}
+
 /// What is left of a report, and how many of its lines were taken.
 #[derive(Drop)]
 pub(crate) struct Reader<'a> {
@@ -47,6 +52,21 @@ impl<'a> Reader<'a> {
                 Ok(line)
             }
             None => Err(self.lie()),
+        }
+    }
+
+    /// The words of the next line.
+    pub(crate) fn take_words(&mut self, alloc: Global) -> Result<Vec<&'a str>, Lie> {
+        let line = self.take_line()?;
+        Ok(words_of(alloc, line)?)
+    }
+
+    /// The line with which the answers of this lane begin.
+    pub(crate) fn expect_lane(&mut self, lane: u64) -> Result<(), Lie> {
+        if lane_of(self.take_line()?) == Some(lane) {
+            Ok(())
+        } else {
+            Err(self.lie())
         }
     }
 
