@@ -1,10 +1,10 @@
 //! Lanes dealt by chance to plain maps, a line at a time: such a run's report is legal.
+use crate::setup::MEMORY;
 use crate::tables::{Table, new_tables};
 use report_judge::{
-    COUNTS, Index, Lie, Line, draw, judge, lane_texts, read_lanes, read_schema, schema_text,
-    slices_of,
+    COUNTS, Index, Line, draw, judge, lane_texts, read_lanes, read_schema, schema_text, slices_of,
 };
-use std::alloc::{AllocError, Global};
+use std::process::Abort;
 use std::slice::Iter;
 
 /// A lane: the lines that it hasn't worked yet, and what it was told.
@@ -22,23 +22,22 @@ struct Deal<'l, 'a> {
 
 impl<'l, 'a> Deal<'l, 'a> {
     /// Works the next line of the lane at this place, and says whether there was one.
-    fn step(&mut self, alloc: Global, place: usize) -> Result<bool, Lie> {
+    fn step<R: Abort>(&mut self, rt: &R, place: usize) -> bool {
         let Some(lane) = self.lanes.get_mut(place) else {
-            return Ok(false);
+            return false;
         };
         let Some(line) = lane.left.next() else {
-            return Ok(false);
+            return false;
         };
         let Some(table) = self.tables.get_mut(line.index) else {
-            return Ok(false);
+            return false;
         };
-        let answer = table.answer(alloc, place.wrapping_add(1), line)?;
-        lane.answers.push_str(answer.as_str())?;
-        Ok(true)
+        table.answer(rt, place.wrapping_add(1), line, &mut lane.answers);
+        true
     }
 
     /// Works so many lines, each time one of a lane that is drawn.
-    fn work(&mut self, alloc: Global, lines: usize, seed: u64) -> Result<(), Lie> {
+    fn work<R: Abort>(&mut self, rt: &R, lines: usize, seed: u64) {
         let mut left = lines;
         let mut state = seed;
         for _ in 0..u64::MAX {
@@ -47,11 +46,10 @@ impl<'l, 'a> Deal<'l, 'a> {
             }
             let drawn = draw(&mut state) as usize;
             let place = drawn.checked_rem(self.lanes.len()).unwrap_or(0);
-            if self.step(alloc, place)? {
+            if self.step(rt, place) {
                 left = left.wrapping_sub(1);
             }
         }
-        Ok(())
     }
 }
 
@@ -64,126 +62,92 @@ fn count_lines(asked: &[Vec<Line<'_>>]) -> usize {
     count
 }
 
-fn new_lanes<'l, 'a>(alloc: Global, asked: &'l [Vec<Line<'a>>]) -> Result<Vec<Lane<'l, 'a>>, Lie> {
-    let mut lanes = Vec::new(alloc);
+fn new_lanes<'l, 'a, R: AllocGlobal + Abort>(
+    rt: &R,
+    asked: &'l [Vec<Line<'a>>],
+) -> Vec<Lane<'l, 'a>> {
+    let mut lanes = Vec::new(rt.alloc());
     for lines in asked {
-        lanes.push(Lane {
+        let lane = Lane {
             left: lines.iter(),
-            answers: String::new(alloc),
-        })?;
+            answers: String::new(rt.alloc()),
+        };
+        lanes.push(lane).expect(rt, MEMORY);
     }
-    Ok(lanes)
+    lanes
 }
 
-fn put_answers(alloc: Global, text: &mut String, lanes: &[Lane<'_, '_>]) -> Result<(), AllocError> {
+fn add_answers<R: Abort>(rt: &R, text: &mut String, lanes: &[Lane<'_, '_>]) {
     let mut number: u64 = 0;
     for lane in lanes {
         number = number.wrapping_add(1);
-        text.push_str(format!(in alloc; "lane {number}\n")?.as_str())?;
-        text.push_str(lane.answers.as_str())?;
+        write!(text, "lane {number}\n{}", lane.answers).expect(rt, MEMORY);
     }
-    Ok(())
 }
 
-fn put_list(
-    alloc: Global,
-    text: &mut String,
-    name: &str,
-    table: &Table<'_>,
-) -> Result<(), AllocError> {
-    text.push_str(format!(in alloc; "changes {name} {}\n", table.count)?.as_str())?;
-    text.push_str(table.list.as_str())
+fn add_lists<R: Abort>(rt: &R, text: &mut String, tables: &[Table<'_>]) {
+    for table in tables {
+        let (name, count) = (table.name, table.count);
+        write!(text, "changes {name} {count}\n{}", table.list).expect(rt, MEMORY);
+    }
 }
 
-fn put_lists(
-    alloc: Global,
-    text: &mut String,
-    indexes: &[Index<'_>],
-    tables: &[Table<'_>],
-) -> Result<(), AllocError> {
-    for (index, table) in indexes.iter().zip(tables.iter()) {
-        put_list(alloc, text, index.name, table)?;
+fn add_statistics<R: Abort>(rt: &R, text: &mut String, tables: &[Table<'_>]) {
+    for table in tables {
+        write!(text, "stats {} {COUNTS}\n", table.name).expect(rt, MEMORY);
     }
-    Ok(())
-}
-
-fn put_statistics(
-    alloc: Global,
-    text: &mut String,
-    indexes: &[Index<'_>],
-) -> Result<(), AllocError> {
-    for index in indexes {
-        text.push_str(format!(in alloc; "stats {} {COUNTS}\n", index.name)?.as_str())?;
-    }
-    Ok(())
 }
 
 /// The lanes' lines, worked in an order that the seed draws.
-fn make_deal<'l, 'a>(
-    alloc: Global,
-    indexes: &[Index<'_>],
+fn make_deal<'l, 'a, R: AllocGlobal + Abort>(
+    rt: &R,
+    indexes: &[Index<'a>],
     asked: &'l [Vec<Line<'a>>],
     seed: u64,
-) -> Result<Deal<'l, 'a>, Lie> {
-    let tables = new_tables(alloc, indexes.len())?;
-    let lanes = new_lanes(alloc, asked)?;
+) -> Deal<'l, 'a> {
+    let tables = new_tables(rt, indexes);
+    let lanes = new_lanes(rt, asked);
     let mut deal = Deal { tables, lanes };
-    deal.work(alloc, count_lines(asked), seed)?;
-    Ok(deal)
-}
-
-/// The report of what the lanes were told.
-fn report_of(
-    alloc: Global,
-    indexes: &[Index<'_>],
-    deal: &Deal<'_, '_>,
-) -> Result<String, AllocError> {
-    let mut text = String::from_str(alloc, "ahi run\n")?;
-    put_answers(alloc, &mut text, &deal.lanes)?;
-    put_lists(alloc, &mut text, indexes, &deal.tables)?;
-    put_statistics(alloc, &mut text, indexes)?;
-    text.push_str("end\n")?;
-    Ok(text)
+    deal.work(rt, count_lines(asked), seed);
+    deal
 }
 
 /// The report of a run of these lanes' lines, whose order the seed draws.
-pub(crate) fn deal_out(
-    alloc: Global,
+pub(crate) fn deal_out<R: AllocGlobal + Abort>(
+    rt: &R,
     indexes: &[Index<'_>],
     asked: &[Vec<Line<'_>>],
     seed: u64,
-) -> Result<String, Lie> {
-    let deal = make_deal(alloc, indexes, asked, seed)?;
-    Ok(report_of(alloc, indexes, &deal)?)
+) -> String {
+    let deal = make_deal(rt, indexes, asked, seed);
+    let mut text = String::new(rt.alloc());
+    text.push_str("ahi run\n").expect(rt, MEMORY);
+    add_answers(rt, &mut text, &deal.lanes);
+    add_lists(rt, &mut text, &deal.tables);
+    add_statistics(rt, &mut text, &deal.tables);
+    text.push_str("end\n").expect(rt, MEMORY);
+    text
 }
 
 /// The same of the lanes' texts.
-fn dealt_report(alloc: Global, schema: &str, lanes: &[&str], seed: u64) -> Result<String, Lie> {
-    let indexes = read_schema(alloc, schema)?;
-    let asked = read_lanes(alloc, &indexes, lanes)?;
-    deal_out(alloc, &indexes, &asked, seed)
+fn dealt_report<R: AllocGlobal + Abort>(rt: &R, schema: &str, lanes: &[&str], seed: u64) -> String {
+    let indexes = read_schema(rt.alloc(), schema).expect(rt, "a schema");
+    let asked = read_lanes(rt.alloc(), &indexes, lanes).expect(rt, "lanes");
+    deal_out(rt, &indexes, &asked, seed)
 }
 
 /// Whether a run whose order the seed draws is legal.
-fn judge_dealt(alloc: Global, schema: &str, lanes: &[&str], seed: u64) -> Result<(), Lie> {
-    let report = dealt_report(alloc, schema, lanes, seed)?;
-    judge(alloc, schema, lanes, report.as_bytes())
-}
-
-/// Whether drawn lanes are legal with each of three seeds.
-fn are_legal(alloc: Global) -> Option<bool> {
-    let schema = schema_text(alloc, 3).ok()?;
-    let texts = lane_texts(alloc, 5, 8, 500, 3, 6).ok()?;
-    let lanes = slices_of(alloc, &texts).ok()?;
-    for seed in 0..3 {
-        if judge_dealt(alloc, schema.as_str(), &lanes, seed) != Ok(()) {
-            return Some(false);
-        }
-    }
-    Some(true)
+fn is_legal<R: AllocGlobal + Abort>(rt: &R, schema: &str, lanes: &[&str], seed: u64) -> bool {
+    let report = dealt_report(rt, schema, lanes, seed);
+    judge(rt.alloc(), schema, lanes, report.as_bytes()) == Ok(())
 }
 
 #[test]
 fn dealt_lanes_are_legal(rt: HostRuntime) {
-    assert_eq!(rt; are_legal(rt.alloc()), Some(true));
+    let schema = schema_text(rt.alloc(), 3).expect(&rt, MEMORY);
+    let texts = lane_texts(rt.alloc(), 5, 8, 500, 3, 6).expect(&rt, MEMORY);
+    let lanes = slices_of(rt.alloc(), &texts).expect(&rt, MEMORY);
+    for seed in 0..3 {
+        assert!(rt; is_legal(&rt, schema.as_str(), &lanes, seed));
+    }
 }

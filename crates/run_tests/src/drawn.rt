@@ -1,6 +1,7 @@
 //! Lanes are drawn alike by the same numbers alone.
+use crate::setup::MEMORY;
 use report_judge::{lane_text, schema_text};
-use std::alloc::Global;
+use std::process::Abort;
 
 fn count_of_lines(text: &str, verb: &str) -> u64 {
     let mut count: u64 = 0;
@@ -12,18 +13,17 @@ fn count_of_lines(text: &str, verb: &str) -> u64 {
     count
 }
 
-/// Whether two lanes are drawn alike by their seeds and numbers.
-fn are_alike(alloc: Global, seeds: (u64, u64), lanes: (u64, u64)) -> Option<bool> {
-    let first = lane_text(alloc, seeds.0, lanes.0, 400, 3, 6).ok()?;
-    let second = lane_text(alloc, seeds.1, lanes.1, 400, 3, 6).ok()?;
-    Some(first.as_str() == second.as_str())
+/// A lane of 400 lines, drawn by this seed and this number.
+fn drawn<R: AllocGlobal + Abort>(rt: &R, seed: u64, lane: u64) -> String {
+    lane_text(rt.alloc(), seed, lane, 400, 3, 6).expect(rt, MEMORY)
 }
 
 #[test]
 fn lanes_are_drawn_by_their_numbers(rt: HostRuntime) {
-    assert_eq!(rt; are_alike(rt.alloc(), (7, 7), (1, 1)), Some(true));
-    assert_eq!(rt; are_alike(rt.alloc(), (7, 7), (1, 2)), Some(false));
-    assert_eq!(rt; are_alike(rt.alloc(), (7, 8), (1, 1)), Some(false));
+    let lane = drawn(&rt, 7, 1);
+    assert!(rt; drawn(&rt, 7, 1).as_str() == lane.as_str());
+    assert!(rt; drawn(&rt, 7, 2).as_str() != lane.as_str());
+    assert!(rt; drawn(&rt, 8, 1).as_str() != lane.as_str());
 }
 
 /// Verbs, and how many lines of 400 each has at least.
@@ -35,30 +35,16 @@ const VERBS: [(&str, u64); 5] = [
     ("del ", 70),
 ];
 
-/// Whether a drawn lane has so many lines of each verb.
-fn has_each_verb(alloc: Global) -> Option<bool> {
-    let text = lane_text(alloc, 7, 1, 400, 3, 6).ok()?;
-    for (verb, least) in VERBS.iter() {
-        if count_of_lines(text.as_str(), verb) < *least {
-            return Some(false);
-        }
-    }
-    Some(true)
-}
-
 #[test]
 fn each_verb_is_drawn(rt: HostRuntime) {
-    assert_eq!(rt; has_each_verb(rt.alloc()), Some(true));
-}
-
-fn is_schema(alloc: Global, wanted: &str) -> bool {
-    match schema_text(alloc, 3) {
-        Ok(text) => text.as_str() == wanted,
-        Err(_) => false,
+    let lane = drawn(&rt, 7, 1);
+    for (verb, least) in VERBS.iter() {
+        assert!(rt; count_of_lines(lane.as_str(), verb) >= *least);
     }
 }
 
 #[test]
 fn indexes_are_named_by_their_numbers(rt: HostRuntime) {
-    assert!(rt; is_schema(rt.alloc(), "index t0 1\nindex t1 2\nindex t2 3\n"));
+    let schema = schema_text(rt.alloc(), 3).expect(&rt, MEMORY);
+    assert!(rt; schema.as_str() == "index t0 1\nindex t1 2\nindex t2 3\n");
 }

@@ -5,32 +5,25 @@ use crate::reading::{Asked, SCHEMA, Texts, draw_lines, lane_text};
 use crate::setup::{ROOMY, run};
 use crate::statistics::without_columns;
 use ahi_cli::Status;
-use report_judge::{Lie, Line, read_schema};
-use std::alloc::Global;
+use report_judge::read_schema;
+use std::process::Abort;
 use std::sync::Wait;
 use std::thread::Threads;
 
-/// The report of a lane that asks this, where its run is done.
-fn run_asked<R: AllocGlobal + Threads + Wait + Sync>(rt: &R, asked: &[Asked]) -> Option<String> {
-    let lane = lane_text(rt.alloc(), asked).ok()?;
-    let (status, sink) = run(rt, SCHEMA, &[lane.as_str()], ROOMY)?;
-    if status != Status::Done {
-        return None;
-    }
-    without_columns(rt.alloc(), sink.written())
-}
-
-/// The report of plain maps that are asked these lines by one lane.
-fn deal_lines(alloc: Global, lines: Vec<Line<'_>>) -> Result<String, Lie> {
-    let indexes = read_schema(alloc, SCHEMA)?;
-    deal_out(alloc, &indexes, &[lines], 1)
+/// The report of a lane that asks this, whose run is done.
+fn run_asked<R: AllocGlobal + Abort + Threads + Wait + Sync>(rt: &R, asked: &[Asked]) -> String {
+    let lane = lane_text(rt, asked);
+    let (status, sink) = run(rt, SCHEMA, &[lane.as_str()], ROOMY);
+    assert!(rt; status == Status::Done);
+    without_columns(rt, sink.written())
 }
 
 /// The report of plain maps with so many keys that are asked this.
-fn deal_asked(alloc: Global, asked: &[Asked], keys: u64) -> Option<String> {
-    let texts = Texts::new(alloc, keys).ok()?;
-    let report = deal_lines(alloc, texts.read(alloc, asked).ok()?).ok()?;
-    without_columns(alloc, report.as_bytes())
+fn deal_asked<R: AllocGlobal + Abort>(rt: &R, asked: &[Asked], keys: u64) -> String {
+    let texts = Texts::new(rt, keys);
+    let indexes = read_schema(rt.alloc(), SCHEMA).expect(rt, "a schema");
+    let report = deal_out(rt, &indexes, &[texts.read(rt, asked)], 1);
+    without_columns(rt, report.as_bytes())
 }
 
 /// How many changes a line of a report says that an index has, if it says so.
@@ -52,24 +45,24 @@ fn indexes_above(report: &str, changes: u64) -> u32 {
 
 /// Whether so many lines over so many keys are reported as plain maps have it, and each of the three
 /// indexes has more changes than this.
-fn is_read_alike<R: AllocGlobal + Threads + Wait + Sync>(
+fn is_read_alike<R: AllocGlobal + Abort + Threads + Wait + Sync>(
     rt: &R,
     lines: u64,
     keys: u64,
     changes: u64,
-) -> Option<bool> {
-    let asked = draw_lines(rt.alloc(), lines, keys).ok()?;
-    let told = run_asked(rt, &asked)?;
-    let dealt = deal_asked(rt.alloc(), &asked, keys)?;
-    Some(told.as_str() == dealt.as_str() && indexes_above(told.as_str(), changes) == 3)
+) -> bool {
+    let asked = draw_lines(rt, lines, keys);
+    let told = run_asked(rt, &asked);
+    let dealt = deal_asked(rt, &asked, keys);
+    told.as_str() == dealt.as_str() && indexes_above(told.as_str(), changes) == 3
 }
 
 #[test]
 fn a_lane_over_few_keys_is_read_alike(rt: HostRuntime) {
-    assert_eq!(rt; is_read_alike(&rt, 3_000, 12, 200), Some(true));
+    assert!(rt; is_read_alike(&rt, 3_000, 12, 200));
 }
 
 #[test]
 fn a_long_lane_over_many_keys_is_read_alike(rt: HostRuntime) {
-    assert_eq!(rt; is_read_alike(&rt, 200_000, 300, 15_000), Some(true));
+    assert!(rt; is_read_alike(&rt, 200_000, 300, 15_000));
 }

@@ -1,8 +1,8 @@
 //! Lanes whose searches are alike, until the hash answers them: reports byte for byte.
-use crate::setup::{ROOMY, ends, run};
-use crate::statistics::{has_line, stats_line};
+use crate::setup::{MEMORY, PLAIN, ends, run};
+use crate::statistics::add_end;
 use ahi_cli::Status;
-use std::alloc::Global;
+use std::process::Abort;
 use std::sync::Wait;
 use std::thread::Threads;
 
@@ -96,78 +96,61 @@ const GROUP: Case = Case {
 
 const CASES: [Case; 3] = [HIT, NO_ROOM, GROUP];
 
-/// Adds a line so many times.
-fn add_times(lane: &mut String, line: &str, times: u64) -> Option<()> {
-    for _ in 0..times {
-        lane.push_str(line).ok()?;
+fn lane_text<R: AllocGlobal + Abort>(rt: &R, lane: &Lane) -> String {
+    let mut text = String::new(rt.alloc());
+    text.push_str(lane.first).expect(rt, MEMORY);
+    for _ in 0..lane.times {
+        text.push_str(lane.again).expect(rt, MEMORY);
     }
-    Some(())
-}
-
-fn lane_text(alloc: Global, lane: &Lane) -> Option<String> {
-    let mut text = String::from_str(alloc, lane.first).ok()?;
-    add_times(&mut text, lane.again, lane.times)?;
-    text.push_str(lane.last).ok()?;
-    Some(text)
+    text.push_str(lane.last).expect(rt, MEMORY);
+    text
 }
 
 /// Adds so many answers, of which the first is that of the line after this one.
-fn add_answers(report: &mut String, alloc: Global, before: u64, told: &Told) -> Option<()> {
+fn add_answers<R: Abort>(rt: &R, report: &mut String, before: u64, told: &Told) {
     for place in 1..told.1.wrapping_add(1) {
         let line = before.wrapping_add(place);
-        let answer = format!(in alloc; "{line} {}\n", told.0).ok()?;
-        report.push_str(answer.as_str()).ok()?;
+        write!(report, "{line} {}\n", told.0).expect(rt, MEMORY);
     }
-    Some(())
 }
 
 /// Adds all answers of a lane.
-fn add_told(report: &mut String, alloc: Global, told: &[Told]) -> Option<()> {
+fn add_told<R: Abort>(rt: &R, report: &mut String, told: &[Told]) {
     let mut lines: u64 = 0;
     for answers in told.iter() {
-        add_answers(report, alloc, lines, answers)?;
+        add_answers(rt, report, lines, answers);
         lines = lines.wrapping_add(answers.1);
     }
-    Some(())
 }
 
-/// Adds the changes and the statistics.
-fn add_end(report: &mut String, changes: &str, statistics: &str) -> Option<()> {
-    report.push_str(changes).ok()?;
-    report.push_str(statistics).ok()?;
-    report.push_str("end\n").ok()
-}
-
-fn report_text(alloc: Global, case: &Case) -> Option<String> {
-    let mut report = String::from_str(alloc, "ahi run\nlane 1\n").ok()?;
-    add_told(&mut report, alloc, case.told)?;
-    add_end(
-        &mut report,
-        case.changes,
-        stats_line(alloc, case.counted)?.as_str(),
-    )?;
-    Some(report)
+fn report_text<R: AllocGlobal + Abort>(rt: &R, case: &Case) -> String {
+    let mut report = String::new(rt.alloc());
+    report.push_str("ahi run\nlane 1\n").expect(rt, MEMORY);
+    add_told(rt, &mut report, case.told);
+    report.push_str(case.changes).expect(rt, MEMORY);
+    add_end(rt, &mut report, case.counted);
+    report
 }
 
 /// Whether a lane is reported so.
-fn is_reported_so<R: AllocGlobal + Threads + Wait + Sync>(rt: &R, case: &Case) -> Option<bool> {
-    let lane = lane_text(rt.alloc(), &case.lane)?;
-    let report = report_text(rt.alloc(), case)?;
+fn is_reported_so<R: AllocGlobal + Abort + Threads + Wait + Sync>(rt: &R, case: &Case) -> bool {
+    let lane = lane_text(rt, &case.lane);
+    let report = report_text(rt, case);
     let lanes = [lane.as_str()];
-    Some(ends(
+    ends(
         rt,
         case.schema,
         &lanes,
-        ROOMY,
+        PLAIN,
         Status::Done,
         report.as_str(),
-    ))
+    )
 }
 
 /// The place of the first lane that is reported otherwise.
-fn other_case<R: AllocGlobal + Threads + Wait + Sync>(rt: &R) -> Option<usize> {
+fn other_case<R: AllocGlobal + Abort + Threads + Wait + Sync>(rt: &R) -> Option<usize> {
     for (place, case) in CASES.iter().enumerate() {
-        if is_reported_so(rt, case) != Some(true) {
+        if !is_reported_so(rt, case) {
             return Some(place);
         }
     }
@@ -196,16 +179,12 @@ const ALIKE_COUNTED: [(&str, u64); 4] = [
     ("same", 24),
 ];
 
-/// Whether the report of that lane counts so.
-fn is_counted_so<R: AllocGlobal + Threads + Wait + Sync>(rt: &R) -> Option<bool> {
-    let alloc = rt.alloc();
-    let lane = lane_text(alloc, &ALIKE)?;
-    let line = stats_line(alloc, &ALIKE_COUNTED)?;
-    let (status, sink) = run(rt, "fold_bits 1\nindex t 1\n", &[lane.as_str()], ROOMY)?;
-    Some(status == Status::Done && has_line(sink.written(), line.as_str().trim_end()))
-}
-
 #[test]
 fn a_hash_that_errs_is_told_so(rt: HostRuntime) {
-    assert_eq!(rt; is_counted_so(&rt), Some(true));
+    let lane = lane_text(&rt, &ALIKE);
+    let mut end = String::new(rt.alloc());
+    add_end(&rt, &mut end, &ALIKE_COUNTED);
+    let (status, sink) = run(&rt, "fold_bits 1\nindex t 1\n", &[lane.as_str()], PLAIN);
+    assert!(rt; status == Status::Done);
+    assert!(rt; sink.written().ends_with(end.as_bytes()));
 }

@@ -1,12 +1,9 @@
 //! A thousand searches where a fold has one bit: the hash errs again and again, and each answer is
 //! right.
-use crate::setup::{ROOMY, run};
+use crate::setup::{MEMORY, ROOMY, run};
 use crate::statistics::{count_in, without_columns};
 use ahi_cli::Status;
-use io_port::MemorySink;
-use std::alloc::Global;
-use std::sync::Wait;
-use std::thread::Threads;
+use std::process::Abort;
 
 const SCHEMA: &str = "fold_bits 1\nindex t 1\n";
 
@@ -87,15 +84,21 @@ impl Way {
 
     /// The number of the row that is asked for by a number; none has 0 or 74.
     fn sought(&self, number: u64) -> u64 {
-        let even = number.wrapping_sub(number % 2);
+        let odd = number % 2;
         match self {
-            Way::Get | Way::Ge | Way::Le if even == number => number,
-            Way::Get => 0,
-            Way::Ge | Way::G => even.wrapping_add(2),
-            Way::L if even == number => number.wrapping_sub(2),
-            Way::Le | Way::L => even,
+            Way::Get if odd == 1 => 0,
+            Way::Get => number,
+            Way::Ge => number.wrapping_add(odd),
+            Way::G => number.wrapping_sub(odd).wrapping_add(2),
+            Way::Le => number.wrapping_sub(odd),
+            Way::L => number.wrapping_add(odd).wrapping_sub(2),
         }
     }
+}
+
+/// The digits of a number in a key and in a value.
+fn digits_of(number: u64) -> u64 {
+    number.wrapping_add(100)
 }
 
 /// A lane, and the report of it without columns and statistics.
@@ -107,113 +110,84 @@ struct Asked {
 }
 
 impl Asked {
-    /// Adds a line, and what it is told.
-    fn add(&mut self, alloc: Global, line: &str, told: &str) -> Option<()> {
-        self.lines = self.lines.wrapping_add(1);
-        let number = self.lines;
-        let answer = format!(in alloc; "{number} {told} @").ok()?;
-        self.lane.push_str(line).ok()?;
-        self.report.push_str(answer.as_str()).ok()
-    }
-
-    /// Adds the point of what it is told.
-    fn add_point(&mut self, alloc: Global, point: u64) -> Option<()> {
-        let point = format!(in alloc; "{point} \n").ok()?;
-        self.report.push_str(point.as_str()).ok()
-    }
-
-    /// Adds the put of a row.
-    fn put(&mut self, alloc: Global, row: u64) -> Option<()> {
-        let digits = row.wrapping_mul(2).wrapping_add(100);
-        let line = format!(in alloc; "put t k{digits} v{digits}\n").ok()?;
-        self.add(alloc, line.as_str(), "ok")?;
-        self.add_point(alloc, row)
+    /// Adds the put of each row.
+    fn put_all<R: Abort>(&mut self, rt: &R) {
+        for row in 1..ROWS.wrapping_add(1) {
+            let digits = digits_of(row.wrapping_mul(2));
+            write!(self.lane, "put t k{digits} v{digits}\n").expect(rt, MEMORY);
+            write!(self.report, "{row} ok @{row} \n").expect(rt, MEMORY);
+        }
+        self.lines = ROWS;
     }
 
     /// Adds a search by a number.
-    fn search(&mut self, alloc: Global, way: &Way, number: u64) -> Option<()> {
-        let digits = number.wrapping_add(100);
-        let line = format!(in alloc; "{} k{digits}\n", way.words()).ok()?;
-        let told = told_of(alloc, way, way.sought(number))?;
-        self.add(alloc, line.as_str(), told.as_str())?;
-        self.add_point(alloc, ROWS)
+    fn search<R: Abort>(&mut self, rt: &R, way: &Way, number: u64) {
+        self.lines = self.lines.wrapping_add(1);
+        write!(self.lane, "{} k{}\n", way.words(), digits_of(number)).expect(rt, MEMORY);
+        write!(self.report, "{} ", self.lines).expect(rt, MEMORY);
+        add_told(rt, &mut self.report, way, way.sought(number));
+        write!(self.report, " @{ROWS} \n").expect(rt, MEMORY);
     }
 
-    fn put_all(&mut self, alloc: Global) -> Option<()> {
-        for row in 1..ROWS.wrapping_add(1) {
-            self.put(alloc, row)?;
-        }
-        Some(())
-    }
-
-    fn search_all(&mut self, alloc: Global, searches: &Searches) -> Option<()> {
+    fn search_all<R: Abort>(&mut self, rt: &R, searches: &Searches) {
         let mut number = searches.first;
         for _ in 0..searches.count {
-            self.search(alloc, &searches.way, number)?;
+            self.search(rt, &searches.way, number);
             number = number.wrapping_add(searches.step);
             if number > 72 {
                 number = number.wrapping_sub(72);
             }
         }
-        Some(())
     }
 
     /// Adds the changes, and the end.
-    fn end(&mut self, alloc: Global) -> Option<()> {
-        self.report.push_str("changes t 36\n").ok()?;
+    fn end<R: Abort>(&mut self, rt: &R) {
+        self.report.push_str("changes t 36\n").expect(rt, MEMORY);
         for row in 1..ROWS.wrapping_add(1) {
-            let digits = row.wrapping_mul(2).wrapping_add(100);
-            let change = format!(in alloc; "{row} 1 {row} put k{digits} v{digits}\n").ok()?;
-            self.report.push_str(change.as_str()).ok()?;
+            let digits = digits_of(row.wrapping_mul(2));
+            write!(self.report, "{row} 1 {row} put k{digits} v{digits}\n").expect(rt, MEMORY);
         }
-        self.report.push_str("end\n\n").ok()
+        self.report.push_str("end\n\n").expect(rt, MEMORY);
     }
 }
 
-/// What is told of a search that asks for the row of this number, if there is one.
-fn told_of(alloc: Global, way: &Way, number: u64) -> Option<String> {
-    let digits = number.wrapping_add(100);
-    if number < 2 || number > 72 {
-        return String::from_str(alloc, "absent").ok();
-    }
-    match way {
-        Way::Get => format!(in alloc; "found v{digits}").ok(),
-        _ => format!(in alloc; "found k{digits} v{digits}").ok(),
-    }
+/// Adds what is told of a search that asks for the row of this number, if there is one.
+fn add_told<R: Abort>(rt: &R, report: &mut String, way: &Way, number: u64) {
+    let digits = digits_of(number);
+    let told = match way {
+        _ if number < 2 || number > 72 => report.push_str("absent"),
+        Way::Get => write!(report, "found v{digits}"),
+        _ => write!(report, "found k{digits} v{digits}"),
+    };
+    told.expect(rt, MEMORY);
 }
 
 /// All puts, and then all searches.
-fn puts_and_searches(alloc: Global) -> Option<Asked> {
+fn puts_and_searches<R: AllocGlobal + Abort>(rt: &R) -> Asked {
     let mut asked = Asked {
-        lane: String::new(alloc),
-        report: String::from_str(alloc, "ahi run\nlane 1\n").ok()?,
+        lane: String::new(rt.alloc()),
+        report: String::new(rt.alloc()),
         lines: 0,
     };
-    asked.put_all(alloc)?;
+    asked
+        .report
+        .push_str("ahi run\nlane 1\n")
+        .expect(rt, MEMORY);
+    asked.put_all(rt);
     for searches in SEARCHES.iter() {
-        asked.search_all(alloc, searches)?;
+        asked.search_all(rt, searches);
     }
-    asked.end(alloc)?;
-    Some(asked)
+    asked.end(rt);
+    asked
 }
 
-/// What a run of the lane writes, where it is done and each answer is right.
-fn right_report<R: AllocGlobal + Threads + Wait + Sync>(rt: &R) -> Option<MemorySink> {
-    let asked = puts_and_searches(rt.alloc())?;
-    let (status, sink) = run(rt, SCHEMA, &[asked.lane.as_str()], ROOMY)?;
-    let plain = without_columns(rt.alloc(), sink.written())?;
-    (status == Status::Done && plain.as_str() == asked.report.as_str()).then_some(sink)
-}
-
-/// Whether so many searches are told rightly, of which some were hits and some led to another row.
-fn are_right<R: AllocGlobal + Threads + Wait + Sync>(rt: &R) -> Option<bool> {
-    let sink = right_report(rt)?;
-    let hits = count_in(sink.written(), "hit")?;
-    let unequal = count_in(sink.written(), "unequal")?;
-    Some(hits > 0 && unequal > 0)
-}
-
+/// Some searches are hits, and some lead to another row.
 #[test]
 fn a_thousand_searches_are_right_where_the_hash_errs(rt: HostRuntime) {
-    assert_eq!(rt; are_right(&rt), Some(true));
+    let asked = puts_and_searches(&rt);
+    let (status, sink) = run(&rt, SCHEMA, &[asked.lane.as_str()], ROOMY);
+    let plain = without_columns(&rt, sink.written());
+    assert!(rt; status == Status::Done && plain.as_str() == asked.report.as_str());
+    assert!(rt; count_in(sink.written(), "hit") > Some(0));
+    assert!(rt; count_in(sink.written(), "unequal") > Some(0));
 }

@@ -1,7 +1,8 @@
 //! Lines over hostile bytes: as they stand in a lane, and as they are read. All is written here, and
 //! nothing by the program's parsers or printing.
+use crate::setup::MEMORY;
 use report_judge::{Act, Line, draw};
-use std::alloc::{AllocError, Global};
+use std::process::Abort;
 
 pub(crate) const SCHEMA: &str = "index a 1\nindex b 2\nindex c 4\n";
 
@@ -26,13 +27,13 @@ pub(crate) struct Asked {
 }
 
 /// Draws so many lines over so many keys an index.
-pub(crate) fn draw_lines(alloc: Global, lines: u64, keys: u64) -> Result<Vec<Asked>, AllocError> {
+pub(crate) fn draw_lines<R: AllocGlobal + Abort>(rt: &R, lines: u64, keys: u64) -> Vec<Asked> {
     let mut state = 1;
-    let mut asked = Vec::new(alloc);
+    let mut asked = Vec::new(rt.alloc());
     for _ in 0..lines {
-        asked.push(draw_line(&mut state, keys))?;
+        asked.push(draw_line(&mut state, keys)).expect(rt, MEMORY);
     }
-    Ok(asked)
+    asked
 }
 
 fn draw_line(state: &mut u64, keys: u64) -> Asked {
@@ -78,72 +79,73 @@ fn field_number(index: u64, key: u64, place: u64) -> u64 {
     }
 }
 
-fn add_digit(text: &mut String, digits: &[u8], number: u8) -> Result<(), AllocError> {
+fn add_digit<R: Abort>(rt: &R, text: &mut String, digits: &[u8], number: u8) {
     let digit = digits.get(number as usize).copied().unwrap_or(b'?');
-    text.push(char::from(digit))
+    text.push(char::from(digit)).expect(rt, MEMORY);
 }
 
-fn add_byte(text: &mut String, digits: &[u8], byte: u8) -> Result<(), AllocError> {
+fn add_byte<R: Abort>(rt: &R, text: &mut String, digits: &[u8], byte: u8) {
     if byte > b' ' && byte < b'~' && byte != b'%' && byte != b',' {
-        return text.push(char::from(byte));
+        return text.push(char::from(byte)).expect(rt, MEMORY);
     }
-    text.push('%')?;
-    add_digit(text, digits, byte / 16)?;
-    add_digit(text, digits, byte % 16)
+    text.push('%').expect(rt, MEMORY);
+    add_digit(rt, text, digits, byte / 16);
+    add_digit(rt, text, digits, byte % 16);
 }
 
 /// Writes a field or a value by its number: none for 0, one byte for 1 to 4, two for 5 to 8.
-fn add_field(text: &mut String, digits: &[u8], number: u64) -> Result<(), AllocError> {
+fn add_field<R: Abort>(rt: &R, text: &mut String, digits: &[u8], number: u64) {
     if number == 0 {
-        return text.push('~');
+        return text.push('~').expect(rt, MEMORY);
     }
     for place in 0..number.wrapping_add(3) / 4 {
         let byte = hostile(number.wrapping_mul(place.wrapping_add(1)));
-        add_byte(text, digits, byte)?;
+        add_byte(rt, text, digits, byte);
     }
-    Ok(())
 }
 
 /// Writes the key of this number.
-fn add_key(text: &mut String, digits: &[u8], index: u64, key: u64) -> Result<(), AllocError> {
+fn add_key<R: Abort>(rt: &R, text: &mut String, digits: &[u8], index: u64, key: u64) {
     for place in 0..last_place(index) {
-        add_field(text, digits, field_number(index, key, place))?;
-        text.push(',')?;
+        add_field(rt, text, digits, field_number(index, key, place));
+        text.push(',').expect(rt, MEMORY);
     }
-    add_field(text, digits, field_number(index, key, last_place(index)))
+    add_field(
+        rt,
+        text,
+        digits,
+        field_number(index, key, last_place(index)),
+    );
 }
 
-/// Writes the beginning of a line up to its key: a verb and an index.
-fn add_start(text: &mut String, asked: &Asked) -> Result<(), AllocError> {
-    text.push_str(match asked.act {
-        0 => "get ",
-        1 => "put ",
-        2 => "set ",
-        _ => "del ",
-    })?;
-    text.push_str(name_of(asked.index))?;
-    text.push(' ')
+fn verb_of(act: u64) -> &'static str {
+    match act {
+        0 => "get",
+        1 => "put",
+        2 => "set",
+        _ => "del",
+    }
 }
 
 /// Writes a line.
-fn add_line(text: &mut String, asked: &Asked) -> Result<(), AllocError> {
+fn add_line<R: Abort>(rt: &R, text: &mut String, asked: &Asked) {
     let digits = if asked.upper { UPPER } else { LOWER };
-    add_start(text, asked)?;
-    add_key(text, digits, asked.index, asked.key)?;
+    write!(text, "{} {} ", verb_of(asked.act), name_of(asked.index)).expect(rt, MEMORY);
+    add_key(rt, text, digits, asked.index, asked.key);
     if asked.act == 1 || asked.act == 2 {
-        text.push(' ')?;
-        add_field(text, digits, asked.value)?;
+        text.push(' ').expect(rt, MEMORY);
+        add_field(rt, text, digits, asked.value);
     }
-    text.push('\n')
+    text.push('\n').expect(rt, MEMORY);
 }
 
 /// The lane of these lines.
-pub(crate) fn lane_text(alloc: Global, asked: &[Asked]) -> Result<String, AllocError> {
-    let mut text = String::new(alloc);
+pub(crate) fn lane_text<R: AllocGlobal + Abort>(rt: &R, asked: &[Asked]) -> String {
+    let mut text = String::new(rt.alloc());
     for line in asked {
-        add_line(&mut text, line)?;
+        add_line(rt, &mut text, line);
     }
-    Ok(text)
+    text
 }
 
 /// The texts of the keys of each index, and of the values, as they are printed.
@@ -153,57 +155,57 @@ pub(crate) struct Texts {
     values: Vec<String>,
 }
 
-fn keys_of(alloc: Global, index: u64, count: u64) -> Result<Vec<String>, AllocError> {
-    let mut texts = Vec::new(alloc);
+fn keys_of<R: AllocGlobal + Abort>(rt: &R, index: u64, count: u64) -> Vec<String> {
+    let mut texts = Vec::new(rt.alloc());
     for key in 0..count {
-        let mut text = String::new(alloc);
-        add_key(&mut text, LOWER, index, key)?;
-        texts.push(text)?;
+        let mut text = String::new(rt.alloc());
+        add_key(rt, &mut text, LOWER, index, key);
+        texts.push(text).expect(rt, MEMORY);
     }
-    Ok(texts)
+    texts
 }
 
-fn keys_of_each(alloc: Global, count: u64) -> Result<Vec<Vec<String>>, AllocError> {
-    let mut texts = Vec::new(alloc);
+fn keys_of_each<R: AllocGlobal + Abort>(rt: &R, count: u64) -> Vec<Vec<String>> {
+    let mut texts = Vec::new(rt.alloc());
     for index in 0..3 {
-        texts.push(keys_of(alloc, index, count)?)?;
+        texts.push(keys_of(rt, index, count)).expect(rt, MEMORY);
     }
-    Ok(texts)
+    texts
 }
 
-fn values(alloc: Global) -> Result<Vec<String>, AllocError> {
-    let mut texts = Vec::new(alloc);
+fn values<R: AllocGlobal + Abort>(rt: &R) -> Vec<String> {
+    let mut texts = Vec::new(rt.alloc());
     for value in 0..VALUES {
-        let mut text = String::new(alloc);
-        add_field(&mut text, LOWER, value)?;
-        texts.push(text)?;
+        let mut text = String::new(rt.alloc());
+        add_field(rt, &mut text, LOWER, value);
+        texts.push(text).expect(rt, MEMORY);
     }
-    Ok(texts)
+    texts
 }
 
 impl Texts {
     /// Those of so many keys an index.
-    pub(crate) fn new(alloc: Global, keys: u64) -> Result<Texts, AllocError> {
-        let keys = keys_of_each(alloc, keys)?;
-        let values = values(alloc)?;
-        Ok(Texts { keys, values })
+    pub(crate) fn new<R: AllocGlobal + Abort>(rt: &R, keys: u64) -> Texts {
+        Texts {
+            keys: keys_of_each(rt, keys),
+            values: values(rt),
+        }
     }
 
     /// The lines, numbered from 1, as they are read.
-    pub(crate) fn read<'a>(
+    pub(crate) fn read<'a, R: AllocGlobal + Abort>(
         &'a self,
-        alloc: Global,
+        rt: &R,
         asked: &[Asked],
-    ) -> Result<Vec<Line<'a>>, AllocError> {
-        let mut lines = Vec::new(alloc);
+    ) -> Vec<Line<'a>> {
+        let mut lines = Vec::new(rt.alloc());
         let mut number: u64 = 0;
         for line in asked {
             number = number.wrapping_add(1);
-            if let Some(line) = self.line(number, line) {
-                lines.push(line)?;
-            }
+            let line = self.line(number, line).expect(rt, "a line");
+            lines.push(line).expect(rt, MEMORY);
         }
-        Ok(lines)
+        lines
     }
 
     fn line(&self, number: u64, asked: &Asked) -> Option<Line<'_>> {

@@ -1,6 +1,7 @@
 //! Refusals, with their statuses and lines.
 use crate::setup::{LANE, PLAIN, SCHEMA, Setup, USAGE, ends, run_given, strings};
 use ahi_cli::Status;
+use std::process::Abort;
 use std::sync::Wait;
 use std::thread::Threads;
 
@@ -60,7 +61,7 @@ const REFUSED: [(&[&str], Option<u64>, Option<u64>, Status, &str); 12] = [
 ];
 
 /// The place of the first lanes that are refused otherwise.
-fn other_refusal<R: AllocGlobal + Threads + Wait + Sync>(rt: &R) -> Option<usize> {
+fn other_refusal<R: AllocGlobal + Abort + Threads + Wait + Sync>(rt: &R) -> Option<usize> {
     for (place, (lanes, failing_load, failing_put, status, text)) in REFUSED.iter().enumerate() {
         let setup = Setup {
             failing_load: *failing_load,
@@ -91,23 +92,19 @@ const WORDS: [(&[&str], Status, &str); 7] = [
 ];
 
 /// Whether a run of these words ends so, and writes this.
-fn ends_given<R: AllocGlobal + Threads + Wait + Sync>(
+fn ends_given<R: AllocGlobal + Abort + Threads + Wait + Sync>(
     rt: &R,
     words: &[&str],
     status: Status,
     text: &str,
 ) -> bool {
-    let Some(words) = strings(rt.alloc(), words) else {
-        return false;
-    };
-    match run_given(rt, &words, SCHEMA, &[LANE], PLAIN, &mut None) {
-        Some((ended, sink)) => ended == status && sink.written() == text.as_bytes(),
-        None => false,
-    }
+    let words = strings(rt, words);
+    let (ended, sink) = run_given(rt, &words, SCHEMA, &[LANE], PLAIN, &mut None);
+    ended == status && sink.written() == text.as_bytes()
 }
 
 /// The place of the first words that are judged otherwise.
-fn other_words<R: AllocGlobal + Threads + Wait + Sync>(rt: &R) -> Option<usize> {
+fn other_words<R: AllocGlobal + Abort + Threads + Wait + Sync>(rt: &R) -> Option<usize> {
     for (place, (words, status, text)) in WORDS.iter().enumerate() {
         if !ends_given(rt, words, *status, text) {
             return Some(place);

@@ -1,8 +1,8 @@
 //! Reports byte for byte.
-use crate::setup::{LANE, PLAIN, SCHEMA, Setup, ends, run};
-use crate::statistics::stats_line;
+use crate::setup::{LANE, MEMORY, PLAIN, SCHEMA, Setup, ends, run};
+use crate::statistics::add_end;
 use ahi_cli::Status;
-use std::alloc::Global;
+use std::process::Abort;
 use std::sync::Wait;
 use std::thread::Threads;
 
@@ -49,34 +49,27 @@ fn count_cold(middle: &str) -> u64 {
     count
 }
 
-/// The last two lines of a report on the index `t` whose answers and changes are these.
-pub(crate) fn end_after(alloc: Global, middle: &str) -> Option<String> {
-    let mut end = stats_line(alloc, &[("cold", count_cold(middle))])?;
-    end.push_str("end\n").ok()?;
-    Some(end)
-}
-
 /// The report of one lane whose answers and changes are these.
-pub(crate) fn report_of(alloc: Global, middle: &str) -> Option<String> {
-    let end = end_after(alloc, middle)?;
-    format!(in alloc; "ahi run\nlane 1\n{middle}{end}").ok()
+pub(crate) fn report_of<R: AllocGlobal + Abort>(rt: &R, middle: &str) -> String {
+    let mut report = String::new(rt.alloc());
+    write!(report, "ahi run\nlane 1\n{middle}").expect(rt, MEMORY);
+    add_end(rt, &mut report, &[("cold", count_cold(middle))]);
+    report
 }
 
 /// Whether a lane is reported so, from its answers up to the statistics.
-pub(crate) fn is_reported<R: AllocGlobal + Threads + Wait + Sync>(
+pub(crate) fn is_reported<R: AllocGlobal + Abort + Threads + Wait + Sync>(
     rt: &R,
     schema: &str,
     lane: &str,
     middle: &str,
 ) -> bool {
-    match report_of(rt.alloc(), middle) {
-        Some(report) => ends(rt, schema, &[lane], PLAIN, Status::Done, report.as_str()),
-        None => false,
-    }
+    let report = report_of(rt, middle);
+    ends(rt, schema, &[lane], PLAIN, Status::Done, report.as_str())
 }
 
 /// The place of the first lane that is reported otherwise.
-fn other_report<R: AllocGlobal + Threads + Wait + Sync>(rt: &R) -> Option<usize> {
+fn other_report<R: AllocGlobal + Abort + Threads + Wait + Sync>(rt: &R) -> Option<usize> {
     for (place, (schema, lane, middle)) in REPORTS.iter().enumerate() {
         if !is_reported(rt, schema, lane, middle) {
             return Some(place);
@@ -105,7 +98,7 @@ fn length_of_lines(text: &[u8], lines: u64) -> usize {
 }
 
 /// Whether a sink that fails at this put has the lines before it.
-fn has_lines_before<R: AllocGlobal + Threads + Wait + Sync>(
+fn has_lines_before<R: AllocGlobal + Abort + Threads + Wait + Sync>(
     rt: &R,
     whole: &[u8],
     put: u64,
@@ -115,14 +108,12 @@ fn has_lines_before<R: AllocGlobal + Threads + Wait + Sync>(
         ..PLAIN
     };
     let before = whole.get(..length_of_lines(whole, put)).unwrap_or(&[]);
-    match run(rt, SCHEMA, &[LANE], setup) {
-        Some((status, sink)) => status == Status::SinkFault && sink.written() == before,
-        None => false,
-    }
+    let (status, sink) = run(rt, SCHEMA, &[LANE], setup);
+    status == Status::SinkFault && sink.written() == before
 }
 
 /// The first of the puts of a report at which a sink that fails has other lines.
-fn other_put<R: AllocGlobal + Threads + Wait + Sync>(rt: &R, whole: &[u8]) -> Option<u64> {
+fn other_put<R: AllocGlobal + Abort + Threads + Wait + Sync>(rt: &R, whole: &[u8]) -> Option<u64> {
     for put in 0..11 {
         if !has_lines_before(rt, whole, put) {
             return Some(put);
@@ -133,8 +124,6 @@ fn other_put<R: AllocGlobal + Threads + Wait + Sync>(rt: &R, whole: &[u8]) -> Op
 
 #[test]
 fn a_sink_that_fails_has_the_lines_before(rt: HostRuntime) {
-    match run(&rt, SCHEMA, &[LANE], PLAIN) {
-        Some((_, whole)) => assert_eq!(rt; other_put(&rt, whole.written()), None),
-        None => assert!(rt; false),
-    }
+    let (_, whole) = run(&rt, SCHEMA, &[LANE], PLAIN);
+    assert_eq!(rt; other_put(&rt, whole.written()), None);
 }

@@ -1,5 +1,6 @@
 //! Lanes that put rows in and get them again, in many orders.
-use std::alloc::Global;
+use crate::setup::MEMORY;
+use std::process::Abort;
 
 /// Which numbers come, and in which order: the first, and each next one by a factor and a step,
 /// below a limit.
@@ -30,86 +31,78 @@ impl Numbers {
 }
 
 /// So many of this byte.
-pub(crate) fn bytes_of(alloc: Global, byte: char, count: usize) -> Option<String> {
-    let mut text = String::with_capacity(alloc, count).ok()?;
+pub(crate) fn bytes_of<R: AllocGlobal + Abort>(rt: &R, byte: char, count: usize) -> String {
+    let mut text = String::with_capacity(rt.alloc(), count).expect(rt, MEMORY);
     for _ in 0..count {
-        text.push(byte).ok()?;
+        text.push(byte).expect(rt, MEMORY);
     }
-    Some(text)
+    text
 }
 
-/// Adds a line for each number, with this before its seven digits and that behind them.
-fn add_lines(
-    alloc: Global,
+/// Adds a line for each number: these words, its key with so many bytes before seven digits, and
+/// this behind it.
+fn add_lines<R: AllocGlobal + Abort>(
+    rt: &R,
     lane: &mut String,
+    words: &str,
     numbers: Numbers,
-    before: &str,
+    before: usize,
     behind: &str,
-) -> Option<()> {
+) {
+    let before = bytes_of(rt, 'k', before);
     let mut number = numbers.first;
     for _ in 0..numbers.count {
         let digits = number.wrapping_add(1_000_000);
-        let line = format!(in alloc; "{before}{digits}{behind}\n").ok()?;
-        lane.push_str(line.as_str()).ok()?;
+        write!(lane, "{words} {before}{digits}{behind}\n").expect(rt, MEMORY);
         number = numbers.after(number);
     }
-    Some(())
 }
 
 /// Adds a put of each row.
-pub(crate) fn add_puts(
-    alloc: Global,
+pub(crate) fn add_puts<R: AllocGlobal + Abort>(
+    rt: &R,
     lane: &mut String,
     numbers: Numbers,
     look: Look,
-) -> Option<()> {
-    let key = bytes_of(alloc, 'k', look.before)?;
-    let value = bytes_of(alloc, 'v', look.value)?;
-    let before = format!(in alloc; "put t {key}").ok()?;
-    let behind = format!(in alloc; " {value}").ok()?;
-    add_lines(alloc, lane, numbers, before.as_str(), behind.as_str())
+) {
+    let value = bytes_of(rt, 'v', look.value);
+    let behind = format!(in rt.alloc(); " {value}").expect(rt, MEMORY);
+    add_lines(rt, lane, "put t", numbers, look.before, behind.as_str());
 }
 
-/// Adds a line with this verb, get or del, of each row.
-pub(crate) fn add_asks(
-    alloc: Global,
+/// Adds a line that asks for each row in these words: those of a get, a del, or a seek in a mode.
+pub(crate) fn add_asks<R: AllocGlobal + Abort>(
+    rt: &R,
     lane: &mut String,
+    words: &str,
     numbers: Numbers,
     look: Look,
-    verb: &str,
-) -> Option<()> {
-    let key = bytes_of(alloc, 'k', look.before)?;
-    let before = format!(in alloc; "{verb} t {key}").ok()?;
-    add_lines(alloc, lane, numbers, before.as_str(), "")
-}
-
-/// Adds a seek with this mode by the key of each row.
-pub(crate) fn add_seeks(
-    alloc: Global,
-    lane: &mut String,
-    numbers: Numbers,
-    look: Look,
-    mode: &str,
-) -> Option<()> {
-    let key = bytes_of(alloc, 'k', look.before)?;
-    let before = format!(in alloc; "seek t {mode} {key}").ok()?;
-    add_lines(alloc, lane, numbers, before.as_str(), "")
+) {
+    add_lines(rt, lane, words, numbers, look.before, "");
 }
 
 /// A put of each row, and then a get of each.
-pub(crate) fn puts_and_gets(alloc: Global, numbers: Numbers, look: Look) -> Option<String> {
-    let mut lane = String::new(alloc);
-    add_puts(alloc, &mut lane, numbers, look)?;
-    add_asks(alloc, &mut lane, numbers, look, "get")?;
-    Some(lane)
+pub(crate) fn puts_and_gets<R: AllocGlobal + Abort>(
+    rt: &R,
+    numbers: Numbers,
+    look: Look,
+) -> String {
+    let mut lane = String::new(rt.alloc());
+    add_puts(rt, &mut lane, numbers, look);
+    add_asks(rt, &mut lane, "get t", numbers, look);
+    lane
 }
 
 /// The rows are put, taken out and got, and put and got once more.
-pub(crate) fn comes_and_goes(alloc: Global, numbers: Numbers, look: Look) -> Option<String> {
-    let mut lane = puts_and_gets(alloc, numbers, look)?;
-    add_asks(alloc, &mut lane, numbers, look, "del")?;
-    add_asks(alloc, &mut lane, numbers, look, "get")?;
-    add_puts(alloc, &mut lane, numbers, look)?;
-    add_asks(alloc, &mut lane, numbers, look, "get")?;
-    Some(lane)
+pub(crate) fn comes_and_goes<R: AllocGlobal + Abort>(
+    rt: &R,
+    numbers: Numbers,
+    look: Look,
+) -> String {
+    let mut lane = puts_and_gets(rt, numbers, look);
+    add_asks(rt, &mut lane, "del t", numbers, look);
+    add_asks(rt, &mut lane, "get t", numbers, look);
+    add_puts(rt, &mut lane, numbers, look);
+    add_asks(rt, &mut lane, "get t", numbers, look);
+    lane
 }

@@ -2,9 +2,14 @@
 use ahi_cli::{EnginePass, Status, run_words};
 use io_port::{MemoryShelf, MemorySink};
 use lanes::{Gate, NoGate};
+use report_judge::{LIMITS, Limits, judge_within};
 use std::alloc::Global;
+use std::process::Abort;
 use std::sync::Wait;
 use std::thread::Threads;
+
+/// What a test says that ends for want of memory.
+pub(crate) const MEMORY: &str = "memory";
 
 pub(crate) const SCHEMA: &str = "index t 1\n";
 
@@ -28,7 +33,7 @@ pub(crate) struct Setup<'a, G> {
 pub(crate) const PLAIN: Setup<'static, NoGate> = Setup {
     failing_load: None,
     failing_put: None,
-    room: 8192,
+    room: 32_768,
     gate: &NoGate,
 };
 
@@ -51,44 +56,44 @@ pub(crate) fn at_gate<G>(gate: &G) -> Setup<'_, G> {
 }
 
 /// How a run of a schema and lanes ends, and what it writes.
-pub(crate) fn run<R: AllocGlobal + Threads + Wait + Sync, G: Gate + Sync>(
+pub(crate) fn run<R: AllocGlobal + Abort + Threads + Wait + Sync, G: Gate + Sync>(
     rt: &R,
     schema: &str,
     lanes: &[&str],
     setup: Setup<'_, G>,
-) -> Option<(Status, MemorySink)> {
+) -> (Status, MemorySink) {
     run_leaving(rt, schema, lanes, setup, &mut None)
 }
 
 /// The same of lanes that leave their pass.
-pub(crate) fn run_leaving<R: AllocGlobal + Threads + Wait + Sync, G: Gate + Sync>(
+pub(crate) fn run_leaving<R: AllocGlobal + Abort + Threads + Wait + Sync, G: Gate + Sync>(
     rt: &R,
     schema: &str,
     lanes: &[&str],
     setup: Setup<'_, G>,
     trail: &mut Option<EnginePass>,
-) -> Option<(Status, MemorySink)> {
-    let words = run_line(rt.alloc(), lanes.len())?;
+) -> (Status, MemorySink) {
+    let words = run_line(rt, lanes.len());
     run_given(rt, &words, schema, lanes, setup, trail)
 }
 
 /// The same of these words, where a schema and lanes are held.
-pub(crate) fn run_given<R: AllocGlobal + Threads + Wait + Sync, G: Gate + Sync>(
+pub(crate) fn run_given<R: AllocGlobal + Abort + Threads + Wait + Sync, G: Gate + Sync>(
     rt: &R,
     words: &[String],
     schema: &str,
     lanes: &[&str],
     setup: Setup<'_, G>,
     trail: &mut Option<EnginePass>,
-) -> Option<(Status, MemorySink)> {
-    let mut shelf = shelf_of(rt.alloc(), schema, lanes, setup.failing_load)?;
-    let mut sink = sink_of(rt.alloc(), setup.room, setup.failing_put)?;
+) -> (Status, MemorySink) {
+    let mut shelf = shelf_of(rt, schema, lanes, setup.failing_load);
+    let mut sink = sink_of(rt, setup.room, setup.failing_put);
     let status = run_words(rt, rt, words, &mut shelf, &mut sink, setup.gate, trail);
-    Some((status, sink))
+    (status, sink)
 }
 
 /// Whether a run ends so, and writes this.
-pub(crate) fn ends<R: AllocGlobal + Threads + Wait + Sync, G: Gate + Sync>(
+pub(crate) fn ends<R: AllocGlobal + Abort + Threads + Wait + Sync, G: Gate + Sync>(
     rt: &R,
     schema: &str,
     lanes: &[&str],
@@ -96,68 +101,98 @@ pub(crate) fn ends<R: AllocGlobal + Threads + Wait + Sync, G: Gate + Sync>(
     status: Status,
     text: &str,
 ) -> bool {
-    match run(rt, schema, lanes, setup) {
-        Some((ended, sink)) => ended == status && sink.written() == text.as_bytes(),
-        None => false,
-    }
+    let (ended, sink) = run(rt, schema, lanes, setup);
+    ended == status && sink.written() == text.as_bytes()
+}
+
+/// The report of these lanes, by a schema with sizes before its indexes: they are done, and it is
+/// legal within these limits.
+pub(crate) fn legal_within<R: AllocGlobal + Abort + Threads + Wait + Sync>(
+    rt: &R,
+    limits: Limits,
+    sizes: &str,
+    schema: &str,
+    lanes: &[&str],
+) -> MemorySink {
+    let sized = format!(in rt.alloc(); "{sizes}{schema}").expect(rt, MEMORY);
+    let (status, sink) = run(rt, sized.as_str(), lanes, ROOMY);
+    assert!(rt; status == Status::Done);
+    assert!(rt; is_legal(rt.alloc(), limits, schema, lanes, sink.written()));
+    sink
+}
+
+/// Whether a report of these lanes is legal within these limits.
+fn is_legal(alloc: Global, limits: Limits, schema: &str, lanes: &[&str], report: &[u8]) -> bool {
+    judge_within(alloc, limits, schema, lanes, report) == Ok(())
+}
+
+/// The same by a schema that sets no sizes.
+pub(crate) fn legal_report<R: AllocGlobal + Abort + Threads + Wait + Sync>(
+    rt: &R,
+    schema: &str,
+    lanes: &[&str],
+) -> MemorySink {
+    legal_within(rt, LIMITS, "", schema, lanes)
 }
 
 /// The words of a run with so many lanes.
-fn run_line(alloc: Global, lanes: usize) -> Option<Vec<String>> {
-    let mut words = strings(alloc, &["run", "s"])?;
+fn run_line<R: AllocGlobal + Abort>(rt: &R, lanes: usize) -> Vec<String> {
+    let mut words = strings(rt, &["run", "s"]);
     for place in 0..lanes {
-        words.push(lane_name(alloc, place)?).ok()?;
+        words.push(lane_name(rt, place)).expect(rt, MEMORY);
     }
-    Some(words)
+    words
 }
 
-pub(crate) fn strings(alloc: Global, texts: &[&str]) -> Option<Vec<String>> {
-    let mut strings = Vec::new(alloc);
+pub(crate) fn strings<R: AllocGlobal + Abort>(rt: &R, texts: &[&str]) -> Vec<String> {
+    let mut strings = Vec::new(rt.alloc());
     for text in texts {
-        strings.push(String::from_str(alloc, text).ok()?).ok()?;
+        strings.push(string(rt, text)).expect(rt, MEMORY);
     }
-    Some(strings)
+    strings
+}
+
+fn string<R: AllocGlobal + Abort>(rt: &R, text: &str) -> String {
+    String::from_str(rt.alloc(), text).expect(rt, MEMORY)
 }
 
 /// The name of the lane at this place.
-fn lane_name(alloc: Global, place: usize) -> Option<String> {
-    format!(in alloc; "l{}", place.wrapping_add(1)).ok()
+fn lane_name<R: AllocGlobal + Abort>(rt: &R, place: usize) -> String {
+    format!(in rt.alloc(); "l{}", place.wrapping_add(1)).expect(rt, MEMORY)
 }
 
 /// A number where there is one.
-fn listed(alloc: Global, number: Option<u64>) -> Option<Vec<u64>> {
-    let mut numbers = Vec::new(alloc);
+fn listed<R: AllocGlobal + Abort>(rt: &R, number: Option<u64>) -> Vec<u64> {
+    let mut numbers = Vec::new(rt.alloc());
     if let Some(number) = number {
-        numbers.push(number).ok()?;
+        numbers.push(number).expect(rt, MEMORY);
     }
-    Some(numbers)
+    numbers
 }
 
-fn sink_of(alloc: Global, room: usize, failing_put: Option<u64>) -> Option<MemorySink> {
-    MemorySink::with_room(alloc, room, listed(alloc, failing_put)?).ok()
+fn sink_of<R: AllocGlobal + Abort>(rt: &R, room: usize, failing_put: Option<u64>) -> MemorySink {
+    MemorySink::with_room(rt.alloc(), room, listed(rt, failing_put)).expect(rt, MEMORY)
 }
 
-/// Adds a file of this name and text.
-fn add_file(
-    alloc: Global,
-    files: &mut Vec<(String, Vec<u8>)>,
-    name: Option<String>,
-    text: &str,
-) -> Option<()> {
-    let bytes = text.as_bytes().to_vec(alloc).ok()?;
-    files.push((name?, bytes)).ok()
+/// The file of this name and text.
+fn file<R: AllocGlobal + Abort>(rt: &R, name: String, text: &str) -> (String, Vec<u8>) {
+    (name, text.as_bytes().to_vec(rt.alloc()).expect(rt, MEMORY))
 }
 
-fn shelf_of(
-    alloc: Global,
+fn shelf_of<R: AllocGlobal + Abort>(
+    rt: &R,
     schema: &str,
     lanes: &[&str],
     failing_load: Option<u64>,
-) -> Option<MemoryShelf> {
-    let mut files = Vec::new(alloc);
-    add_file(alloc, &mut files, String::from_str(alloc, "s").ok(), schema)?;
+) -> MemoryShelf {
+    let mut files = Vec::new(rt.alloc());
+    files
+        .push(file(rt, string(rt, "s"), schema))
+        .expect(rt, MEMORY);
     for (place, lane) in lanes.iter().enumerate() {
-        add_file(alloc, &mut files, lane_name(alloc, place), lane)?;
+        files
+            .push(file(rt, lane_name(rt, place), lane))
+            .expect(rt, MEMORY);
     }
-    Some(MemoryShelf::new(files, listed(alloc, failing_load)?))
+    MemoryShelf::new(files, listed(rt, failing_load))
 }

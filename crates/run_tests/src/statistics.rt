@@ -1,6 +1,7 @@
-//! The last lines of a report, and a report without what learning made of it.
+//! The last two lines of a report, and a report without what learning made of it.
+use crate::setup::MEMORY;
 use report_judge::COUNTED;
-use std::alloc::Global;
+use std::process::Abort;
 use std::str;
 
 /// How often a word was told, which is never where it isn't among these.
@@ -13,23 +14,14 @@ fn count_of(told: &[(&str, u64)], word: &str) -> u64 {
     0
 }
 
-/// The line of the index `t`, of which these words were told so often, and no others.
-pub(crate) fn stats_line(alloc: Global, told: &[(&str, u64)]) -> Option<String> {
-    let mut line = String::from_str(alloc, "stats t").ok()?;
+/// Adds the last two lines of a report on the index `t`, of which these words were told so often,
+/// and no others.
+pub(crate) fn add_end<R: Abort>(rt: &R, report: &mut String, told: &[(&str, u64)]) {
+    report.push_str("stats t").expect(rt, MEMORY);
     for word in COUNTED.iter() {
-        let part = format!(in alloc; " {word} {}", count_of(told, word)).ok()?;
-        line.push_str(part.as_str()).ok()?;
+        write!(report, " {word} {}", count_of(told, word)).expect(rt, MEMORY);
     }
-    line.push('\n').ok()?;
-    Some(line)
-}
-
-/// Whether a report has this line.
-pub(crate) fn has_line(report: &[u8], wanted: &str) -> bool {
-    match str::from_utf8(report) {
-        Ok(text) => text.split('\n').any(|line| line == wanted),
-        Err(_) => false,
-    }
+    report.push_str("\nend\n").expect(rt, MEMORY);
 }
 
 /// The number behind a word of a line.
@@ -60,42 +52,34 @@ fn count_words(line: &str) -> usize {
 }
 
 /// Adds the words of a line but the last two, which are its columns.
-fn add_answer(plain: &mut String, line: &str) -> Option<()> {
+fn add_answer<R: Abort>(rt: &R, plain: &mut String, line: &str) {
     let kept = count_words(line).saturating_sub(2);
     for word in line.split(' ').take(kept) {
-        plain.push_str(word).ok()?;
-        plain.push(' ').ok()?;
+        write!(plain, "{word} ").expect(rt, MEMORY);
     }
-    plain.push('\n').ok()
-}
-
-fn add_line(plain: &mut String, line: &str) -> Option<()> {
-    plain.push_str(line).ok()?;
-    plain.push('\n').ok()
+    plain.push('\n').expect(rt, MEMORY);
 }
 
 /// Adds what is kept of a line: of statistics nothing, and of an answer all but its columns.
-fn add_kept(plain: &mut String, line: &str, is_answer: bool) -> Option<()> {
+fn add_kept<R: Abort>(rt: &R, plain: &mut String, line: &str, is_answer: bool) {
     if is_answer {
-        return add_answer(plain, line);
+        add_answer(rt, plain, line);
+    } else if !line.starts_with("stats ") {
+        write!(plain, "{line}\n").expect(rt, MEMORY);
     }
-    if line.starts_with("stats ") {
-        return Some(());
-    }
-    add_line(plain, line)
 }
 
 /// A report without the columns of its answers, and without its statistics.
-pub(crate) fn without_columns(alloc: Global, report: &[u8]) -> Option<String> {
-    let text = str::from_utf8(report).ok()?;
-    let mut plain = String::new(alloc);
+pub(crate) fn without_columns<R: AllocGlobal + Abort>(rt: &R, report: &[u8]) -> String {
+    let text = str::from_utf8(report).expect(rt, "a text");
+    let mut plain = String::new(rt.alloc());
     let mut answers = false;
     for line in text.split('\n') {
         let begins = line.starts_with("lane ") || line.starts_with("changes ");
         if begins {
             answers = line.starts_with("lane ");
         }
-        add_kept(&mut plain, line, answers && !begins)?;
+        add_kept(rt, &mut plain, line, answers && !begins);
     }
-    Some(plain)
+    plain
 }

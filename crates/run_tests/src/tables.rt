@@ -1,104 +1,101 @@
 //! Plain maps to which lanes are dealt, and what each line is told by them.
+use crate::setup::MEMORY;
 use crate::sought::sought;
-use report_judge::{Act, Lie, Line};
-use std::alloc::{AllocError, Global};
+use report_judge::{Act, Index, Line};
 use std::collections::BTreeMap;
+use std::process::Abort;
 
-/// An index: its rows, and its changes as they are printed.
+/// An index: its name, its rows, and its changes as they are printed.
 #[derive(Drop)]
 pub(crate) struct Table<'a> {
+    pub(crate) name: &'a str,
     rows: BTreeMap<&'a str, &'a str>,
     pub(crate) list: String,
     pub(crate) count: u64,
 }
 
-/// So many empty ones.
-pub(crate) fn new_tables<'a>(alloc: Global, count: usize) -> Result<Vec<Table<'a>>, Lie> {
-    let mut tables = Vec::new(alloc);
-    for _ in 0..count {
-        tables.push(Table {
-            rows: BTreeMap::new(alloc),
-            list: String::new(alloc),
+/// An empty one of each index.
+pub(crate) fn new_tables<'a, R: AllocGlobal + Abort>(
+    rt: &R,
+    indexes: &[Index<'a>],
+) -> Vec<Table<'a>> {
+    let mut tables = Vec::new(rt.alloc());
+    for index in indexes {
+        let table = Table {
+            name: index.name,
+            rows: BTreeMap::new(rt.alloc()),
+            list: String::new(rt.alloc()),
             count: 0,
-        })?;
+        };
+        tables.push(table).expect(rt, MEMORY);
     }
-    Ok(tables)
+    tables
 }
 
-/// What a get is told of the value of its key.
-fn told_of_get(alloc: Global, held: Option<&str>) -> Result<String, AllocError> {
-    match held {
-        Some(value) => format!(in alloc; "found {value}"),
-        None => String::from_str(alloc, "absent"),
-    }
+/// Adds what a get is told of the value of its key.
+fn add_value<R: Abort>(rt: &R, answers: &mut String, held: Option<&str>) {
+    let added = match held {
+        Some(value) => write!(answers, "found {value}"),
+        None => answers.push_str("absent"),
+    };
+    added.expect(rt, MEMORY);
 }
 
-/// What a seek is told of the row that it asks for.
-fn told_of_seek(alloc: Global, row: Option<(&str, &str)>) -> Result<String, AllocError> {
-    match row {
-        Some((key, value)) => format!(in alloc; "found {key} {value}"),
-        None => String::from_str(alloc, "absent"),
-    }
+/// Adds what a seek is told of the row that it asks for.
+fn add_row<R: Abort>(rt: &R, answers: &mut String, row: Option<(&str, &str)>) {
+    let added = match row {
+        Some((key, value)) => write!(answers, "found {key} {value}"),
+        None => answers.push_str("absent"),
+    };
+    added.expect(rt, MEMORY);
 }
 
 impl<'a> Table<'a> {
-    /// Does what the line of a lane asks, and gives its answer line.
-    pub(crate) fn answer(
+    /// Does what the line of a lane asks, and adds its answer line.
+    pub(crate) fn answer<R: Abort>(
         &mut self,
-        alloc: Global,
+        rt: &R,
         lane: usize,
         line: &Line<'a>,
-    ) -> Result<String, Lie> {
-        let said = self.work(alloc, lane, line)?;
-        Ok(format!(in alloc; "{} {said} @{} - -\n", line.number, self.count)?)
-    }
-
-    /// Does what the line of a lane asks, and gives what it is told.
-    fn work(&mut self, alloc: Global, lane: usize, line: &Line<'a>) -> Result<String, Lie> {
-        let held = self.rows.get(line.key).copied();
+        answers: &mut String,
+    ) {
+        write!(answers, "{} ", line.number).expect(rt, MEMORY);
         match line.act {
-            Act::Get => Ok(told_of_get(alloc, held)?),
-            Act::Seek(reach) => Ok(told_of_seek(alloc, sought(&self.rows, reach, line.key))?),
-            Act::Put(_) if held.is_some() => Ok(String::from_str(alloc, "duplicate")?),
-            Act::Put(value) => self.write(alloc, lane, line, "put", value),
-            _ if held.is_none() => Ok(String::from_str(alloc, "absent")?),
-            Act::Set(value) => self.write(alloc, lane, line, "set", value),
-            Act::Del => self.remove(alloc, lane, line),
+            Act::Get => add_value(rt, answers, self.rows.get(line.key).copied()),
+            Act::Seek(reach) => add_row(rt, answers, sought(&self.rows, reach, line.key)),
+            _ => answers
+                .push_str(self.change(rt, lane, line))
+                .expect(rt, MEMORY),
         }
+        write!(answers, " @{} - -\n", self.count).expect(rt, MEMORY);
     }
 
-    /// Gives the key of the line this value, as its verb says.
-    fn write(
-        &mut self,
-        alloc: Global,
-        lane: usize,
-        line: &Line<'a>,
-        verb: &str,
-        value: &'a str,
-    ) -> Result<String, Lie> {
-        self.rows.insert(line.key, value)?;
-        let change = format!(in alloc; "{verb} {} {value}", line.key)?;
-        self.note(alloc, lane, line, change)
-    }
-
-    /// Takes the row of the line's key out.
-    fn remove(&mut self, alloc: Global, lane: usize, line: &Line<'_>) -> Result<String, Lie> {
-        let _row = self.rows.remove(line.key);
-        let change = format!(in alloc; "del {}", line.key)?;
-        self.note(alloc, lane, line, change)
-    }
-
-    /// Notes the change of a line, which is told `ok`.
-    fn note(
-        &mut self,
-        alloc: Global,
-        lane: usize,
-        line: &Line<'_>,
-        change: String,
-    ) -> Result<String, Lie> {
+    /// Makes the change that the line asks for where the rows allow it, and gives what it is told.
+    fn change<R: Abort>(&mut self, rt: &R, lane: usize, line: &Line<'a>) -> &'static str {
+        let is_put = matches!(line.act, Act::Put(_));
+        if self.rows.get(line.key).is_some() == is_put {
+            return if is_put { "duplicate" } else { "absent" };
+        }
         self.count = self.count.wrapping_add(1);
-        let text = format!(in alloc; "{} {lane} {} {change}\n", self.count, line.number)?;
-        self.list.push_str(text.as_str())?;
-        Ok(String::from_str(alloc, "ok")?)
+        write!(self.list, "{} {lane} {} ", self.count, line.number).expect(rt, MEMORY);
+        match line.act {
+            Act::Put(value) => self.write(rt, "put", line.key, value),
+            Act::Set(value) => self.write(rt, "set", line.key, value),
+            _ => self.remove(rt, line.key),
+        }
+        "ok"
+    }
+
+    /// Gives the key this value, and notes it with this verb.
+    fn write<R: Abort>(&mut self, rt: &R, verb: &str, key: &'a str, value: &'a str) {
+        let inserted: Result<_, _> = self.rows.insert(key, value);
+        inserted.expect(rt, MEMORY);
+        write!(self.list, "{verb} {key} {value}\n").expect(rt, MEMORY);
+    }
+
+    /// Takes the row of the key out, and notes it.
+    fn remove<R: Abort>(&mut self, rt: &R, key: &str) {
+        let _row = self.rows.remove(key);
+        write!(self.list, "del {key}\n").expect(rt, MEMORY);
     }
 }

@@ -3,6 +3,7 @@ use crate::meeting::Meeting;
 use crate::setup::{PLAIN, SCHEMA, USAGE, at_gate, ends, run};
 use crate::statistics::without_columns;
 use ahi_cli::Status;
+use std::process::Abort;
 use std::sync::Wait;
 use std::thread::Threads;
 
@@ -16,34 +17,28 @@ const REPORT_OF_TWO: &str =
     "ahi run\nlane 1\n2 absent @0 \n3 absent @0 \nlane 2\n2 absent @0 \n3 absent @0 \nchanges t 0\nend\n\n";
 
 /// Whether two lanes that meet at this gate are reported.
-fn two_meet<R: AllocGlobal + Threads + Wait + Sync>(rt: &R, gate: &Meeting) -> Option<bool> {
-    let (status, sink) = run(rt, SCHEMA, &[TWO_GETS; 2], at_gate(gate))?;
-    let plain = without_columns(rt.alloc(), sink.written())?;
-    Some(status == Status::Done && plain.as_str() == REPORT_OF_TWO)
+fn two_meet<R: AllocGlobal + Abort + Threads + Wait + Sync>(rt: &R, gate: &Meeting) -> bool {
+    let (status, sink) = run(rt, SCHEMA, &[TWO_GETS; 2], at_gate(gate));
+    status == Status::Done && without_columns(rt, sink.written()).as_str() == REPORT_OF_TWO
 }
 
 #[test]
 fn two_lanes_meet_before_each_line(rt: HostRuntime) {
     let gate = Meeting::new();
-    assert_eq!(rt; two_meet(&rt, &gate), Some(true));
+    assert!(rt; two_meet(&rt, &gate));
     assert!(rt; !gate.gave_up() && gate.counts() == [1, 1, 1, 1, 0]);
-}
-
-/// How a lane alone ends at this gate.
-fn alone<R: AllocGlobal + Threads + Wait + Sync>(rt: &R, gate: &Meeting) -> Option<Status> {
-    let (status, _) = run(rt, SCHEMA, &[TWO_GETS], at_gate(gate))?;
-    Some(status)
 }
 
 #[test]
 fn a_lane_alone_meets_none(rt: HostRuntime) {
     let gate = Meeting::new();
-    assert_eq!(rt; alone(&rt, &gate), Some(Status::Done));
+    let (status, _) = run(&rt, SCHEMA, &[TWO_GETS], at_gate(&gate));
+    assert!(rt; status == Status::Done);
     assert!(rt; gate.gave_up() && gate.counts() == [1, 1, 0, 0, 0]);
 }
 
 /// Whether so many lanes are refused so.
-fn are_refused<R: AllocGlobal + Threads + Wait + Sync>(
+fn are_refused<R: AllocGlobal + Abort + Threads + Wait + Sync>(
     rt: &R,
     count: usize,
     status: Status,
@@ -60,12 +55,6 @@ fn are_refused<R: AllocGlobal + Threads + Wait + Sync>(
     )
 }
 
-/// How 31 lanes end.
-fn end_of_31<R: AllocGlobal + Threads + Wait + Sync>(rt: &R) -> Option<Status> {
-    let (status, _) = run(rt, SCHEMA, &[GET; 31], PLAIN)?;
-    Some(status)
-}
-
 /// Numbers of lanes that are refused, with the status and with what is written.
 const REFUSED: [(usize, Status, &str); 4] = [
     (65, Status::Usage, USAGE),
@@ -75,7 +64,7 @@ const REFUSED: [(usize, Status, &str); 4] = [
 ];
 
 /// The first of these that isn't refused so.
-fn other_count<R: AllocGlobal + Threads + Wait + Sync>(rt: &R) -> Option<usize> {
+fn other_count<R: AllocGlobal + Abort + Threads + Wait + Sync>(rt: &R) -> Option<usize> {
     for (count, status, text) in REFUSED.iter() {
         if !are_refused(rt, *count, *status, text) {
             return Some(*count);
@@ -87,5 +76,6 @@ fn other_count<R: AllocGlobal + Threads + Wait + Sync>(rt: &R) -> Option<usize> 
 #[test]
 fn lanes_are_counted(rt: HostRuntime) {
     assert_eq!(rt; other_count(&rt), None);
-    assert_eq!(rt; end_of_31(&rt), Some(Status::Done));
+    let (status, _) = run(&rt, SCHEMA, &[GET; 31], PLAIN);
+    assert!(rt; status == Status::Done);
 }

@@ -2,18 +2,18 @@
 use crate::setup::{LANE, PLAIN, SCHEMA, Setup, run_leaving};
 use ahi_cli::{EnginePass, Status};
 use script::DEFAULT_SIZES;
+use std::process::Abort;
 use std::sync::Wait;
 use std::thread::Threads;
 
 const LANES: [&str; 3] = [LANE; 3];
 
-/// The pass of the three lanes, where they are done, and how many lanes are reported.
-fn left<R: AllocGlobal + Threads + Wait + Sync>(rt: &R) -> Option<(EnginePass, u32)> {
+/// The pass of the three lanes, which are done, and how many lanes are reported.
+fn left<R: AllocGlobal + Abort + Threads + Wait + Sync>(rt: &R) -> (EnginePass, u32) {
     let mut trail = None;
-    match run_leaving(rt, SCHEMA, &LANES, PLAIN, &mut trail)? {
-        (Status::Done, sink) => Some((trail?, count_of_lanes(sink.written()))),
-        _ => None,
-    }
+    let (status, sink) = run_leaving(rt, SCHEMA, &LANES, PLAIN, &mut trail);
+    assert!(rt; status == Status::Done);
+    (trail.expect(rt, "a pass"), count_of_lanes(sink.written()))
 }
 
 fn count_of_lanes(report: &[u8]) -> u32 {
@@ -26,18 +26,10 @@ fn count_of_lanes(report: &[u8]) -> u32 {
     count
 }
 
-fn is_of_all<R: AllocGlobal + Threads + Wait + Sync>(rt: &R) -> bool {
-    match left(rt) {
-        Some((pass, lanes)) => {
-            lanes == 3 && pass.numbers() == (0, 3) && *pass.sizes() == DEFAULT_SIZES
-        }
-        None => false,
-    }
-}
-
 #[test]
 fn done_lanes_leave_the_pass_of_all(rt: HostRuntime) {
-    assert!(rt; is_of_all(&rt));
+    let (pass, lanes) = left(&rt);
+    assert!(rt; lanes == 3 && pass.numbers() == (0, 3) && *pass.sizes() == DEFAULT_SIZES);
 }
 
 /// Lanes that aren't done: the load and the put that are to fail, and the status.
@@ -51,7 +43,7 @@ const UNDONE: [(&[&str], Option<u64>, Option<u64>, Status); 6] = [
 ];
 
 /// Whether lanes end so and take away the pass that an earlier run left.
-fn leaves_none<R: AllocGlobal + Threads + Wait + Sync>(
+fn leaves_none<R: AllocGlobal + Abort + Threads + Wait + Sync>(
     rt: &R,
     lanes: &[&str],
     failing_load: Option<u64>,
@@ -63,18 +55,14 @@ fn leaves_none<R: AllocGlobal + Threads + Wait + Sync>(
         failing_put,
         ..PLAIN
     };
-    let Some((pass, _)) = left(rt) else {
-        return false;
-    };
+    let (pass, _) = left(rt);
     let mut trail = Some(pass);
-    match run_leaving(rt, SCHEMA, lanes, setup, &mut trail) {
-        Some((ended, _)) => ended == status && trail.is_none(),
-        None => false,
-    }
+    let (ended, _) = run_leaving(rt, SCHEMA, lanes, setup, &mut trail);
+    ended == status && trail.is_none()
 }
 
 /// The place of the first lanes that end otherwise or leave a pass.
-fn other_end<R: AllocGlobal + Threads + Wait + Sync>(rt: &R) -> Option<usize> {
+fn other_end<R: AllocGlobal + Abort + Threads + Wait + Sync>(rt: &R) -> Option<usize> {
     for (place, (lanes, failing_load, failing_put, status)) in UNDONE.iter().enumerate() {
         if !leaves_none(rt, lanes, *failing_load, *failing_put, *status) {
             return Some(place);

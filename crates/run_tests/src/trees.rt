@@ -1,10 +1,8 @@
 //! Lanes whose rows fill trees, judged by the naive reading. Once a put is told `ok`, a legal
 //! report has its row found by each later get of the lane; so the changes are counted besides.
 use crate::rows::{Look, Numbers, add_asks, add_puts, comes_and_goes, puts_and_gets};
-use crate::setup::{ROOMY, SCHEMA, run};
-use ahi_cli::Status;
-use report_judge::judge;
-use std::alloc::Global;
+use crate::setup::{SCHEMA, legal_report};
+use std::process::Abort;
 use std::str;
 use std::sync::Wait;
 use std::thread::Threads;
@@ -20,26 +18,21 @@ pub(crate) fn counted(report: &[u8]) -> Option<u64> {
     None
 }
 
-/// How many changes these lanes make, where they are done and their report is legal.
-pub(crate) fn changes_of<R: AllocGlobal + Threads + Wait + Sync>(
+/// How many changes these lanes make, which are done and have a legal report.
+pub(crate) fn changes_of<R: AllocGlobal + Abort + Threads + Wait + Sync>(
     rt: &R,
     lanes: &[&str],
 ) -> Option<u64> {
-    let (status, sink) = run(rt, SCHEMA, lanes, ROOMY)?;
-    if status != Status::Done || judge(rt.alloc(), SCHEMA, lanes, sink.written()) != Ok(()) {
-        return None;
-    }
-    counted(sink.written())
+    counted(legal_report(rt, SCHEMA, lanes).written())
 }
 
 /// How many of these rows are put, and found in a legal report.
-fn found<R: AllocGlobal + Threads + Wait + Sync>(
+fn found<R: AllocGlobal + Abort + Threads + Wait + Sync>(
     rt: &R,
     numbers: Numbers,
     look: Look,
 ) -> Option<u64> {
-    let lane = puts_and_gets(rt.alloc(), numbers, look)?;
-    changes_of(rt, &[lane.as_str()])
+    changes_of(rt, &[puts_and_gets(rt, numbers, look).as_str()])
 }
 
 /// The first number, the factor, the step, and how many there are, each of them once; how many
@@ -69,7 +62,7 @@ fn rows_of(rows: Rows) -> (Numbers, Look) {
 }
 
 /// The place of the first rows that aren't all put and found.
-fn other_rows<R: AllocGlobal + Threads + Wait + Sync>(rt: &R) -> Option<usize> {
+fn other_rows<R: AllocGlobal + Abort + Threads + Wait + Sync>(rt: &R) -> Option<usize> {
     for (place, rows) in ROWS.iter().enumerate() {
         let (numbers, look) = rows_of(*rows);
         if found(rt, numbers, look) != Some(numbers.count) {
@@ -87,31 +80,21 @@ fn each_row_is_put_and_found(rt: HostRuntime) {
 /// 200,000 numbers out of order.
 const MANY: Rows = (0, 12_421, 7, 200_000, 0, 1);
 
-/// How many of many rows are found.
-fn found_of_many<R: AllocGlobal + Threads + Wait + Sync>(rt: &R) -> Option<u64> {
-    let (numbers, look) = rows_of(MANY);
-    found(rt, numbers, look)
-}
-
 #[test]
 fn many_rows_are_put_and_found(rt: HostRuntime) {
-    assert_eq!(rt; found_of_many(&rt), Some(200_000));
-}
-
-/// How many changes there are where 500 rows come, go and come again.
-fn changes_in_turn<R: AllocGlobal + Threads + Wait + Sync>(rt: &R) -> Option<u64> {
-    let (numbers, look) = rows_of((0, 21, 7, 500, 0, 200));
-    let lane = comes_and_goes(rt.alloc(), numbers, look)?;
-    changes_of(rt, &[lane.as_str()])
+    let (numbers, look) = rows_of(MANY);
+    assert!(rt; found(&rt, numbers, look) == Some(200_000));
 }
 
 #[test]
 fn rows_come_again(rt: HostRuntime) {
-    assert_eq!(rt; changes_in_turn(&rt), Some(1500));
+    let (numbers, look) = rows_of((0, 21, 7, 500, 0, 200));
+    let lane = comes_and_goes(&rt, numbers, look);
+    assert!(rt; changes_of(&rt, &[lane.as_str()]) == Some(1500));
 }
 
 /// The lane of every second number from this one on, below 2,000, with values of 200 bytes.
-fn every_second(alloc: Global, first: u64) -> Option<String> {
+fn every_second<R: AllocGlobal + Abort>(rt: &R, first: u64) -> String {
     let numbers = Numbers {
         first,
         factor: 1,
@@ -123,33 +106,28 @@ fn every_second(alloc: Global, first: u64) -> Option<String> {
         before: 0,
         value: 200,
     };
-    puts_and_gets(alloc, numbers, look)
-}
-
-/// How many changes there are where two lanes put such rows.
-fn changes_of_two<R: AllocGlobal + Threads + Wait + Sync>(rt: &R) -> Option<u64> {
-    let even = every_second(rt.alloc(), 0)?;
-    let odd = every_second(rt.alloc(), 1)?;
-    changes_of(rt, &[even.as_str(), odd.as_str()])
+    puts_and_gets(rt, numbers, look)
 }
 
 #[test]
 fn two_lanes_put_rows_in_the_same_leaves(rt: HostRuntime) {
-    assert_eq!(rt; changes_of_two(&rt), Some(2000));
+    let even = every_second(&rt, 0);
+    let odd = every_second(&rt, 1);
+    assert!(rt; changes_of(&rt, &[even.as_str(), odd.as_str()]) == Some(2000));
 }
 
-/// How many changes there are where 12,500 ascending puts have the longest values, so that the
-/// pages run out, and gets of the first 100 rows follow.
-fn changes_of_too_many<R: AllocGlobal + Threads + Wait + Sync>(rt: &R) -> Option<u64> {
+/// 12,500 ascending puts with the longest values, so that the pages run out, and gets of the first
+/// 100 rows.
+fn too_many<R: AllocGlobal + Abort>(rt: &R) -> String {
     let (numbers, look) = rows_of((0, 1, 1, 12_500, 0, 2048));
     let first = Numbers {
         count: 100,
         ..numbers
     };
     let mut lane = String::new(rt.alloc());
-    add_puts(rt.alloc(), &mut lane, numbers, look)?;
-    add_asks(rt.alloc(), &mut lane, first, look, "get")?;
-    changes_of(rt, &[lane.as_str()])
+    add_puts(rt, &mut lane, numbers, look);
+    add_asks(rt, &mut lane, "get t", first, look);
+    lane
 }
 
 /// Such a row takes 2,064 bytes of the 16,252 of a page, so seven fill a leaf, and three stay on
@@ -157,5 +135,6 @@ fn changes_of_too_many<R: AllocGlobal + Threads + Wait + Sync>(rt: &R) -> Option
 /// pages with 4,086 leaves, the last of them full.
 #[test]
 fn pages_run_out(rt: HostRuntime) {
-    assert_eq!(rt; changes_of_too_many(&rt), Some(4085 * 3 + 7));
+    let lane = too_many(&rt);
+    assert!(rt; changes_of(&rt, &[lane.as_str()]) == Some(4085 * 3 + 7));
 }

@@ -4,11 +4,8 @@ use crate::reported::report_of;
 use crate::setup::{SCHEMA, at_gate, ends};
 use ahi_cli::Status;
 use lanes::Gate;
-use std::alloc::Global;
 use std::hint;
-use std::sync::Wait;
 use std::sync::atomic::{AtomicBool, AtomicU64, Ordering};
-use std::thread::Threads;
 
 // How often a lane looks for the other before it gives up.
 const TURNS: u32 = 100_000_000;
@@ -71,38 +68,24 @@ const FIRST: &str = "get t a\nput t a x\nget t b\nput t a y\nget t a\nget t a\n"
 
 const SECOND: &str = "get t a\nget t a\nput t b z\ndel t a\nget t a\n";
 
-const ANSWERS_OF_FIRST: &str =
-    "1 absent @0 cold no\n2 ok @1 cold no\n3 absent @1 cold no\n4 duplicate @2 cold no\n5 absent @3 cold no\n6 absent @3 cold no\n";
-
-const ANSWERS_OF_SECOND: &str =
-    "1 absent @0 cold no\n2 found x @1 cold no\n3 ok @2 cold no\n4 ok @3 cold no\n5 absent @3 cold no\n";
-
-fn report_in_turns(alloc: Global) -> Option<String> {
-    let changes = "changes t 3\n1 1 2 put a x\n2 2 3 put b z\n3 2 4 del a\n";
-    let middle = format!(in alloc; "{ANSWERS_OF_FIRST}lane 2\n{ANSWERS_OF_SECOND}{changes}").ok()?;
-    report_of(alloc, middle.as_str())
-}
-
-/// Whether the two lanes are reported as their lines in turns are answered.
-fn are_in_turns<R: AllocGlobal + Threads + Wait + Sync>(rt: &R, gate: &InTurns) -> bool {
-    match report_in_turns(rt.alloc()) {
-        Some(report) => {
-            ends(
-                rt,
-                SCHEMA,
-                &[FIRST, SECOND],
-                at_gate(gate),
-                Status::Done,
-                report.as_str(),
-            )
-        }
-        None => false,
-    }
-}
+/// What both are told, and their changes.
+const MIDDLE: &str =
+    "1 absent @0 cold no\n2 ok @1 cold no\n3 absent @1 cold no\n4 duplicate @2 cold no\n5 absent @3 cold no\n6 absent @3 cold no\nlane 2\n1 absent @0 cold no\n2 found x @1 cold no\n3 ok @2 cold no\n4 ok @3 cold no\n5 absent @3 cold no\nchanges t 3\n1 1 2 put a x\n2 2 3 put b z\n3 2 4 del a\n";
 
 #[test]
 fn the_gate_is_asked_before_each_line(rt: HostRuntime) {
     let gate = InTurns::new();
-    assert!(rt; are_in_turns(&rt, &gate));
+    let report = report_of(&rt, MIDDLE);
+    let lanes = [FIRST, SECOND];
+    assert!(rt;
+        ends(
+            &rt,
+            SCHEMA,
+            &lanes,
+            at_gate(&gate),
+            Status::Done,
+            report.as_str()
+        )
+    );
     assert!(rt; !gate.gave_up());
 }

@@ -1,6 +1,7 @@
 //! A report of two lanes, written by hand.
+use crate::setup::MEMORY;
 use report_judge::{COUNTS, Lie, judge};
-use std::alloc::Global;
+use std::process::Abort;
 
 /// Texts, and what is to stand in their place.
 pub(super) type Edits = &'static [(&'static str, &'static str)];
@@ -20,29 +21,28 @@ const CHANGES: &str =
     "changes t 4\n1 1 2 put a x\n2 2 2 del a\n3 2 3 put b w\n4 1 6 put a y\nchanges u 2\n1 1 8 put a,b x\n2 2 6 del a,b\n";
 
 /// The report of the lanes.
-fn report_of(alloc: Global) -> Option<String> {
-    format!(in alloc; "{ANSWERS}{CHANGES}stats t {COUNTS}\nstats u {COUNTS}\nend\n").ok()
+fn report_of<R: AllocGlobal + Abort>(rt: &R) -> String {
+    format!(in rt.alloc(); "{ANSWERS}{CHANGES}stats t {COUNTS}\nstats u {COUNTS}\nend\n").expect(
+        rt, MEMORY,
+    )
 }
 
 /// A text with an edit made, where its old text first stands.
-fn with_edit(alloc: Global, text: &str, old: &str, new: &str) -> Option<String> {
-    let (before, after) = text.split_once(old)?;
-    format!(in alloc; "{before}{new}{after}").ok()
-}
-
-/// The report of the lanes with each edit made.
-fn edited(alloc: Global, edits: &[(&str, &str)]) -> Option<String> {
-    let mut text = report_of(alloc)?;
-    for (old, new) in edits {
-        text = with_edit(alloc, text.as_str(), old, new)?;
-    }
-    Some(text)
+fn with_edit<R: AllocGlobal + Abort>(rt: &R, text: &str, old: &str, new: &str) -> String {
+    let (before, after) = text.split_once(old).expect(rt, "the old text");
+    format!(in rt.alloc(); "{before}{new}{after}").expect(rt, MEMORY)
 }
 
 /// How the report of the lanes is judged with these edits made.
-pub(super) fn judge_edited(alloc: Global, edits: &[(&str, &str)]) -> Option<Result<(), Lie>> {
-    let report = edited(alloc, edits)?;
-    Some(judge(alloc, SCHEMA, &LANES, report.as_bytes()))
+pub(super) fn judge_edited<R: AllocGlobal + Abort>(
+    rt: &R,
+    edits: &[(&str, &str)],
+) -> Result<(), Lie> {
+    let mut report = report_of(rt);
+    for (old, new) in edits {
+        report = with_edit(rt, report.as_str(), old, new);
+    }
+    judge(rt.alloc(), SCHEMA, &LANES, report.as_bytes())
 }
 
 /// Words for the dashes of some answers, and the statistics that count them.
@@ -61,6 +61,6 @@ const COLUMNS: Edits = &[
 
 #[test]
 fn a_run_of_two_lanes_is_legal(rt: HostRuntime) {
-    assert_eq!(rt; judge_edited(rt.alloc(), &[]), Some(Ok(())));
-    assert_eq!(rt; judge_edited(rt.alloc(), COLUMNS), Some(Ok(())));
+    assert!(rt; judge_edited(&rt, &[]) == Ok(()));
+    assert!(rt; judge_edited(&rt, COLUMNS) == Ok(()));
 }

@@ -1,6 +1,7 @@
 //! Reports of a list that is full, and of pages that ran out.
+use crate::setup::MEMORY;
 use report_judge::{COUNTS, LIMITS, Lie, Limits, judge_within};
-use std::alloc::Global;
+use std::process::Abort;
 
 const SCHEMA: &str = "index t 1\n";
 
@@ -17,34 +18,19 @@ const FULL: [&str; 7] = [
     "7 found x @2",
 ];
 
-fn add_answers(report: &mut String, line: usize, other: &str) -> Option<()> {
-    for (place, said) in FULL.iter().enumerate() {
-        let is_other = place.wrapping_add(1) == line;
-        report.push_str(if is_other { other } else { *said }).ok()?;
-        report.push_str(" - -\n").ok()?;
-    }
-    Some(())
-}
+const CHANGES: &str = "changes t 2\n1 1 1 put a x\n2 1 2 put b y\n";
 
 /// The report in which a line, counted from 1, is told this instead.
-fn report_of(alloc: Global, line: usize, other: &str) -> Option<String> {
-    let mut answers = String::new(alloc);
-    add_answers(&mut answers, line, other)?;
-    let changes = "changes t 2\n1 1 1 put a x\n2 1 2 put b y\n";
-    format!(in alloc; "ahi run\nlane 1\n{answers}{changes}stats t {COUNTS}\nend\n").ok()
-}
-
-/// How that report is judged where an index may have so many changes, and there are so many pages.
-fn judge_told(
-    alloc: Global,
-    line: usize,
-    other: &str,
-    changes: u64,
-    pages: u64,
-) -> Option<Result<(), Lie>> {
-    let report = report_of(alloc, line, other)?;
-    let limits = Limits { changes, pages };
-    Some(judge_within(alloc, limits, SCHEMA, &[LANE], report.as_bytes()))
+fn report_of<R: AllocGlobal + Abort>(rt: &R, line: usize, other: &str) -> String {
+    let mut report = String::new(rt.alloc());
+    report.push_str("ahi run\nlane 1\n").expect(rt, MEMORY);
+    for (place, said) in FULL.iter().enumerate() {
+        let is_other = place.wrapping_add(1) == line;
+        let told = if is_other { other } else { *said };
+        write!(report, "{told} - -\n").expect(rt, MEMORY);
+    }
+    write!(report, "{CHANGES}stats t {COUNTS}\nend\n").expect(rt, MEMORY);
+    report
 }
 
 /// The line that is told something else, this, the most changes, the pages, and how it is judged.
@@ -140,9 +126,14 @@ const ROOM: [Told; 4] = [
 ];
 
 /// The place of the first report that is judged otherwise.
-fn other_verdict(alloc: Global, table: &[Told]) -> Option<usize> {
+fn other_verdict<R: AllocGlobal + Abort>(rt: &R, table: &[Told]) -> Option<usize> {
     for (place, (line, other, changes, pages, wanted)) in table.iter().enumerate() {
-        if judge_told(alloc, *line, other, *changes, *pages) != Some(*wanted) {
+        let report = report_of(rt, *line, other);
+        let limits = Limits {
+            changes: *changes,
+            pages: *pages,
+        };
+        if judge_within(rt.alloc(), limits, SCHEMA, &[LANE], report.as_bytes()) != *wanted {
             return Some(place);
         }
     }
@@ -151,10 +142,10 @@ fn other_verdict(alloc: Global, table: &[Told]) -> Option<usize> {
 
 #[test]
 fn a_full_list_refuses_what_its_map_allows(rt: HostRuntime) {
-    assert_eq!(rt; other_verdict(rt.alloc(), &TOLD), None);
+    assert_eq!(rt; other_verdict(&rt, &TOLD), None);
 }
 
 #[test]
 fn pages_run_out_only_where_they_are_few(rt: HostRuntime) {
-    assert_eq!(rt; other_verdict(rt.alloc(), &ROOM), None);
+    assert_eq!(rt; other_verdict(&rt, &ROOM), None);
 }

@@ -1,7 +1,8 @@
 //! Reports with one lie each.
 use crate::judging::by_hand::{Edits, judge_edited};
+use crate::setup::MEMORY;
 use report_judge::{COUNTS, Lie, judge};
-use std::alloc::Global;
+use std::process::Abort;
 
 /// The list of `t` with the changes of lane 1 before those of lane 2, and the points of that list.
 const BY_LANES: Edits = &[
@@ -125,9 +126,9 @@ const LIES: [(&str, Edits, Lie); 17] = [
 ];
 
 /// The name of the first lie that isn't refused as what it is.
-fn other_lie(alloc: Global) -> Option<&'static str> {
+fn other_lie<R: AllocGlobal + Abort>(rt: &R) -> Option<&'static str> {
     for (name, edits, lie) in LIES.iter() {
-        if judge_edited(alloc, edits) != Some(Err(*lie)) {
+        if judge_edited(rt, edits) != Err(*lie) {
             return Some(*name);
         }
     }
@@ -136,26 +137,25 @@ fn other_lie(alloc: Global) -> Option<&'static str> {
 
 #[test]
 fn each_lie_is_refused(rt: HostRuntime) {
-    assert_eq!(rt; other_lie(rt.alloc()), None);
+    assert_eq!(rt; other_lie(&rt), None);
 }
 
 /// How a report of two lanes that put the same row is judged, where this is told to the second.
-fn judge_second(alloc: Global, said: &str) -> Option<Result<(), Lie>> {
+fn judge_second<R: AllocGlobal + Abort>(rt: &R, said: &str) -> Result<(), Lie> {
     let answers = "ahi run\nlane 1\n1 ok @1 - -\nlane 2\n";
-    let report = format!(in alloc;
+    let report = format!(in rt.alloc();
         "{answers}1 {said} - -\nchanges t 1\n1 1 1 put a x\nstats t {COUNTS}\nend\n"
-    ).ok()?;
-    Some(judge(
-        alloc,
+    ).expect(rt, MEMORY);
+    judge(
+        rt.alloc(),
         "index t 1\n",
-        &["put t a x\n", "put t a x\n"],
+        &["put t a x\n"; 2],
         report.as_bytes(),
-    ))
+    )
 }
 
 #[test]
 fn a_change_serves_one_line(rt: HostRuntime) {
-    let wrong = Lie::Wrong { lane: 2, line: 1 };
-    assert_eq!(rt; judge_second(rt.alloc(), "duplicate @1"), Some(Ok(())));
-    assert_eq!(rt; judge_second(rt.alloc(), "ok @1"), Some(Err(wrong)));
+    assert!(rt; judge_second(&rt, "duplicate @1") == Ok(()));
+    assert!(rt; judge_second(&rt, "ok @1") == Err(Lie::Wrong { lane: 2, line: 1 }));
 }
