@@ -8,25 +8,21 @@ use std::alloc::Global;
 /// Two indexes.
 pub(crate) const SCHEMA: &[u8] = b"# two indexes\n\nindex t 1\nindex two 2\n";
 
+/// A flaw of this line.
+fn flawed(line: u32, flaw: Flaw) -> Option<ScriptError> {
+    Some(ScriptError::Flawed { line, flaw })
+}
+
 pub(crate) fn bad(line: u32) -> Option<ScriptError> {
-    Some(ScriptError::Flawed {
-        line,
-        flaw: Flaw::BadLine,
-    })
+    flawed(line, Flaw::BadLine)
 }
 
 pub(crate) fn unknown(line: u32) -> Option<ScriptError> {
-    Some(ScriptError::Flawed {
-        line,
-        flaw: Flaw::UnknownIndex,
-    })
+    flawed(line, Flaw::UnknownIndex)
 }
 
 pub(crate) fn long(line: u32) -> Option<ScriptError> {
-    Some(ScriptError::Flawed {
-        line,
-        flaw: Flaw::TooLong,
-    })
+    flawed(line, Flaw::TooLong)
 }
 
 /// Why the lane isn't read over those two indexes.
@@ -55,7 +51,12 @@ pub(crate) fn first_other_lane(
     lanes: &[&[u8]],
     error: Option<ScriptError>,
 ) -> Option<usize> {
-    lanes.iter().position(|lane| !lane_ends(alloc, lane, error))
+    for (place, lane) in lanes.iter().enumerate() {
+        if !lane_ends(alloc, lane, error) {
+            return Some(place);
+        }
+    }
+    None
 }
 
 /// The number of the first schema that ends otherwise.
@@ -64,7 +65,10 @@ pub(crate) fn first_other_schema(
     schemas: &[&[u8]],
     error: Option<ScriptError>,
 ) -> Option<usize> {
-    schemas
-        .iter()
-        .position(|schema| !schema_ends(alloc, schema, error))
+    for (place, schema) in schemas.iter().enumerate() {
+        if !schema_ends(alloc, schema, error) {
+            return Some(place);
+        }
+    }
+    None
 }

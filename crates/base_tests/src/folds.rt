@@ -1,7 +1,6 @@
 //! Folds against values of another program.
 use crate::setup::{tuple_of, zeros};
 use key_tuple::{Fields, Params, Tuple, fold};
-use std::alloc::Global;
 
 /// Prefixes of (ab, xyz), how many bits are kept, and their folds in the index 7.
 const PREFIXES: [((u8, u16), u8, u64); 4] = [
@@ -16,52 +15,33 @@ const LOWEST: [(&[u8], u64); 5] = [(b"a", 1), (b"b", 0), (b"c", 1), (b"d", 0), (
 
 #[test]
 fn prefixes_are_folded(rt: HostRuntime) {
-    assert_eq!(rt; first_other_prefix(rt.alloc()), None);
-    assert!(rt; number_folded(rt.alloc()) == Some(0xdd12_0e79_0c25_12af));
+    let tuple = tuple_of(&rt, &[b"ab", b"xyz"]);
+    for (prefix, bits, want) in PREFIXES.iter() {
+        assert!(rt; fold_of(7, &tuple, *prefix, *bits) == Some(*want));
+    }
+}
+
+// The number alone is a vector that the hash is published with.
+#[test]
+fn a_number_is_folded(rt: HostRuntime) {
+    let tuple = tuple_of(&rt, &[]);
+    let folded = fold_of(u32::from_be_bytes(*b"foob"), &tuple, (0, 0), 64);
+    assert!(rt; folded == Some(0xdd12_0e79_0c25_12af));
 }
 
 #[test]
 fn the_lowest_bit_is_that_of_the_bytes(rt: HostRuntime) {
-    assert_eq!(rt; first_other_bit(rt.alloc()), None);
-}
-
-// The place of the first prefix that is folded otherwise.
-fn first_other_prefix(alloc: Global) -> Option<usize> {
-    for (place, (prefix, bits, want)) in PREFIXES.iter().enumerate() {
-        if folded(alloc, 7, &[b"ab", b"xyz"], *prefix, *bits) != Some(*want) {
-            return Some(place);
-        }
+    for (field, lowest) in LOWEST.iter() {
+        let tuple = tuple_of(&rt, &[*field]);
+        assert!(rt; fold_of(0, &tuple, (1, 0), 1) == Some(*lowest));
     }
-    None
-}
-
-// The number alone is a vector that the hash is published with.
-fn number_folded(alloc: Global) -> Option<u64> {
-    folded(alloc, u32::from_be_bytes(*b"foob"), &[], (0, 0), 64)
-}
-
-// The place of the first field whose fold has another lowest bit.
-fn first_other_bit(alloc: Global) -> Option<usize> {
-    for (place, (field, lowest)) in LOWEST.iter().enumerate() {
-        if folded(alloc, 0, &[*field], (1, 0), 1) != Some(*lowest) {
-            return Some(place);
-        }
-    }
-    None
 }
 
 #[test]
 fn a_long_field_is_folded(rt: HostRuntime) {
-    assert!(rt; long_folded(rt.alloc()) == Some(0x7f5e_bf75_e890_9b68));
-}
-
-fn long_folded(alloc: Global) -> Option<u64> {
-    let field = zeros(alloc, 300)?;
-    folded(alloc, 0x0102_0304, &[field.as_slice()], (1, 0), 64)
-}
-
-fn folded(alloc: Global, index: u32, parts: &[&[u8]], prefix: (u8, u16), bits: u8) -> Option<u64> {
-    fold_of(index, &tuple_of(alloc, parts)?, prefix, bits)
+    let field = zeros(&rt, 300);
+    let tuple = tuple_of(&rt, &[field.as_slice()]);
+    assert!(rt; fold_of(0x0102_0304, &tuple, (1, 0), 64) == Some(0x7f5e_bf75_e890_9b68));
 }
 
 fn fold_of(index: u32, tuple: &Tuple, (fields, bytes): (u8, u16), bits: u8) -> Option<u64> {

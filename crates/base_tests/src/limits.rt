@@ -1,7 +1,7 @@
 //! What is refused.
 use crate::setup::{of_lengths, zeros};
 use key_tuple::{Key, KeyError, Tuple, Value};
-use std::alloc::Global;
+use std::process::Abort;
 
 /// The lengths of fields, and why there is no such key and no such tuple.
 const FIELDS: [(&[usize], Option<KeyError>); 7] = [
@@ -23,47 +23,30 @@ const VALUES: [(usize, Option<KeyError>); 3] = [
 
 #[test]
 fn too_many_fields_and_bytes_are_refused(rt: HostRuntime) {
-    assert_eq!(rt; first_other_key(rt.alloc()), None);
-    assert_eq!(rt; first_other_tuple(rt.alloc()), None);
+    for (lengths, refusal) in FIELDS.iter() {
+        assert!(rt; key_refusal(&rt, lengths) == *refusal);
+        assert!(rt; tuple_refusal(&rt, lengths) == *refusal);
+    }
 }
 
 #[test]
 fn no_fields_are_a_tuple(rt: HostRuntime) {
-    assert!(rt; tuple_refusal(rt.alloc(), &[]) == Some(None));
+    assert!(rt; tuple_refusal(&rt, &[]).is_none());
 }
 
 #[test]
 fn too_long_a_value_is_refused(rt: HostRuntime) {
-    assert_eq!(rt; first_other_value(rt.alloc()), None);
-}
-
-// The place of the first key that is refused otherwise.
-fn first_other_key(alloc: Global) -> Option<usize> {
-    FIELDS.iter().position(|(lengths, want)| key_refusal(alloc, lengths) != Some(*want))
-}
-
-// The same of tuples.
-fn first_other_tuple(alloc: Global) -> Option<usize> {
-    FIELDS.iter().position(|(lengths, want)| tuple_refusal(alloc, lengths) != Some(*want))
-}
-
-// The same of values.
-fn first_other_value(alloc: Global) -> Option<usize> {
-    VALUES.iter().position(|(length, want)| value_refusal(alloc, *length) != Some(*want))
-}
-
-fn key_refusal(alloc: Global, lengths: &[usize]) -> Option<Option<KeyError>> {
-    let fields = of_lengths(alloc, lengths)?;
-    if fields.is_empty() {
-        return None;
+    for (length, refusal) in VALUES.iter() {
+        assert!(rt; Value::try_new(zeros(&rt, *length)).err() == *refusal);
     }
-    Some(Key::try_new(alloc, fields).err())
 }
 
-fn tuple_refusal(alloc: Global, lengths: &[usize]) -> Option<Option<KeyError>> {
-    Some(Tuple::try_new(alloc, of_lengths(alloc, lengths)?).err())
+fn key_refusal<R: AllocGlobal + Abort>(rt: &R, lengths: &[usize]) -> Option<KeyError> {
+    let fields = of_lengths(rt, lengths);
+    assert!(rt; !fields.is_empty());
+    Key::try_new(rt.alloc(), fields).err()
 }
 
-fn value_refusal(alloc: Global, length: usize) -> Option<Option<KeyError>> {
-    Some(Value::try_new(zeros(alloc, length)?).err())
+fn tuple_refusal<R: AllocGlobal + Abort>(rt: &R, lengths: &[usize]) -> Option<KeyError> {
+    Tuple::try_new(rt.alloc(), of_lengths(rt, lengths)).err()
 }

@@ -1,40 +1,24 @@
 //! The other lines of a report, byte for byte.
-use crate::setup::key_of;
+use crate::setup::{MEMORY, key_of, value_of};
 use change_log::LaneChange;
 use map_history::{Counts, Line, Op};
 use report_text::{change, changes_head, lane_head, report_end, report_head, stats};
-use sample_rows::value_of;
-use std::alloc::Global;
-use std::test::Fail;
+use std::process::Abort;
 
-/// The text is this.
-pub(crate) fn is(text: Option<Vec<u8>>, expected: &[u8]) -> bool {
-    match text {
-        Some(text) => text.as_slice() == expected,
-        None => false,
-    }
+/// The bytes are these.
+pub(crate) fn is(bytes: &[u8], expected: &[u8]) -> bool {
+    bytes == expected
 }
 
 /// The lines of a report of one lane that has none, but for the statistics.
-fn parts(alloc: Global) -> Option<Vec<u8>> {
-    let mut out = Vec::new(alloc);
-    report_head(&mut out).ok()?;
-    lane_head(&mut out, 1).ok()?;
-    changes_head(&mut out, "t", 0).ok()?;
-    report_end(&mut out).ok()?;
-    Some(out)
-}
-
 #[test]
-fn an_empty_lane(rt: HostRuntime) -> Result<(), Fail> {
-    assert!(rt; is(parts(rt.alloc()), b"ahi run\nlane 1\nchanges t 0\nend\n"));
-    Ok(())
-}
-
-fn stats_text(alloc: Global, name: &str, counts: &Counts) -> Option<Vec<u8>> {
-    let mut out = Vec::new(alloc);
-    stats(&mut out, name, counts).ok()?;
-    Some(out)
+fn an_empty_lane(rt: HostRuntime) {
+    let mut out = Vec::new(rt.alloc());
+    report_head(&mut out).expect(&rt, MEMORY);
+    lane_head(&mut out, 1).expect(&rt, MEMORY);
+    changes_head(&mut out, "t", 0).expect(&rt, MEMORY);
+    report_end(&mut out).expect(&rt, MEMORY);
+    assert!(rt; is(&out, b"ahi run\nlane 1\nchanges t 0\nend\n"));
 }
 
 #[test]
@@ -44,76 +28,57 @@ fn counts_by_their_words(rt: HostRuntime) {
     counts.numbers[2] = 134;
     counts.numbers[13] = 1;
     counts.numbers[17] = u64::MAX;
+    let mut out = Vec::new(rt.alloc());
+    stats(&mut out, "orders_2", &counts).expect(&rt, MEMORY);
     let expected = b"stats orders_2 hit 169 off 0 cold 134 short 0 part-busy 0 no-entry 0 \
         block-busy 0 clock 0 unequal 0 by-clock 0 by-busy 0 by-moved 0 by-last 0 built 1 same 0 \
         arena 0 raced 0 worn 18446744073709551615\n";
-    assert!(rt; is(stats_text(rt.alloc(), "orders_2", &counts), expected));
+    assert!(rt; is(&out, expected));
 }
 
 /// The line of a change that this line of lane 1 asks for.
-fn change_text(alloc: Global, number: u64, line: &Line) -> Option<Vec<u8>> {
-    let mut out = Vec::new(alloc);
+fn change_text<R: AllocGlobal + Abort>(rt: &R, number: u64, line: u32, op: Op) -> Vec<u8> {
+    let mut out = Vec::new(rt.alloc());
+    let line = Line { line, op };
     let made = LaneChange {
         number,
         lane: 1,
-        line,
+        line: &line,
     };
-    change(&mut out, &made).ok()?;
-    Some(out)
+    change(&mut out, &made).expect(rt, MEMORY);
+    out
 }
 
-fn put_text(alloc: Global, line: u32, fields: &[&[u8]], bytes: &[u8]) -> Option<Vec<u8>> {
-    let op = Op::Put {
-        index: 0,
-        key: key_of(alloc, fields)?,
-        value: value_of(alloc, bytes)?,
-    };
-    change_text(alloc, u64::from(line), &Line { line, op })
+fn put<R: AllocGlobal + Abort>(rt: &R, fields: &[&[u8]], bytes: &[u8]) -> Op {
+    let key = key_of(rt, fields);
+    let value = value_of(rt, bytes);
+    let index = 0;
+    Op::Put { index, key, value }
 }
 
 #[test]
-fn a_put(rt: HostRuntime) -> Result<(), Fail> {
-    let alloc = rt.alloc();
-    assert!(rt; is(put_text(alloc, 1, &[b"a"], b"x"), b"1 1 1 put a x\n"));
-    assert!(rt;
-        is(
-            put_text(alloc, 2, &[b"a", b"\0"], b"2"),
-            b"2 1 2 put a,%00 2\n"
-        )
-    );
-    Ok(())
-}
-
-fn set_text(alloc: Global) -> Option<Vec<u8>> {
-    let op = Op::Set {
-        index: 0,
-        key: key_of(alloc, &[b"a", b"b"])?,
-        value: value_of(alloc, b"")?,
-    };
-    change_text(alloc, 3, &Line { line: 5, op })
+fn a_put(rt: HostRuntime) {
+    let first = change_text(&rt, 1, 1, put(&rt, &[b"a"], b"x"));
+    assert!(rt; is(&first, b"1 1 1 put a x\n"));
+    let second = change_text(&rt, 2, 2, put(&rt, &[b"a", b"\0"], b"2"));
+    assert!(rt; is(&second, b"2 1 2 put a,%00 2\n"));
 }
 
 #[test]
 fn a_set(rt: HostRuntime) {
-    assert!(rt; is(set_text(rt.alloc()), b"3 1 5 set a,b ~\n"));
-}
-
-fn del_text(alloc: Global) -> Option<Vec<u8>> {
-    let key = key_of(alloc, &[b"a"])?;
-    let op = Op::Del { index: 0, key };
-    change_text(alloc, 2, &Line { line: 3, op })
-}
-
-fn get_text(alloc: Global) -> Option<Vec<u8>> {
-    let key = key_of(alloc, &[b"a"])?;
-    let op = Op::Get { index: 0, key };
-    change_text(alloc, 2, &Line { line: 3, op })
+    let key = key_of(&rt, &[b"a", b"b"]);
+    let value = value_of(&rt, b"");
+    let index = 0;
+    let text = change_text(&rt, 3, 5, Op::Set { index, key, value });
+    assert!(rt; is(&text, b"3 1 5 set a,b ~\n"));
 }
 
 #[test]
-fn a_del_is_a_change_and_a_get_is_none(rt: HostRuntime) -> Result<(), Fail> {
-    let alloc = rt.alloc();
-    assert!(rt; is(del_text(alloc), b"2 1 3 del a\n"));
-    assert!(rt; is(get_text(alloc), b""));
-    Ok(())
+fn a_del_is_a_change_and_a_get_is_none(rt: HostRuntime) {
+    let (index, key) = (0, key_of(&rt, &[b"a"]));
+    let del = change_text(&rt, 2, 3, Op::Del { index, key });
+    assert!(rt; is(&del, b"2 1 3 del a\n"));
+    let (index, key) = (0, key_of(&rt, &[b"a"]));
+    let get = change_text(&rt, 2, 3, Op::Get { index, key });
+    assert!(rt; get.is_empty());
 }

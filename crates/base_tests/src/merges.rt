@@ -1,32 +1,34 @@
 //! Worked merges.
-use crate::setup::key_of;
+use crate::setup::{MEMORY, key_of};
 use change_log::{LaneChange, LaneLog, merge};
 use map_history::{Line, Op};
-use std::alloc::Global;
-use std::test::Fail;
+use std::process::Abort;
 
-/// Lines that take a row out of an index, by their numbers and indexes.
-fn lines(alloc: Global, numbers: &[(u32, u32)]) -> Option<Vec<Line>> {
-    let mut lines = Vec::new(alloc);
-    for (line, index) in numbers {
-        let op = Op::Del {
-            index: *index,
-            key: key_of(alloc, &[b"k"])?,
-        };
-        lines.push(Line { line: *line, op }).ok()?;
-    }
-    Some(lines)
+/// The line of this number that takes a row out of an index.
+fn line_of<R: AllocGlobal + Abort>(rt: &R, line: u32, index: u32) -> Line {
+    let key = key_of(rt, &[b"k"]);
+    let op = Op::Del { index, key };
+    Line { line, op }
 }
 
 /// The log of a lane that made every `step`th change by one line, so many of them.
-fn log_of(alloc: Global, lane: u32, line: &Line, step: u64, count: u32) -> Option<LaneLog<'_>> {
-    let mut log = LaneLog::reserve(alloc, count as usize).ok()?;
+fn log_of<'a, R: AllocGlobal + Abort>(
+    rt: &R,
+    lane: u32,
+    line: &'a Line,
+    step: u64,
+    count: u32,
+) -> LaneLog<'a> {
+    let mut log = match LaneLog::reserve(rt.alloc(), count as usize) {
+        Ok(log) => log,
+        Err(_) => rt.panic(MEMORY),
+    };
     let first = u64::from(lane);
     for i in 0..count {
         let number = first.wrapping_add(step.wrapping_mul(u64::from(i)));
         log.note(LaneChange { number, lane, line });
     }
-    Some(log)
+    log
 }
 
 /// The changes have these numbers, lanes and lines.
@@ -39,81 +41,59 @@ fn are(changes: &[LaneChange<'_>], expected: &[(u64, u32, u32)]) -> bool {
 
 /// Lane 1 made the first and the third change of index 0, lane 2 the second, and lane 3 the third
 /// of index 1.
-fn three_logs<'a>(alloc: Global, lines: &'a [Line]) -> Option<Vec<LaneLog<'a>>> {
-    let [first, second, third] = lines else {
-        return None;
-    };
-    let mut logs = Vec::new(alloc);
-    logs.push(log_of(alloc, 1, first, 2, 2)?).ok()?;
-    logs.push(log_of(alloc, 2, second, 0, 1)?).ok()?;
-    logs.push(log_of(alloc, 3, third, 0, 1)?).ok()?;
-    Some(logs)
-}
-
-fn three_lanes(alloc: Global) -> Option<bool> {
-    let lines = lines(alloc, &[(4, 0), (9, 0), (7, 1)])?;
-    let logs = three_logs(alloc, &lines)?;
-    let merged = merge(alloc, &logs, 3).ok()?;
-    let [zero, one, two] = merged.as_slice() else {
-        return None;
-    };
-    let both = are(zero, &[(1, 1, 4), (2, 2, 9), (3, 1, 4)]) && are(one, &[(3, 3, 7)]);
-    Some(both && two.is_empty())
-}
-
 #[test]
-fn each_index_has_its_changes_by_number(rt: HostRuntime) -> Result<(), Fail> {
-    assert_eq!(rt; three_lanes(rt.alloc()), Some(true));
-    Ok(())
-}
-
-fn empty_logs(alloc: Global) -> Option<bool> {
+fn each_index_has_its_changes_by_number(rt: HostRuntime) {
+    let first = line_of(&rt, 4, 0);
+    let second = line_of(&rt, 9, 0);
+    let third = line_of(&rt, 7, 1);
     let logs = [
-        LaneLog::reserve(alloc, 0).ok()?,
-        LaneLog::reserve(alloc, 5).ok()?,
+        log_of(&rt, 1, &first, 2, 2),
+        log_of(&rt, 2, &second, 0, 1),
+        log_of(&rt, 3, &third, 0, 1),
     ];
-    let merged = merge(alloc, &logs, 1).ok()?;
-    Some(merged.len() == 1 && merged.iter().all(|list| list.is_empty()))
+    let merged = merge(rt.alloc(), &logs, 3).expect(&rt, MEMORY);
+    assert!(rt; merged.len() == 3);
+    assert!(rt; are(&merged[0], &[(1, 1, 4), (2, 2, 9), (3, 1, 4)]));
+    assert!(rt; are(&merged[1], &[(3, 3, 7)]) && merged[2].is_empty());
 }
 
 #[test]
-fn empty_logs_have_no_changes(rt: HostRuntime) -> Result<(), Fail> {
-    assert_eq!(rt; empty_logs(rt.alloc()), Some(true));
-    Ok(())
+fn empty_logs_have_no_changes(rt: HostRuntime) {
+    let logs = [
+        LaneLog::reserve(rt.alloc(), 0).expect(&rt, MEMORY),
+        LaneLog::reserve(rt.alloc(), 5).expect(&rt, MEMORY),
+    ];
+    let merged = merge(rt.alloc(), &logs, 1).expect(&rt, MEMORY);
+    assert!(rt; merged.len() == 1 && merged[0].is_empty());
 }
 
 /// The logs of 64 lanes that made every 64th change.
-fn many_logs(alloc: Global, line: &Line) -> Option<Vec<LaneLog<'_>>> {
-    let mut logs = Vec::new(alloc);
+fn many_logs<'a, R: AllocGlobal + Abort>(rt: &R, line: &'a Line) -> Vec<LaneLog<'a>> {
+    let mut logs = Vec::new(rt.alloc());
     for lane in 1..65 {
-        logs.push(log_of(alloc, lane, line, 64, 15_625)?).ok()?;
+        logs.push(log_of(rt, lane, line, 64, 15_625))
+            .expect(rt, MEMORY);
     }
-    Some(logs)
+    logs
 }
 
 /// They are numbered from 1.
 fn are_counted(changes: &[LaneChange<'_>]) -> bool {
-    changes
-        .iter()
-        .enumerate()
-        .all(|(i, c)| c.number == i as u64 + 1)
-}
-
-fn a_million(alloc: Global) -> Option<bool> {
-    let lines = lines(alloc, &[(1, 0)])?;
-    let logs = many_logs(alloc, lines.first()?)?;
-    are_merged(alloc, &logs)
-}
-
-/// Whether these logs merge to a million changes in order.
-fn are_merged(alloc: Global, logs: &[LaneLog<'_>]) -> Option<bool> {
-    let merged = merge(alloc, logs, 1).ok()?;
-    let all = merged.first()?;
-    Some(all.len() == 1_000_000 && are_counted(all))
+    let mut number: u64 = 0;
+    for change in changes {
+        number = number.wrapping_add(1);
+        if change.number != number {
+            return false;
+        }
+    }
+    true
 }
 
 #[test]
-fn a_million_changes_are_merged(rt: HostRuntime) -> Result<(), Fail> {
-    assert_eq!(rt; a_million(rt.alloc()), Some(true));
-    Ok(())
+fn a_million_changes_are_merged(rt: HostRuntime) {
+    let line = line_of(&rt, 1, 0);
+    let logs = many_logs(&rt, &line);
+    let merged = merge(rt.alloc(), &logs, 1).expect(&rt, MEMORY);
+    assert!(rt; merged.len() == 1 && merged[0].len() == 1_000_000);
+    assert!(rt; are_counted(&merged[0]));
 }

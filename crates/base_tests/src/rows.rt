@@ -1,28 +1,13 @@
 //! The largest row in a buffer, and rows of one list in another.
-use crate::setup::key_of;
+use crate::setup::{MEMORY, key_of};
 use key_tuple::{Fields, MAX_KEY_BYTES, MAX_VALUE_BYTES};
 use map_history::{RowBuf, Rows};
-use std::alloc::Global;
-use std::test::Fail;
-
-fn takes_the_largest(alloc: Global, out: &mut RowBuf) -> bool {
-    match (
-        vec![in alloc; 7; MAX_KEY_BYTES],
-        vec![in alloc; 9; MAX_VALUE_BYTES],
-    ) {
-        (Ok(field), Ok(value)) => fills(alloc, out, &[&field], &value),
-        _ => false,
-    }
-}
+use std::process::Abort;
 
 /// A buffer that is filled has as many fields, the last of them and the value.
-fn fills(alloc: Global, out: &mut RowBuf, parts: &[&[u8]], value: &[u8]) -> bool {
-    let Some(key) = key_of(alloc, parts) else {
-        return false;
-    };
-    if value.len() > MAX_VALUE_BYTES {
-        return false;
-    }
+fn fills<R: AllocGlobal + Abort>(rt: &R, out: &mut RowBuf, parts: &[&[u8]], value: &[u8]) -> bool {
+    let key = key_of(rt, parts);
+    assert!(rt; value.len() <= MAX_VALUE_BYTES);
     out.fill(&key, value);
     let count = usize::from(out.count());
     count == parts.len()
@@ -32,31 +17,28 @@ fn fills(alloc: Global, out: &mut RowBuf, parts: &[&[u8]], value: &[u8]) -> bool
 }
 
 #[test]
-fn a_buffer_takes_the_largest_row_and_a_smaller_one(rt: HostRuntime) -> Result<(), Fail> {
-    let alloc = rt.alloc();
-    let mut out = RowBuf::new(alloc)?;
-    assert!(rt; takes_the_largest(alloc, &mut out));
-    assert!(rt; fills(alloc, &mut out, &[b"a", b"", b"b"], b"x"));
-    Ok(())
+fn a_buffer_takes_the_largest_row_and_a_smaller_one(rt: HostRuntime) {
+    let mut out = RowBuf::new(rt.alloc()).expect(&rt, MEMORY);
+    assert!(rt; fills(&rt, &mut out, &[&[7; MAX_KEY_BYTES]], &[9; MAX_VALUE_BYTES]));
+    assert!(rt; fills(&rt, &mut out, &[b"a", b"", b"b"], b"x"));
 }
 
-fn two_rows(alloc: Global) -> Option<Rows> {
-    let first = key_of(alloc, &[b"a", b""])?;
-    let second = key_of(alloc, &[b"b"])?;
-    let mut rows = Rows::new(alloc);
-    rows.push(&first, b"one").ok()?;
-    rows.push(&second, b"").ok()?;
-    Some(rows)
+fn two_rows<R: AllocGlobal + Abort>(rt: &R) -> Rows {
+    let mut rows = Rows::new(rt.alloc());
+    rows.push(&key_of(rt, &[b"a", b""]), b"one")
+        .expect(rt, MEMORY);
+    rows.push(&key_of(rt, &[b"b"]), b"").expect(rt, MEMORY);
+    rows
 }
 
 /// Each row of the list, pushed from there.
-fn copy_of(alloc: Global, rows: &Rows) -> Option<Rows> {
-    let mut more = Rows::new(alloc);
+fn copy_of<R: AllocGlobal + Abort>(rt: &R, rows: &Rows) -> Rows {
+    let mut more = Rows::new(rt.alloc());
     for i in 0..rows.count() {
         let row = rows.row(i);
-        more.push(&row, row.value()).ok()?;
+        more.push(&row, row.value()).expect(rt, MEMORY);
     }
-    Some(more)
+    more
 }
 
 fn has_both_rows(rows: &Rows) -> bool {
@@ -78,26 +60,13 @@ fn has_the_first_alone(rows: &Rows) -> bool {
         && row.value() == b"one".as_slice()
 }
 
-fn is_cut(mut rows: Rows) -> bool {
-    rows.cut(9);
-    let whole = has_both_rows(&rows);
-    rows.cut(1);
-    let first = has_the_first_alone(&rows);
-    rows.cut(0);
-    whole && first && rows.count() == 0
-}
-
-fn copies_are_cut(alloc: Global) -> bool {
-    let Some(rows) = two_rows(alloc) else {
-        return false;
-    };
-    match copy_of(alloc, &rows) {
-        Some(more) => is_cut(more),
-        None => false,
-    }
-}
-
 #[test]
 fn rows_are_kept_read_and_cut(rt: HostRuntime) {
-    assert!(rt; copies_are_cut(rt.alloc()));
+    let mut rows = copy_of(&rt, &two_rows(&rt));
+    rows.cut(9);
+    assert!(rt; has_both_rows(&rows));
+    rows.cut(1);
+    assert!(rt; has_the_first_alone(&rows));
+    rows.cut(0);
+    assert!(rt; rows.count() == 0);
 }

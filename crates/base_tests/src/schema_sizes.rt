@@ -2,7 +2,6 @@
 use crate::files::{bad, first_other_schema};
 use map_history::Sizes;
 use script::{DEFAULT_SIZES, read_schema};
-use std::alloc::Global;
 
 /// Schemas that are read.
 const GOOD: [&[u8]; 11] = [
@@ -40,12 +39,6 @@ const BAD_SECOND: [&[u8]; 4] = [
     b"index t 1\nblocks 8\nindex u 1\n",
 ];
 
-/// The sizes of a schema that sets two.
-fn sizes_of_two(alloc: Global) -> Option<Sizes> {
-    let schema = read_schema(alloc, b"pages 2\nnodes 0\nindex t 1\n").ok()?;
-    Some(schema.sizes)
-}
-
 #[test]
 fn a_setting_stands_before_the_indexes(rt: HostRuntime) {
     assert_eq!(rt; first_other_schema(rt.alloc(), &GOOD, None), None);
@@ -68,5 +61,6 @@ fn other_settings_stay_as_usual(rt: HostRuntime) {
         nodes: 0,
         ..DEFAULT_SIZES
     };
-    assert!(rt; sizes_of_two(rt.alloc()) == Some(wanted));
+    let schema = read_schema(rt.alloc(), b"pages 2\nnodes 0\nindex t 1\n");
+    assert!(rt; schema.expect(&rt, "a schema").sizes == wanted);
 }

@@ -1,41 +1,46 @@
-//! Keys, tuples and bytes, or `None` where there is no memory or they are refused.
-use key_tuple::{Key, Tuple};
-use std::alloc::Global;
+//! Keys, tuples, values and bytes; where memory lacks or they are refused, a test ends.
+use key_tuple::{Key, Tuple, Value};
+use std::process::Abort;
+
+/// What a test says that ends for want of memory.
+pub(crate) const MEMORY: &str = "memory";
 
 /// The tuple of these fields.
-pub(crate) fn tuple_of(alloc: Global, parts: &[&[u8]]) -> Option<Tuple> {
-    Tuple::try_new(alloc, owned(alloc, parts)?).ok()
+pub(crate) fn tuple_of<R: AllocGlobal + Abort>(rt: &R, parts: &[&[u8]]) -> Tuple {
+    Tuple::try_new(rt.alloc(), owned(rt, parts)).expect(rt, "a tuple")
 }
 
 /// The key of these fields.
-pub(crate) fn key_of(alloc: Global, parts: &[&[u8]]) -> Option<Key> {
-    let fields = owned(alloc, parts)?;
-    if fields.is_empty() {
-        return None;
-    }
-    Key::try_new(alloc, fields).ok()
+pub(crate) fn key_of<R: AllocGlobal + Abort>(rt: &R, parts: &[&[u8]]) -> Key {
+    let fields = owned(rt, parts);
+    assert!(rt; !fields.is_empty());
+    Key::try_new(rt.alloc(), fields).expect(rt, "a key")
+}
+
+/// The value of these bytes.
+pub(crate) fn value_of<R: AllocGlobal + Abort>(rt: &R, bytes: &[u8]) -> Value {
+    sample_rows::value_of(rt.alloc(), bytes).expect(rt, "a value")
 }
 
 /// So many bytes.
-pub(crate) fn zeros(alloc: Global, count: usize) -> Option<Vec<u8>> {
-    let mut bytes = Vec::new(alloc);
-    bytes.resize(count, 0).ok()?;
-    Some(bytes)
+pub(crate) fn zeros<R: AllocGlobal + Abort>(rt: &R, count: usize) -> Vec<u8> {
+    vec![in rt.alloc(); 0; count].expect(rt, MEMORY)
 }
 
 /// Fields of these lengths.
-pub(crate) fn of_lengths(alloc: Global, lengths: &[usize]) -> Option<Vec<Vec<u8>>> {
-    let mut fields = Vec::new(alloc);
+pub(crate) fn of_lengths<R: AllocGlobal + Abort>(rt: &R, lengths: &[usize]) -> Vec<Vec<u8>> {
+    let mut fields = Vec::new(rt.alloc());
     for length in lengths {
-        fields.push(zeros(alloc, *length)?).ok()?;
+        fields.push(zeros(rt, *length)).expect(rt, MEMORY);
     }
-    Some(fields)
+    fields
 }
 
-fn owned(alloc: Global, parts: &[&[u8]]) -> Option<Vec<Vec<u8>>> {
-    let mut fields = Vec::new(alloc);
+fn owned<R: AllocGlobal + Abort>(rt: &R, parts: &[&[u8]]) -> Vec<Vec<u8>> {
+    let mut fields = Vec::new(rt.alloc());
     for part in parts {
-        fields.push(part.to_vec(alloc).ok()?).ok()?;
+        let field = part.to_vec(rt.alloc()).expect(rt, MEMORY);
+        fields.push(field).expect(rt, MEMORY);
     }
-    Some(fields)
+    fields
 }

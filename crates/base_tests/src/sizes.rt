@@ -1,7 +1,7 @@
 //! Sizes on a page.
 use crate::setup::{of_lengths, zeros};
 use key_tuple::{Key, MAX_POINTER_SIZE, MAX_ROW_SIZE, Value, pointer_size, row_size};
-use std::alloc::Global;
+use std::process::Abort;
 
 /// The lengths of a row's fields and of its value, and the sizes of the row and of a pointer.
 const ROWS: [(&[usize], usize, u16, u16); 7] = [
@@ -16,26 +16,16 @@ const ROWS: [(&[usize], usize, u16, u16); 7] = [
 
 #[test]
 fn lengths_past_127_take_two_bytes(rt: HostRuntime) {
-    assert_eq!(rt; first_other(rt.alloc()), None);
-}
-
-// The place of the first row with another size.
-fn first_other(alloc: Global) -> Option<usize> {
-    for (place, (lengths, length, row, pointer)) in ROWS.iter().enumerate() {
-        if sizes_of(alloc, lengths, *length) != Some((*row, *pointer)) {
-            return Some(place);
-        }
+    for (lengths, length, row, pointer) in ROWS.iter() {
+        assert!(rt; sizes_of(&rt, lengths, *length) == (*row, *pointer));
     }
-    None
 }
 
 // The sizes of a row with fields and a value of these lengths, and of a pointer.
-fn sizes_of(alloc: Global, lengths: &[usize], length: usize) -> Option<(u16, u16)> {
-    let fields = of_lengths(alloc, lengths)?;
-    if fields.is_empty() {
-        return None;
-    }
-    let key = Key::try_new(alloc, fields).ok()?;
-    let value = Value::try_new(zeros(alloc, length)?).ok()?;
-    Some((row_size(&key, &value), pointer_size(&key)))
+fn sizes_of<R: AllocGlobal + Abort>(rt: &R, lengths: &[usize], length: usize) -> (u16, u16) {
+    let fields = of_lengths(rt, lengths);
+    assert!(rt; !fields.is_empty());
+    let key = Key::try_new(rt.alloc(), fields).expect(rt, "a key");
+    let value = Value::try_new(zeros(rt, length)).expect(rt, "a value");
+    (row_size(&key, &value), pointer_size(&key))
 }
