@@ -23,7 +23,7 @@ use Rattle.call_law.specs.Trace.{frame_references}
 use Rattle.call_law.proofs.TraceLemmas.{quiet_both, quiet_then_once, quiet_of}
 use Rattle.buffer_pool.proofs.AddedLemmas.{none_added, held_adds}
 use Rattle.tree_descent.specs.declared.descending.Leaf.{Leaf}
-use Rattle.leaf_search.specs.Tries.{TriesAfter}
+use Rattle.search_info.specs.Tries.{TriesAfter}
 use Rattle.leaf_changes.specs.Says.{AnswersAndLeaves}
 use Rattle.index_engine.specs.Leaving.{ComesToLeaf, LooksAndLeaves, LeavesFull}
 use Rattle.index_engine.specs.Traces.{Finding, AreWayTo, IsFoundBy, EndsOnLeaf, IsFullLeaf, TellsOfWrite, GivesUp}

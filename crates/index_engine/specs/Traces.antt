@@ -31,7 +31,7 @@ use Rattle.buffer_pool.specs.Pages.{HasNumber}
 use Rattle.tree_descent.specs.Leaves.{cut_in, IsPageFor}
 use Rattle.tree_descent.specs.Paths.{LeadFromRoot}
 use Rattle.tree_shrinking.specs.declared.TheConstants.{LIGHT_LOAD}
-use Rattle.leaf_search.specs.Tries.{TriesAfter}
+use Rattle.search_info.specs.Tries.{TriesAfter}
 use Rattle.engine_law.specs.Tells.{TellsOnce}
 
 -- how a leaf was come to: what is so of the number of its page and the references of frames before

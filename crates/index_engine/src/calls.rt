@@ -5,7 +5,7 @@ ghost use Rattle.map_history.specs.Map as map;
 ghost use Rattle.map_history.specs.Operation as asked;
 ghost use Rattle.map_history.specs.Told.{columns_told};
 ghost use Rattle.index_law.specs.Meanings.{lent_row};
-ghost use Rattle.leaf_search.specs.Tries.{TriesAfter};
+ghost use Rattle.search_info.specs.Tries.{TriesAfter};
 ghost use Rattle.index_engine.specs.Engines.{known, lessons_of, IsOf, IsSame, indexes_of, FitsKey};
 ghost use Rattle.index_engine.specs.Engines.{FitsTuple};
 ghost use Rattle.index_engine.specs.Searched.{SearchedFor, SoughtFor};

@@ -16,7 +16,7 @@ use Rattle.tree_neighbours.specs.declared.pairs.LeafPair.{LeafPair}
 use Rattle.leaf_search.specs.Downs.{figures_at}
 use Rattle.leaf_search.specs.Hows.{how_of}
 use Rattle.leaf_search.specs.Lessons.{descent_to}
-use Rattle.leaf_search.specs.Tries.{TriesAfter}
+use Rattle.search_info.specs.Tries.{TriesAfter}
 use Rattle.leaf_search.proofs.SearchLemmas.{cause_is_no_hit}
 use Rattle.leaf_search.proofs.TryLemmas.{missed_tries, learnt_tries}
 use Rattle.index_seeks.specs.SeekSteps.{FindsPair, SeeksFrom}

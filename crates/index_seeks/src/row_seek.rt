@@ -7,7 +7,7 @@ ghost use Rattle.map_history.specs.Told.{columns_told};
 ghost use Rattle.search_info.specs.Passes.{knowledge, HasUnique, IsLearnPassOf, IsSameLearnPass};
 ghost use Rattle.forest_law.specs.State.{fields_for};
 ghost use Rattle.buffer_pool.specs.Forests.{IsForest};
-ghost use Rattle.leaf_search.specs.Tries.{TriesAfter};
+ghost use Rattle.search_info.specs.Tries.{TriesAfter};
 ghost use Rattle.index_seeks.specs.SeekSearches.{SeekTrace};
 ghost use Rattle.index_seeks.specs.SeekTraces.{TellsOfSeek};
 

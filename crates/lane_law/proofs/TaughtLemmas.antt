@@ -8,7 +8,7 @@ use Rattle.map_history.specs.Report.{Columns, Answer, AnswerLine}
 use Rattle.map_history.specs.LegalReport.{Line, columns_of}
 use Rattle.search_info.specs.declared.knows.Knows.{Knows}
 use Rattle.search_info.specs.declared.knows.Try.{Try}
-use Rattle.leaf_search.specs.Tries.{kind_of, kinds_after, TriesAfter}
+use Rattle.search_info.specs.Tries.{kind_of, kinds_after, TriesAfter}
 use Rattle.lane_law.specs.Worked.{answered}
 use Rattle.lane_law.specs.Taught.{tried_by, told_try, answer_tries, lane_tries, Taught}
 

@@ -13,7 +13,7 @@ use Rattle.map_history.specs.Statistics.{has_word}
 use Rattle.map_history.specs.Words.{how_text, note_text}
 use Rattle.search_info.specs.declared.knows.Knows.{Knows}
 use Rattle.search_info.specs.declared.knows.Try.{Try}
-use Rattle.leaf_search.specs.Tries.{Kind, Hit, Miss, Descent, kind_of, kinds_after}
+use Rattle.search_info.specs.Tries.{Kind, Hit, Miss, Descent, kind_of, kinds_after}
 use Rattle.lane_law.specs.Taught.{ToldTry, tried_by, told_try, answer_tries, lane_tries, all_tries, IsTaught, same_kind, times_tried, times_how, times_in_vain, times_unasked, AreTold}
 
 -- 1 where it is so

@@ -10,7 +10,7 @@ use lib.ListN.{get_elem?}
 use Rattle.change_log.specs.Log.{ChangeNote, Log}
 use Rattle.change_log.specs.Merge.{IsMerge}
 use Rattle.map_history.specs.Operation.{is_scan}
-use Rattle.leaf_search.specs.Tries.{TriesAfter}
+use Rattle.search_info.specs.Tries.{TriesAfter}
 use Rattle.search_info.specs.declared.knows.Knows.{Knows}
 use Rattle.map_history.specs.Report.{Columns, Answer, AnswerLine, Report}
 use Rattle.map_history.specs.LegalReport.{Line, Run, Precedes, columns_of, columns_at}

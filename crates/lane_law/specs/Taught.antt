@@ -11,7 +11,7 @@ use Rattle.map_history.specs.Words.{how_text}
 use Rattle.search_info.specs.declared.knows.Knows.{Knows}
 use Rattle.search_info.specs.declared.knows.Try.{Try}
 use Rattle.search_info.specs.History.{Start}
-use Rattle.leaf_search.specs.Tries.{Kind, Hit, Miss, Descent, kind_of, kinds_after}
+use Rattle.search_info.specs.Tries.{Kind, Hit, Miss, Descent, kind_of, kinds_after}
 
 -- what a report tells of a try: the number of its lane, from 0, its index, and its kind
 pub record ToldTry : Type 0 where

@@ -26,7 +26,7 @@ use Rattle.index_engine.specs.declared.engine.Engine.{Engine}
 use Rattle.index_engine.specs.declared.engine.EnginePass.{EnginePass}
 use Rattle.index_engine.specs.Engines.{known, lessons_of, IsOf, IsSame, indexes_of}
 use Rattle.engine_law.specs.Tells.{TellsOnce}
-use Rattle.leaf_search.specs.Tries.{TriesAfter}
+use Rattle.search_info.specs.Tries.{TriesAfter}
 use Rattle.report_text.specs.Texts.{answer_line_text}
 use Rattle.lane_law.specs.Merged.{notes_of}
 use Rattle.lane_law.specs.Worked.{answered}

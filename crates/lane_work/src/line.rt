@@ -4,7 +4,7 @@ ghost use Rattle.map_history.specs.Lines.{line_text};
 ghost use Rattle.index_engine.specs.Engines.{known, lessons_of, IsOf, IsSame};
 ghost use Rattle.call_law.specs.Once.{IsQuiet};
 ghost use Rattle.engine_law.specs.Tells.{TellsOnce};
-ghost use Rattle.leaf_search.specs.Tries.{TriesAfter};
+ghost use Rattle.search_info.specs.Tries.{TriesAfter};
 ghost use Rattle.lane_work.specs.Workable.{IsWorkable};
 
 use index_engine::{Engine, EnginePass};

@@ -22,7 +22,7 @@ use Rattle.hash_guess.specs.declared.cause.Cause.TheVariants.{Cold, Short, PartB
 use Rattle.hash_guess.specs.Causes.{is_miss}
 use Rattle.hash_guess.specs.Guesses.{LearnsIf, LearnsOf}
 use Rattle.leaf_search.specs.Hows.{how_of}
-use Rattle.leaf_search.specs.Tries.{Kind, Miss, Descent, TriesAfter, kind_of, kinds_after}
+use Rattle.search_info.specs.Tries.{Kind, Miss, Descent, TriesAfter, kind_of, kinds_after}
 
 -- the pass has its numbers, and has tried besides events of these kinds
 pub record AddsTries (l : Knows) (i : ℕ) (kinds : List Kind) (m : Knows) : Type 0 where

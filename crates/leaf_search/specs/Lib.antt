@@ -1,4 +1,3 @@
-pub mod Tries
 pub mod Lessons
 pub mod Builds
 pub mod Hows

@@ -17,7 +17,7 @@ use Rattle.buffer_pool.specs.Hands.{LacksFrame}
 use Rattle.tree_descent.specs.Descents.{AddsPath}
 use Rattle.tree_descent.specs.Leaves.{cut_in, IsLeafFor}
 use Rattle.leaf_search.specs.declared.searched.Searched.{Searched}
-use Rattle.leaf_search.specs.Tries.{TriesAfter}
+use Rattle.search_info.specs.Tries.{TriesAfter}
 
 -- the two columns of what such a search told
 abbrev pub columns_found : Searched → Columns

@@ -5,3 +5,4 @@ pub mod Steps
 pub mod Passes
 pub mod Exchanges
 pub mod Outcomes
+pub mod Tries

@@ -10,7 +10,7 @@ use Rattle.forest_world.specs.Held.{shape_of_pass}
 use Rattle.buffer_pool.proofs.SpaceLemmas.{objects_of}
 use Rattle.hash_guess.specs.Guesses.{Guesses}
 use Rattle.leaf_search.specs.Downs.{figures_at}
-use Rattle.leaf_search.specs.Tries.{TriesAfter}
+use Rattle.search_info.specs.Tries.{TriesAfter}
 use Rattle.leaf_search.proofs.SearchLemmas.{hit_stands}
 use Rattle.leaf_search.proofs.TryLemmas.{tries_after, of_tries}
 use Rattle.index_seeks.specs.SeekHands.{HoldsHitAlone, HoldsLeafPair}

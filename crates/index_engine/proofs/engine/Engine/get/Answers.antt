@@ -7,7 +7,7 @@ use Rattle.map_history.specs.declared.columns.How.TheVariants as ways
 use Rattle.search_info.specs.Passes.{knowledge}
 use Rattle.key_tuple.specs.declared.mode.Mode.TheVariants.{Ge}
 use Rattle.forest_world.specs.Held.{shape_of_pass}
-use Rattle.leaf_search.specs.Tries.{TriesAfter}
+use Rattle.search_info.specs.Tries.{TriesAfter}
 use Rattle.leaf_search.proofs.KeyRowLemmas.{key_traces, told_hit}
 use Rattle.leaf_search.proofs.SearchLemmas.{hit_stands}
 use Rattle.index_engine.specs.Engines.{lessons_of}
