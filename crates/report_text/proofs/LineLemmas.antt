@@ -1,6 +1,6 @@
 -- Lines that grow by one part at a time.
 use Rattle.std.proofs.Common.{◌≡◌, ℕ, ◌+◌, ◌<◌, ◌≤◌, Result, Ok, Err, List, [], ◌∷◌, ◌++◌, length, map, take, get_or, refl, sym, ap, ◌∙◌, append_assoc, arith, length-append}
-use Rattle.std.proofs.lemmas.List.{take_at, take-take, map_more, length-take-le, length-map}
+use Rattle.std.proofs.lemmas.List.{take_all, take_at, take-take, map_more, length-take-le, length-map}
 use Rattle.std.specs.Result.{OnErr}
 use Rattle.std.specs.List.{join_with_byte}
 use Rattle.report_text.specs.Line.{KeepsBytes, separator}
@@ -21,6 +21,23 @@ Extends-at_exit (Err y) a x b c e h = Extends-front a x b c e h
 -- the same after two steps
 pub Extends-at_second_exit : {T E : Type 0} (r : Result T E) (a x b y c d : List ℕ) → b ≡ a ++ x → c ≡ b ++ y → KeepsBytes c d → OnErr r (KeepsBytes a d)
 Extends-at_second_exit r a x b y c d e f h = Extends-at_exit r a (x ++ y) c d (f ∙ ap (λ front. front ++ y) e ∙ append_assoc a x y) h
+
+-- the same at a last step, which may fail
+pub Extends-at_last_step : {T E : Type 0} (r : Result T E) (a x b c : List ℕ) → b ≡ a ++ x → OnErr r (KeepsBytes b c) → OnErr r (KeepsBytes a c)
+Extends-at_last_step (Ok y) a x b c e h = tt
+Extends-at_last_step (Err y) a x b c e h = Extends-front a x b c e h
+
+-- what stays as it is keeps its bytes
+stays : (a c : List ℕ) → c ≡ a → KeepsBytes a c
+stays a c same = ap (take (length a)) same ∙ take_all (length a) a (omega arith)
+
+pub Stays-at_exit : {T E : Type 0} (r : Result T E) (a c : List ℕ) → c ≡ a → OnErr r (KeepsBytes a c)
+Stays-at_exit (Ok y) a c same = tt
+Stays-at_exit (Err y) a c same = stays a c same
+
+-- the same behind other steps
+pub Extends-at_last_exit : {T E : Type 0} (r : Result T E) (a x b c : List ℕ) → b ≡ a ++ x → c ≡ b → OnErr r (KeepsBytes a c)
+Extends-at_last_exit r a x b c e same = Extends-at_exit r a x b c e (stays b c same)
 
 regrouped : (x j s y : List ℕ) → x ++ ((j ++ s) ++ y) ≡ ((x ++ j) ++ s) ++ y
 regrouped x j s y = simp append_assoc
@@ -53,3 +70,13 @@ joined_more c f xs i place d part start was between after h at is e1 e2 e3 =
     e3 ∙ ap (λ x. between ++ f x) is ∙ ap (λ l. l ++ f (get_or xs i d)) put
     ∙ sym (regrouped start (join_with_byte c (map f (take i xs))) (separator c i) (f (get_or xs i d)))
     ∙ ap (λ l. start ++ l) (sym (join_more c f xs i d h))
+
+-- the end of that loop: all parts were put
+pub joined_all : {X : Type 0} (c : ℕ) (f : X → List ℕ) (xs : List X) (i : ℕ) (start was : List ℕ) → length xs ≤ i → was ≡ start ++ join_with_byte c (map f (take i xs)) → was ≡ start ++ join_with_byte c (map f xs)
+joined_all c f xs i start was all e = e ∙ ap (λ ys. start ++ join_with_byte c (map f ys)) (take_all i xs all)
+
+-- and what was put behind them
+pub joined_ended : {X : Type 0} (c : ℕ) (f : X → List ℕ) (xs : List X) (i : ℕ) (start was after end : List ℕ) → length xs ≤ i → was ≡ start ++ join_with_byte c (map f (take i xs)) → after ≡ was ++ end
+    → after ≡ start ++ (join_with_byte c (map f xs) ++ end)
+joined_ended c f xs i start was after end all e e' =
+    e' ∙ ap (λ l. l ++ end) (joined_all c f xs i start was all e) ∙ append_assoc start (join_with_byte c (map f xs)) end

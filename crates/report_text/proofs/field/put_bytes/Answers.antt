@@ -1,6 +1,6 @@
 -- A run and an escaped byte more, or the last run.
 use Rattle.std.proofs.Common.{sym, ◌∙◌}
-use Rattle.report_text.proofs.LineLemmas.{Extends-at_exit}
+use Rattle.report_text.proofs.LineLemmas.{Extends-at_exit, Extends-at_last_exit}
 use Rattle.report_text.proofs.RunLemmas.{run_put, all_put}
 use Rattle.report_text.proofs.field.put_bytes.Goals as goal
 
@@ -12,3 +12,6 @@ rest-preserved c = run_put _ _ _ _ _ _ (sym c.first_escape.ensures ∙ c.in-Some
 
 pub returns-clause-ok : goal.returns-clause-ok
 returns-clause-ok c = all_put _ _ _ _ _ (sym c.first_escape.ensures ∙ c.in_default.is) c.in_ok-extend_from_slice.ensures.items c.rest.invariant
+
+pub returns-in_err-extend_from_slice-clause-err : goal.returns-in_err-extend_from_slice-clause-err
+returns-in_err-extend_from_slice-clause-err c = Extends-at_last_exit _ _ _ _ _ c.rest.invariant.grown c.in_err-extend_from_slice.ensures.items
