@@ -2,7 +2,18 @@ use Rattle.std.proofs.Common.{refl, ap, ◌∙◌, sym}
 use Rattle.latch_space.specs.Hands.{spread}
 use Rattle.latch_space.specs.Passes.{values, count}
 use Rattle.latch_space.proofs.Ending.{ends_stay, ends_fitted, foretells_of}
+use Rattle.latch_space.proofs.Pointwise.{own_from}
+use Rattle.latch_space.proofs.Seats.{index_in, live_of, own_after}
 use Rattle.latch_space.proofs.committing.Space+W.commit_ahead.Goals as goal
+
+pub commit_in-requires-clause-own : goal.commit_in-requires-clause-own
+commit_in-requires-clause-own g c = own_from c.pass.inside.parts c.args.pass.now c.pass.view_is c.args.self.now c.requires.own
+
+pub commit_in-requires-clause-live : goal.commit_in-requires-clause-live
+commit_in-requires-clause-live g c = live_of c.pass.inside.parts
+
+pub commit_in-requires-clause-index : goal.commit_in-requires-clause-index
+commit_in-requires-clause-index g c = let p = c.pass.inside.parts in index_in c.args.self.now p c.args.index (own_from p c.args.pass.now c.pass.view_is c.args.self.now c.requires.own) c.requires.index
 
 pub invariant_of-pass-inside : goal.invariant_of-pass-inside
 invariant_of-pass-inside g c = let p = c.pass.inside.parts in let n = p.numbers in
@@ -28,3 +39,8 @@ returns-clause-hands g c = foretells_of g.W.World.lawful g.W.World.answers g.W.W
 
 pub returns-clause-fits : goal.returns-clause-fits
 returns-clause-fits g c = ends_fitted g.W.World.lawful g.W.World.answers g.W.World.refers c.pass.inside.parts.seat.me.0 _ c.args.index g.X.Values.values (g.N.Means.meaning c.args.change.now) c.commit_in.result c.commit_in.ensures.did
+
+pub returns-clause-own : goal.returns-clause-own
+returns-clause-own g c = let p = c.pass.inside.parts in
+    let s = ends_stay g.W.World.lawful g.W.World.answers g.W.World.refers p.seat.me.0 c.commit_in.new.seat.me.0 c.args.index g.X.Values.values (g.N.Means.meaning c.args.change.now) c.commit_in.result c.commit_in.ensures.did in
+    own_after p c.args.pass.now c.pass.view_is c.args.self.now c.commit_in.new.seat c.requires.own c.commit_in.ensures.own s.terms

@@ -1,7 +1,9 @@
 use Rattle.std.proofs.Common.{arith, ◌<◌, ◌+◌, ◌-◌, ◌/◌, ℕ, ap, ◌∙◌, sym, length, map, subst, None}
 use lib.ListN.{length-replicate}
 use Rattle.latch_law.specs.declared.knows.Holding.{Holding}
-use Rattle.latch_space.specs.Hands.{has, is_held, is_once, slot_of}
+use Rattle.latch_law.specs.Views.{left_part, right_part}
+use Rattle.latch_space.specs.Hands.{has, is_held, is_once, slot_of, spread}
+use Rattle.latch_space.specs.Passes.{view, values, count}
 use Rattle.list_facts.proofs.Parts.{middle_inside}
 use Rattle.latch_law.proofs.PartKeeps.{splits}
 use Rattle.latch_space.proofs.InHand.{none_held}
@@ -53,6 +55,14 @@ invariant_of-pass g c = c.see.ensures.fits
 pub returns-clause-own : goal.returns-clause-own
 returns-clause-own g c = let e = c.split_seat-seat.ensures in let o = c.see.ensures.own in
     own_after c.pass.inside.parts c.args.pass.now c.pass.view_is c.args.self.now c.see.new.seat c.requires.own (o.0 ∙ e.0, o.1 ∙ e.1) (ap (λ z. z.0.terms) c.see.ensures.kept ∙ ap (λ z. z.0.terms) e.2)
+
+pub returns-clause-kept : goal.returns-clause-kept
+returns-clause-kept g c = let p = c.pass.inside.parts in let w = ap (λ z. z.0) (c.see.ensures.kept ∙ c.split_seat-seat.ensures.2) in
+    (w ∙ ap (λ z. left_part (view z)) c.pass.view_is, ap (λ z. spread (length z.held) p.hand.items) w ∙ ap values c.pass.view_is, ap count c.pass.view_is)
+
+pub returns-clause-given : goal.returns-clause-given
+returns-clause-given g c = let e = c.split_seat-seat.ensures in let own = own_from c.pass.inside.parts c.args.pass.now c.pass.view_is c.args.self.now c.requires.own in let w = ap (λ z. z.0) (c.see-2.ensures.kept ∙ e.4) in
+    ((c.see-2.ensures.own.0 ∙ (e.3 ∙ own.0), ap (λ z. z.terms) w ∙ own.1), w ∙ ap (λ z. right_part (view z)) c.pass.view_is, ap length c.in-Ok.ensures.items)
 
 pub returns-clause-fits : goal.returns-clause-fits
 returns-clause-fits g c = (c.see.ensures.fits, c.see-2.ensures.fits)

@@ -6,12 +6,16 @@ use Rattle.latch_space.specs.Hands.{has, is_held, is_once, slot_of, spread}
 use Rattle.latch_law.specs.Rule.{Holds}
 use Rattle.latch_law.proofs.Keeps.{releases}
 use Rattle.list_facts.proofs.Places.{inside, one_value}
-use Rattle.latch_space.proofs.InHand.{front, same_front, place_shows, others, front_slots, back_slots, length_others, holding_removed, once_remove, spread_remove}
+use Rattle.latch_space.proofs.InHand.{front, same_front, has_shown, place_shows, others, front_slots, back_slots, length_others, holding_removed, once_remove, spread_remove}
 use Rattle.latch_law.specs.Fitting.{MayRelease}
 use Rattle.latch_law.specs.Views.{releasing}
 use Rattle.latch_space.specs.Passes.{view, values}
 use Rattle.latch_space.proofs.Pointwise.{own_from, known_from, released_of}
+use Rattle.latch_space.proofs.Seats.{fitted_from}
 use Rattle.latch_space.proofs.releasing.Space+W.release.Goals as goal
+
+pub place_of-i-requires : goal.place_of-i-requires
+place_of-i-requires g c = let p = c.pass.inside.parts in let h = known_from p _ c.pass.view_is c.args.object c.requires.known in ap (has c.args.object) c.as_slice.ensures.value ∙ has_shown (length p.seat.me.0.held) p.hand.items c.args.object h.0.known h.2
 
 pub turn_by-requires : goal.turn_by-requires
 turn_by-requires g c = let p = c.pass.inside.parts in let hs = p.seat.me.0.held in let ps = p.hand.items in let i = c.place_of-i.result in let q = c.place_of-i.ensures in let found = ap (λ z. get_elem? z i) (sym c.as_slice.ensures.value) ∙ q.1 in let l = inside ps i q.0 found in let m = ap length p.out in let n = length-map ps slot_of in omega (arith, l, m, n)
@@ -71,3 +75,13 @@ returns-clause-own g c = let p = c.pass.inside.parts in let hs = p.seat.me.0.hel
     let front_is : c.turn_by.new.seat.me.1 ≡ (gone.object, None) ∷ others ps i = c.turn_by.ensures.turned ∙ (ap (λ z. drop i z ++ take i z) p.out ∙ front_slots ps i gone s.0) in let e = c.exchange-empty.ensures in let same : c.exchange-empty.new.seat.me.0 ≡ p.seat.me.0 = ap (λ z. z.0) e.3 ∙ c.turn_by.ensures.own.2 in let h = known_from p _ c.pass.view_is c.args.object c.requires.known in
     let holds : Holds c.exchange-empty.new.seat.me.0 gone.object h.0 = ap (λ z. get_elem? z.held gone.object) same ∙ (ap (get_elem? hs) s.1 ∙ h.1) in let t = c.store.ensures.2.0 h.0 holds in let left : c.store.new.seat.me.1 ≡ others ps i = ap (λ z. z.1) t ∙ (ap (λ z. rest z.1) e.3 ∙ ap rest front_is) in let v : c.turn_by-2.new.seat.me.0 ≡ releasing p.seat.me.0 gone.object h.0 = c.turn_by-2.ensures.own.2 ∙ (ap (λ z. z.0) t ∙ ap (λ z. releasing z gone.object h.0) same) in let table = c.turn_by-2.ensures.own.0 ∙ (c.store.ensures.0 ∙ (e.0 ∙ c.turn_by.ensures.own.0)) in
     ((table ∙ ap (λ z. z.seat.table_id) c.pass.view_is, c.turn_by-2.ensures.own.1 ∙ (c.store.ensures.1 ∙ (e.1 ∙ (c.turn_by.ensures.own.1 ∙ ap (λ z. z.seat.id) c.pass.view_is)))), (table ∙ (own_from p _ c.pass.view_is c.args.self.now c.requires.own).0, ap (λ z. z.terms) v ∙ (own_from p _ c.pass.view_is c.args.self.now c.requires.own).1))
+
+pub overflow_sub-rest : goal.overflow_sub-rest
+overflow_sub-rest g c = let p = c.pass.inside.parts in let q = c.place_of-i.ensures in let gone = c.remove-slot.result in let s = place_shows p.seat.me.0.held p.hand.items p.holding p.once c.place_of-i.result c.args.object (q.0, ap (λ z. get_elem? z c.place_of-i.result) (sym c.as_slice.ensures.value) ∙ q.1, q.2) gone c.remove-slot.ensures.value in
+    let len = c.len.ensures in let few = c.remove-slot.ensures.len in let ok = p.hand.ok.0 in let inside_it = inside p.hand.items c.place_of-i.result gone s.0 in omega (arith, len, few, ok, inside_it)
+
+pub invariant_of-pass : goal.invariant_of-pass
+invariant_of-pass g c = fitted_from g.W.World.lawful g.W.World.answers g.W.World.refers c.store.new.seat.me.0 c.turn_by-2.new.seat.me.0 c.turn_by-2.ensures.own.2 c.store.ensures.2.1
+
+pub returns-clause-fits : goal.returns-clause-fits
+returns-clause-fits g c = fitted_from g.W.World.lawful g.W.World.answers g.W.World.refers c.store.new.seat.me.0 c.turn_by-2.new.seat.me.0 c.turn_by-2.ensures.own.2 c.store.ensures.2.1
