@@ -3,6 +3,7 @@ pub mod PassLemmas
 pub mod PartLemmas
 pub mod HoldLemmas
 pub mod UpkeepLemmas
+pub mod SpaceLemmas
 pub mod BuildLemmas
 pub mod HandLawLemmas
 mod MoveStayLemmas
