@@ -34,12 +34,13 @@ impl Learner {
         let words = first_words_of(alloc, starts.as_slice())?;
         let settings = Settings { starts, passes };
         let (table, seat) = Table::of_words(alloc, words.as_slice(), &settings)?;
+        let learner = Learner { table, settings };
         let pass = LearnPass {
             seat,
             low: 0,
             end: passes,
         };
-        Ok((Learner { table, settings }, pass))
+        Ok((learner, pass))
     }
 
     /// How many indexes there are.
@@ -58,15 +59,16 @@ impl Learner {
     }
 }
 
+/// Each index's info beside its number of fields.
 fn pairs(alloc: Global, first: &[Info], unique: &[u8]) -> Result<Vec<(Info, u8)>, AllocError>
     requires { length unique.now ≡ length first.now }
     ensures { IfOk result (λ v. v.items ≡ zip first.now unique.now) }
 {
-    first
-        .iter()
-        .copied()
-        .zip(unique.iter().copied())
-        .collect(alloc)
+    let mut starts = Vec::new(alloc);
+    for n in 0..first.len() {
+        starts.push((first[n], unique[n]))?;
+    }
+    Ok(starts)
 }
 
 /// The opening words, and one more for the steps that belong to no index.
