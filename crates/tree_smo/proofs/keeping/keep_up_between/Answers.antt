@@ -1,4 +1,5 @@
 use Rattle.hash_maintain.proofs.PassLemmas.{knows_forest}
+use Rattle.buffer_pool.proofs.AgainLemmas.{passes_both}
 use Rattle.tree_smo.proofs.KeepingLemmas.{took_held, moved_since, in_place, gave_still, took_later, keeps_moved}
 use Rattle.tree_smo.proofs.keeping.keep_up_between.Goals as goal
 
@@ -52,3 +53,14 @@ returns-clause-kept g c = λ m. keeps_moved c.moves_keep_the_hash.ensures c.args
     c.move_between.new.pass c.move_between.new.from c.move_between.new.to c.move_between.result
     c.move_between.ensures.rests c.move_between.ensures.moves c.frame_back.new.pass
     c.frame_back.ensures.back c.frame_back-2.new.pass c.frame_back-2.ensures.back
+
+pub returns-clause-own : goal.returns-clause-own
+returns-clause-own g c = let p = c.args.pass.now in let gave = c.frame_out-gave.new.pass in
+    let took = c.frame_out-took.new.pass in let moved = c.move_between.new.pass in
+    let back = c.frame_back.new.pass in let last = c.frame_back-2.new.pass in (
+      passes_both p gave last c.frame_out-gave.ensures.own.0
+          (passes_both gave took last c.frame_out-took.ensures.own.0
+          (passes_both took moved last c.move_between.ensures.own.0
+          (passes_both moved back last c.frame_back.ensures.own.0 c.frame_back-2.ensures.own.0))),
+      c.frame_back-2.ensures.own.1,
+    )

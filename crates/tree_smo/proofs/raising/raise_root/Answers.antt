@@ -2,6 +2,8 @@ use Rattle.std.proofs.Common.{◌<◌, ◌≤◌, [], ◌∷◌, refl, sym, ap, 
 use Rattle.latch_space.specs.Passes.{view}
 use Rattle.index_law.specs.Shape.{Shape}
 use Rattle.buffer_pool.proofs.SpaceLemmas.{objects_of}
+use Rattle.buffer_pool.proofs.AgainLemmas.{passes_both}
+use Rattle.buffer_pool.proofs.CallLemmas.{frame_has}
 use Rattle.tree_smo.proofs.InsideLemmas.{none_outside_but, knows_inside}
 use Rattle.buffer_pool.specs.NewPages.{FindsNoneFree}
 use Rattle.tree_smo.proofs.BesideLemmas.{holds_outside, no_table, still_no_table, gets_nothing, memory_not_full}
@@ -111,3 +113,22 @@ returns-in-Err-clause-memory g c = λ e.
     gets_nothing c.args.pass.now c.new_page.new.pass c.head_of-head.result c.in_ok-under.under
     c.in_ok-under.ensures.ok c.raise_hashed.new.pass c.free_page.new.pass c.in-Err.ensures.err
     c.free_page.ensures.freed
+
+pub frame-requires-clause-held : goal.frame-requires-clause-held
+frame-requires-clause-held g c = let can = c.requires.held in
+    (can.root, can.root, frame_has c.args.pass.now c.requires.known c.args.root can.root can.knows_root)
+
+pub returns-in-Ok-clause-own : goal.returns-in-Ok-clause-own
+returns-in-Ok-clause-own g c = (
+  passes_both c.args.pass.now c.new_page.new.pass c.raise_hashed.new.pass c.new_page.ensures.own.0
+      c.raise_hashed.ensures.own.0,
+  c.raise_hashed.ensures.own.1,
+)
+
+pub returns-in-Err-clause-own : goal.returns-in-Err-clause-own
+returns-in-Err-clause-own g c = (
+  passes_both c.args.pass.now c.new_page.new.pass c.free_page.new.pass c.new_page.ensures.own.0
+      (passes_both c.new_page.new.pass c.raise_hashed.new.pass c.free_page.new.pass
+      c.raise_hashed.ensures.own.0 c.free_page.ensures.own.0),
+  c.free_page.ensures.own.1,
+)

@@ -2,6 +2,7 @@ use Rattle.std.proofs.Common.{◌<◌, ◌^◌, ◌∷◌, refl, sym, ap, subst,
 use Rattle.latch_space.specs.Passes.{view}
 use Rattle.index_law.specs.Shape.{Shape}
 use Rattle.buffer_pool.proofs.SpaceLemmas.{objects_of}
+use Rattle.buffer_pool.proofs.AgainLemmas.{passes_both}
 use Rattle.tree_smo.specs.Plans.{next_blocks}
 use Rattle.tree_smo.proofs.InsideLemmas.{none_outside_but, plan_inside}
 use Rattle.tree_smo.proofs.BesideLemmas.{index_below, fields_are, plan_still, holds_outside, no_table, still_no_table, splits_beside, gets_nothing, memory_not_full}
@@ -89,3 +90,18 @@ returns-in-Err-clause-memory g c = λ e.
     gets_nothing c.args.pass.now c.new_page.new.pass c.args.plan.head c.in_ok-right.right
     c.in_ok-right.ensures.ok c.split_hashed.new.pass c.free_page.new.pass c.in-Err.ensures.err
     c.free_page.ensures.freed
+
+pub returns-in-Ok-clause-own : goal.returns-in-Ok-clause-own
+returns-in-Ok-clause-own g c = (
+  passes_both c.args.pass.now c.new_page.new.pass c.split_hashed.new.pass c.new_page.ensures.own.0
+      c.split_hashed.ensures.own.0,
+  c.split_hashed.ensures.own.1,
+)
+
+pub returns-in-Err-clause-own : goal.returns-in-Err-clause-own
+returns-in-Err-clause-own g c = (
+  passes_both c.args.pass.now c.new_page.new.pass c.free_page.new.pass c.new_page.ensures.own.0
+      (passes_both c.new_page.new.pass c.split_hashed.new.pass c.free_page.new.pass
+      c.split_hashed.ensures.own.0 c.free_page.ensures.own.0),
+  c.free_page.ensures.own.1,
+)

@@ -1,6 +1,7 @@
 use Rattle.std.proofs.Common.{refl, subst}
 use Rattle.std.specs.Prelude.{IfOk}
 use Rattle.key_tuple.specs.Limits.{IsWithinLimits}
+use Rattle.buffer_pool.proofs.CallLemmas.{frame_has}
 use Rattle.tree_smo.specs.Splitting.{SplitsChild}
 use Rattle.buffer_pool.specs.NewPages.{FindsNoneFree}
 use Rattle.tree_smo.proofs.BesideLemmas.{memory_not_full}
@@ -45,3 +46,7 @@ returns-clause-full g c = λ e. let p = c.args.pass.now in
     (index_is p c.requires.known c.args.parent c.args.child c.args.index
     c.requires.held c.frame-low.result.now c.frame-low.ensures c.head_of-head.result
     c.head_of-head.ensures.head) (c.split_planned.ensures.full e)
+
+pub frame-low-requires-clause-held : goal.frame-low-requires-clause-held
+frame-low-requires-clause-held g c = let can = c.requires.held in
+    (can.low, can.low, frame_has c.args.pass.now c.requires.known c.args.child can.low can.knows_low)

@@ -1,8 +1,11 @@
-use Rattle.std.proofs.Common.{sym, subst}
+use Rattle.std.proofs.Common.{◌∙◌, ◌<◌, ◌^◌, sym, subst}
 use Rattle.std.proofs.lemmas.Result.{on_ok_weaker}
 use Rattle.latch_space.specs.Passes.{view}
 use Rattle.forest_world.specs.Held.{shape_of_pass}
 use Rattle.buffer_pool.proofs.CallLemmas.{frame_has}
+use Rattle.latch_law.specs.declared.knows.Terms.{Terms}
+use Rattle.index_law.specs.Shape.{Shape}
+use Rattle.buffer_pool.proofs.AgainLemmas.{passes_both}
 use Rattle.tree_smo.proofs.HashedLemmas.{plan_beside, frame_beside, nothing_held, makes_hashed, either_way, on_error, part_known}
 use Rattle.tree_smo.proofs.HeldLemmas.{IsThere, part_there, held_silently, holds_for}
 use Rattle.tree_smo.proofs.PartHeldLemmas.{suits}
@@ -80,3 +83,15 @@ returns-clause-err g c = let p = c.args.pass.now in let m = c.hold_part_for-part
     on_error c.make_split-made.result (λ same. nothing_held p m part c.requires.known
     c.hold_part_for-part.ensures.held there c.make_split-made.new.pass c.give_part_if.new.pass
     c.give_part_if.ensures.gave c.requires.parts same) c.make_split-made.ensures.err
+
+pub make_split-made-requires-clause-few : goal.make_split-made-requires-clause-few
+make_split-made-requires-clause-few g c = subst (λ (t : Terms Shape). t.shape.pages < 2 ^ 32)
+    (c.requires.own.1.1 ∙ sym c.hold_part_for-part.ensures.own.1.1) c.requires.few
+
+pub returns-clause-own : goal.returns-clause-own
+returns-clause-own g c = let p = c.args.pass.now in let m = c.hold_part_for-part.new.pass in
+    let q = c.make_split-made.new.pass in let r = c.give_part_if.new.pass in (
+      passes_both p m r c.hold_part_for-part.ensures.own.0
+          (passes_both m q r c.make_split-made.ensures.own.0 c.give_part_if.ensures.own.0),
+      c.give_part_if.ensures.own.1,
+    )

@@ -3,6 +3,7 @@ use Rattle.std.proofs.lemmas.Result.{IfOk-weaker}
 use Rattle.latch_space.specs.Passes.{view}
 use Rattle.index_law.specs.Shape.{Shape}
 use Rattle.buffer_pool.proofs.SpaceLemmas.{objects_of}
+use Rattle.buffer_pool.proofs.AgainLemmas.{passes_both}
 use Rattle.tree_smo.specs.Plans.{SplitsBeside}
 use Rattle.tree_smo.specs.Splitting.{SplitsChild}
 use Rattle.tree_smo.proofs.AroundLemmas.{none_free, nothing, splits_child, splits_last, frames_last}
@@ -109,3 +110,11 @@ returns-in-Some-clause-memory g c = λ e. let p = c.args.pass.now in let plan = 
     c.page_in-behind.ensures.took c.page_in-behind.ensures.fits)
     c.split_beside-made.new.pass c.give_back.new.pass c.give_back.ensures.gave
     (c.split_beside-made.ensures.memory e)
+
+pub returns-in-Some-clause-own : goal.returns-in-Some-clause-own
+returns-in-Some-clause-own g c = let p = c.args.pass.now in let q = c.page_in-behind.new.pass in
+    let r = c.split_beside-made.new.pass in let s = c.give_back.new.pass in (
+      passes_both p q s c.page_in-behind.ensures.own.0
+          (passes_both q r s c.split_beside-made.ensures.own.0 c.give_back.ensures.own.0),
+      c.give_back.ensures.own.1,
+    )

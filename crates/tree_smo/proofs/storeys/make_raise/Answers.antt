@@ -1,7 +1,9 @@
-use Rattle.std.proofs.Common.{◌≡◌, sym, subst, arith, rules, ℕ, Option}
+use Rattle.std.proofs.Common.{◌<◌, ◌∙◌, ◌≡◌, sym, subst, arith, rules, ℕ, Option}
 use Rattle.latch_space.specs.Passes.{view}
 use Rattle.buffer_pool.specs.Forests.{IsFittedTree}
 use Rattle.buffer_pool.proofs.AgainLemmas.{passes_both}
+use Rattle.latch_law.specs.declared.knows.Terms.{Terms}
+use Rattle.index_law.specs.Shape.{Shape}
 use Rattle.tree_smo.specs.PartHeld.{HoldsPartFor}
 use Rattle.tree_smo.proofs.RaiseKeptLemmas.{RaisesKept, raised_rows, in_place, same_count, raises_kept}
 use Rattle.tree_smo.proofs.RaiseLemmas.{tree_there, whole, follows, makes_raise}
@@ -100,3 +102,12 @@ returns-clause-ok g c part holds = let at = goal.at.returns-clause-ok g c in
     let grows = one_higher call.held.can.tree c.tree-old.result
     (tree_read g at.After-tree-old call raised) in
     makes_raise raised grows c.change_tree.ensures.changed c.settle.ensures.did
+
+-- the pass has as many indexes as before
+pub tree-old-requires-clause-there : goal.tree-old-requires-clause-there
+tree-old-requires-clause-there g c = subst (λ (t : Terms Shape). c.args.index < t.shape.indexes)
+    (c.requires.own.1.1 ∙ sym c.keep_up_between.ensures.own.1.1) c.requires.index
+
+pub change_tree-requires-clause-there : goal.change_tree-requires-clause-there
+change_tree-requires-clause-there g c = subst (λ (t : Terms Shape). c.args.index < t.shape.indexes)
+    (c.requires.own.1.1 ∙ sym c.keep_up_between.ensures.own.1.1) c.requires.index
