@@ -1,6 +1,7 @@
 use Rattle.std.proofs.Common.{◌≡◌, [], ◌∷◌, true, false, ap, Err, arith}
 use Rattle.latch_space.specs.Passes.{view}
 use Rattle.tree_descent.proofs.PageLemmas.{may_give_back}
+use Rattle.buffer_pool.proofs.AgainLemmas.{passes_both}
 use Rattle.tree_growth.specs.Ways.{ArrivesWithRoom, StopsOnWay, GrowsChild}
 use Rattle.tree_growth.proofs.AddLemmas.{goes_nowhere, stops_after}
 use Rattle.tree_growth.proofs.HandLemmas.{no_frame_but, no_table}
@@ -80,3 +81,9 @@ returns-in-Err-clause-err g c =
     let refused = is_refused p q i key (b ∷ []) way c.in-Err.error
     (λ e. c.in-Err.ensures.full (ap Err e)) (λ e. c.in-Err.ensures.memory (ap Err e)) in
     stops_one p q r i key b c.in-Err.error refused c.give_back.ensures.gave
+
+pub returns-in-Ok-clause-own : goal.returns-in-Ok-clause-own
+returns-in-Ok-clause-own g c = (passes_both c.args.pass.now c.raise_root.new.pass c.grow_child.new.pass c.raise_root.ensures.own.0 c.grow_child.ensures.own.0, c.grow_child.ensures.own.1)
+
+pub returns-in-Err-clause-own : goal.returns-in-Err-clause-own
+returns-in-Err-clause-own g c = (passes_both c.args.pass.now c.raise_root.new.pass c.give_back.new.pass c.raise_root.ensures.own.0 c.give_back.ensures.own.0, c.give_back.ensures.own.1)

@@ -1,6 +1,7 @@
 use Rattle.std.proofs.Common.{[], ◌∷◌, ap, suc, sym, Err}
 use Rattle.latch_space.specs.Passes.{view}
 use Rattle.tree_descent.proofs.PageLemmas.{may_give_back, tree_page_inside}
+use Rattle.buffer_pool.proofs.AgainLemmas.{passes_both}
 use Rattle.tree_growth.proofs.HandLemmas.{no_frame_but, no_table}
 use Rattle.tree_growth.proofs.RefusalLemmas.{is_refused, holds_second, stops_two}
 use Rattle.tree_growth.proofs.SplitLemmas.{may_give_up, way_halves, halves_held, grows_halved}
@@ -72,3 +73,9 @@ returns-in-Err-clause-err g c =
     in
     stops_two p q c.give_back-in-Err.new.pass i key c.args.parent c.args.child c.in-Err.error refused
     c.give_back-in-Err.ensures.gave c.give_back-in-Err-2.new.pass c.give_back-in-Err-2.ensures.gave
+
+pub returns-in-Ok-clause-own : goal.returns-in-Ok-clause-own
+returns-in-Ok-clause-own g c = (passes_both c.args.pass.now c.split_child.new.pass c.keep_half.new.pass c.split_child.ensures.own.0 (passes_both c.split_child.new.pass c.give_back.new.pass c.keep_half.new.pass c.give_back.ensures.own.0 c.keep_half.ensures.own.0), c.keep_half.ensures.own.1)
+
+pub returns-in-Err-clause-own : goal.returns-in-Err-clause-own
+returns-in-Err-clause-own g c = (passes_both c.args.pass.now c.split_child.new.pass c.give_back-in-Err-2.new.pass c.split_child.ensures.own.0 (passes_both c.split_child.new.pass c.give_back-in-Err.new.pass c.give_back-in-Err-2.new.pass c.give_back-in-Err.ensures.own.0 c.give_back-in-Err-2.ensures.own.0), c.give_back-in-Err-2.ensures.own.1)

@@ -1,6 +1,7 @@
 use Rattle.std.proofs.Common.{[], subst, IfErr}
 use Rattle.buffer_pool.proofs.CallLemmas.{tree_has}
 use Rattle.buffer_pool.specs.declared.error.PoolError.TheVariants as refused
+use Rattle.buffer_pool.proofs.AgainLemmas.{passes_both}
 use Rattle.tree_growth.specs.Growing.{MakesRoom}
 use Rattle.tree_growth.specs.Ways.{IsGoingDown, StopsOnWay, WalksDown}
 use Rattle.tree_growth.proofs.AnswerLemmas.{on_ok_more}
@@ -70,3 +71,6 @@ returns-clause-memory g c = λ e.
     subst (λ m. IfErr m (λ e. StopsOnWay q i key e r)) e made.err in
     grows_silently p q i key c.requires.index c.requires.few c.requires.fields c.requires.nothing
     c.take_tree.ensures.took r s way c.give_tree_back.ensures.gave stops.says
+
+pub returns-clause-own : goal.returns-clause-own
+returns-clause-own g c = (passes_both c.args.pass.now c.take_tree.new.pass c.give_tree_back.new.pass c.take_tree.ensures.own.0 (passes_both c.take_tree.new.pass c.walk_down-made.new.pass c.give_tree_back.new.pass c.walk_down-made.ensures.own.0 c.give_tree_back.ensures.own.0), c.give_tree_back.ensures.own.1)

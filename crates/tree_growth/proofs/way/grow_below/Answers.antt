@@ -1,5 +1,6 @@
 use Rattle.std.proofs.Common.{◌≡◌, [], ◌∷◌, ◌+◌, arith}
 use Rattle.latch_space.specs.Passes.{view}
+use Rattle.buffer_pool.proofs.AgainLemmas.{passes_both}
 use Rattle.tree_growth.specs.declared.looking.PageInHand.{PageInHand}
 use Rattle.tree_growth.specs.Ways.{ArrivesWithRoom, StopsOnWay, GrowsChild}
 use Rattle.tree_growth.proofs.AddLemmas.{reaches_after, stops_after}
@@ -70,3 +71,6 @@ returns-clause-err g c =
     (λ e. stops_after p q r i key e
     (goes_child p q i key c.args.need c.args.at c.child_for-child.result c.requires.way
     c.requires.held c.requires.inner c.child_for-child.ensures.took)) c.grow_child.ensures.err
+
+pub returns-clause-own : goal.returns-clause-own
+returns-clause-own g c = (passes_both c.args.pass.now c.child_for-child.new.pass c.grow_child.new.pass c.child_for-child.ensures.own.0 c.grow_child.ensures.own.0, c.grow_child.ensures.own.1)
