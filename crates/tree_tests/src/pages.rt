@@ -1,4 +1,6 @@
 //! Pages by their numbers: the roots, and new ones.
+ghost use Rattle.std.specs.Prelude.{◌≤◌};
+
 use crate::setup::Grove;
 use buffer_pool::PoolError;
 use std::process::Abort;
@@ -22,23 +24,22 @@ fn assert_found<R: Abort + Wait>(rt: &R, grove: &mut Grove) {
     }
 }
 
-#[test]
-fn roots_alone_are_pages_of_the_trees(rt: HostRuntime) {
-    let mut grove = Grove::open(&rt, 4);
-    assert_found(&rt, &mut grove);
-    assert!(rt; grove.root_block(&rt) == 0);
+/// Where there are so many pages, the roots alone are pages of the trees, and a new page has that
+/// number each time, which is taken again, or is refused.
+fn assert_pages<R: AllocGlobal + Abort + Wait>(rt: &R, pages: u32, number: Result<u32, PoolError>)
+    requires { (2 ≤ pages) × (pages ≤ 100) }
+{
+    let mut grove = Grove::open(rt, pages);
+    assert_found(rt, &mut grove);
+    let block = grove.root_block(rt);
+    let first = grove.new_number(rt);
+    let again = grove.new_number(rt);
+    assert!(rt; block == 0 && first == number && again == number);
+    assert_found(rt, &mut grove);
 }
 
 #[test]
-fn a_number_is_taken_again(rt: HostRuntime) {
-    let mut grove = Grove::open(&rt, 4);
-    assert!(rt; grove.new_number(rt.alloc(), &rt) == Ok(2));
-    assert!(rt; grove.new_number(rt.alloc(), &rt) == Ok(2));
-}
-
-#[test]
-fn roots_may_take_all_numbers(rt: HostRuntime) {
-    let mut grove = Grove::open(&rt, 2);
-    assert!(rt; grove.new_number(rt.alloc(), &rt) == Err(PoolError::SpaceFull));
-    assert_found(&rt, &mut grove);
+fn roots_alone_are_pages_of_the_trees_and_may_take_all_numbers(rt: HostRuntime) {
+    assert_pages(&rt, 4, Ok(2));
+    assert_pages(&rt, 2, Err(PoolError::SpaceFull));
 }

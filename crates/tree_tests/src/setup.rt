@@ -8,7 +8,6 @@ use buffer_pool::{PoolError, frame, free_page, give_back, new_page, page_if, pag
 use forest_world::{ForestPass, ForestSpace, open_forest};
 use index_page::PageHead;
 use map_history::Sizes;
-use std::alloc::Global;
 use std::process::Abort;
 use std::sync::Wait;
 
@@ -54,17 +53,13 @@ impl Grove {
     }
 
     /// The number of a new page, which is freed again.
-    pub(crate) fn new_number<R: Wait>(
-        &mut self,
-        alloc: Global,
-        wait: &R,
-    ) -> Result<u32, PoolError> {
-        let block = new_page(alloc, &self.space, &mut self.pass, HEAD, wait)?;
+    pub(crate) fn new_number<R: AllocGlobal + Wait>(&mut self, rt: &R) -> Result<u32, PoolError> {
+        let block = new_page(rt.alloc(), &self.space, &mut self.pass, HEAD, rt)?;
         let number = match &frame(&self.space, &self.pass, block).page {
             Some(page) => page.head().number,
             None => unreachable!(),
         };
-        free_page(&self.space, &mut self.pass, block, wait);
+        free_page(&self.space, &mut self.pass, block, rt);
         Ok(number)
     }
 
