@@ -7,8 +7,8 @@ ghost use Rattle.forest_law.specs.State.{fields_for};
 ghost use Rattle.buffer_pool.specs.Forests.{IsForest};
 
 use crate::guesses::{assert_hit, first_cause, open_learner};
-use crate::names::{Name, SIZES, key_of, value_of};
-use crate::plot::{call_of, give_room, hash, put};
+use crate::names::{Row, SIZES, key_of};
+use crate::plot::{give_room, hash, put_row};
 use buffer_pool::give_back;
 use forest_world::{ForestPass, ForestSpace, open_forest};
 use hash_guess::Cause;
@@ -18,77 +18,32 @@ use std::sync::Wait;
 use tree_descent::descend;
 
 /// The rows, each with as many bytes as a row may have. They fill a leaf.
-const ROWS: [Name; 5] = [
-    (b'a', Some(b'1')),
-    (b'c', Some(b'1')),
-    (b'm', Some(b'5')),
-    (b'm', Some(b'7')),
-    (b'n', Some(b'1')),
-];
+const ROWS: [Row; 5] = [b"a1", b"c1", b"m5", b"m7", b"n1"];
 
 /// Another row, for which the leaf is split behind its second one.
-const NEXT: Name = (b'o', Some(b'1'));
+const NEXT: Row = b"o1";
 
 /// The first row of the right leaf then, and a key below it that has no row.
-const FIRST: Name = (b'm', Some(b'5'));
+const FIRST: Row = b"m5";
 
-const BELOW: Name = (b'm', Some(b'3'));
+const BELOW: Row = b"m3";
 
-/// A space of one index, whose keys have two fields, and two passes of it that hold nothing.
-#[derive(Drop)]
-struct Plot {
-    space: ForestSpace,
-    pass: ForestPass,
-    other: ForestPass,
-    ghost own: { IsPassOf space pass × IsPassOf space other },
-    ghost forest: { IsForest space },
-    ghost few: { space.terms.shape.pages ≤ 65536 },
-    ghost one: { 0 < space.terms.shape.indexes },
-    ghost two: { fields_for space.terms.shape 0 ≡ 2 },
-    ghost most: { space.terms.max_changes ≡ 100 },
-    ghost nothing: { (count pass ≡ 0) × (count other ≡ 0) },
-}
-
-impl Plot {
-    fn open<R: AllocGlobal + Abort>(rt: &R) -> Plot {
-        let (space, mut pass) = open_forest(rt.alloc(), &SIZES, &[2], 2).expect(rt, "a space");
-        let other = space
-            .split(rt.alloc(), &mut pass)
-            .expect(rt, "another pass");
-        Plot { space, pass, other }
+/// Puts the rows in, which fill a leaf, and has it split.
+fn put_rows<R: AllocGlobal + Abort + Wait>(rt: &R, space: &ForestSpace, pass: &mut ForestPass)
+    requires forest { IsForest space.now }
+    requires own { IsPassOf space.now pass.old }
+    requires few { space.now.terms.shape.pages ≤ 65536 }
+    requires there { 0 < space.now.terms.shape.indexes }
+    requires two { fields_for space.now.terms.shape 0 ≡ 2 }
+    requires most { space.now.terms.max_changes ≡ 100 }
+    requires nothing { count pass.old ≡ 0 }
+    ensures own { IsPassOf space.now pass.new }
+    ensures nothing { count pass.new ≡ 0 }
+{
+    for row in ROWS.iter() {
+        put_row(rt, space, pass, *row);
     }
-
-    /// Puts a row in.
-    fn put<R: AllocGlobal + Abort + Wait>(&mut self, rt: &R, name: Name) {
-        let (key, value) = (key_of(rt, name), value_of(rt, name));
-        let call = call_of(rt, &self.space, &key);
-        put(rt, &call, &mut self.pass, 100, &value);
-    }
-
-    /// Gives the leaf of a key room for its row.
-    fn give_room<R: AllocGlobal + Abort + Wait>(&mut self, rt: &R, name: Name) {
-        let key = key_of(rt, name);
-        let call = call_of(rt, &self.space, &key);
-        give_room(rt, &call, &mut self.pass);
-    }
-
-    /// Has the leaf of a key hashed.
-    fn hash<R: AllocGlobal + Abort + Wait>(&mut self, rt: &R, name: Name) {
-        let key = key_of(rt, name);
-        let (learner, mut learn) = open_learner(rt);
-        hash(rt, &self.space, &mut self.pass, &learner, &mut learn, &key);
-    }
-}
-
-/// The rows on two leaves, of which the right one is hashed.
-fn hashed<R: AllocGlobal + Abort + Wait>(rt: &R) -> Plot {
-    let mut plot = Plot::open(rt);
-    for name in ROWS.iter() {
-        plot.put(rt, *name);
-    }
-    plot.give_room(rt, NEXT);
-    plot.hash(rt, FIRST);
-    plot
+    give_room(rt, space, pass, NEXT);
 }
 
 /// Why a guess by the key leads nowhere while the other pass holds its leaf. One leads to its row
@@ -115,25 +70,42 @@ fn cause_meanwhile<R: AllocGlobal + Abort + Wait>(
     cause
 }
 
-#[test]
-fn a_leaf_is_busy_while_another_pass_holds_it_and_hit_once_it_is_free(rt: HostRuntime) {
-    let Plot {
-        space,
-        mut pass,
-        mut other,
-        ..
-    } = hashed(&rt);
-    let cause = cause_meanwhile(&rt, &space, &mut pass, &mut other, &key_of(&rt, FIRST));
-    assert!(rt; cause == Cause::BlockBusy { holder: 1 });
+/// A leaf with another to its left shows no key below its first row, and is busy while another pass
+/// holds it.
+fn assert_told<R: AllocGlobal + Abort + Wait>(
+    rt: &R,
+    space: &ForestSpace,
+    pass: &mut ForestPass,
+    other: &mut ForestPass,
+)
+    requires forest { IsForest space.now }
+    requires own { IsPassOf space.now pass.old }
+    requires other { IsPassOf space.now other.old }
+    requires there { 0 < space.now.terms.shape.indexes }
+    requires two { fields_for space.now.terms.shape 0 ≡ 2 }
+    requires nothing { count pass.old ≡ 0 }
+    requires none { count other.old ≡ 0 }
+{
+    let key = key_of(rt, FIRST);
+    let (learner, mut learn) = open_learner(rt);
+    hash(rt, space, pass, &learner, &mut learn, &key);
+    let below = first_cause(rt, space, pass, &key_of(rt, BELOW));
+    assert!(rt; matches!(&below, Cause::Unequal { .. }));
+    let busy = cause_meanwhile(rt, space, pass, other, &key);
+    assert!(rt; busy == Cause::BlockBusy { holder: 1 });
+}
+
+/// The same in a space of its own.
+fn work_plot<R: AllocGlobal + Abort + Wait>(rt: &R) {
+    let (space, mut pass) = open_forest(rt.alloc(), &SIZES, &[2], 2).expect(rt, "a space");
+    let mut other = space
+        .split(rt.alloc(), &mut pass)
+        .expect(rt, "another pass");
+    put_rows(rt, &space, &mut pass);
+    assert_told(rt, &space, &mut pass, &mut other);
 }
 
 #[test]
-fn a_leaf_with_another_to_its_left_shows_no_key_below_its_first_row(rt: HostRuntime) {
-    let Plot {
-        space,
-        mut pass,
-        ..
-    } = hashed(&rt);
-    let cause = first_cause(&rt, &space, &mut pass, &key_of(&rt, BELOW));
-    assert!(rt; matches!(&cause, Cause::Unequal { .. }));
+fn a_leaf_is_busy_while_another_pass_holds_it_and_hit_once_it_is_free(rt: HostRuntime) {
+    work_plot(&rt);
 }

@@ -1,8 +1,9 @@
 //! Leaves that are hashed, split, changed, merged and evicted, by one caller: a recount after each
 //! round.
-use crate::recount::{Counted, recount};
-use crate::rounds::{Round, each, ended, worked};
-use crate::setup::{Order, open_sized};
+use crate::asked::Order;
+use crate::recount::Counted;
+use crate::rounds::{Round, asked_in, each};
+use crate::setup::asked_alone;
 use key_tuple::Mode;
 use map_history::Sizes;
 use std::process::Abort;
@@ -22,7 +23,7 @@ fn sizes_for(fold_bits: u32) -> Sizes {
 }
 
 /// Looks for rows until the leaves that they are on are hashed.
-fn looks(order: Order<'static>, first: u32, rows: u32) -> Round {
+fn looks(order: Order, first: u32, rows: u32) -> Round {
     Round {
         order,
         first,
@@ -37,16 +38,16 @@ fn looks(order: Order<'static>, first: u32, rows: u32) -> Round {
 /// split. Eight values get shorter; four of the sixth leaf get longer, and it stays hashed. Then the
 /// larger rows go, and twelve others beside them, and leaves are merged. Two hundred rows fill so
 /// many leaves that all others are evicted; and rows of the last three are looked for.
-fn rounds(order: Order<'static>) -> [Round; 9] {
+fn rounds(order: Order) -> [Round; 9] {
     [
-        each(Order::Put(&[b'v'; 1000]), 0, 2, 60),
+        each(Order::Put((b"", 1000)), 0, 2, 60),
         looks(order, 8, 6),
-        each(Order::Put(&[b'v'; 2000]), 1, 2, 16),
-        each(Order::Set(b"s"), 0, 2, 8),
-        each(Order::Set(&[b's'; 1500]), 84, 2, 4),
+        each(Order::Put((b"", 2000)), 1, 2, 16),
+        each(Order::Set((b"s", 1)), 0, 2, 8),
+        each(Order::Set((b"s", 1500)), 84, 2, 4),
         each(Order::Del, 1, 2, 16),
         each(Order::Del, 32, 2, 12),
-        each(Order::Put(&[b'v'; 2000]), 200, 1, 200),
+        each(Order::Put((b"", 2000)), 200, 1, 200),
         looks(order, 72, 3),
     ]
 }
@@ -54,7 +55,7 @@ fn rounds(order: Order<'static>) -> [Round; 9] {
 /// How the rows are looked for, to how many bits folds are cut, and how many nodes there are after
 /// some of the rounds.
 struct Case {
-    order: Order<'static>,
+    order: Order,
     fold_bits: u32,
     nodes: [Option<u32>; 9],
 }
@@ -119,15 +120,19 @@ const CASES: [Case; 5] = [
     },
 ];
 
-/// The recount of what lay in an engine of these sizes when one caller had worked these rounds.
-fn recount_after<R: AllocGlobal + Abort + Wait>(
+/// What was hashed once one caller had worked the first of these rounds, so many of them. Each order
+/// was told what it has to be.
+fn counted_after<R: AllocGlobal + Abort + Wait>(
     rt: &R,
-    sizes: &Sizes,
-    rounds: &[Round],
+    order: Order,
+    fold_bits: u32,
+    count: usize,
 ) -> Counted {
-    let (engine, pass) = open_sized(rt, sizes, 1);
-    let pass = worked(rt, &engine, pass, rounds, 0);
-    recount(rt, ended(rt, engine, pass), sizes)
+    let rounds = rounds(order);
+    let asked = asked_in(rt, rounds.get(..count).expect(rt, "so many rounds"), 0);
+    let (told, counted) = asked_alone(rt, &sizes_for(fold_bits), 1, &asked);
+    assert!(rt; told as usize == asked.len(), "order {told}");
+    counted
 }
 
 /// Whether so many nodes were counted, or some where none are named, and leaves where there are
@@ -142,14 +147,11 @@ fn is_as_wanted(told: Counted, nodes: Option<u32>) -> bool {
 
 /// Behind each round of the case so much is counted.
 fn assert_case<R: AllocGlobal + Abort + Wait>(rt: &R, case: &Case) {
-    let sizes = sizes_for(case.fold_bits);
-    let rounds = rounds(case.order);
-    for (place, nodes) in case.nodes.iter().enumerate() {
-        let done = rounds.get(..place.wrapping_add(1)).expect(rt, "a round");
-        assert!(rt;
-            is_as_wanted(recount_after(rt, &sizes, done), *nodes),
-            "round {place}"
-        );
+    let mut count: usize = 0;
+    for nodes in case.nodes.iter() {
+        count = count.wrapping_add(1);
+        let counted = counted_after(rt, case.order, case.fold_bits, count);
+        assert!(rt; is_as_wanted(counted, *nodes), "round {count}");
     }
 }
 
@@ -160,11 +162,9 @@ fn hashed_leaves_and_partitions_agree(rt: HostRuntime) {
     }
 }
 
-/// How many leaves are hashed after so many rounds.
+/// How many leaves are hashed by whole keys after so many rounds.
 fn leaves_after<R: AllocGlobal + Abort + Wait>(rt: &R, count: usize) -> u32 {
-    let rounds = rounds(Order::Get);
-    let done = rounds.get(..count).expect(rt, "so many rounds");
-    recount_after(rt, &sizes_for(64), done).leaves
+    counted_after(rt, Order::Get, 64, count).leaves
 }
 
 /// Six leaves are hashed; two of them split and both halves are; and some are merged.

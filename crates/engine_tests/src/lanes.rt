@@ -1,11 +1,12 @@
 //! Eight callers on eight threads over leaves that are hashed, changed and evicted: a recount at the
 //! end.
-ghost use Rattle.std.specs.Prelude.{◌≡◌, ◌<◌, [], ◌∷◌};
-ghost use Rattle.index_engine.specs.Engines.{indexes_of, IsOf, FitsKey};
+ghost use Rattle.index_engine.specs.Engines.{IsOf};
+ghost use Rattle.engine_tests.specs.Fields.{HasFields};
 
-use crate::recount::{Counted, recount};
-use crate::rounds::{Round, each, ended, worked};
-use crate::setup::{Order, open_sized};
+use crate::asked::Order;
+use crate::recount::Counted;
+use crate::rounds::{Round, asked_in, each};
+use crate::setup::{counted, open, worked};
 use index_engine::{Engine, EnginePass};
 use key_tuple::Mode;
 use map_history::Sizes;
@@ -25,7 +26,7 @@ const SIZES: Sizes = Sizes {
 };
 
 /// An order that is given to four rows of a caller again and again.
-fn again(order: Order<'static>) -> Round {
+fn again(order: Order) -> Round {
     Round {
         order,
         first: 0,
@@ -39,14 +40,14 @@ fn again(order: Order<'static>) -> Round {
 /// fill a leaf.
 fn rounds() -> [Round; 9] {
     [
-        each(Order::Put(&[b'v'; 2000]), 0, 8, 100),
+        each(Order::Put((b"", 2000)), 0, 8, 100),
         again(Order::Get),
-        each(Order::Set(&[b's'; 2048]), 0, 8, 30),
-        each(Order::Set(b"s"), 240, 8, 30),
+        each(Order::Set((b"s", 2048)), 0, 8, 30),
+        each(Order::Set((b"s", 1)), 240, 8, 30),
         again(Order::Get),
         each(Order::Del, 240, 8, 40),
         again(Order::Seek(Mode::Le)),
-        each(Order::Put(&[b'v'; 100]), 240, 8, 40),
+        each(Order::Put((b"", 100)), 240, 8, 40),
         again(Order::Get),
     ]
 }
@@ -80,14 +81,32 @@ fn joined<R: Abort>(rt: &R, engine: &Engine, mut one: EnginePass, two: EnginePas
     one
 }
 
+/// The pass, once it was told of each what it has to be in rounds on the rows from a number on.
+fn told<R: AllocGlobal + Abort + Wait>(
+    rt: &R,
+    engine: &Engine,
+    pass: EnginePass,
+    rounds: &[Round],
+    ahead: u32,
+) -> EnginePass
+    requires own { IsOf engine.now pass }
+    requires fields { HasFields engine.now 1 }
+    ensures own { IsOf engine.now result }
+{
+    let asked = asked_in(rt, rounds, ahead);
+    let (pass, count) = worked(rt, engine, pass, 1, &asked);
+    assert!(rt; count as usize == asked.len(), "order {count}");
+    pass
+}
+
 /// The pass of one caller, once it has worked the rounds on the rows from its number on.
 fn one_lane<R: AllocGlobal + Abort + Wait>(rt: &R, engine: &Engine, pass: EnginePass) -> EnginePass
     requires own { IsOf engine.now pass }
-    requires one { (0 < indexes_of engine.now) × FitsKey engine.now 0 ([] ∷ []) }
+    requires fields { HasFields engine.now 1 }
     ensures own { IsOf engine.now result }
 {
     let (number, _) = pass.numbers();
-    worked(rt, engine, pass, &rounds(), number)
+    told(rt, engine, pass, &rounds(), number)
 }
 
 /// Two callers work the rounds at once.
@@ -97,20 +116,18 @@ fn two_lanes<R: AllocGlobal + Abort + Threads + Wait + Sync>(
     pass: EnginePass,
 ) -> EnginePass
     requires own { IsOf engine.now pass }
-    requires one { (0 < indexes_of engine.now) × FitsKey engine.now 0 ([] ∷ []) }
+    requires fields { HasFields engine.now 1 }
     ensures own { IsOf engine.now result }
 {
     let (one, two) = split(rt, engine, pass);
     let (one, two) = join(
         rt,
         || -> EnginePass
-            requires { IsOf engine.now one × (0 < indexes_of engine.now)
-                × FitsKey engine.now 0 ([] ∷ []) }
+            requires { IsOf engine.now one × HasFields engine.now 1 }
             ensures { IsOf engine.entry.now result }
         { one_lane(rt, engine, one) },
         || -> EnginePass
-            requires { IsOf engine.now two × (0 < indexes_of engine.now)
-                × FitsKey engine.now 0 ([] ∷ []) }
+            requires { IsOf engine.now two × HasFields engine.now 1 }
             ensures { IsOf engine.entry.now result }
         { one_lane(rt, engine, two) },
     );
@@ -124,20 +141,18 @@ fn four_lanes<R: AllocGlobal + Abort + Threads + Wait + Sync>(
     pass: EnginePass,
 ) -> EnginePass
     requires own { IsOf engine.now pass }
-    requires one { (0 < indexes_of engine.now) × FitsKey engine.now 0 ([] ∷ []) }
+    requires fields { HasFields engine.now 1 }
     ensures own { IsOf engine.now result }
 {
     let (one, two) = split(rt, engine, pass);
     let (one, two) = join(
         rt,
         || -> EnginePass
-            requires { IsOf engine.now one × (0 < indexes_of engine.now)
-                × FitsKey engine.now 0 ([] ∷ []) }
+            requires { IsOf engine.now one × HasFields engine.now 1 }
             ensures { IsOf engine.entry.now result }
         { two_lanes(rt, engine, one) },
         || -> EnginePass
-            requires { IsOf engine.now two × (0 < indexes_of engine.now)
-                × FitsKey engine.now 0 ([] ∷ []) }
+            requires { IsOf engine.now two × HasFields engine.now 1 }
             ensures { IsOf engine.entry.now result }
         { two_lanes(rt, engine, two) },
     );
@@ -151,32 +166,37 @@ fn eight_lanes<R: AllocGlobal + Abort + Threads + Wait + Sync>(
     pass: EnginePass,
 ) -> EnginePass
     requires own { IsOf engine.now pass }
-    requires one { (0 < indexes_of engine.now) × FitsKey engine.now 0 ([] ∷ []) }
+    requires fields { HasFields engine.now 1 }
     ensures own { IsOf engine.now result }
 {
     let (one, two) = split(rt, engine, pass);
     let (one, two) = join(
         rt,
         || -> EnginePass
-            requires { IsOf engine.now one × (0 < indexes_of engine.now)
-                × FitsKey engine.now 0 ([] ∷ []) }
+            requires { IsOf engine.now one × HasFields engine.now 1 }
             ensures { IsOf engine.entry.now result }
         { four_lanes(rt, engine, one) },
         || -> EnginePass
-            requires { IsOf engine.now two × (0 < indexes_of engine.now)
-                × FitsKey engine.now 0 ([] ∷ []) }
+            requires { IsOf engine.now two × HasFields engine.now 1 }
             ensures { IsOf engine.entry.now result }
         { four_lanes(rt, engine, two) },
     );
     joined(rt, engine, one, two)
 }
 
-/// Hashed leaves and nodes are there when all have worked, and one has looked again.
+/// What is hashed when all have worked, and one of them has found each row of all, and has looked
+/// again and again for some.
+fn counted_at_the_end<R: AllocGlobal + Abort + Threads + Wait + Sync>(rt: &R) -> Counted {
+    let (engine, pass) = open(rt, &SIZES, 1, 8);
+    let pass = eight_lanes(rt, &engine, pass);
+    let looks = [each(Order::Get, 0, 1, 800), again(Order::Get)];
+    let pass = told(rt, &engine, pass, &looks, 0);
+    counted(rt, engine, pass, &SIZES)
+}
+
+/// The rows that eight callers put in the same leaves are found, and hashed leaves and nodes are there.
 #[test]
 fn eight_lanes_leave_an_exact_hash(rt: HostRuntime) {
-    let (engine, pass) = open_sized(&rt, &SIZES, 8);
-    let pass = eight_lanes(&rt, &engine, pass);
-    let pass = worked(&rt, &engine, pass, &[again(Order::Get)], 0);
-    let Counted { leaves, nodes } = recount(&rt, ended(&rt, engine, pass), &SIZES);
-    assert!(rt; leaves > 0 && nodes > 0);
+    let counted = counted_at_the_end(&rt);
+    assert!(rt; counted.leaves > 0 && counted.nodes > 0);
 }

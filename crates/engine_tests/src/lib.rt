@@ -2,6 +2,8 @@
 #![tactic(auto)]
 
 #[cfg(test)]
+mod asked;
+#[cfg(test)]
 mod busy_leaf;
 #[cfg(test)]
 mod calls;
@@ -20,8 +22,6 @@ mod names;
 #[cfg(test)]
 mod neighbours;
 #[cfg(test)]
-mod pairs;
-#[cfg(test)]
 mod plot;
 #[cfg(test)]
 mod recount;
@@ -35,5 +35,3 @@ mod sets;
 mod setup;
 #[cfg(test)]
 mod steps;
-#[cfg(test)]
-mod threads;

@@ -18,38 +18,42 @@ fn opened<R: AllocGlobal + Abort>(rt: &R, sizes: &Sizes, lanes: u32) -> Result<S
     }
 }
 
-/// The smallest sizes for three indexes and a lane, but for one of them, which opens for a lane, or is
-/// refused. With 16 blocks, 1 part and 1 cell the products are within.
-const SETTINGS: [(Setting, u32, bool); 13] = [
-    (Setting::Blocks, 15, false),
-    (Setting::Blocks, 65_537, false),
-    (Setting::Pages, 2, false),
-    (Setting::Pages, 65_537, false),
-    (Setting::Parts, 0, false),
-    (Setting::Parts, 513, false),
-    (Setting::Cells, 0, false),
-    (Setting::Nodes, 4_194_305, false),
-    (Setting::FoldBits, 0, false),
-    (Setting::FoldBits, 65, false),
-    (Setting::MaxChanges, 0, false),
-    (Setting::MaxChanges, 8_388_608, true),
-    (Setting::MaxChanges, 8_388_609, false),
+/// A setting of the smallest sizes for three indexes, for so many lanes, and whether these open or
+/// are refused.
+type Case = (Setting, u32, u32, bool);
+
+/// With 16 blocks, 1 part and 1 cell the products are within. 256 blocks are for 31 lanes.
+const SETTINGS: [Case; 15] = [
+    (Setting::Blocks, 15, 1, false),
+    (Setting::Blocks, 65_537, 1, false),
+    (Setting::Blocks, 256, 31, true),
+    (Setting::Blocks, 256, 32, false),
+    (Setting::Pages, 2, 1, false),
+    (Setting::Pages, 65_537, 1, false),
+    (Setting::Parts, 0, 1, false),
+    (Setting::Parts, 513, 1, false),
+    (Setting::Cells, 0, 1, false),
+    (Setting::Nodes, 4_194_305, 1, false),
+    (Setting::FoldBits, 0, 1, false),
+    (Setting::FoldBits, 65, 1, false),
+    (Setting::MaxChanges, 0, 1, false),
+    (Setting::MaxChanges, 8_388_608, 1, true),
+    (Setting::MaxChanges, 8_388_609, 1, false),
 ];
 
-#[test]
-fn a_setting_past_its_limit_is_named(rt: HostRuntime) {
-    for (place, (setting, number, opens)) in SETTINGS.iter().enumerate() {
-        let mut sizes = smallest(1, 3, 1);
-        set_size(&mut sizes, *setting, *number);
-        let wanted = if *opens { Ok(sizes) } else { Err(*setting) };
-        assert!(rt; opened(&rt, &sizes, 1) == wanted, "setting {place}");
-    }
+/// Whether these open or are refused so.
+fn is_opened_so<R: AllocGlobal + Abort>(rt: &R, case: &Case) -> bool {
+    let (setting, number, lanes, opens) = *case;
+    let mut sizes = smallest(3, 1);
+    set_size(&mut sizes, setting, number);
+    assert!(rt; 0 < lanes && lanes <= 64);
+    let wanted = if opens { Ok(sizes) } else { Err(setting) };
+    opened(rt, &sizes, lanes) == wanted
 }
 
 #[test]
-fn blocks_of_256_are_for_31_lanes_and_no_more(rt: HostRuntime) {
-    let mut sizes = smallest(1, 3, 1);
-    set_size(&mut sizes, Setting::Blocks, 256);
-    assert!(rt; opened(&rt, &sizes, 31) == Ok(sizes));
-    assert!(rt; opened(&rt, &sizes, 32) == Err(Setting::Blocks));
+fn a_setting_past_its_limit_is_named(rt: HostRuntime) {
+    for (place, case) in SETTINGS.iter().enumerate() {
+        assert!(rt; is_opened_so(&rt, case), "setting {place}");
+    }
 }

@@ -1,8 +1,9 @@
-//! Keys of two fields and their values, by short names, and the sizes of what has room for them.
-ghost use Rattle.std.specs.Prelude.{◌≡◌, ◌≤◌, length};
+//! Keys of two fields, by short names, and the sizes of what has room for them.
+ghost use Rattle.std.specs.Prelude.{◌≡◌, length};
 
-use crate::setup::value;
-use key_tuple::{Fields, Key, Tuple, Value};
+use crate::asked;
+use crate::asked::Name;
+use key_tuple::{Fields, Key};
 use map_history::Sizes;
 use std::process::Abort;
 
@@ -17,49 +18,27 @@ pub(crate) const SIZES: Sizes = Sizes {
     max_changes: 100,
 };
 
-/// The first field, and the first byte of the second one, if there is one.
-pub(crate) type Name = (u8, Option<u8>);
+/// The first field of a row's key, and the first byte of its second one.
+pub(crate) type Row = &'static [u8; 2];
 
-/// The fields of a name.
-fn fields_of<R: AllocGlobal + Abort>(rt: &R, name: Name) -> Vec<Vec<u8>> {
-    let mut fields = Vec::new(rt.alloc());
-    add_field(rt, &mut fields, &[name.0]);
-    if let Some(byte) = name.1 {
-        let mut second = [b'k'; 766];
-        second[0] = byte;
-        add_field(rt, &mut fields, &second);
+/// Both fields, with as many bytes as a key may have; or the first one alone.
+pub(crate) const BOTH: &'static [usize] = &[1, 766];
+
+pub(crate) const FIRST: &'static [usize] = &[1];
+
+/// The name of the row's key, or of a tuple.
+pub(crate) fn name_of(row: Row, lengths: &'static [usize]) -> Name {
+    Name {
+        start: [row[0], row[1], b'k', b'k'],
+        lengths,
     }
-    fields
 }
 
-/// Puts a field behind the others.
-fn add_field<R: AllocGlobal + Abort>(rt: &R, fields: &mut Vec<Vec<u8>>, bytes: &[u8]) {
-    let field = bytes.to_vec(rt.alloc()).expect(rt, "a field");
-    fields.push(field).expect(rt, "memory for a field");
-}
-
-pub(crate) fn key_of<R: AllocGlobal + Abort>(rt: &R, name: Name) -> Key
+/// The row's key.
+pub(crate) fn key_of<R: AllocGlobal + Abort>(rt: &R, row: Row) -> Key
     ensures { length result.tuple ≡ 2 }
 {
-    let fields = fields_of(rt, name);
-    assert!(rt; !fields.is_empty());
-    let key = Key::try_new(rt.alloc(), fields).expect(rt, "a key");
+    let key = asked::key_of(rt, &name_of(row, BOTH));
     assert!(rt; key.count() == 2);
     key
-}
-
-pub(crate) fn tuple_of<R: AllocGlobal + Abort>(rt: &R, name: Name) -> Tuple
-    ensures { length result ≤ 2 }
-{
-    let tuple = Tuple::try_new(rt.alloc(), fields_of(rt, name)).expect(rt, "a tuple");
-    assert!(rt; tuple.count() <= 2);
-    tuple
-}
-
-/// The value of a row.
-pub(crate) fn value_of<R: AllocGlobal + Abort>(rt: &R, name: Name) -> Value {
-    let mut bytes = [b'v'; 2048];
-    bytes[0] = name.0;
-    bytes[1] = name.1.unwrap_or(0);
-    value(rt, &bytes)
 }

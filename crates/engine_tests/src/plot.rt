@@ -7,6 +7,8 @@ ghost use Rattle.forest_law.specs.State.{fields_for};
 ghost use Rattle.buffer_pool.specs.Forests.{IsForest};
 ghost use Rattle.leaf_changes.specs.Holds.{HoldsFreshAlone};
 
+use crate::asked::value_of;
+use crate::names::{Row, key_of};
 use buffer_pool::give_back;
 use engine_law::Found;
 use forest_world::{ForestPass, ForestSpace};
@@ -22,11 +24,7 @@ use tree_descent::{Leaf, descend};
 use tree_growth::make_room;
 
 /// A call about a key of the index.
-pub(crate) fn call_of<'a, R: AllocGlobal>(
-    rt: &'a R,
-    space: &'a ForestSpace,
-    key: &'a Key,
-) -> TreeCall<'a, R>
+fn call_of<'a, R: AllocGlobal>(rt: &'a R, space: &'a ForestSpace, key: &'a Key) -> TreeCall<'a, R>
     requires forest { IsForest space.now }
     requires few { space.now.terms.shape.pages ≤ 65536 }
     requires there { 0 < space.now.terms.shape.indexes }
@@ -59,7 +57,7 @@ fn hold_leaf<R: Wait>(call: &TreeCall<'_, R>, pass: &mut ForestPass) -> Leaf
 }
 
 /// Puts the row, of at most so many changes.
-pub(crate) fn put<R: Abort + Wait>(
+fn put<R: Abort + Wait>(
     rt: &R,
     call: &TreeCall<'_, R>,
     pass: &mut ForestPass,
@@ -79,17 +77,46 @@ pub(crate) fn put<R: Abort + Wait>(
     assert!(rt; told.expect(rt, "memory for a row").reply == Reply::Ok);
 }
 
-/// Gives the leaf of the key room for the largest row.
-pub(crate) fn give_room<R: Abort + Wait>(rt: &R, call: &TreeCall<'_, R>, pass: &mut ForestPass)
-    requires own { IsPassOf call.now.space.now pass.old }
+/// Puts the row of a name, in a space of at most 100 changes.
+pub(crate) fn put_row<R: AllocGlobal + Abort + Wait>(
+    rt: &R,
+    space: &ForestSpace,
+    pass: &mut ForestPass,
+    row: Row,
+)
+    requires forest { IsForest space.now }
+    requires own { IsPassOf space.now pass.old }
+    requires few { space.now.terms.shape.pages ≤ 65536 }
+    requires there { 0 < space.now.terms.shape.indexes }
+    requires two { fields_for space.now.terms.shape 0 ≡ 2 }
+    requires most { space.now.terms.max_changes ≡ 100 }
     requires nothing { count pass.old ≡ 0 }
-    ensures own { IsSamePass pass.old pass.new × IsPassOf call.now.space.now pass.new }
+    ensures own { IsPassOf space.now pass.new }
     ensures nothing { count pass.new ≡ 0 }
 {
-    let need = MAX_CHARGE;
-    let room = make_room(
-        call.alloc, call.space, pass, call.index, call.key, need, call.wait,
-    );
+    let (key, value) = (key_of(rt, row), value_of(rt, (row.as_slice(), 2048)));
+    let call = call_of(rt, space, &key);
+    put(rt, &call, pass, 100, &value);
+}
+
+/// Gives the leaf of a name's key room for the largest row.
+pub(crate) fn give_room<R: AllocGlobal + Abort + Wait>(
+    rt: &R,
+    space: &ForestSpace,
+    pass: &mut ForestPass,
+    row: Row,
+)
+    requires forest { IsForest space.now }
+    requires own { IsPassOf space.now pass.old }
+    requires few { space.now.terms.shape.pages ≤ 65536 }
+    requires there { 0 < space.now.terms.shape.indexes }
+    requires two { fields_for space.now.terms.shape 0 ≡ 2 }
+    requires nothing { count pass.old ≡ 0 }
+    ensures own { IsPassOf space.now pass.new }
+    ensures nothing { count pass.new ≡ 0 }
+{
+    let key = key_of(rt, row);
+    let room = make_room(rt.alloc(), space, pass, 0, &key, MAX_CHARGE, rt);
     assert!(rt; room.is_ok());
 }
 

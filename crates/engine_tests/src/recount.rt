@@ -6,12 +6,12 @@ use chain_arena::Node;
 use forest_law::{Frame, Object};
 use hash_partition::Partition;
 use index_page::{Page, Place};
-use key_tuple::{Blank, Fields, Mode, Params, fold};
+use key_tuple::{Fields, Params, fold};
 use map_history::Sizes;
 use std::process::Abort;
 
 /// How many leaves are hashed, and how many nodes all partitions have.
-#[derive(Debug, Clone, Copy, PartialEq, Eq)]
+#[derive(Clone, Copy)]
 pub(crate) struct Counted {
     pub(crate) leaves: u32,
     pub(crate) nodes: u32,
@@ -26,30 +26,18 @@ struct Hashed {
     bits: u8,
 }
 
-/// Puts an object behind those of its kind.
-fn sort_in<R: Abort>(rt: &R, object: Object, frames: &mut Vec<Frame>, parts: &mut Vec<Partition>) {
-    match object {
-        Object::Frame(frame) => frames.push(frame).expect(rt, "memory for a frame"),
-        Object::Part(part) => parts.push(part).expect(rt, "memory for a partition"),
-        Object::Pool(_) | Object::Tree(_) => {}
-    }
-}
-
-/// The frames and the partitions of these objects, each in the order of their numbers.
-fn sorted<R: AllocGlobal + Abort>(rt: &R, objects: Vec<Object>) -> (Vec<Frame>, Vec<Partition>) {
-    let mut frames = Vec::new(rt.alloc());
-    let mut parts = Vec::new(rt.alloc());
-    for object in objects {
-        sort_in(rt, object, &mut frames, &mut parts);
-    }
-    (frames, parts)
+/// A node that has to be in the partition of an index.
+#[derive(Clone, Copy)]
+struct Due {
+    index: u32,
+    node: Node,
 }
 
 /// The place of the first row.
 fn first(page: &Page) -> Option<Place>
     ensures { IfSome result (λ place. IsSome (find_row place page.now.rows)) }
 {
-    page.search(&Blank { count: 0 }, Mode::Ge).after
+    page.first()
 }
 
 /// The place of the row after that one.
@@ -88,38 +76,32 @@ fn nodes_of<R: AllocGlobal + Abort>(rt: &R, page: &Page, how: &Hashed) -> Vec<No
     nodes
 }
 
-/// Takes out the first or the last node of each run with one fold, each of which is there.
-fn take_runs<R: Abort>(rt: &R, part: &mut Partition, nodes: &[Node], left: bool) {
+/// The first or the last node of each run with one fold is due.
+fn add_due<R: Abort>(rt: &R, due: &mut Vec<Due>, nodes: &[Node], how: &Hashed) {
     for run in nodes.chunk_by(|a, b| a.fold == b.fold) {
-        let node = if left { run.first() } else { run.last() };
-        assert!(rt; part.leave(node.expect(rt, "a node")));
+        let node = if how.params.left {
+            run.first()
+        } else {
+            run.last()
+        };
+        let (index, node) = (how.index, *node.expect(rt, "a node"));
+        due.push(Due { index, node })
+            .expect(rt, "memory for a node");
     }
 }
 
-/// The same of a leaf and the partition of its index.
-fn take_leaf<R: AllocGlobal + Abort>(rt: &R, parts: &mut [Partition], page: &Page, how: &Hashed) {
-    let head = *page.head();
-    assert!(rt; head.level == 0 && head.index == how.index && !parts.is_empty());
-    let place = how.index as usize % parts.len();
-    take_runs(
-        rt,
-        &mut parts[place],
-        &nodes_of(rt, page, how),
-        how.params.left,
-    );
-}
-
-/// The same of a block, which is hashed for an index where it is hashed somehow.
-fn take_frame<R: AllocGlobal + Abort>(
+/// The same of a block, whose leaf is hashed for an index where it is hashed somehow; and whether it
+/// is.
+fn add_frame<R: AllocGlobal + Abort>(
     rt: &R,
-    parts: &mut [Partition],
-    block: u32,
+    due: &mut Vec<Due>,
     frame: &Frame,
+    block: u32,
     bits: u8,
-) {
+) -> bool {
     assert!(rt; frame.hashed.is_some() == frame.figures.built.is_some());
     let (Some(index), Some(params)) = (frame.hashed, frame.figures.built) else {
-        return;
+        return false;
     };
     let how = Hashed {
         index,
@@ -127,36 +109,60 @@ fn take_frame<R: AllocGlobal + Abort>(
         block,
         bits,
     };
-    match &frame.page {
-        Some(page) => take_leaf(rt, parts, page, &how),
-        None => panic!(rt; "no page is hashed"),
-    }
+    let Some(page) = &frame.page else {
+        panic!(rt; "no page is hashed")
+    };
+    assert!(rt; page.head().level == 0 && page.head().index == index);
+    add_due(rt, due, &nodes_of(rt, page, &how), &how);
+    true
 }
 
-/// The same of all blocks.
-fn take_all<R: AllocGlobal + Abort>(rt: &R, parts: &mut [Partition], frames: &[Frame], bits: u8) {
-    let mut block: u32 = 0;
-    for frame in frames {
-        take_frame(rt, parts, block, frame, bits);
-        block = block.wrapping_add(1);
-    }
-}
-
-fn count_leaves(frames: &[Frame]) -> u32 {
-    let mut leaves: u32 = 0;
-    for frame in frames.iter() {
-        if frame.hashed.is_some() {
-            leaves = leaves.wrapping_add(1);
+/// The same of all blocks, and how many leaves are hashed.
+fn add_all<R: AllocGlobal + Abort>(
+    rt: &R,
+    due: &mut Vec<Due>,
+    objects: &[Object],
+    bits: u8,
+) -> u32 {
+    let (mut block, mut leaves): (u32, u32) = (0, 0);
+    for object in objects {
+        if let Object::Frame(frame) = object {
+            if add_frame(rt, due, frame, block, bits) {
+                leaves = leaves.wrapping_add(1);
+            }
+            block = block.wrapping_add(1);
         }
     }
     leaves
 }
 
-/// How many nodes the partitions have, where each has room for so many.
-fn count_nodes(parts: &[Partition], room: u32) -> u32 {
-    let mut nodes: u32 = 0;
-    for part in parts.iter() {
-        nodes = nodes.wrapping_add(room.wrapping_sub(part.spare()));
+/// Takes out of the partition with this number all that is due there, each of which is there; and
+/// then it has as much room as it may have. Tells how many nodes it had.
+fn take_due<R: Abort>(
+    rt: &R,
+    part: &mut Partition,
+    number: u32,
+    due: &[Due],
+    sizes: &Sizes,
+) -> u32 {
+    let nodes = sizes.nodes.wrapping_sub(part.spare());
+    for one in due {
+        if one.index.checked_rem(sizes.parts) == Some(number) {
+            assert!(rt; part.leave(&one.node));
+        }
+    }
+    assert!(rt; part.spare() == sizes.nodes);
+    nodes
+}
+
+/// The same of all partitions.
+fn take_all<R: Abort>(rt: &R, objects: &mut [Object], due: &[Due], sizes: &Sizes) -> u32 {
+    let (mut number, mut nodes): (u32, u32) = (0, 0);
+    for object in objects {
+        if let Object::Part(part) = object {
+            nodes = nodes.wrapping_add(take_due(rt, part, number, due, sizes));
+            number = number.wrapping_add(1);
+        }
     }
     nodes
 }
@@ -166,16 +172,12 @@ fn count_nodes(parts: &[Partition], room: u32) -> u32 {
 /// and no partition may have any other.
 pub(crate) fn recount<R: AllocGlobal + Abort>(
     rt: &R,
-    objects: Vec<Object>,
+    mut objects: Vec<Object>,
     sizes: &Sizes,
 ) -> Counted {
-    let (frames, mut parts) = sorted(rt, objects);
+    let mut due = Vec::new(rt.alloc());
     let bits = u8::try_from(sizes.fold_bits).unwrap_or(0);
-    let nodes = count_nodes(&parts, sizes.nodes);
-    take_all(rt, &mut parts, &frames, bits);
-    assert!(rt; count_nodes(&parts, sizes.nodes) == 0);
-    Counted {
-        leaves: count_leaves(&frames),
-        nodes,
-    }
+    let leaves = add_all(rt, &mut due, &objects, bits);
+    let nodes = take_all(rt, &mut objects, &due, sizes);
+    Counted { leaves, nodes }
 }

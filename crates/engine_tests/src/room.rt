@@ -1,17 +1,17 @@
 //! Which put finds no page: so many rows are on each leaf.
-use crate::setup::Order;
-use crate::steps::{Asked, assert_replies};
+use crate::asked::Order;
+use crate::steps::{Numbered, assert_replies};
 use map_history::Reply;
 
 /// Values of 1,000 and of 2,000 bytes.
-const SHORT: Order<'static> = Order::Put(&[b'v'; 1000]);
+const SHORT: Order = Order::Put((b"", 1000));
 
-const LONG: Order<'static> = Order::Put(&[b'v'; 2000]);
+const LONG: Order = Order::Put((b"", 2000));
 
 /// So many pages, what puts each row, and how many rows there are when there is no page for the next
 /// one. 16 rows with 1,000 bytes fill a leaf, and ascending ones leave 8 on each leaf but the last. A
 /// root that is raised takes a page, and each split another.
-const PUTS: [(u32, Order<'static>, u32); 8] = [
+const PUTS: [(u32, Order, u32); 8] = [
     (1, SHORT, 16),
     (2, SHORT, 16),
     (3, SHORT, 24),
@@ -31,14 +31,14 @@ fn leaves_are_as_full_as_they_can_be(rt: HostRuntime) {
 }
 
 /// What is asked where eight rows with 2,000 bytes filled the only leaf: the ninth finds no page.
-const AFTER: [Asked; 8] = [
+const AFTER: [Numbered; 8] = [
     (9, LONG, Reply::SpaceFull),
     (1, Order::Get, Reply::Found),
     (9, Order::Get, Reply::Absent),
-    (9, Order::Put(b"v"), Reply::Ok),
+    (9, Order::Put((b"v", 1)), Reply::Ok),
     (10, LONG, Reply::SpaceFull),
     (2, Order::Del, Reply::Ok),
-    (10, Order::Put(&[b'v'; 1900]), Reply::Ok),
+    (10, Order::Put((b"", 1900)), Reply::Ok),
     (10, Order::Get, Reply::Found),
 ];
 

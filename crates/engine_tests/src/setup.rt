@@ -1,21 +1,22 @@
-//! An engine of one index, whose keys have one field, and what it is told by one caller.
-ghost use Rattle.std.specs.Prelude.{◌≡◌, ◌<◌, ◌≤◌, [], ◌∷◌};
+//! Engines of one index: how they are opened and asked, and what lies in them at their end.
+ghost use Rattle.std.specs.Prelude.{◌≡◌, ◌<◌, ◌≤◌};
+ghost use Rattle.key_tuple.specs.declared.TheConstants.{MAX_FIELDS};
 ghost use Rattle.map_history.specs.declared.TheConstants.{MAX_LANES};
-ghost use Rattle.index_engine.specs.Engines.{indexes_of, IsOf, FitsKey};
+ghost use Rattle.index_engine.specs.Engines.{IsOf};
+ghost use Rattle.engine_tests.specs.Fields.{HasFields};
 
+use crate::asked::{Asked, Order, key_of, value_of};
+use crate::recount::{Counted, recount};
 use index_engine::{Engine, EnginePass};
-use key_tuple::{Mode, Value};
-use map_history::{Reply, RowBuf, Sizes, Told};
-use sample_rows::{key_of, value_of};
+use key_tuple::Fields;
+use map_history::{RowBuf, Sizes, Told};
 use std::process::Abort;
 use std::sync::Wait;
 
-/// The smallest sizes for one index and some lanes, but for pages and changes.
-pub(crate) fn smallest(lanes: u32, pages: u32, max_changes: u32) -> Sizes
-    requires { lanes < 64 }
-{
+/// The smallest sizes for one index and one lane, but for pages and changes.
+pub(crate) fn smallest(pages: u32, max_changes: u32) -> Sizes {
     Sizes {
-        blocks: 8 * lanes + 8,
+        blocks: 16,
         pages,
         parts: 1,
         cells: 1,
@@ -25,110 +26,105 @@ pub(crate) fn smallest(lanes: u32, pages: u32, max_changes: u32) -> Sizes
     }
 }
 
-/// An engine with so many pages and changes, and its pass.
+/// An engine of these sizes for so many callers, whose keys have so many fields, and its pass.
 pub(crate) fn open<R: AllocGlobal + Abort>(
     rt: &R,
-    pages: u32,
-    max_changes: u32,
-) -> (Engine, EnginePass)
-    ensures own { IsOf result.0 result.1 }
-    ensures one { (0 < indexes_of result.0) × FitsKey result.0 0 ([] ∷ []) }
-{
-    open_sized(rt, &smallest(1, pages, max_changes), 1)
-}
-
-/// An engine of these sizes for so many callers, and its pass.
-pub(crate) fn open_sized<R: AllocGlobal + Abort>(
-    rt: &R,
     sizes: &Sizes,
+    fields: u8,
     lanes: u32,
 ) -> (Engine, EnginePass)
-    requires { (0 < lanes) × (lanes ≤ MAX_LANES) }
+    requires fields { (1 ≤ fields) × (fields ≤ MAX_FIELDS) }
+    requires lanes { (0 < lanes) × (lanes ≤ MAX_LANES) }
     ensures own { IsOf result.0 result.1 }
-    ensures one { (0 < indexes_of result.0) × FitsKey result.0 0 ([] ∷ []) }
+    ensures fields { HasFields result.0 fields }
 {
-    Engine::open(rt.alloc(), sizes, &[1], lanes).expect(rt, "an engine")
+    Engine::open(rt.alloc(), sizes, &[fields], lanes).expect(rt, "an engine")
 }
 
-/// The value of these bytes.
-pub(crate) fn value<R: AllocGlobal + Abort>(rt: &R, bytes: &[u8]) -> Value {
-    value_of(rt.alloc(), bytes).expect(rt, "a value")
-}
-
-/// One who calls an engine of one index, whose keys have one field.
-#[derive(Drop)]
-pub(crate) struct Caller<'a> {
-    engine: &'a Engine,
-    pass: EnginePass,
-    pub(crate) out: RowBuf,
-    ghost own: { IsOf engine.now pass },
-    ghost one: { (0 < indexes_of engine.now) × FitsKey engine.now 0 ([] ∷ []) },
-}
-
-/// What a caller asks for. A seek takes the key as its tuple.
-#[derive(Clone, Copy)]
-pub(crate) enum Order<'a> {
-    Put(&'a [u8]),
-    Set(&'a [u8]),
-    Del,
-    Get,
-    Seek(Mode),
-}
-
-impl<'a> Caller<'a> {
-    pub(crate) fn new<R: AllocGlobal + Abort>(
-        rt: &R,
-        engine: &'a Engine,
-        pass: EnginePass,
-    ) -> Caller<'a>
-        requires own { IsOf engine.now pass }
-        requires one { (0 < indexes_of engine.now) × FitsKey engine.now 0 ([] ∷ []) }
-        ensures same { result.engine.now ≡ engine.now }
-    {
-        let out = RowBuf::new(rt.alloc()).expect(rt, "a row buffer");
-        Caller { engine, pass, out }
+/// What an order is told by an engine whose keys have so many fields.
+fn ask<R: AllocGlobal + Abort + Wait>(
+    rt: &R,
+    engine: &Engine,
+    pass: &mut EnginePass,
+    out: &mut RowBuf,
+    fields: u8,
+    asked: &Asked,
+) -> Told
+    requires own { IsOf engine.now pass.old }
+    requires fields { HasFields engine.now fields }
+    ensures own { IsOf engine.now pass.new }
+{
+    let key = key_of(rt, &asked.name);
+    if let Order::Seek(mode) = asked.order {
+        assert!(rt; key.count() <= fields);
+        return engine.seek(pass, 0, mode, key.tuple(), out, rt);
     }
-
-    /// The pass, which calls no more.
-    pub(crate) fn into_pass(self) -> EnginePass
-        ensures { IsOf self.entry.engine.now result }
-    {
-        self.pass
+    assert!(rt; key.count() == fields);
+    match asked.order {
+        Order::Put(text) => engine
+            .put(pass, 0, &key, &value_of(rt, text), rt)
+            .expect(rt, "memory for a row"),
+        Order::Set(text) => engine
+            .set(pass, 0, &key, &value_of(rt, text), rt)
+            .expect(rt, "memory for a value"),
+        Order::Del => engine.del(pass, 0, &key, rt),
+        Order::Get | Order::Seek(_) => engine.get(pass, 0, &key, out, rt),
     }
+}
 
-    /// What an order with this key is told.
-    pub(crate) fn ask<R: AllocGlobal + Abort + Wait>(
-        &mut self,
-        rt: &R,
-        key: &[u8],
-        order: Order<'_>,
-    ) -> Told
-        ensures same { self.new.engine.now ≡ self.old.engine.now }
-    {
-        let key = key_of(rt.alloc(), key).expect(rt, "a key");
-        let (engine, pass, out) = (self.engine, &mut self.pass, &mut self.out);
-        match order {
-            Order::Put(bytes) => engine
-                .put(pass, 0, &key, &value(rt, bytes), rt)
-                .expect(rt, "memory for a row"),
-            Order::Set(bytes) => engine
-                .set(pass, 0, &key, &value(rt, bytes), rt)
-                .expect(rt, "memory for a value"),
-            Order::Del => engine.del(pass, 0, &key, rt),
-            Order::Get => engine.get(pass, 0, &key, out, rt),
-            Order::Seek(mode) => engine.seek(pass, 0, mode, key.tuple(), out, rt),
+/// The pass once it has asked all this, and how much of it was told what it has to be, up to the
+/// first that wasn't.
+pub(crate) fn worked<R: AllocGlobal + Abort + Wait>(
+    rt: &R,
+    engine: &Engine,
+    mut pass: EnginePass,
+    fields: u8,
+    asked: &[Asked],
+) -> (EnginePass, u32)
+    requires own { IsOf engine.now pass }
+    requires fields { HasFields engine.now fields }
+    ensures own { IsOf engine.now result.0 }
+{
+    let mut out = RowBuf::new(rt.alloc()).expect(rt, "a row buffer");
+    let mut count: u32 = 0;
+    for step in asked {
+        let told = ask(rt, engine, &mut pass, &mut out, fields, step);
+        if !step.is_told(&told, out.value()) {
+            return (pass, count);
         }
+        count = count.wrapping_add(1);
     }
+    (pass, count)
+}
 
-    /// What an order with this key is told, without its point.
-    pub(crate) fn reply<R: AllocGlobal + Abort + Wait>(
-        &mut self,
-        rt: &R,
-        key: &[u8],
-        order: Order<'_>,
-    ) -> Reply
-        ensures same { self.new.engine.now ≡ self.old.engine.now }
-    {
-        self.ask(rt, key, order).reply
-    }
+/// What is hashed of what lay in an engine of these sizes, whose only pass this is.
+pub(crate) fn counted<R: AllocGlobal + Abort>(
+    rt: &R,
+    engine: Engine,
+    pass: EnginePass,
+    sizes: &Sizes,
+) -> Counted
+    requires own { IsOf engine pass }
+{
+    let (low, end) = pass.numbers();
+    assert!(rt; low == 0 && end == engine.lanes());
+    let objects = engine
+        .close(rt.alloc(), pass)
+        .expect(rt, "memory for what lay there");
+    recount(rt, objects, sizes)
+}
+
+/// How much of this an engine's only caller was told as it has to be, up to the first that wasn't; and
+/// what was hashed then.
+pub(crate) fn asked_alone<R: AllocGlobal + Abort + Wait>(
+    rt: &R,
+    sizes: &Sizes,
+    fields: u8,
+    asked: &[Asked],
+) -> (u32, Counted)
+    requires fields { (1 ≤ fields) × (fields ≤ MAX_FIELDS) }
+{
+    let (engine, pass) = open(rt, sizes, fields, 1);
+    let (pass, count) = worked(rt, &engine, pass, fields, asked);
+    (count, counted(rt, engine, pass, sizes))
 }

@@ -1,54 +1,116 @@
 //! Tables of what a caller asks, one order after another, and of what each is told.
-use crate::setup::{Caller, Order, open};
+use crate::asked::{Asked, Name, Order, Text, Wanted};
+use crate::setup::{asked_alone, smallest};
 use map_history::{How, Note, Reply, Told};
 use std::process::Abort;
 use std::sync::Wait;
 
-/// A row's number, what is asked of it, and what that is told.
-pub(crate) type Asked = (u32, Order<'static>, Reply);
+/// A row's number, what is asked of it, and what that is replied.
+pub(crate) type Numbered = (u32, Order, Reply);
+
+/// The key of such a row has four bytes.
+fn asked_by((number, order, reply): Numbered) -> Asked {
+    let name = Name {
+        start: number.to_be_bytes(),
+        lengths: &[4],
+    };
+    let wanted = Wanted::Reply(reply);
+    Asked {
+        name,
+        order,
+        wanted,
+    }
+}
+
+/// An order to put a row for each number from 1 on, as many as there are rows, and then these orders.
+fn asked_after<R: AllocGlobal + Abort>(
+    rt: &R,
+    rows: u32,
+    put: Order,
+    table: &[Numbered],
+) -> Vec<Asked> {
+    let mut asked = Vec::new(rt.alloc());
+    for row in 0..rows {
+        asked
+            .push(asked_by((row.wrapping_add(1), put, Reply::Ok)))
+            .expect(rt, "memory for a put");
+    }
+    for step in table {
+        asked
+            .push(asked_by(*step))
+            .expect(rt, "memory for an order");
+    }
+    asked
+}
+
+/// All of this is told what it has to be, by an engine of one index with so many pages and changes.
+pub(crate) fn assert_told<R: AllocGlobal + Abort + Wait>(
+    rt: &R,
+    pages: u32,
+    changes: u32,
+    asked: &[Asked],
+) {
+    let (count, _) = asked_alone(rt, &smallest(pages, changes), 1, asked);
+    assert!(rt; count as usize == asked.len(), "order {count}");
+}
 
 /// In an engine with so many pages an order to put a row is told `Ok` for each number from 1 on, as
-/// many as there are rows; and then each of these is told what it has to be.
+/// many as there are rows; and then each of these is replied what it has to be.
 pub(crate) fn assert_replies<R: AllocGlobal + Abort + Wait>(
     rt: &R,
     pages: u32,
     rows: u32,
-    put: Order<'static>,
-    asked: &[Asked],
+    put: Order,
+    table: &[Numbered],
 ) {
-    let (engine, pass) = open(rt, pages, 100);
-    let mut caller = Caller::new(rt, &engine, pass);
-    for row in 0..rows {
-        let number = row.wrapping_add(1);
-        assert!(rt; caller.reply(rt, &number.to_be_bytes(), put) == Reply::Ok);
-    }
-    for (place, (number, order, reply)) in asked.iter().enumerate() {
-        let told = caller.reply(rt, &number.to_be_bytes(), *order);
-        assert!(rt; told == *reply, "order {place}");
+    assert_told(rt, pages, 100, &asked_after(rt, rows, put, table));
+}
+
+/// The letter of a row, what is asked of it, what that is replied, and at which point.
+pub(crate) type Step = (u8, Order, Reply, u64);
+
+/// Such an order is told that by a descent of an index that has learnt nothing yet.
+fn asked_fresh((letter, order, reply, point): Step) -> Asked {
+    let name = Name {
+        start: [letter; 4],
+        lengths: &[1],
+    };
+    let wanted = Wanted::All(Told {
+        reply,
+        point: Some(point),
+        how: How::Cold,
+        note: Note::No,
+    });
+    Asked {
+        name,
+        order,
+        wanted,
     }
 }
 
-/// A key, what is asked of it, what that is told, and at which point.
-pub(crate) type Step = (&'static [u8], Order<'static>, Reply, u64);
+/// The steps, and then an order to get the row of `a`, which has this value.
+fn asked_freshly<R: AllocGlobal + Abort>(rt: &R, steps: &[Step], last: Text) -> Vec<Asked> {
+    let mut asked = Vec::new(rt.alloc());
+    for step in steps {
+        asked
+            .push(asked_fresh(*step))
+            .expect(rt, "memory for a step");
+    }
+    let get = asked_fresh((b'a', Order::Get, Reply::Found, 0));
+    let wanted = Wanted::Found(last, None);
+    asked
+        .push(Asked { wanted, ..get })
+        .expect(rt, "memory for a get");
+    asked
+}
 
-/// In an engine of one page with so many changes each step is told what it has to be, by a descent of
-/// an index that has learnt nothing yet; and the last row that was found has this value.
+/// In an engine of one page with so many changes each step is told what it has to be; and the row of
+/// `a` has this value at the end.
 pub(crate) fn assert_steps<R: AllocGlobal + Abort + Wait>(
     rt: &R,
     changes: u32,
     steps: &[Step],
-    last: &[u8],
+    last: Text,
 ) {
-    let (engine, pass) = open(rt, 1, changes);
-    let mut caller = Caller::new(rt, &engine, pass);
-    for (place, (key, order, reply, point)) in steps.iter().enumerate() {
-        let told = Told {
-            reply: *reply,
-            point: Some(*point),
-            how: How::Cold,
-            note: Note::No,
-        };
-        assert!(rt; caller.ask(rt, key, *order) == told, "step {place}");
-    }
-    assert!(rt; caller.out.value() == last);
+    assert_told(rt, 1, changes, &asked_freshly(rt, steps, last));
 }

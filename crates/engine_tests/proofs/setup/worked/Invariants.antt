@@ -1,0 +1,6 @@
+use Rattle.index_engine.specs.Engines.{IsOf}
+use Rattle.engine_tests.proofs.setup.worked.Given as goal
+
+-- the pass is one of the engine
+abbrev pub invariant-loop-step : goal.invariant-loop-step
+invariant-loop-step g l = IsOf l.engine l.pass
