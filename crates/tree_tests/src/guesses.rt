@@ -37,10 +37,8 @@ fn open_learner<R: AllocGlobal + Abort>(rt: &R, fields: u8) -> (Learner, LearnPa
 {
     let info = warm(fields);
     assert!(rt; is_info_of(2, &info));
-    let (learner, learn) = Learner::open(rt.alloc(), [info].as_slice(), [2].as_slice(), 1).expect(
-        rt,
-        "a learner",
-    );
+    let (infos, counts) = ([info], [2]);
+    let (learner, learn) = Learner::open(rt.alloc(), &infos, &counts, 1).expect(rt, "a learner");
     assert!(rt; learner.indexes() != 0);
     (learner, learn)
 }
