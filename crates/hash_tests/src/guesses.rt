@@ -1,8 +1,8 @@
 //! The check of a guess on a page with a page before it.
+use crate::rows::{empty_leaf, put};
 use guess_check::check;
-use index_page::{Body, Page, PageHead};
-use key_tuple::{Fields, Key, Mode, Tuple};
-use sample_rows::value_of;
+use index_page::Page;
+use key_tuple::{Fields, Key, Mode};
 use std::process::Abort;
 
 /// The digit of the second field that is sought, if there is one, how, and what the check tells of the
@@ -20,57 +20,33 @@ const CHECKS: [(Option<u8>, Mode, Option<bool>); 5] = [
 
 #[test]
 fn a_first_row_passes_by_its_key_or_by_the_next_row(rt: HostRuntime) {
-    let mut page = empty_leaf(&rt);
-    put(&rt, &mut page, &key_of(&rt, b'5'));
-    put(&rt, &mut page, &key_of(&rt, b'7'));
+    let page = page_of_two(&rt);
     for (digit, mode, told) in CHECKS.iter() {
         assert!(rt; checked(&rt, &page, *digit, *mode) == *told);
     }
 }
 
-fn add_field<R: AllocGlobal + Abort>(rt: &R, fields: &mut Vec<Vec<u8>>, byte: u8) {
-    let field = vec![in rt.alloc(); byte].expect(rt, "a field");
-    fields.push(field).expect(rt, "memory for a field");
-}
-
-// The fields m and the digit, or where none is given m alone.
-fn fields_of<R: AllocGlobal + Abort>(rt: &R, digit: Option<u8>) -> Vec<Vec<u8>> {
-    let mut fields = Vec::new(rt.alloc());
-    add_field(rt, &mut fields, b'm');
-    if let Some(digit) = digit {
-        add_field(rt, &mut fields, digit);
+// The key of the fields m and the digit, or where none is given of m alone.
+fn key_of<R: AllocGlobal + Abort>(rt: &R, digit: Option<u8>) -> Key {
+    match digit {
+        Some(digit) => two_fields(rt, digit),
+        None => sample_rows::key_of(rt.alloc(), b"m").expect(rt, "a key"),
     }
-    fields
 }
 
-// Puts a row in whose key isn't there.
-fn put<R: AllocGlobal + Abort>(rt: &R, page: &mut Page, key: &Key) {
-    let value = value_of(rt.alloc(), b"v").expect(rt, "a value");
-    let head = *page.head();
-    assert!(rt; head.level == 0 && key.count() == head.fields);
-    let spot = page.search(key, Mode::Ge);
-    assert!(rt; spot.up.fields != key.count());
-    key.tuple().is_within_limits();
-    assert!(rt; page.insert_at(&spot, key, Body::Value(&value)).is_ok());
+fn two_fields<R: AllocGlobal + Abort>(rt: &R, digit: u8) -> Key {
+    let bytes = [b'm', digit]
+        .to_vec(rt.alloc())
+        .expect(rt, "memory for two bytes");
+    Key::from_parts(bytes, &[1, 2]).expect(rt, "a key")
 }
 
-// The key of a row, which has this digit.
-fn key_of<R: AllocGlobal + Abort>(rt: &R, digit: u8) -> Key {
-    let fields = fields_of(rt, Some(digit));
-    assert!(rt; !fields.is_empty());
-    Key::try_new(rt.alloc(), fields).expect(rt, "a key")
-}
-
-fn empty_leaf<R: AllocGlobal + Abort>(rt: &R) -> Page {
-    let head = PageHead {
-        number: 1,
-        index: 0,
-        level: 0,
-        prev: Some(0),
-        next: None,
-        fields: 2,
-    };
-    Page::empty(rt.alloc(), head).expect(rt, "a page")
+// A page with a page before it and the two rows.
+fn page_of_two<R: AllocGlobal + Abort>(rt: &R) -> Page {
+    let mut page = empty_leaf(rt, 2);
+    put(rt, &mut page, &key_of(rt, Some(b'5')));
+    put(rt, &mut page, &key_of(rt, Some(b'7')));
+    page
 }
 
 // What the check tells of the page's first row.
@@ -80,7 +56,7 @@ fn checked<R: AllocGlobal + Abort>(
     digit: Option<u8>,
     mode: Mode,
 ) -> Option<bool> {
-    let tuple = Tuple::try_new(rt.alloc(), fields_of(rt, digit)).expect(rt, "a tuple");
+    let tuple = key_of(rt, digit);
     let place = page.first().expect(rt, "a row");
     assert!(rt; tuple.count() <= page.head().fields);
     check(page, place, &tuple, mode)

@@ -1,5 +1,5 @@
-//! Tests of the hash's chains, partitions and learning, and of the law of hashed leaves by the program:
-//! what the law says that a change of rows changes is done in a partition, and compared with a recount.
+//! Tests of the hash's chains, partitions and learning, of the upkeep of hashed leaves, and of the law of
+//! hashed leaves by the program: what it says that a change of rows changes is done in a partition.
 #![tactic(auto)]
 
 #[cfg(test)]
@@ -19,4 +19,10 @@ mod partitions;
 #[cfg(test)]
 mod recount;
 #[cfg(test)]
+mod rows;
+#[cfg(test)]
 mod shared;
+#[cfg(test)]
+mod steps;
+#[cfg(test)]
+mod worked;

@@ -1,42 +1,92 @@
 //! The partition, of which no clause says that calls succeed.
-use crate::shared::{enter_all, part_of};
-use chain_arena::Node;
+ghost use Rattle.std.specs.Prelude.{◌<◌, length};
+
+use crate::shared::part_of;
+use crate::steps::{Script, Step, is_node, node};
 use hash_partition::Partition;
+use std::process::Abort;
 
-// Room for two: both are found by their folds, and one that leaves makes room for another.
+/// Room for two: both are found by their folds, and one that leaves makes room for another.
+const FILLS_AND_EMPTIES: Script = (
+    1,
+    2,
+    &[
+        Step::Add(5, 1),
+        Step::Add(6, 1),
+        Step::Spare(0),
+        Step::Find(6, Some(1)),
+        Step::Take(5, 2, false),
+        Step::Take(5, 1, true),
+        Step::Spare(1),
+        Step::Find(5, None),
+        Step::Add(9, 3),
+        Step::Find(9, Some(3)),
+    ],
+);
+
+/// The nodes of one block go, one by its fold, and the other's stays.
+const BLOCK_GOES: Script = (
+    2,
+    4,
+    &[
+        Step::Add(1, 3),
+        Step::Add(2, 3),
+        Step::Add(1, 2),
+        Step::TakeOf(1, 3, Some(3)),
+        Step::TakeOf(1, 3, None),
+        Step::Remove(3, 1),
+        Step::Spare(3),
+        Step::Find(2, None),
+        Step::Find(1, Some(2)),
+    ],
+);
+
 #[test]
-fn a_partition_fills_and_empties(rt: HostRuntime) {
-    let mut part = part_of(&rt, 1, 2, &[node(5, 1, 7), node(6, 1, 8)]);
-    assert!(rt; part.spare() == 0 && part.find(6) == Some(node(6, 1, 8)));
-    assert!(rt; !part.leave(&node(5, 2, 7)));
-    assert!(rt; part.leave(&node(5, 1, 7)));
-    assert!(rt; part.spare() == 1 && part.find(5).is_none());
-    enter_all(&rt, &mut part, &[node(9, 3, 2)]);
-    assert!(rt; part.find(9) == Some(node(9, 3, 2)));
+fn partitions_do_what_the_scripts_say(rt: HostRuntime) {
+    for (cells, nodes, steps) in [FILLS_AND_EMPTIES, BLOCK_GOES].iter() {
+        assert!(rt; *cells > 0);
+        assert_does(&rt, &mut part_of(&rt, *cells, *nodes, &[]), steps);
+    }
 }
 
-// The nodes of one block go, one by its fold, and the other's stays.
-#[test]
-fn a_block_goes_from_among_others(rt: HostRuntime) {
-    let mut part = part_of(&rt, 2, 4, &[node(1, 3, 0), node(2, 3, 1), node(1, 2, 0)]);
-    assert!(rt; part.leave_of(1, 3) == Some(node(1, 3, 0)));
-    assert!(rt; part.leave_of(1, 3).is_none());
-    assert!(rt; part.leave_block(3) == 1 && part.spare() == 3);
-    assert!(rt; part.find(2).is_none() && part.find(1) == Some(node(1, 2, 0)));
-}
-
-// A block's stamp comes, stays as its nodes go, and goes.
 #[test]
 fn a_block_keeps_its_stamp(rt: HostRuntime) {
     let mut part = Partition::new(rt.alloc(), 1, 1, 4).expect(&rt, "a partition");
-    part.set_stamp(3, Some(8));
-    assert!(rt; part.stamp(3) == Some(8) && part.stamp(2).is_none());
-    part.leave_block(3);
-    assert!(rt; part.stamp(3) == Some(8));
-    part.set_stamp(3, None);
-    assert!(rt; part.stamp(3).is_none());
+    assert!(rt; keeps_stamp(&mut part));
 }
 
-fn node(fold: u64, block: u32, place: u16) -> Node {
-    Node { fold, block, place }
+// The partition tells what it has to.
+fn does(part: &mut Partition, step: &Step) -> bool {
+    match *step {
+        Step::Add(fold, block) => {
+            let room = part.spare() > 0;
+            if room {
+                part.enter(node(fold, block));
+            }
+            room
+        }
+        Step::Take(fold, block, told) => part.leave(&node(fold, block)) == told,
+        Step::TakeOf(fold, block, told) => is_node(part.leave_of(fold, block), fold, told),
+        Step::Remove(block, told) => part.leave_block(block) == told,
+        Step::Find(fold, told) => is_node(part.find(fold), fold, told),
+        Step::Spare(told) => part.spare() == told,
+    }
+}
+
+fn assert_does<R: Abort>(rt: &R, part: &mut Partition, steps: &[Step]) {
+    for step in steps {
+        assert!(rt; does(part, step));
+    }
+}
+
+// The stamp of block 3 comes, stays as the block's nodes go, and goes.
+fn keeps_stamp(part: &mut Partition) -> bool
+    requires { 3 < length part.old.stamps }
+{
+    part.set_stamp(3, Some(8));
+    let comes = matches!(part.stamp(3), Some(8)) && part.stamp(2).is_none();
+    part.leave_block(3);
+    let stays = matches!(part.stamp(3), Some(8));
+    part.set_stamp(3, None);
+    comes && stays && part.stamp(3).is_none()
 }

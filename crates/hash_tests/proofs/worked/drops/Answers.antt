@@ -1,4 +1,4 @@
-use Rattle.upkeep_tests.proofs.worked.drops.Goals as goal
+use Rattle.hash_tests.proofs.worked.drops.Goals as goal
 
 pub drop_block-requires-clause-covered : goal.drop_block-requires-clause-covered
 drop_block-requires-clause-covered g c =

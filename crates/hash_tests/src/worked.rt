@@ -5,7 +5,7 @@ ghost use Rattle.hash_partition.specs.Part.{empty_part};
 ghost use Rattle.hash_law.specs.Entries.{NodesAt};
 ghost use Rattle.hash_upkeep.specs.Hashing.{CanHash, row_entries};
 
-use crate::lettered::{lettered, put_letter};
+use crate::rows::{lettered, put_letter};
 use hash_partition::Partition;
 use hash_upkeep::{
     Build, Hashing, Upkeep, build, count_entries, drop_block, exact_nodes_are_covered, on_delete,
