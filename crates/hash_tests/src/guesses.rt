@@ -20,9 +20,12 @@ const CHECKS: [(Option<u8>, Mode, Option<bool>); 5] = [
 
 #[test]
 fn a_first_row_passes_by_its_key_or_by_the_next_row(rt: HostRuntime) {
-    let page = page_of_two(&rt);
+    assert_checks(&rt, &page_of_two(&rt));
+}
+
+fn assert_checks<R: AllocGlobal + Abort>(rt: &R, page: &Page) {
     for (digit, mode, told) in CHECKS.iter() {
-        assert!(rt; checked(&rt, &page, *digit, *mode) == *told);
+        assert!(rt; checked(rt, page, *digit, *mode) == *told);
     }
 }
 

@@ -1,4 +1,4 @@
-//! Tests of the hash's chains, partitions and learning, of the upkeep of hashed leaves, and of the law of
+//! Tests of the hash's chains, partitions, learning and learner, of the upkeep of hashed leaves, and of the law of
 //! hashed leaves by the program: what it says that a change of rows changes is done in a partition.
 #![tactic(auto)]
 
@@ -10,6 +10,8 @@ mod changes;
 mod drawn;
 #[cfg(test)]
 mod guesses;
+#[cfg(test)]
+mod learners;
 #[cfg(test)]
 mod leaves;
 #[cfg(test)]

@@ -43,10 +43,14 @@ const BLOCK_GOES: Script = (
 
 #[test]
 fn partitions_do_what_the_scripts_say(rt: HostRuntime) {
-    for (cells, nodes, steps) in [FILLS_AND_EMPTIES, BLOCK_GOES].iter() {
-        assert!(rt; *cells > 0);
-        assert_does(&rt, &mut part_of(&rt, *cells, *nodes, &[]), steps);
-    }
+    follows(&rt, &FILLS_AND_EMPTIES);
+    follows(&rt, &BLOCK_GOES);
+}
+
+fn follows<R: AllocGlobal + Abort>(rt: &R, script: &Script) {
+    let (cells, nodes, steps) = *script;
+    assert!(rt; cells > 0);
+    assert_does(rt, &mut part_of(rt, cells, nodes, &[]), steps);
 }
 
 #[test]

@@ -1,5 +1,5 @@
 //! Worked leaves: their entries are built, and kept up with a row.
-ghost use Rattle.std.specs.Prelude.{◌≡◌};
+ghost use Rattle.std.specs.Prelude.{◌≡◌, []};
 ghost use Rattle.key_tuple.specs.Fold.{asked_fields};
 ghost use Rattle.hash_partition.specs.Part.{empty_part};
 ghost use Rattle.hash_law.specs.Entries.{NodesAt};
@@ -73,14 +73,32 @@ fn part_of<R: AllocGlobal + Abort>(rt: &R, nodes: u32) -> Partition
     Partition::new(rt.alloc(), 4, nodes, 8).expect(rt, "a partition")
 }
 
-// Builds a leaf of a, b and c, and builds it again.
-fn builds_twice<R: AllocGlobal + Abort>(rt: &R, nodes: u32) -> (Build, Build) {
-    let (page, mut part) = (lettered(rt, b"abc"), part_of(rt, nodes));
-    let how = hashing(64);
-    let need = count_entries(&page, &how);
-    let first = build(&mut part, &page, None, &how, need);
+// Builds a leaf that isn't hashed, and builds it again.
+fn build_twice(part: &mut Partition, page: &Page, how: &Hashing) -> (Build, Build)
+    requires hash { CanHash how.now page.now }
+    requires exact { NodesAt how.now.block part.old.nodes [] }
+{
+    let need = count_entries(page, how);
+    let first = build(part, page, None, how, need);
     let built = first.built_after(how.params);
-    (first, build(&mut part, &page, built, &how, need))
+    (first, build(part, page, built, how, need))
+}
+
+// The same of a leaf of a, b and c.
+fn builds_twice<R: AllocGlobal + Abort>(rt: &R, nodes: u32) -> (Build, Build) {
+    build_twice(&mut part_of(rt, nodes), &lettered(rt, b"abc"), &hashing(64))
+}
+
+// Builds a leaf that isn't hashed, for which there is room.
+fn build_first<R: Abort>(rt: &R, part: &mut Partition, page: &Page, how: &Hashing)
+    requires hash { CanHash how.now page.now }
+    requires exact { NodesAt how.now.block part.old.nodes [] }
+    ensures { NodesAt how.now.block part.new.nodes (row_entries how.now page.now.rows) }
+{
+    match build(part, page, None, how, count_entries(page, how)) {
+        Build::Built { .. } => {}
+        _ => panic!(rt; "it isn't built"),
+    }
 }
 
 // Keeps up with the row of b that comes, and where it is to, goes again.
@@ -105,26 +123,17 @@ fn comes<R: AllocGlobal + Abort>(
 fn keeps_up<R: AllocGlobal + Abort>(rt: &R, nodes: u32, goes: bool) -> (Upkeep, u32) {
     let (mut page, mut part) = (lettered(rt, b"ace"), part_of(rt, nodes));
     let how = hashing(1);
-    match build(&mut part, &page, None, &how, count_entries(&page, &how)) {
-        Build::Built { .. } => {
-            let told = comes(rt, &mut part, &mut page, &how, goes);
-            (told, part.spare())
-        }
-        _ => panic!(rt; "it isn't built"),
-    }
+    build_first(rt, &mut part, &page, &how);
+    let told = comes(rt, &mut part, &mut page, &how, goes);
+    (told, part.spare())
 }
 
 // Builds a leaf of a, b and c with five nodes, and drops it: what is spare then.
 fn drops<R: AllocGlobal + Abort>(rt: &R) -> u32 {
-    let page = lettered(rt, b"abc");
-    let mut part = part_of(rt, 5);
+    let (page, mut part) = (lettered(rt, b"abc"), part_of(rt, 5));
     let how = hashing(64);
+    build_first(rt, &mut part, &page, &how);
     exact_nodes_are_covered();
-    match build(&mut part, &page, None, &how, count_entries(&page, &how)) {
-        Build::Built { .. } => {
-            drop_block(&mut part, &page, &how);
-            part.spare()
-        }
-        _ => panic!(rt; "it isn't built"),
-    }
+    drop_block(&mut part, &page, &how);
+    part.spare()
 }

@@ -12,8 +12,6 @@ mod parts;
 mod pass;
 mod plays;
 mod steps;
-#[cfg(test)]
-mod tests;
 
 pub use knows::{Entry, Fate, Knows, Opening, Try};
 pub use law::{Law, Settings};

@@ -1,7 +1,7 @@
 //! The steps on the table: a load, and an exchange after it.
-ghost use Rattle.std.specs.Prelude.{◌≡◌, ◌<◌, length, Some};
+ghost use Rattle.std.specs.Prelude.{◌≡◌, ◌<◌, length, IfSome, Some};
 ghost use Rattle.search_info.specs.Exchanges.{HasRead, ExchangeTells};
-ghost use Rattle.search_info.specs.Passes.{knowledge, opening, IsLearnPassOf, IsSameLearnPass, IsSeatOf, IsSameSeat};
+ghost use Rattle.search_info.specs.Passes.{knowledge, opening, IsLearnPassOf, IsSameLearnPass, IsSeatOf, IsSameSeat, IsEventAt};
 ghost use Rattle.search_info.specs.Steps.{Loaded, HitTells, MissTells, MayExchange, KeepsNumbers};
 
 use crate::knows::Knows;
@@ -57,8 +57,25 @@ impl Learner {
             .compare_exchange::<Exchanges<X>>(seat, index, old, new)
     }
 
+    /// The load of a call that counts an event: the word, and what it says, unless it is worn.
+    /// `exchange` is the other half, and what other passes count between is told by it.
+    pub fn read(&self, pass: &mut LearnPass, index: u32, event: &Event) -> Option<(u64, Info)>
+        requires own { IsLearnPassOf self.now pass.old }
+        requires event { IsEventAt self.now index event.now }
+        ensures own { IsSameLearnPass pass.old pass.new × IsLearnPassOf self.now pass.new }
+        ensures read { IfSome result (λ r.
+            HasRead (knowledge pass.new) index event.now r.0 r.1) }
+    {
+        let word = self.load_at::<Brand>(&mut pass.seat, index as usize, &Some(*event));
+        let before = unpack(word);
+        if before.events == u32::MAX {
+            return None;
+        }
+        Some((word, before))
+    }
+
     /// Counts the event behind the list whose word was loaded, if no other event came between.
-    pub(crate) fn exchange(
+    pub fn exchange(
         &self,
         pass: &mut LearnPass,
         index: u32,

@@ -2,5 +2,5 @@ use Rattle.hash_tests.proofs.worked.drops.Goals as goal
 
 pub drop_block-requires-clause-covered : goal.drop_block-requires-clause-covered
 drop_block-requires-clause-covered g c =
-    (c.exact_nodes_are_covered.ensures c.hashing-how.result c.build.new.part.nodes).here
-    c.lettered-page.result.rows c.in-Built.ensures.part.nodes
+    (c.exact_nodes_are_covered.ensures c.hashing-how.result c.build_first.new.part.nodes).here
+    c.lettered-page.result.rows c.build_first.ensures

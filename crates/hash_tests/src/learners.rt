@@ -1,13 +1,10 @@
 //! The learner from outside: whole runs, a race, a worn word, and threads.
-ghost use Rattle.std.specs.Prelude.{◌≡◌, ◌<◌, IfSome, Some};
-ghost use Rattle.learning.specs.declared.event.Event.TheVariants as kind;
-ghost use Rattle.search_info.specs.Exchanges.{HasRead};
-ghost use Rattle.search_info.specs.Passes.{knowledge, IsLearnPassOf, HasUnique};
+ghost use Rattle.std.specs.Prelude.{◌≡◌, ◌<◌};
+ghost use Rattle.search_info.specs.Passes.{IsLearnPassOf, HasUnique};
 
-use crate::{Learn, LearnPass, Learner};
 use key_tuple::Match;
-use learning::{BlockFigures, Event, Figures, Info, is_info_of, pack, unpack};
-use std::marker::Brand;
+use learning::{BlockFigures, Event, Figures, Info, is_info_of, pack};
+use search_info::{Learn, LearnPass, Learner};
 use std::process::Abort;
 use std::thread::join;
 
@@ -130,20 +127,6 @@ fn a_worn_word_stays(rt: HostRuntime) {
     assert!(rt; is_worn(&learner, &mut pass) && says(&learner, &mut pass, &first));
 }
 
-/// The load of a hit, without its exchange.
-fn read_hit(learner: &Learner, pass: &mut LearnPass) -> Option<(u64, Info)>
-    requires own { IsLearnPassOf learner.now pass.old × HasUnique learner.now 0 1 }
-    ensures own { IsLearnPassOf learner.now pass.new }
-    ensures read { IfSome result (λ r. HasRead (knowledge pass.new) 0 kind.Hit r.0 r.1) }
-{
-    let word = learner.load_at::<Brand>(&mut pass.seat, 0, &Some(Event::Hit));
-    let before = unpack(word);
-    if before.events == u32::MAX {
-        return None;
-    }
-    Some((word, before))
-}
-
 /// Whether a hit that a miss of another pass overtakes is told so, and isn't counted.
 fn is_overtaken(learner: &Learner, pass: &mut LearnPass, other: &mut LearnPass) -> bool
     requires own { IsLearnPassOf learner.now pass.old × HasUnique learner.now 0 1 }
@@ -151,7 +134,7 @@ fn is_overtaken(learner: &Learner, pass: &mut LearnPass, other: &mut LearnPass) 
 {
     let read = Info::opening();
     let found = Info { events: 1, ..read };
-    let Some((word, before)) = read_hit(learner, pass) else {
+    let Some((word, before)) = learner.read(pass, 0, &Event::Hit) else {
         return false
     };
     let counted = learner.after_miss(other, 0);

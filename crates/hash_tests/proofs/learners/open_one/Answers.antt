@@ -3,7 +3,7 @@ use Rattle.std.specs.List.{zip}
 use lib.ListN.{get_elem?}
 use Rattle.search_info.specs.declared.knows.Opening.{Opening}
 use Rattle.search_info.specs.History.{Start}
-use Rattle.search_info.proofs.tests.open_one.Goals as goal
+use Rattle.hash_tests.proofs.learners.open_one.Goals as goal
 
 pub returns : goal.returns
 returns g c = let starts = ap (λ (o : Opening). o.starts) c.in-Ok.ensures.opening ∙ (λ k. zip (c.as_slice.ensures k) (c.as_slice-2.ensures k)) in
