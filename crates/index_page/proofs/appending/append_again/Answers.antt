@@ -1,4 +1,4 @@
-use Rattle.std.proofs.Common.{◌∙◌, arith}
+use Rattle.std.proofs.Common.{◌∙◌, arith, [], sym, append-nil}
 use Rattle.index_page.specs.Slots.{PutsRecord}
 use Rattle.list_facts.proofs.Outcomes.{when_err}
 use Rattle.index_page.proofs.SlotLemmas.{slot_made}
@@ -19,3 +19,7 @@ returns-clause-ok c =
 pub returns-clause-err : goal.returns-clause-err
 returns-clause-err c =
     when_err c.moved.result (grew_twice _ _ c.in_ok-extend_from_within.ensures.items c.in_ok-extend_from_slice.ensures.items)
+
+pub returns-in_err-extend_from_within-clause-err : goal.returns-in_err-extend_from_within-clause-err
+returns-in_err-extend_from_within-clause-err c =
+    when_err c.from_residual.result (record { more = []; items = c.in_err-extend_from_within.ensures.items ∙ sym (append-nil c.args.bytes.now.items) })

@@ -1,4 +1,4 @@
-use Rattle.std.proofs.Common.{◌∙◌, arith}
+use Rattle.std.proofs.Common.{◌∙◌, arith, ap, length, length-append}
 use Rattle.index_page.specs.Slots.{PutsRecord}
 use Rattle.list_facts.proofs.Outcomes.{when_err}
 use Rattle.index_page.proofs.SlotLemmas.{puts_row, slot_made}
@@ -18,3 +18,13 @@ returns-in_err-child-clause-err g c =
 pub returns-clause-err : goal.returns-clause-err
 returns-clause-err g c =
     when_err c.moved.result (grew_twice _ _ c.in_ok-ends.ensures.ok.items c.in_ok-child.ensures.ok.items)
+
+pub moved-requires-clause-key : goal.moved-requires-clause-key
+moved-requires-clause-key g c =
+    let put = c.in_ok-ends.ensures.ok in
+    omega (arith, c.len-start.ensures, c.args.bytes.now.ok.0, c.len-middle.ensures, c.append_fields.new.bytes.ok.0, ap length put.items, length-append c.args.bytes.now.items put.added)
+
+pub moved-requires-clause-value : goal.moved-requires-clause-value
+moved-requires-clause-value g c =
+    let put = c.in_ok-child.ensures.ok in
+    omega (arith, c.len-middle.ensures, c.append_fields.new.bytes.ok.0, c.len.ensures, c.append_beside.new.bytes.ok.0, ap length put.items, length-append c.append_fields.new.bytes.items put.added)

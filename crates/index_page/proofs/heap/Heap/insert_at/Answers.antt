@@ -1,8 +1,9 @@
-use Rattle.std.proofs.Common.{ap, ◌∙◌, List}
-use Rattle.index_page.specs.Store.{Content, rows_in, beside_by}
+use Rattle.std.proofs.Common.{ap, ◌∙◌, List, arith, length}
+use Rattle.index_page.specs.Store.{Content, rows_in, beside_by, stored_row}
 use Rattle.list_facts.proofs.Outcomes.{when_err}
 use Rattle.index_page.proofs.StoreLemmas.{spare_below, stored_differ}
 use Rattle.index_page.proofs.ClaimLemmas.{filled_store, filled_rows, row_store, row_rows, row_vacant}
+use Rattle.std.proofs.lemmas.List.{length-map}
 use Rattle.index_page.proofs.heap.Heap.insert_at.Goals as goal
 
 pub fill-requires-clause-there : goal.fill-requires-clause-there
@@ -36,3 +37,14 @@ returns-clause-differ g c = stored_differ _ c.claim.new.self (invariant_of-self-
 pub returns-clause-ok : goal.returns-clause-ok
 returns-clause-ok g c =
     row_rows (record { key = g.A.Fields.fields_of c.args.key.now; body = beside_by c.args.beside }) c.vacancy.ensures.store c.in_ok-place.ensures.spare c.in_ok-fill.ensures.ok c.from.ensures c.vacancy.ensures.rows c.self.view_is c.claim.new.self c.args.at c.in_ok-claim.ensures.live
+
+pub claim-requires-clause-at : goal.claim-requires-clause-at
+claim-requires-clause-at g c =
+    omega (arith, c.requires.at, ap length c.self.view_is, length-map c.self.inside.places.live (stored_row c.self.inside.slots), ap length c.vacancy.ensures.live)
+
+pub invariant_of-self-in_err-fill : goal.invariant_of-self-in_err-fill
+invariant_of-self-in_err-fill g c = rw c.in_err-fill.ensures.err c.vacancy.ensures.store
+
+pub vacancy-requires-clause-room : goal.vacancy-requires-clause-room
+vacancy-requires-clause-room g c =
+    omega (arith, c.requires.room, ap length c.self.view_is, length-map c.self.inside.places.live (stored_row c.self.inside.slots))

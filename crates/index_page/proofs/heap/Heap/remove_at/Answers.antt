@@ -1,8 +1,9 @@
-use Rattle.std.proofs.Common.{◌≡◌, ◌++◌, ◌∷◌, [], Some, get_or, set, sym, ap, ◌∙◌, List, ℕ}
+use Rattle.std.proofs.Common.{◌≡◌, ◌++◌, ◌∷◌, [], Some, get_or, set, sym, ap, ◌∙◌, List, ℕ, ◌<◌, length, subst, arith}
 use Rattle.std.specs.List.{slice_get, remove}
 use Rattle.index_page.specs.Rows.{Row}
 use Rattle.index_page.specs.Slots.{no_content}
 use Rattle.index_page.proofs.StoreLemmas.{live_at, live_below, released_store, released_rows, stored_differ}
+use Rattle.index_page.proofs.RowLemmas.{get_below}
 use Rattle.index_page.proofs.heap.Heap.remove_at.Goals as goal
 
 pub blank-requires : goal.blank-requires
@@ -30,3 +31,15 @@ returns-clause-rows c =
 
 pub returns-clause-differ : goal.returns-clause-differ
 returns-clause-differ c = stored_differ _ c.release.new.self (invariant_of-self c)
+
+pub release-requires : goal.release-requires
+release-requires c =
+    get_below c.self.inside.places.live c.args.at _ (live_at c.self.inside.slots c.self.inside.places.live c.live.result.now c.args.self.now c.args.at c.self.view_is c.requires c.live.ensures)
+
+pub bounds-live-at : goal.bounds-live-at
+bounds-live-at c =
+    subst (λ (l : List ℕ). c.args.at < length l) (sym c.live.ensures) (get_below c.self.inside.places.live c.args.at _ (live_at c.self.inside.slots c.self.inside.places.live c.live.result.now c.args.self.now c.args.at c.self.view_is c.requires c.live.ensures))
+
+pub offset_bounds-live-at : goal.offset_bounds-live-at
+offset_bounds-live-at c =
+    omega (arith, get_below c.self.inside.places.live c.args.at _ (live_at c.self.inside.slots c.self.inside.places.live c.live.result.now c.args.self.now c.args.at c.self.view_is c.requires c.live.ensures), ap length c.live.ensures, c.live.type_inv.1)

@@ -1,8 +1,9 @@
-use Rattle.std.proofs.Common.{◌≡◌, true, false, is_ok, sym, ap, ◌∙◌}
+use Rattle.std.proofs.Common.{◌≡◌, true, false, is_ok, sym, ap, ◌∙◌, ◌<◌, length, subst, List, ℕ, arith}
 use Rattle.index_page.specs.Store.{HasValueAt}
-use Rattle.index_page.proofs.StoreLemmas.{written_store}
+use Rattle.index_page.proofs.StoreLemmas.{written_store, live_at}
 use Rattle.index_page.proofs.CarriedLemmas.{CarriesFor, carries_for}
 use Rattle.index_page.proofs.heap.Heap.rewrite_at.Goals.{After-from}
+use Rattle.index_page.proofs.RowLemmas.{get_below}
 use Rattle.index_page.proofs.heap.Heap.rewrite_at.Goals as goal
 
 -- the record of the row in hand
@@ -30,3 +31,16 @@ returns-in_err-rewrite-clause-in_place c = λ has short.
     let ok = c.rewrite.ensures.in_place (record { key = row.key; value = has.value; there = row.there }) short in
     let never : true ≡ false = sym ok ∙ ap is_ok c.in_err-rewrite.was in
     absurd cc
+
+pub bounds-live-at : goal.bounds-live-at
+bounds-live-at c =
+    let below = get_below c.args.self.now c.args.at c.requires.row c.requires.there in
+    let there = live_at c.self.inside.slots c.self.inside.places.live c.live.result.now c.args.self.now c.args.at c.self.view_is below c.live.ensures in
+    subst (λ (l : List ℕ). c.args.at < length l) (sym c.live.ensures) (get_below c.self.inside.places.live c.args.at _ there)
+
+pub offset_bounds-live-at : goal.offset_bounds-live-at
+offset_bounds-live-at c =
+    omega (arith, get_below c.self.inside.places.live c.args.at _ (live_at c.self.inside.slots c.self.inside.places.live c.live.result.now c.args.self.now c.args.at c.self.view_is (get_below c.args.self.now c.args.at c.requires.row c.requires.there) c.live.ensures), ap length c.live.ensures, c.live.type_inv.1)
+
+pub invariant_of-self : goal.invariant_of-self
+invariant_of-self c = rw c.in_err-rewrite.ensures.err c.self.invariant

@@ -1,9 +1,10 @@
 use Rattle.std.proofs.Common.{suc, add-one, sym, ap, ◌∙◌, subst, arith, take, drop, List}
 use Rattle.key_tuple.specs.KeyPlace.{At, cut_of}
 use Rattle.index_page.specs.Rows.{Row}
-use Rattle.index_page.specs.Page.{PageRows}
+use Rattle.index_page.specs.Page.{PageRows, IsRowOf}
 use Rattle.index_page.specs.Search.{AllOut, AllIn}
 use Rattle.index_page.proofs.CutLemmas.{mode_cuts, in_from, out_upto}
+use Rattle.list_facts.proofs.Each.{each_get}
 use Rattle.index_page.proofs.page.Page.cut.Goals as goal
 
 pub loop-low-preserved-then-is_past : goal.loop-low-preserved-then-is_past
@@ -31,3 +32,7 @@ loop-low-preserved g c =
       out = rw add-one (subst (λ (rows : List Row). AllOut p (take (suc middle) rows)) (ap (λ (q : PageRows). q.rows) c.self.view_is) left_out);
       past = c.loop-low.invariant.past;
     }
+
+pub is_past-requires : goal.is_past-requires
+is_past-requires g c =
+    omega (arith, c.requires, (each_get (IsRowOf c.self.inside.head) c.self.inside.rows c.next_look-middle.result _ c.self.invariant.each c.stored.ensures).fields, ap (λ (p : PageRows). p.head.fields) c.self.view_is)

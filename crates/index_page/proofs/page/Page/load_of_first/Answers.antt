@@ -21,3 +21,7 @@ pub overflow_add-load : goal.overflow_add-load
 overflow_add-load c =
     let part : load_of (take (c.loop-i.i + 1) c.args.self.now.rows) ≤ load_of c.args.self.now.rows = sum_by-take-le row_charge c.args.self.now.rows (c.loop-i.i + 1) in
     omega (arith, part, loop-i-preserved c, c.self.invariant.fits, ap (λ (p : PageRows). load_of p.rows) c.self.view_is)
+
+pub charge-load-requires-clause-limits : goal.charge-load-requires-clause-limits
+charge-load-requires-clause-limits c =
+    (each_get (IsRowOf c.self.inside.head) c.self.inside.rows c.loop-i.i _ c.self.invariant.each c.stored.ensures).limits

@@ -41,3 +41,6 @@ returns-clause-ok c =
 
 pub invariant_of-to-inside-2 : goal.invariant_of-to-inside-2
 invariant_of-to-inside-2 c = (omega (arith, appended_load c.to.inside.rows c.append.new.self c.self.inside.rows c.in_ok-append.ensures.ok, c.to.inside.charged, c.self.inside.charged), tt)
+
+pub invariant_of-to : goal.invariant_of-to
+invariant_of-to c = rw c.in_err-append.ensures.err c.to.invariant

@@ -1,4 +1,4 @@
-use Rattle.std.proofs.Common.{◌≡◌, List, [], take, drop, sym, ap, ◌∙◌, subst, arith}
+use Rattle.std.proofs.Common.{◌≡◌, List, [], take, drop, sym, ap, ◌∙◌, subst, arith, ℕ, refl, ◌≤◌, length}
 use Rattle.key_tuple.specs.Limits.{IsWithinLimits}
 use Rattle.list_facts.proofs.Each.{each_weaker}
 use Rattle.index_page.specs.Rows.{Row, SameRows}
@@ -7,7 +7,21 @@ use Rattle.index_page.specs.Loads.{load_of}
 use Rattle.index_page.proofs.HalvesLemmas.{load_of-parts}
 use Rattle.index_page.proofs.AppendLemmas.{appended_order, appended_load, rows_within_load}
 use Rattle.index_page.proofs.PartLemmas.{first_rows, other_rows, moves_tail}
+use Rattle.std.proofs.lemmas.List.Sums.{sum_by-take-le}
+use Rattle.index_page.specs.Search.{IsPosition}
+use Rattle.index_page.proofs.RowLemmas.{get_below}
+use Rattle.index_page.proofs.LoadLemmas.{row_charge}
 use Rattle.index_page.proofs.page.Page.move_tail.Goals as goal
+
+-- a row with that number is no further than the last
+at_within : (stored now : PageRows) (place at : ℕ) → stored ≡ now → IsPosition now.rows place at → at ≤ length stored.rows
+at_within stored now place at same position = omega (arith, get_below now.rows at position.row position.there, ap (λ (p : PageRows). length p.rows) same)
+
+-- what was counted of the rows is no more than all
+part_within : (stored now : PageRows) (at part whole : ℕ) → stored ≡ now → part ≡ load_of (take at now.rows) → whole ≡ load_of stored.rows → part ≤ whole
+part_within stored now at part whole same counted charged =
+    let less : load_of (take at now.rows) ≤ load_of now.rows = sum_by-take-le row_charge now.rows at in
+    omega (arith, less, ap (λ (p : PageRows). load_of p.rows) same)
 
 pub tail-requires-clause-keys : goal.tail-requires-clause-keys
 tail-requires-clause-keys c =
@@ -45,3 +59,23 @@ returns-clause-ok c =
     (subst (λ (zs : List Row). c.keep_first.new.self ≡ take c.position-at.result zs) rows c.keep_first.ensures)
     (ap (λ (p : PageRows). p.head) c.to.view_is)
     (subst (λ (zs : List Row). SameRows (drop c.position-at.result zs) c.in_ok-tail.tail) rows same)
+
+pub keep_first-requires : goal.keep_first-requires
+keep_first-requires c =
+    at_within _ c.args.self.now c.args.first c.position-at.result c.self.view_is c.position-at.ensures.row
+
+pub overflow_sub-to : goal.overflow_sub-to
+overflow_sub-to c =
+    part_within _ c.args.self.now c.position-at.result c.load_of_first-load.result c.self.inside.load c.self.view_is c.load_of_first-load.ensures c.self.inside.charged
+
+pub load_of_first-load-requires : goal.load_of_first-load-requires
+load_of_first-load-requires c =
+    at_within c.args.self.now c.args.self.now c.args.first c.position-at.result refl c.position-at.ensures.row
+
+pub invariant_of-self-inside : goal.invariant_of-self-inside
+invariant_of-self-inside c =
+    (c.load_of_first-load.ensures ∙ ap (λ (p : PageRows). load_of (take c.position-at.result p.rows)) (sym c.self.view_is) ∙ ap load_of (sym c.keep_first.ensures), tt)
+
+pub tail-requires-clause-first : goal.tail-requires-clause-first
+tail-requires-clause-first c =
+    at_within _ c.args.self.now c.args.first c.position-at.result c.self.view_is c.position-at.ensures.row

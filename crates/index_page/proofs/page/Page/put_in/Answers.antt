@@ -8,7 +8,7 @@ use Rattle.index_page.specs.Search.{AllOut, AllIn}
 use Rattle.index_page.specs.Changes.{Inserts}
 use Rattle.index_page.specs.Loads.{charge_of, load_of}
 use Rattle.index_page.proofs.AppendLemmas.{rows_within_load}
-use Rattle.index_page.proofs.OrderLemmas.{inserted_order, inserts}
+use Rattle.index_page.proofs.OrderLemmas.{inserted_order, inserts, inserted_load}
 use Rattle.index_page.proofs.page.Page.put_in.Goals as goal
 
 pub invariant_of-self-2 : goal.invariant_of-self-2
@@ -41,3 +41,19 @@ returns-clause-ok g c =
 
 pub insert_at-requires-clause-room : goal.insert_at-requires-clause-room
 insert_at-requires-clause-room g c = omega (arith, rows_within_load c.self.inside.rows, c.self.invariant.fits)
+
+pub invariant_of-self-inside-2 : goal.invariant_of-self-inside-2
+invariant_of-self-inside-2 g c =
+    let body = body_by c.args.body in
+    let key = g.A.Fields.fields_of c.args.key.now in
+    let row = placed_row c.in_ok-place.place key body in
+    let ok = c.in_ok-place.ensures.ok ∙ ap (λ b. insert c.self.inside.rows c.args.cut (placed_row c.in_ok-place.place key b)) c.beside.ensures.body in
+    let more = inserted_load (record { head = c.self.inside.head; rows = c.self.inside.rows }) row c.args.cut c.self.invariant in
+    (ap (λ n. n + c.args.need) c.self.inside.charged ∙ ap (λ n. load_of c.self.inside.rows + n) c.requires.need ∙ sym more ∙ sym (ap load_of ok), tt)
+
+pub invariant_of-self : goal.invariant_of-self
+invariant_of-self g c = rw c.in_err-place.ensures.err c.self.invariant
+
+pub invariant_of-self-inside : goal.invariant_of-self-inside
+invariant_of-self-inside g c =
+    (c.self.inside.charged ∙ ap load_of (sym c.in_err-place.ensures.err), tt)

@@ -42,3 +42,6 @@ returns-clause-ok c =
     let put = subst (λ (b : List ℕ). Rewrites c.self.inside.rows c.rewrite_at.new.self c.position-at.result b) c.as_bytes.ensures.bytes c.in_ok-rewrite_at.ensures.ok in
     let put_here = subst (λ (p : PageRows). Rewrites p.rows c.rewrite_at.new.self c.position-at.result c.args.value.now) c.self.view_is put in
     sets c.args.self.now _ c.args.place c.position-at.result c.args.value.now c.position-at.ensures.row put_here (invariant_of-self-2 c) (ap (λ (p : PageRows). p.head) c.self.view_is)
+
+pub invariant_of-self : goal.invariant_of-self
+invariant_of-self c = rw c.in_err-rewrite_at.ensures.err c.self.invariant

@@ -60,3 +60,7 @@ returns c =
 pub overflow_cast-result : goal.overflow_cast-result
 overflow_cast-result c =
     omega (arith, c.loop-i.invariant.within, c.loop-i-test.false, c.loop-i.auto.i-end, c.len-i-end.ensures, rows_within_load c.self.inside.rows, c.self.invariant.fits)
+
+pub charge-left-requires-clause-limits : goal.charge-left-requires-clause-limits
+charge-left-requires-clause-limits c =
+    (each_get (IsRowOf c.self.inside.head) c.self.inside.rows c.loop-i.i _ c.self.invariant.each c.stored.ensures).limits

@@ -1,11 +1,22 @@
-use Rattle.std.proofs.Common.{◌≡◌, Some, List, length, ap, sym, ◌∙◌, arith}
-use Rattle.std.proofs.lemmas.List.{length-map}
+use Rattle.std.proofs.Common.{◌≡◌, Some, List, length, ap, sym, ◌∙◌, arith, ◌<◌, ◌-◌, ℕ, map, take, drop, get_or, length-take, length-drop}
+use Rattle.std.proofs.lemmas.List.{length-map, length-take-le}
 use Rattle.std.specs.List.{slice_get}
 use Rattle.index_page.specs.Store.{Content}
-use Rattle.index_page.specs.Slots.{content_in}
+use Rattle.index_page.specs.Slots.{content_in, IsSlotIn, AreSlots}
 use Rattle.list_facts.proofs.Elements.{map_get}
 use Rattle.index_page.proofs.SlotLemmas.{got}
+use Rattle.index_page.specs.declared.slot.Slot.{Slot}
+use Rattle.list_facts.proofs.Each.{each_get}
 use Rattle.index_page.proofs.records.Records.get.Goals as goal
+
+-- the slot with a number lies in the bytes
+lies : (bytes : List ℕ) (slots : List Slot) (contents : List Content) (number : ℕ) (slot : Slot) → AreSlots bytes slots → map (content_in bytes) slots ≡ contents → number < length contents → slot ≡ get_or slots number slot → IsSlotIn bytes slot
+lies bytes slots contents number slot are view below read =
+    each_get (IsSlotIn bytes) slots number slot are.each (got slots number slot (omega (arith, below, ap length view, length-map slots (content_in bytes))) read)
+
+-- its key is as long as it tells
+key_long : (bytes : List ℕ) (slot : Slot) → IsSlotIn bytes slot → length (take (slot.middle - slot.start) (drop slot.start bytes)) ≡ slot.middle - slot.start
+key_long bytes slot is = length-take (slot.middle - slot.start) (drop slot.start bytes) ∙ omega (arith, is.key, is.value, is.within, length-drop slot.start bytes)
 
 pub returns : goal.returns
 returns c =
@@ -14,3 +25,26 @@ returns c =
     let there = got slots c.args.number c.index-slot.result.now (omega (arith, c.requires, ap length c.self.view_is, length-map slots (content_in bytes))) c.index-slot.ensures in
     let made : content_in bytes c.index-slot.result.now ≡ c.new.result = cc in
     ap (λ (xs : List Content). slice_get xs c.args.number) (sym c.self.view_is) ∙ map_get (content_in bytes) slots c.args.number _ there ∙ ap Some made
+
+pub new-fields-requires-clause-short : goal.new-fields-requires-clause-short
+new-fields-requires-clause-short c =
+    let is = lies c.self.inside.bytes.items c.self.inside.slots.items c.args.self.now c.args.number c.index-slot.result.now c.self.invariant c.self.view_is c.requires c.index-slot.ensures in
+    rw (c.deref.ensures.value, key_long c.self.inside.bytes.items c.index-slot.result.now is) is.short
+
+pub new-fields-requires-clause-few : goal.new-fields-requires-clause-few
+new-fields-requires-clause-few c =
+    let is = lies c.self.inside.bytes.items c.self.inside.slots.items c.args.self.now c.args.number c.index-slot.result.now c.self.invariant c.self.view_is c.requires c.index-slot.ensures in
+    omega (arith, length-take-le c.from.result c.index-slot.result.now.ends, c.from.ensures, is.few)
+
+pub new-fields-requires-clause-rise : goal.new-fields-requires-clause-rise
+new-fields-requires-clause-rise c =
+    let is = lies c.self.inside.bytes.items c.self.inside.slots.items c.args.self.now c.args.number c.index-slot.result.now c.self.invariant c.self.view_is c.requires c.index-slot.ensures in
+    rw (c.from.ensures, c.deref.ensures.value, key_long c.self.inside.bytes.items c.index-slot.result.now is) is.rise
+
+pub slice_bounds-value-count : goal.slice_bounds-value-count
+slice_bounds-value-count c =
+    (lies c.self.inside.bytes.items c.self.inside.slots.items c.args.self.now c.args.number c.index-slot.result.now c.self.invariant c.self.view_is c.requires c.index-slot.ensures).value
+
+pub slice_bounds-key-count : goal.slice_bounds-key-count
+slice_bounds-key-count c =
+    (lies c.self.inside.bytes.items c.self.inside.slots.items c.args.self.now c.args.number c.index-slot.result.now c.self.invariant c.self.view_is c.requires c.index-slot.ensures).key

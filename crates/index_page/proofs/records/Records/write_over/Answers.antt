@@ -1,5 +1,8 @@
-use Rattle.std.proofs.Common.{◌∙◌, arith}
+use Rattle.std.proofs.Common.{◌∙◌, arith, ap, length}
 use Rattle.index_page.proofs.SlotLemmas.{stands, over_contents, over_slots, with_value}
+use Rattle.index_page.specs.Slots.{content_in}
+use Rattle.index_page.proofs.RowLemmas.{get_below}
+use Rattle.std.proofs.lemmas.List.{length-map}
 use Rattle.index_page.proofs.records.Records.write_over.Goals as goal
 
 pub overflow_cast-cut : goal.overflow_cast-cut
@@ -28,3 +31,12 @@ returns c = λ carries.
     let put = over_contents c.self.inside.bytes.items c.args.value.now c.index-slot.result.now st.is (omega (arith, st.carries.long, c.requires.short carries)) c.self.inside.slots.items c.args.number st.there c.self.invariant.each c.self.invariant.apart in
     let same = with_value c.self.inside.bytes.items c.index-slot.result.now carries.key carries.value c.args.value.now _ c.args.self.now c.args.number c.self.view_is st.carries in
     c.leave.ensures ∙ rw c.put_bytes.ensures (put ∙ same)
+
+pub put_bytes-requires : goal.put_bytes-requires
+put_bytes-requires c =
+    let st = stands c.self.inside.bytes.items c.self.inside.slots.items c.args.self.now c.args.number c.index-slot.result.now c.self.invariant c.self.view_is c.index-slot.ensures c.requires.there in
+    omega (arith, st.carries.long, st.is.value, st.is.within, c.requires.short c.requires.there)
+
+pub index-slot-requires : goal.index-slot-requires
+index-slot-requires c =
+    omega (arith, get_below c.args.self.now c.args.number _ c.requires.there.there, ap length c.self.view_is, length-map c.self.inside.slots.items (content_in c.self.inside.bytes.items), c.self.inside.slots.ok.0)

@@ -1,0 +1,5 @@
+use Rattle.index_page.proofs.heap.Heap.copy.Goals as goal
+
+pub invariant_of-result : goal.invariant_of-result
+invariant_of-result c =
+    rw (c.in_ok-copy.ensures, c.in_ok-copy-2.ensures) c.self.invariant
