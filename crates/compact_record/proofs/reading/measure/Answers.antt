@@ -1,7 +1,7 @@
 use Rattle.std.proofs.Common.{ℕ, length, sym, ap, ◌∙◌, arith}
 use Rattle.compact_record.specs.Record.{length_bytes}
 use Rattle.compact_record.specs.Reading.{record_at}
-use Rattle.compact_record.proofs.ReadingLemmas.{kind_is, RowEnd, row_end}
+use Rattle.compact_record.proofs.ReadingLemmas.{kind_is, RowEnd, row_end, top_of_part, part_there}
 use Rattle.compact_record.proofs.reading.measure.Goals as goal
 use Rattle.compact_record.proofs.reading.measure.Goals.{In-Row}
 
@@ -40,3 +40,24 @@ returns-in-Row-clause-end c =
     let e = row (goal.at.returns-in-Row-clause-end c).In-Row in
     let len = c.get_length-len.ensures _ e.there in
     omega arith
+
+pub get_length-len-requires-clause-room : goal.get_length-len-requires-clause-room
+get_length-len-requires-clause-room c =
+    let low = top_of_part c.args.fields c.part_at-tail.result c.requires.there c.part_at-tail.ensures in
+    omega arith
+
+pub overflow_cast-result : goal.overflow_cast-result
+overflow_cast-result c =
+    let e = row (goal.at.overflow_cast-result c).In-Row in
+    let len = c.get_length-len.ensures _ e.there in
+    omega (arith, c.length_size.ensures, ap (λ (n : ℕ). length (length_bytes n)) len)
+
+pub overflow_cast-result-in-Pointer : goal.overflow_cast-result-in-Pointer
+overflow_cast-result-in-Pointer c =
+    let low = top_of_part c.args.fields c.part_at-tail.result c.requires.there c.part_at-tail.ensures in
+    omega arith
+
+pub overflow_add-result-in-Pointer : goal.overflow_add-result-in-Pointer
+overflow_add-result-in-Pointer c =
+    let tail = part_there c.args.fields c.part_at-tail.result c.requires.there c.part_at-tail.ensures (omega arith) in
+    omega (arith, tail.within)
