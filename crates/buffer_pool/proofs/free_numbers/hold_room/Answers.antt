@@ -47,3 +47,23 @@ loop-preserved g c = record {
   gives = gives_both c.args.pass.now c.loop.pass c.loop.invariant.gives c.try_room.new.pass
       c.in-NoRoom.ensures.did;
 }
+
+pub returns-in-Room-clause-own : goal.returns-in-Room-clause-own
+returns-in-Room-clause-own g c = (
+  passes_both c.args.pass.now c.loop.pass c.try_room.new.pass c.loop.invariant.same
+      c.try_room.ensures.own.0,
+  c.try_room.ensures.own.1,
+)
+
+pub returns-in-Room-clause-fits : goal.returns-in-Room-clause-fits
+returns-in-Room-clause-fits g c = c.try_room.ensures.fits
+
+pub returns-in-NoneFree-clause-own : goal.returns-in-NoneFree-clause-own
+returns-in-NoneFree-clause-own g c = (
+  passes_both c.args.pass.now c.loop.pass c.try_room.new.pass c.loop.invariant.same
+      c.try_room.ensures.own.0,
+  c.try_room.ensures.own.1,
+)
+
+pub returns-in-NoneFree-clause-fits : goal.returns-in-NoneFree-clause-fits
+returns-in-NoneFree-clause-fits g c = c.try_room.ensures.fits

@@ -1,12 +1,13 @@
-use Rattle.std.proofs.Common.{◌∙◌, length, sym, ap, subst}
+use Rattle.std.proofs.Common.{◌<◌, ◌∙◌, length, sym, ap, subst, arith}
 use Rattle.latch_space.specs.Passes.{view}
 use Rattle.forest_law.specs.declared.objects.Object.TheVariants as object
 use Rattle.forest_law.specs.declared.objects.Pool.{Pool}
 use Rattle.forest_law.specs.Numbers.{pool_id}
 use Rattle.buffer_pool.specs.NewPages.{IsLowestFree, HasNoneFree}
+use Rattle.buffer_pool.proofs.AgainLemmas.{passes_both}
 use Rattle.buffer_pool.proofs.CallLemmas.{pool_has}
 use Rattle.buffer_pool.proofs.FreeLemmas.{found_is, finds_none, holds_free}
-use Rattle.buffer_pool.proofs.GiveLemmas.{pool_taken, parts_then, vain_gives}
+use Rattle.buffer_pool.proofs.GiveLemmas.{first, first_shape, pool_taken, parts_then, vain_gives}
 use Rattle.buffer_pool.proofs.KnownLemmas.{places_counted}
 use Rattle.buffer_pool.proofs.free_numbers.try_room.Goals as goal
 
@@ -80,3 +81,66 @@ returns-clause-did g c = let p1 = c.take_pool.new.pass in
     c.take_pool.ensures.fits c.in-Some.ensures.named
     (subst (λ (z : Pool). IsLowestFree z c.in-Some.number) is c.in-Some.ensures.found)
     (c.in-Some-make_room.ensures.did (object.Pool took.pool) took.pool taken)
+
+pub take_pool-requires-clause-own : goal.take_pool-requires-clause-own
+take_pool-requires-clause-own g c = c.requires.own.1
+
+pub take_pool-requires-clause-lacks : goal.take_pool-requires-clause-lacks
+take_pool-requires-clause-lacks g c = c.requires.tables.pool
+
+pub take_pool-requires-clause-room : goal.take_pool-requires-clause-room
+take_pool-requires-clause-room g c = let room = c.requires.room in omega (arith, room)
+
+pub say_full-requires-clause-own : goal.say_full-requires-clause-own
+say_full-requires-clause-own g c = (c.requires.own.0, c.take_pool.ensures.own.1)
+
+pub say_full-requires-clause-index : goal.say_full-requires-clause-index
+say_full-requires-clause-index g c = subst (λ s. c.args.index < s.indexes)
+    (sym (first_shape c.args.pass.now c.take_pool.new.pass c.requires.known c.requires.tables
+    c.take_pool.ensures.took)) c.requires.index
+
+pub say_full-requires-clause-known : goal.say_full-requires-clause-known
+say_full-requires-clause-known g c = (first c.args.pass.now c.take_pool.new.pass c.requires.known c.requires.tables
+    c.take_pool.ensures.took).known
+
+pub make_room-requires-clause-own : goal.make_room-requires-clause-own
+make_room-requires-clause-own g c = (c.requires.own.0, c.take_pool.ensures.own.1)
+
+pub make_room-requires-clause-known : goal.make_room-requires-clause-known
+make_room-requires-clause-known g c = (first c.args.pass.now c.take_pool.new.pass c.requires.known c.requires.tables
+    c.take_pool.ensures.took).known
+
+pub make_room-requires-clause-pool : goal.make_room-requires-clause-pool
+make_room-requires-clause-pool g c = let took = c.take_pool.ensures.took in (
+  object.Pool took.pool,
+  took.pool,
+  pool_taken c.args.pass.now c.take_pool.new.pass c.requires.known c.requires.tables took,
+)
+
+pub make_room-requires-clause-room : goal.make_room-requires-clause-room
+make_room-requires-clause-room g c = let more = c.take_pool.ensures.took.count in
+    let room = c.requires.room in omega (arith, more, room)
+
+pub returns-in_default-clause-own : goal.returns-in_default-clause-own
+returns-in_default-clause-own g c = let p = c.args.pass.now in let p1 = c.take_pool.new.pass in (
+  passes_both p p1 c.give_pool_back.new.pass c.take_pool.ensures.own.0
+      (passes_both p1 c.say_full.new.pass c.give_pool_back.new.pass c.say_full.ensures.own.0
+      c.give_pool_back.ensures.own.0),
+  c.give_pool_back.ensures.own.1,
+)
+
+pub returns-in_default-make_room-clause-own : goal.returns-in_default-make_room-clause-own
+returns-in_default-make_room-clause-own g c = let p = c.args.pass.now in
+    let p1 = c.take_pool.new.pass in let gave = c.give_pool_back-in_default-make_room in (
+      passes_both p p1 gave.new.pass c.take_pool.ensures.own.0
+          (passes_both p1 c.make_room.new.pass gave.new.pass c.make_room.ensures.own.0
+          gave.ensures.own.0),
+      gave.ensures.own.1,
+    )
+
+pub returns-clause-own : goal.returns-clause-own
+returns-clause-own g c = (
+  passes_both c.args.pass.now c.take_pool.new.pass c.make_room.new.pass
+      c.take_pool.ensures.own.0 c.make_room.ensures.own.0,
+  c.make_room.ensures.own.1,
+)

@@ -56,3 +56,23 @@ loop-preserved g c = record {
   gives = gives_both c.args.pass.now c.loop.pass c.loop.invariant.gives c.look_for.new.pass
       c.in-NoRoom.ensures.did;
 }
+
+pub returns-in-Held-clause-own : goal.returns-in-Held-clause-own
+returns-in-Held-clause-own g c = (
+  passes_both c.args.pass.now c.loop.pass c.look_for.new.pass c.loop.invariant.same
+      c.look_for.ensures.own.0,
+  c.look_for.ensures.own.1,
+)
+
+pub returns-in-Held-clause-fits : goal.returns-in-Held-clause-fits
+returns-in-Held-clause-fits g c = c.look_for.ensures.fits
+
+pub returns-in-Free-clause-own : goal.returns-in-Free-clause-own
+returns-in-Free-clause-own g c = (
+  passes_both c.args.pass.now c.loop.pass c.look_for.new.pass c.loop.invariant.same
+      c.look_for.ensures.own.0,
+  c.look_for.ensures.own.1,
+)
+
+pub returns-in-Free-clause-fits : goal.returns-in-Free-clause-fits
+returns-in-Free-clause-fits g c = c.look_for.ensures.fits
