@@ -5,6 +5,7 @@ use Rattle.forest_law.specs.declared.objects.Object.TheVariants as object
 use Rattle.forest_law.specs.declared.objects.Pool.{Pool}
 use Rattle.forest_law.specs.Numbers.{pool_id}
 use Rattle.buffer_pool.specs.NewPages.{HasNoneFree}
+use Rattle.buffer_pool.proofs.AgainLemmas.{passes_both}
 use Rattle.buffer_pool.proofs.FullLemmas.{may_tell, finds_full}
 use Rattle.buffer_pool.proofs.full.say_full.Goals as goal
 
@@ -33,3 +34,14 @@ returns-clause-full c = let h = c.requires.pool in
     c.args.index c.read_point.result c.pool_out-pool.result h.0 h.1 c.requires.known
     c.pool_out-pool.ensures.out c.read_point.ensures.did c.read_point.ensures.kept
     c.pool_back.ensures.back
+
+pub returns-clause-own : goal.returns-clause-own
+returns-clause-own c = (
+  passes_both c.args.pass.now c.pool_out-pool.new.pass c.pool_back.new.pass
+      c.pool_out-pool.ensures.own.0 (passes_both c.pool_out-pool.new.pass c.read_point.new.pass
+      c.pool_back.new.pass c.read_point.ensures.own.0 c.pool_back.ensures.own.0),
+  c.pool_back.ensures.own.1,
+)
+
+pub pool_out-pool-requires-clause-held : goal.pool_out-pool-requires-clause-held
+pool_out-pool-requires-clause-held c = let h = c.requires.pool in (h.0, h.0, h.1)

@@ -37,3 +37,27 @@ returns-in-Free-clause-did g c = λ t x held.
       vain = record { tries = tries_none c.args.pass.now c.requires.known; count = refl };
       free = sym same ∙ (sym c.place_of.ensures ∙ c.in-Free.is);
     }
+
+pub returns-in-Free-clause-own : goal.returns-in-Free-clause-own
+returns-in-Free-clause-own g c = ((refl, refl), c.requires.own.1)
+
+pub returns-in-Free-clause-fits : goal.returns-in-Free-clause-fits
+returns-in-Free-clause-fits g c = c.fits.ensures
+
+pub returns-in-InFrame-clause-own : goal.returns-in-InFrame-clause-own
+returns-in-InFrame-clause-own g c = c.hold_named.ensures.own
+
+pub returns-in-InFrame-clause-did : goal.returns-in-InFrame-clause-did
+returns-in-InFrame-clause-did g c = c.hold_named.ensures.did
+
+pub returns-in-InFrame-clause-fits : goal.returns-in-InFrame-clause-fits
+returns-in-InFrame-clause-fits g c = c.hold_named.ensures.fits
+
+pub returns-in-Image-clause-own : goal.returns-in-Image-clause-own
+returns-in-Image-clause-own g c = c.hold_image.ensures.own
+
+pub returns-in-Image-clause-did : goal.returns-in-Image-clause-did
+returns-in-Image-clause-did g c = c.hold_image.ensures.did
+
+pub returns-in-Image-clause-fits : goal.returns-in-Image-clause-fits
+returns-in-Image-clause-fits g c = c.hold_image.ensures.fits

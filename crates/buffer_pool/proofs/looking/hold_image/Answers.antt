@@ -1,6 +1,7 @@
 use Rattle.std.proofs.Common.{◌≡◌, subst}
 use Rattle.forest_law.specs.declared.objects.Where.TheVariants.{Image}
 use Rattle.forest_law.specs.State.{where_at}
+use Rattle.buffer_pool.proofs.AgainLemmas.{passes_both}
 use Rattle.buffer_pool.proofs.LookLemmas.{one_pool, room_restores, holds_restored}
 use Rattle.buffer_pool.proofs.looking.hold_image.Goals as goal
 
@@ -18,3 +19,13 @@ returns-clause-did g c = λ t x held. let room = c.in-Some.ensures.did t x held 
     c.restore.new.pass
     (c.restore.ensures.restored t room.pool room.frame
     (record { known = room.tries.does.known; pool = room.knew; frame = room.knows }))
+
+pub returns-clause-own : goal.returns-clause-own
+returns-clause-own g c = (
+  passes_both c.args.pass.now c.make_room.new.pass c.restore.new.pass c.make_room.ensures.own.0
+      c.restore.ensures.own.0,
+  c.restore.ensures.own.1,
+)
+
+pub returns-clause-fits : goal.returns-clause-fits
+returns-clause-fits g c = c.restore.ensures.fits

@@ -2,6 +2,7 @@ use Rattle.std.proofs.Common.{◌≡◌, ◌<◌, sym, ap, subst}
 use Rattle.forest_law.specs.declared.objects.Where.TheVariants.{InFrame}
 use Rattle.forest_law.specs.State.{where_at}
 use Rattle.forest_law.specs.Numbers.{frames_of}
+use Rattle.buffer_pool.proofs.AgainLemmas.{passes_both}
 use Rattle.buffer_pool.proofs.CallLemmas.{took_frame}
 use Rattle.buffer_pool.proofs.LookLemmas.{one_pool, named_below, named_lacked, pool_beside, holds_named, refuses_named}
 use Rattle.buffer_pool.proofs.SpaceLemmas.{objects_of}
@@ -59,3 +60,13 @@ returns-in-Busy-clause-did c = λ t x held. let h = c.requires.pool in
     c.requires.others) c.try_frame.new.pass
     (missed_frame c.args.pass.now c.try_frame.new.pass c.args.block c.in-Busy.holder
     c.requires.known c.in-Busy.ensures.did)
+
+pub returns-in-Taken-clause-own : goal.returns-in-Taken-clause-own
+returns-in-Taken-clause-own c = (
+  passes_both c.args.pass.now c.try_frame.new.pass c.set_age.new.pass c.try_frame.ensures.own.0
+      c.set_age.ensures.own.0,
+  c.set_age.ensures.own.1,
+)
+
+pub returns-in-Taken-clause-fits : goal.returns-in-Taken-clause-fits
+returns-in-Taken-clause-fits c = c.set_age.ensures.fits

@@ -1,5 +1,6 @@
 use Rattle.std.proofs.Common.{◌<◌, sym, ap, subst}
 use Rattle.forest_law.specs.declared.objects.Object.TheVariants as object
+use Rattle.buffer_pool.proofs.AgainLemmas.{passes_both}
 use Rattle.buffer_pool.proofs.CallLemmas.{pool_has}
 use Rattle.buffer_pool.proofs.GiveLemmas.{first, pool_taken, parts_then, others_then, looks_for}
 use Rattle.buffer_pool.proofs.LookLemmas.{pool_after}
@@ -46,3 +47,14 @@ returns-clause-did g c = let took = c.take_pool.ensures.took in
     c.give_pool_back.new.pass c.give_pool_back.ensures.gave c.args.page c.find_page-found.result
     (c.find_page-found.ensures.did (object.Pool took.pool) took.pool
     (pool_taken c.args.pass.now p1 c.requires.known c.requires.tables took))
+
+pub returns-clause-own : goal.returns-clause-own
+returns-clause-own g c = (
+  passes_both c.args.pass.now c.take_pool.new.pass c.give_pool_back.new.pass
+      c.take_pool.ensures.own.0 (passes_both c.take_pool.new.pass c.find_page-found.new.pass
+      c.give_pool_back.new.pass c.find_page-found.ensures.own.0 c.give_pool_back.ensures.own.0),
+  c.give_pool_back.ensures.own.1,
+)
+
+pub returns-clause-fits : goal.returns-clause-fits
+returns-clause-fits g c = c.give_pool_back.ensures.fits

@@ -1,6 +1,7 @@
 use Rattle.std.proofs.Common.{inr}
 use Rattle.forest_law.specs.declared.objects.Object.TheVariants as object
 use Rattle.hash_maintain.specs.Leaves.{unhashed}
+use Rattle.buffer_pool.proofs.AgainLemmas.{passes_both}
 use Rattle.buffer_pool.proofs.FreePageLemmas.{outside_page_is, freed_both, may_free, pool_freed, frame_freed, frees_page}
 use Rattle.buffer_pool.proofs.GivingLemmas.{unhashed_table}
 use Rattle.buffer_pool.proofs.new_pages.free_page.Goals as goal
@@ -55,3 +56,17 @@ returns-clause-freed g c = let h = c.requires.held in
     (freed_both p u p1 c.args.block did c.requires.tables took h) h.paged)
     c.give_pool_back.new.pass c.give_pool_back.ensures.gave
     c.give_back.new.pass c.give_back.ensures.gave
+
+pub returns-clause-own : goal.returns-clause-own
+returns-clause-own g c = (
+  passes_both c.args.pass.now c.unhash_block.new.pass c.give_back.new.pass
+      c.unhash_block.ensures.own.0 (passes_both c.unhash_block.new.pass c.take_pool.new.pass
+      c.give_back.new.pass c.take_pool.ensures.own.0 (passes_both c.take_pool.new.pass
+      c.drop_page.new.pass c.give_back.new.pass c.drop_page.ensures.own.0 (passes_both
+      c.drop_page.new.pass c.give_pool_back.new.pass c.give_back.new.pass
+      c.give_pool_back.ensures.own.0 c.give_back.ensures.own.0))),
+  c.give_back.ensures.own.1,
+)
+
+pub returns-clause-fits : goal.returns-clause-fits
+returns-clause-fits g c = c.give_back.ensures.fits

@@ -1,9 +1,9 @@
-use Rattle.std.proofs.Common.{◌≡◌, sym, subst, ◌∙◌}
+use Rattle.std.proofs.Common.{◌≡◌, sym, subst, ◌∙◌, refl}
 use Rattle.forest_law.specs.declared.objects.Object.TheVariants as object
 use Rattle.index_page.specs.Page.{IsNeighbour}
 use Rattle.buffer_pool.specs.declared.error.PoolError.{PoolError}
 use Rattle.buffer_pool.specs.declared.error.PoolError.TheVariants as refused
-use Rattle.buffer_pool.proofs.AgainLemmas.{gives_none}
+use Rattle.buffer_pool.proofs.AgainLemmas.{gives_none, passes_both}
 use Rattle.buffer_pool.proofs.CallLemmas.{pool_has}
 use Rattle.buffer_pool.proofs.NewPageLemmas.{free_both, may_new, gets_page}
 use Rattle.buffer_pool.proofs.new_pages.new_page.Goals as goal
@@ -51,3 +51,26 @@ returns-clause-ok g c = let free = c.in_ok-number.ensures.ok in
     (c.bring.ensures.brought (object.Pool free.pool) free.now free.frame
     (free_both c.args.pass.now c.hold_room.new.pass c.args.head c.in_ok-number.number
     c.in_ok-number.block free)) c.give_pool_back.ensures.gave c.requires.tables
+
+pub returns-clause-own : goal.returns-clause-own
+returns-clause-own g c = (
+  passes_both c.args.pass.now c.hold_room.new.pass c.give_pool_back.new.pass
+      c.hold_room.ensures.own.0 (passes_both c.hold_room.new.pass c.bring.new.pass
+      c.give_pool_back.new.pass c.bring.ensures.own.0 c.give_pool_back.ensures.own.0),
+  c.give_pool_back.ensures.own.1,
+)
+
+pub returns-clause-fits : goal.returns-clause-fits
+returns-clause-fits g c = c.give_pool_back.ensures.fits
+
+pub returns-in_err-number-clause-own : goal.returns-in_err-number-clause-own
+returns-in_err-number-clause-own g c = c.hold_room.ensures.own
+
+pub returns-in_err-number-clause-fits : goal.returns-in_err-number-clause-fits
+returns-in_err-number-clause-fits g c = c.hold_room.ensures.fits
+
+pub returns-in_default-clause-own : goal.returns-in_default-clause-own
+returns-in_default-clause-own g c = ((refl, refl), c.requires.own.1)
+
+pub returns-in_default-clause-fits : goal.returns-in_default-clause-fits
+returns-in_default-clause-fits g c = c.fits.ensures

@@ -1,5 +1,6 @@
 use Rattle.std.proofs.Common.{◌≡◌, Bool, true, false, sym, subst}
 use Rattle.buffer_pool.specs.Pages.{HasTreePage}
+use Rattle.buffer_pool.proofs.AgainLemmas.{passes_both}
 use Rattle.buffer_pool.proofs.PageIfLemmas.{none_found, paged_has, other_found}
 use Rattle.buffer_pool.proofs.paging.page_if.Goals as goal
 
@@ -43,3 +44,25 @@ returns-clause-did g c = let pages = c.in-Some.ensures.did in
     (sym (c.frame.ensures pages.frame pages.frame
     (paged_has c.args.pass.now c.hold_page.new.pass c.args.page c.in-Some.block pages))) is))
     c.if-has_tree_page.false)
+
+pub returns-clause-own : goal.returns-clause-own
+returns-clause-own g c = (
+  passes_both c.args.pass.now c.hold_page.new.pass c.give_back.new.pass
+      c.hold_page.ensures.own.0 c.give_back.ensures.own.0,
+  c.give_back.ensures.own.1,
+)
+
+pub returns-clause-fits : goal.returns-clause-fits
+returns-clause-fits g c = c.give_back.ensures.fits
+
+pub returns-in_default-clause-own : goal.returns-in_default-clause-own
+returns-in_default-clause-own g c = c.hold_page.ensures.own
+
+pub returns-in_default-clause-fits : goal.returns-in_default-clause-fits
+returns-in_default-clause-fits g c = c.hold_page.ensures.fits
+
+pub returns-then-has_tree_page-clause-own : goal.returns-then-has_tree_page-clause-own
+returns-then-has_tree_page-clause-own g c = c.hold_page.ensures.own
+
+pub returns-then-has_tree_page-clause-fits : goal.returns-then-has_tree_page-clause-fits
+returns-then-has_tree_page-clause-fits g c = c.hold_page.ensures.fits

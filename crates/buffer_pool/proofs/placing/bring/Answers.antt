@@ -1,6 +1,7 @@
 use Rattle.std.proofs.Common.{◌<◌, length, sym, ap, subst, None}
 use Rattle.forest_law.specs.declared.objects.Where.TheVariants.{InFrame}
 use Rattle.buffer_pool.specs.Turning.{PutsPage}
+use Rattle.buffer_pool.proofs.AgainLemmas.{passes_both}
 use Rattle.buffer_pool.proofs.BringLemmas.{brought_place, brought_image, may_bring, brings}
 use Rattle.buffer_pool.proofs.CallLemmas.{pool_has}
 use Rattle.buffer_pool.proofs.KnownLemmas.{age_still}
@@ -62,3 +63,15 @@ returns-clause-brought c = λ t x f both. brings c.args.pass.now c.frame_out-fra
     (subst (λ n. PutsPage c.pool_out-pool.result n (InFrame c.args.block) None c.put_page.new.pool)
     (ap (λ z. z.number) c.head.ensures) c.put_page.ensures.puts) c.touch.new.pool
     c.touch.ensures c.load.result c.load.ensures t x f both c.turn.new.pass c.turn.ensures.turned
+
+pub returns-clause-own : goal.returns-clause-own
+returns-clause-own c = (
+  passes_both c.args.pass.now c.frame_out-frame.new.pass c.turn.new.pass
+      c.frame_out-frame.ensures.own.0 (passes_both c.frame_out-frame.new.pass
+      c.pool_out-pool.new.pass c.turn.new.pass c.pool_out-pool.ensures.own.0
+      c.turn.ensures.own.0),
+  c.turn.ensures.own.1,
+)
+
+pub returns-clause-fits : goal.returns-clause-fits
+returns-clause-fits c = c.turn.ensures.fits

@@ -1,4 +1,5 @@
 use Rattle.std.proofs.Common.{ap, ◌∙◌}
+use Rattle.buffer_pool.proofs.AgainLemmas.{passes_both}
 use Rattle.buffer_pool.proofs.CallLemmas.{frame_has, pool_has}
 use Rattle.buffer_pool.proofs.DropLemmas.{may_drop, drops}
 use Rattle.buffer_pool.proofs.EvictLemmas.{unloaded_place, unloaded_image}
@@ -72,3 +73,15 @@ returns-clause-freed c = λ page t x f both paged. drops c.args.pass.now c.frame
     c.unload-frame.ensures c.head.result.now.number (ap (λ z. z.number) c.head.ensures)
     c.put_page.new.pool c.put_page.ensures.puts c.forget_age.new.pool c.forget_age.ensures
     c.fits.ensures page t x f both paged c.turn.new.pass c.turn.ensures.turned
+
+pub returns-clause-own : goal.returns-clause-own
+returns-clause-own c = (
+  passes_both c.args.pass.now c.frame_out-frame.new.pass c.turn.new.pass
+      c.frame_out-frame.ensures.own.0 (passes_both c.frame_out-frame.new.pass
+      c.pool_out-pool.new.pass c.turn.new.pass c.pool_out-pool.ensures.own.0
+      c.turn.ensures.own.0),
+  c.turn.ensures.own.1,
+)
+
+pub returns-clause-fits : goal.returns-clause-fits
+returns-clause-fits c = c.turn.ensures.fits

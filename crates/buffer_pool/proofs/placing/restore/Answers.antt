@@ -1,5 +1,6 @@
 use Rattle.std.proofs.Common.{◌≡◌, sym, ◌∙◌, Some, None, Option}
 use Rattle.forest_law.specs.declared.objects.Stored.{Stored}
+use Rattle.buffer_pool.proofs.AgainLemmas.{passes_both}
 use Rattle.buffer_pool.proofs.CallLemmas.{pool_has}
 use Rattle.buffer_pool.proofs.KnownLemmas.{age_still}
 use Rattle.buffer_pool.proofs.RestoreLemmas.{restored_place, restored_image, restored_there, may_restore, restores}
@@ -68,3 +69,15 @@ returns-clause-restored c = λ t x f both. restores c.args.pass.now c.frame_out-
     (sym c.in-Some.ensures.had) c.put_page.new.pool
     c.put_page.ensures.puts c.touch.new.pool c.touch.ensures c.load.result c.load.ensures
     t x f both c.turn.new.pass c.turn.ensures.turned
+
+pub returns-clause-own : goal.returns-clause-own
+returns-clause-own c = (
+  passes_both c.args.pass.now c.frame_out-frame.new.pass c.turn.new.pass
+      c.frame_out-frame.ensures.own.0 (passes_both c.frame_out-frame.new.pass
+      c.pool_out-pool.new.pass c.turn.new.pass c.pool_out-pool.ensures.own.0
+      c.turn.ensures.own.0),
+  c.turn.ensures.own.1,
+)
+
+pub returns-clause-fits : goal.returns-clause-fits
+returns-clause-fits c = c.turn.ensures.fits

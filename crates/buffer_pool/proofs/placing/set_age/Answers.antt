@@ -1,3 +1,4 @@
+use Rattle.buffer_pool.proofs.AgainLemmas.{passes_both}
 use Rattle.buffer_pool.proofs.CallLemmas.{pool_has}
 use Rattle.buffer_pool.proofs.SetAgeLemmas.{aged_out, aged_room, age_follows, age_whole, sets_age}
 use Rattle.buffer_pool.proofs.placing.set_age.Goals as goal
@@ -38,3 +39,14 @@ returns-clause-aged c = λ t x held.
     c.pool_out-pool.result c.pool_out-pool.ensures.out t x held
     c.args.block c.touch.new.pool c.touch.ensures c.pool_back.new.pass c.pool_back.ensures.back
     c.settle.new.pass c.settle.ensures.did
+
+pub returns-clause-own : goal.returns-clause-own
+returns-clause-own c = (
+  passes_both c.args.pass.now c.pool_out-pool.new.pass c.settle.new.pass
+      c.pool_out-pool.ensures.own.0 (passes_both c.pool_out-pool.new.pass c.pool_back.new.pass
+      c.settle.new.pass c.pool_back.ensures.own.0 c.settle.ensures.own.0),
+  c.settle.ensures.own.1,
+)
+
+pub returns-clause-fits : goal.returns-clause-fits
+returns-clause-fits c = c.settle.ensures.fits

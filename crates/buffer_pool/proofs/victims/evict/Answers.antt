@@ -1,5 +1,6 @@
 use Rattle.std.proofs.Common.{ap, inl, ◌∙◌, refl}
 use Rattle.hash_maintain.specs.Leaves.{unhashed}
+use Rattle.buffer_pool.proofs.AgainLemmas.{passes_both}
 use Rattle.buffer_pool.proofs.CallLemmas.{frame_has, pool_has}
 use Rattle.buffer_pool.proofs.EvictLemmas.{unloaded_place, unloaded_image, may_evict, evict_turns, evict_empty, evict_clears}
 use Rattle.buffer_pool.proofs.GivingLemmas.{unhashed_both, unhashed_empties}
@@ -100,3 +101,16 @@ returns-clause-empty g c = λ t x f both.
     y puts)
     (evict_clears u p1 p2 b frame pool out outside t x (unhashed f) then fits g' s unloads n number
     y puts)
+
+pub returns-clause-own : goal.returns-clause-own
+returns-clause-own g c = (
+  passes_both c.args.pass.now c.unhash_block.new.pass c.turn.new.pass
+      c.unhash_block.ensures.own.0 (passes_both c.unhash_block.new.pass
+      c.frame_out-frame.new.pass c.turn.new.pass c.frame_out-frame.ensures.own.0 (passes_both
+      c.frame_out-frame.new.pass c.pool_out-pool.new.pass c.turn.new.pass
+      c.pool_out-pool.ensures.own.0 c.turn.ensures.own.0)),
+  c.turn.ensures.own.1,
+)
+
+pub returns-clause-fits : goal.returns-clause-fits
+returns-clause-fits g c = c.turn.ensures.fits

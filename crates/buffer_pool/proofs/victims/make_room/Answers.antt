@@ -1,4 +1,5 @@
 use Rattle.std.proofs.Common.{arith}
+use Rattle.buffer_pool.proofs.AgainLemmas.{passes_both}
 use Rattle.buffer_pool.proofs.EmptyLemmas.{victim_both, victim_parts, holds_room}
 use Rattle.buffer_pool.proofs.victims.make_room.Goals as goal
 
@@ -28,3 +29,13 @@ returns-clause-did g c = λ t x held. let victim = c.in-Some.ensures.did t x hel
     c.empty_frame.new.pass
     (c.empty_frame.ensures.empty t x victim.holds.frame
     (victim_both c.args.pass.now c.try_victim.new.pass x c.in-Some.block victim t held))
+
+pub returns-clause-own : goal.returns-clause-own
+returns-clause-own g c = (
+  passes_both c.args.pass.now c.try_victim.new.pass c.empty_frame.new.pass
+      c.try_victim.ensures.own.0 c.empty_frame.ensures.own.0,
+  c.empty_frame.ensures.own.1,
+)
+
+pub returns-clause-fits : goal.returns-clause-fits
+returns-clause-fits g c = c.empty_frame.ensures.fits
