@@ -1,3 +1,4 @@
+use Rattle.buffer_pool.proofs.AgainLemmas.{passes_both}
 use Rattle.leaf_search.proofs.BuildLemmas.{out_tidy, out_leaf, out_few, out_counted, out_in_place, out_room, out_has_leaf, built_goes_back, built_in_hand}
 use Rattle.leaf_search.proofs.building.build_in_hand.Goals as goal
 
@@ -52,3 +53,11 @@ returns-clause-built g c = λ h. (let p = c.args.pass.now in let q = c.frame_out
     (c.build_frame-answer.ensures.frame h.differs c.args.index leaf)
     (c.build_frame-answer.ensures.builds h.differs c.args.index leaf)
     c.frame_back.new.pass c.frame_back.ensures.back)
+
+pub returns-clause-own : goal.returns-clause-own
+returns-clause-own g c = (
+  passes_both c.args.pass.now c.frame_out-frame.new.pass c.frame_back.new.pass c.frame_out-frame.ensures.own.0
+      (passes_both c.frame_out-frame.new.pass c.build_frame-answer.new.pass c.frame_back.new.pass c.build_frame-answer.ensures.own.0
+      c.frame_back.ensures.own.0),
+  c.frame_back.ensures.own.1,
+)

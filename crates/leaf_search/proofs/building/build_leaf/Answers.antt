@@ -5,6 +5,7 @@ use Rattle.forest_law.specs.declared.objects.Frame.{Frame}
 use Rattle.hash_law.specs.Blocks.{AskFew, part_for}
 use Rattle.index_law.specs.Shape.{Shape}
 use Rattle.forest_world.specs.Held.{shape_of_pass}
+use Rattle.buffer_pool.proofs.AgainLemmas.{passes_both}
 use Rattle.buffer_pool.proofs.PartLemmas.{part_below, took_free}
 use Rattle.leaf_search.specs.Builds.{HoldsToTeach}
 use Rattle.leaf_search.proofs.BuiltLemmas.{ReadyToBuild, taken_known, taken_room, taken_counted, to_build, built_whole, built_follows, built_part, ends_build}
@@ -86,3 +87,12 @@ returns-clause-built g c teach =
     let built = c.build_in_hand-answer.ensures.built (to_build ready) in
     ends_build ready built c.settle.new.pass c.settle.ensures.did c.give_part_back.new.pass
     c.give_part_back.ensures.gave
+
+pub returns-clause-own : goal.returns-clause-own
+returns-clause-own g c = (
+  passes_both c.args.pass.now c.hold_part.new.pass c.give_part_back.new.pass c.hold_part.ensures.own.0
+      (passes_both c.hold_part.new.pass c.build_in_hand-answer.new.pass c.give_part_back.new.pass c.build_in_hand-answer.ensures.own.0
+      (passes_both c.build_in_hand-answer.new.pass c.settle.new.pass c.give_part_back.new.pass c.settle.ensures.own.0
+      c.give_part_back.ensures.own.0)),
+  c.give_part_back.ensures.own.1,
+)

@@ -1,3 +1,4 @@
+use Rattle.buffer_pool.proofs.AgainLemmas.{passes_both}
 use Rattle.leaf_search.proofs.KeepLemmas.{figures_go_back, figures_whole, figures_follow, figures_become}
 use Rattle.leaf_search.proofs.building.keep_figures.Goals as goal
 
@@ -22,3 +23,11 @@ returns-clause-kept c = λ index h. figures_become c.args.pass.now c.frame_out-f
     c.frame_back.new.pass c.args.block index c.args.figures.now h c.requires.known
     c.frame_out-frame.result c.frame_out-frame.ensures.out c.frame_back.ensures.back
     c.settle.new.pass c.settle.ensures.did
+
+pub returns-clause-own : goal.returns-clause-own
+returns-clause-own c = (
+  passes_both c.args.pass.now c.frame_out-frame.new.pass c.settle.new.pass c.frame_out-frame.ensures.own.0
+      (passes_both c.frame_out-frame.new.pass c.frame_back.new.pass c.settle.new.pass c.frame_back.ensures.own.0
+      c.settle.ensures.own.0),
+  c.settle.ensures.own.1,
+)
