@@ -2,6 +2,7 @@ use Rattle.std.proofs.Common.{None, inl, inr, refl, subst, ◌∙◌}
 use Rattle.map_history.specs.Map as map
 use Rattle.map_history.specs.Operation.{Make}
 use Rattle.index_law.specs.Meanings.{lent_row}
+use Rattle.buffer_pool.proofs.AgainLemmas.{passes_both}
 use Rattle.index_engine.specs.Traces.{HasLightPage}
 use Rattle.index_engine.proofs.HeldLemmas.{held_told, answers_then}
 use Rattle.leaf_changes.proofs.HoldLemmas.{gave_is}
@@ -45,3 +46,22 @@ returns-else-is_light-clause-told g c = let call = c.args.call.now in
           c.del_held-told.result (lent_row None) c.del_held-told.ensures.did;
       after = inl refl;
     }
+
+pub returns-then-took_out-clause-own : goal.returns-then-took_out-clause-own
+returns-then-took_out-clause-own g c = (
+  passes_both c.args.pass.now c.hold_to_change-part.new.pass c.merge.new.pass
+      c.hold_to_change-part.ensures.own.0 (passes_both c.hold_to_change-part.new.pass
+      c.del_held-told.new.pass c.merge.new.pass c.del_held-told.ensures.own.0 (passes_both
+      c.del_held-told.new.pass c.let_both_go.new.pass c.merge.new.pass c.let_both_go.ensures.own.0
+      c.merge.ensures.own.0)),
+  c.merge.ensures.own.1,
+)
+
+pub returns-else-is_light-clause-own : goal.returns-else-is_light-clause-own
+returns-else-is_light-clause-own g c = (
+  passes_both c.args.pass.now c.hold_to_change-part.new.pass c.let_both_go.new.pass
+      c.hold_to_change-part.ensures.own.0 (passes_both c.hold_to_change-part.new.pass
+      c.del_held-told.new.pass c.let_both_go.new.pass c.del_held-told.ensures.own.0
+      c.let_both_go.ensures.own.0),
+  c.let_both_go.ensures.own.1,
+)

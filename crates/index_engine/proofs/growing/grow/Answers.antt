@@ -1,6 +1,7 @@
 use Rattle.std.proofs.Common.{Err, ap, ◌∙◌}
 use Rattle.latch_space.specs.Passes.{view}
 use Rattle.call_law.proofs.TraceLemmas.{quiet_of}
+use Rattle.buffer_pool.proofs.AgainLemmas.{passes_both}
 use Rattle.index_engine.specs.Writes.{write_asked}
 use Rattle.index_engine.proofs.RoomLemmas.{room_then_word, write_asks, knows_short}
 use Rattle.index_engine.proofs.growing.grow.Goals as goal
@@ -23,3 +24,10 @@ returns-in-SpaceFull-clause-ok g c = let call = c.args.call.now in
     (write_asks c.args.write key value)
     (c.make_room-room.ensures.full (c.in-Err.is ∙ ap Err c.in-SpaceFull.is))
     c.say_space_full.ensures.did c.say_space_full.ensures.told
+
+pub returns-in-SpaceFull-clause-own : goal.returns-in-SpaceFull-clause-own
+returns-in-SpaceFull-clause-own g c = (
+  passes_both c.args.pass.now c.make_room-room.new.pass c.say_space_full.new.pass
+      c.make_room-room.ensures.own.0 c.say_space_full.ensures.own.0,
+  c.say_space_full.ensures.own.1,
+)

@@ -1,6 +1,7 @@
-use Rattle.std.proofs.Common.{None, inl, refl, subst, IfOk, IfErr, rules}
+use Rattle.std.proofs.Common.{None, inl, refl, subst, IfOk, IfErr}
 use Rattle.index_law.specs.Meanings.{lent_row}
 use Rattle.leaf_changes.specs.Changes.{RefusesHolding}
+use Rattle.buffer_pool.proofs.AgainLemmas.{passes_both}
 use Rattle.index_engine.specs.Leaving.{LeavesFull}
 use Rattle.index_engine.specs.Writes.{write_asked}
 use Rattle.leaf_changes.specs.Says.{AnswersHolding}
@@ -56,7 +57,12 @@ returns-in_default g c = let call = c.args.call.now in let i = call.index in
           c.in_default.not-NoMemory;
     } in
     record {
-      own = search rules;
+      own = (
+        passes_both p q0 c.grow.new.pass c.hold_to_change-part.ensures.own.0
+            (passes_both q0 q1 c.grow.new.pass c.write_held-written.ensures.own.0
+            (passes_both q1 q c.grow.new.pass c.let_both_go.ensures.own.0 c.grow.ensures.own.0)),
+        c.grow.ensures.own.1,
+      );
       nothing = c.grow.ensures.nothing;
       ok = grown_ok p q c.grow.new.pass leaf.block i key value (write_asked c.args.write key value)
           full c.grow.result c.grow.ensures.ok;
@@ -64,3 +70,21 @@ returns-in_default g c = let call = c.args.call.now in let i = call.index in
       err = grown_err p q c.grow.new.pass leaf.block i key value (write_asked c.args.write key value)
           full c.grow.result c.grow.ensures.err;
     }
+
+pub returns-in-Ok-clause-own : goal.returns-in-Ok-clause-own
+returns-in-Ok-clause-own g c = (
+  passes_both c.args.pass.now c.hold_to_change-part.new.pass c.let_both_go.new.pass
+      c.hold_to_change-part.ensures.own.0 (passes_both c.hold_to_change-part.new.pass
+      c.write_held-written.new.pass c.let_both_go.new.pass c.write_held-written.ensures.own.0
+      c.let_both_go.ensures.own.0),
+  c.let_both_go.ensures.own.1,
+)
+
+pub returns-in-NoMemory-clause-own : goal.returns-in-NoMemory-clause-own
+returns-in-NoMemory-clause-own g c = (
+  passes_both c.args.pass.now c.hold_to_change-part.new.pass c.let_both_go.new.pass
+      c.hold_to_change-part.ensures.own.0 (passes_both c.hold_to_change-part.new.pass
+      c.write_held-written.new.pass c.let_both_go.new.pass c.write_held-written.ensures.own.0
+      c.let_both_go.ensures.own.0),
+  c.let_both_go.ensures.own.1,
+)

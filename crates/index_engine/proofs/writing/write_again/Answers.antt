@@ -1,14 +1,15 @@
-use Rattle.std.proofs.Common.{subst, rules}
+use Rattle.std.proofs.Common.{refl, subst}
 use Rattle.list_facts.proofs.Outcomes.{when_err}
 use Rattle.latch_space.specs.Passes.{view}
 use Rattle.call_law.proofs.TraceLemmas.{quiet_both}
+use Rattle.buffer_pool.proofs.AgainLemmas.{passes_both}
 use Rattle.index_engine.specs.Writes.{write_asked, TriesWrite}
 use Rattle.index_engine.proofs.TryLemmas.{quiet_yet, quiet_then_again, way_tells, way_quiet, way_unanswered}
 use Rattle.index_engine.proofs.writing.write_again.Goals as goal
 
 pub loop-init : goal.loop-init
 loop-init g c = let call = c.args.call.now in record {
-  own = search rules;
+  own = ((refl, refl), c.requires.own);
   nothing = c.requires.nothing;
   quiet = quiet_yet (view c.args.pass.now) call.index;
 }
@@ -37,7 +38,12 @@ pub loop-preserved : goal.loop-preserved
 loop-preserved g c = let call = c.args.call.now in let key = call.key.now.tuple in
     let value = c.args.value.now in let p = c.loop.pass in let q = c.try_write.new.pass in
     let ask = write_asked c.args.write key value in record {
-      own = search rules;
+      own = (
+        passes_both c.args.pass.now p q c.loop.invariant.own.0
+            (passes_both p c.hold_leaf-leaf.new.pass q c.hold_leaf-leaf.ensures.own.0
+            c.try_write.ensures.own.0),
+        c.try_write.ensures.own.1,
+      );
       nothing = c.try_write.ensures.nothing;
       quiet = quiet_both (view c.args.pass.now) (view p) (view q) call.index
           c.loop.invariant.quiet
@@ -46,3 +52,17 @@ loop-preserved g c = let call = c.args.call.now in let key = call.key.now.tuple 
           (subst (λ o. TriesWrite c.hold_leaf-leaf.new.pass c.hold_leaf-leaf.result.block call.index key value
           ask o q) c.in_default.is c.in_ok-told.ensures.ok));
     }
+
+pub returns-in_err-told-clause-own : goal.returns-in_err-told-clause-own
+returns-in_err-told-clause-own g c = let p = c.loop.pass in let q = c.try_write.new.pass in (
+  passes_both c.args.pass.now p q c.loop.invariant.own.0 (passes_both p c.hold_leaf-leaf.new.pass q
+      c.hold_leaf-leaf.ensures.own.0 c.try_write.ensures.own.0),
+  c.try_write.ensures.own.1,
+)
+
+pub returns-in-Some-2-clause-own : goal.returns-in-Some-2-clause-own
+returns-in-Some-2-clause-own g c = let p = c.loop.pass in let q = c.try_write.new.pass in (
+  passes_both c.args.pass.now p q c.loop.invariant.own.0 (passes_both p c.hold_leaf-leaf.new.pass q
+      c.hold_leaf-leaf.ensures.own.0 c.try_write.ensures.own.0),
+  c.try_write.ensures.own.1,
+)

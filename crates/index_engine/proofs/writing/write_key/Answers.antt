@@ -1,4 +1,5 @@
 use Rattle.std.proofs.Common.{subst}
+use Rattle.buffer_pool.proofs.AgainLemmas.{passes_both}
 use Rattle.index_engine.specs.Writes.{write_asked, TriesWrite, MakesRoomThen}
 use Rattle.index_engine.proofs.TryLemmas.{again_ok, again_err}
 use Rattle.index_engine.proofs.writing.write_key.Goals as goal
@@ -20,3 +21,10 @@ returns-in-None-clause-err g c = let call = c.args.call.now in let key = call.ke
     (λ o. TriesWrite p b call.index key value ask o q) c.in-None.is c.in_ok-told.ensures.ok in
     again_err p q c.write_again.new.pass b call.index key value ask made c.write_again.result
     c.write_again.ensures.err
+
+pub returns-in-None-clause-own : goal.returns-in-None-clause-own
+returns-in-None-clause-own g c = (
+  passes_both c.args.pass.now c.try_write.new.pass c.write_again.new.pass c.try_write.ensures.own.0
+      c.write_again.ensures.own.0,
+  c.write_again.ensures.own.1,
+)

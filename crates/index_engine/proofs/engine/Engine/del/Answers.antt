@@ -1,6 +1,10 @@
-use Rattle.std.proofs.Common.{ap, ◌∙◌}
+use Rattle.std.proofs.Common.{refl, sym, subst, ap, ◌∙◌}
 use Rattle.map_history.specs.Report.{Columns}
 use Rattle.search_info.specs.Passes.{knowledge}
+use Rattle.latch_space.specs.Spaces.{IsPassOf}
+use Rattle.leaf_changes.specs.Holds.{HoldsFreshAlone}
+use Rattle.buffer_pool.proofs.AgainLemmas.{passes_both}
+use Rattle.search_info.specs.Tries.{TriesAfter}
 use Rattle.index_engine.specs.Engines.{lessons_of}
 use Rattle.index_engine.specs.Leaving.{AnswersDel}
 use Rattle.index_engine.proofs.DelLemmas.{search_then_del}
@@ -25,3 +29,34 @@ returns-clause-searched g c = record {
   trace = c.find-searched.ensures.trace;
   told = c.delete_key.ensures.columns ∙ c.call-call.ensures.found;
 }
+
+pub delete_key-requires-clause-own : goal.delete_key-requires-clause-own
+delete_key-requires-clause-own g c = subst (λ s. IsPassOf s c.find-searched.new.pass)
+    (sym c.call-call.ensures.space) c.find-searched.ensures.own.1
+
+pub delete_key-requires-clause-alone : goal.delete_key-requires-clause-alone
+delete_key-requires-clause-alone g c = let s = c.find-searched.result in let call = c.call-call.result in
+    let about = c.call-call.ensures.about in
+    about_key (λ n k. HoldsFreshAlone c.find-searched.new.pass s.leaf.block n k s.leaf.spot)
+    c.args.index call.index c.args.key.now.tuple call.key.now.tuple (sym about.0)
+    (sym (ap (λ k. k.tuple) about.1)) c.find-searched.ensures.held
+
+pub returns-clause-own : goal.returns-clause-own
+returns-clause-own g c = let q = c.delete_key.new.pass in (
+  record {
+    pass = passes_both c.args.pass.now.world c.find-searched.new.pass q
+        c.find-searched.ensures.own.0 c.delete_key.ensures.own.0;
+    learn = c.find-searched.ensures.learner.0;
+    sizes = refl;
+  },
+  (
+    subst (λ s. IsPassOf s q) c.call-call.ensures.space c.delete_key.ensures.own.1,
+    c.find-searched.ensures.learner.1,
+  ),
+)
+
+pub returns-clause-tried : goal.returns-clause-tried
+returns-clause-tried g c = subst
+    (λ h. TriesAfter (lessons_of c.args.pass.now) c.args.index h (knowledge c.find-searched.new.learn))
+    (sym (ap (λ (z : Columns). z.how) (c.delete_key.ensures.columns ∙ c.call-call.ensures.found)))
+    c.find-searched.ensures.searched.tried

@@ -1,9 +1,13 @@
-use Rattle.std.proofs.Common.{◌≡◌, ap, subst, ◌∙◌, IfOk, OnErr}
+use Rattle.std.proofs.Common.{refl, sym, ◌≡◌, ap, subst, ◌∙◌, IfOk, OnErr}
 use Rattle.std.proofs.lemmas.Result.{IfOk-weaker}
 use Rattle.search_info.specs.Passes.{knowledge}
 use Rattle.map_history.specs.declared.reply.Told.{Told}
 use Rattle.map_history.specs.Report.{Columns}
 use Rattle.map_history.specs.Told.{columns_told}
+use Rattle.latch_space.specs.Spaces.{IsPassOf}
+use Rattle.leaf_changes.specs.Holds.{HoldsFreshAlone}
+use Rattle.buffer_pool.proofs.AgainLemmas.{passes_both}
+use Rattle.search_info.specs.Tries.{TriesAfter}
 use Rattle.index_engine.specs.Engines.{lessons_of}
 use Rattle.engine_law.specs.Says.{columns_by}
 use Rattle.leaf_search.specs.Traces.{SearchTrace}
@@ -56,3 +60,38 @@ returns-clause-searched g c = let i = c.args.index in let key = c.args.key.now.t
           c.find-searched.ensures.trace;
       told = same ∙ c.call-call.ensures.found;
     }) c.write_key.ensures.columns
+
+pub write_key-requires-clause-own : goal.write_key-requires-clause-own
+write_key-requires-clause-own g c = subst (λ s. IsPassOf s c.find-searched.new.pass)
+    (sym c.call-call.ensures.space) c.find-searched.ensures.own.1
+
+pub write_key-requires-clause-alone : goal.write_key-requires-clause-alone
+write_key-requires-clause-alone g c = let s = c.find-searched.result in let call = c.call-call.result in
+    let about = c.call-call.ensures.about in
+    about_key (λ n k. HoldsFreshAlone c.find-searched.new.pass s.leaf.block n k s.leaf.spot)
+    c.args.index call.index c.args.key.now.tuple call.key.now.tuple (sym about.0)
+    (sym (ap (λ k. k.tuple) about.1)) c.find-searched.ensures.held
+
+pub returns-clause-own : goal.returns-clause-own
+returns-clause-own g c = let q = c.write_key.new.pass in (
+  record {
+    pass = passes_both c.args.pass.now.world c.find-searched.new.pass q
+        c.find-searched.ensures.own.0 c.write_key.ensures.own.0;
+    learn = c.find-searched.ensures.learner.0;
+    sizes = refl;
+  },
+  (
+    subst (λ s. IsPassOf s q) c.call-call.ensures.space c.write_key.ensures.own.1,
+    c.find-searched.ensures.learner.1,
+  ),
+)
+
+pub returns-clause-tried : goal.returns-clause-tried
+returns-clause-tried g c = let i = c.args.index in let l = lessons_of c.args.pass.now in
+    let m = knowledge c.find-searched.new.learn in
+    IfOk-weaker c.write_key.result
+    (λ (told : Told). columns_told told ≡ columns_by c.call-call.result.found)
+    (λ (told : Told). TriesAfter l i told.how m)
+    (λ told same. subst (λ h. TriesAfter l i h m)
+    (sym (ap (λ (z : Columns). z.how) (same ∙ c.call-call.ensures.found)))
+    c.find-searched.ensures.searched.tried) c.write_key.ensures.columns
