@@ -83,7 +83,15 @@ returns-in-Err-clause-err g c =
     stops_one p q r i key b c.in-Err.error refused c.give_back.ensures.gave
 
 pub returns-in-Ok-clause-own : goal.returns-in-Ok-clause-own
-returns-in-Ok-clause-own g c = (passes_both c.args.pass.now c.raise_root.new.pass c.grow_child.new.pass c.raise_root.ensures.own.0 c.grow_child.ensures.own.0, c.grow_child.ensures.own.1)
+returns-in-Ok-clause-own g c = (
+  passes_both c.args.pass.now c.raise_root.new.pass c.grow_child.new.pass c.raise_root.ensures.own.0
+      c.grow_child.ensures.own.0,
+  c.grow_child.ensures.own.1,
+)
 
 pub returns-in-Err-clause-own : goal.returns-in-Err-clause-own
-returns-in-Err-clause-own g c = (passes_both c.args.pass.now c.raise_root.new.pass c.give_back.new.pass c.raise_root.ensures.own.0 c.give_back.ensures.own.0, c.give_back.ensures.own.1)
+returns-in-Err-clause-own g c = (
+  passes_both c.args.pass.now c.raise_root.new.pass c.give_back.new.pass c.raise_root.ensures.own.0
+      c.give_back.ensures.own.0,
+  c.give_back.ensures.own.1,
+)

@@ -75,7 +75,18 @@ returns-in-Err-clause-err g c =
     c.give_back-in-Err.ensures.gave c.give_back-in-Err-2.new.pass c.give_back-in-Err-2.ensures.gave
 
 pub returns-in-Ok-clause-own : goal.returns-in-Ok-clause-own
-returns-in-Ok-clause-own g c = (passes_both c.args.pass.now c.split_child.new.pass c.keep_half.new.pass c.split_child.ensures.own.0 (passes_both c.split_child.new.pass c.give_back.new.pass c.keep_half.new.pass c.give_back.ensures.own.0 c.keep_half.ensures.own.0), c.keep_half.ensures.own.1)
+returns-in-Ok-clause-own g c = (
+  passes_both c.args.pass.now c.split_child.new.pass c.keep_half.new.pass
+      c.split_child.ensures.own.0 (passes_both c.split_child.new.pass c.give_back.new.pass
+      c.keep_half.new.pass c.give_back.ensures.own.0 c.keep_half.ensures.own.0),
+  c.keep_half.ensures.own.1,
+)
 
 pub returns-in-Err-clause-own : goal.returns-in-Err-clause-own
-returns-in-Err-clause-own g c = (passes_both c.args.pass.now c.split_child.new.pass c.give_back-in-Err-2.new.pass c.split_child.ensures.own.0 (passes_both c.split_child.new.pass c.give_back-in-Err.new.pass c.give_back-in-Err-2.new.pass c.give_back-in-Err.ensures.own.0 c.give_back-in-Err-2.ensures.own.0), c.give_back-in-Err-2.ensures.own.1)
+returns-in-Err-clause-own g c = (
+  passes_both c.args.pass.now c.split_child.new.pass c.give_back-in-Err-2.new.pass
+      c.split_child.ensures.own.0 (passes_both c.split_child.new.pass c.give_back-in-Err.new.pass
+      c.give_back-in-Err-2.new.pass c.give_back-in-Err.ensures.own.0
+      c.give_back-in-Err-2.ensures.own.0),
+  c.give_back-in-Err-2.ensures.own.1,
+)

@@ -73,4 +73,9 @@ returns-clause-memory g c = λ e.
     c.take_tree.ensures.took r s way c.give_tree_back.ensures.gave stops.says
 
 pub returns-clause-own : goal.returns-clause-own
-returns-clause-own g c = (passes_both c.args.pass.now c.take_tree.new.pass c.give_tree_back.new.pass c.take_tree.ensures.own.0 (passes_both c.take_tree.new.pass c.walk_down-made.new.pass c.give_tree_back.new.pass c.walk_down-made.ensures.own.0 c.give_tree_back.ensures.own.0), c.give_tree_back.ensures.own.1)
+returns-clause-own g c = (
+  passes_both c.args.pass.now c.take_tree.new.pass c.give_tree_back.new.pass
+      c.take_tree.ensures.own.0 (passes_both c.take_tree.new.pass c.walk_down-made.new.pass
+      c.give_tree_back.new.pass c.walk_down-made.ensures.own.0 c.give_tree_back.ensures.own.0),
+  c.give_tree_back.ensures.own.1,
+)

@@ -73,4 +73,8 @@ returns-clause-err g c =
     c.requires.held c.requires.inner c.child_for-child.ensures.took)) c.grow_child.ensures.err
 
 pub returns-clause-own : goal.returns-clause-own
-returns-clause-own g c = (passes_both c.args.pass.now c.child_for-child.new.pass c.grow_child.new.pass c.child_for-child.ensures.own.0 c.grow_child.ensures.own.0, c.grow_child.ensures.own.1)
+returns-clause-own g c = (
+  passes_both c.args.pass.now c.child_for-child.new.pass c.grow_child.new.pass
+      c.child_for-child.ensures.own.0 c.grow_child.ensures.own.0,
+  c.grow_child.ensures.own.1,
+)

@@ -56,10 +56,22 @@ returns-clause-ok g c =
     (omega (arith, bottom)) c.loop-at.invariant.fits
 
 pub returns-in_err-at-clause-own : goal.returns-in_err-at-clause-own
-returns-in_err-at-clause-own g c = (passes_both c.args.pass.now c.take_root-root.new.pass c.grow_root.new.pass c.take_root-root.ensures.own.0 c.grow_root.ensures.own.0, c.grow_root.ensures.own.1)
+returns-in_err-at-clause-own g c = (
+  passes_both c.args.pass.now c.take_root-root.new.pass c.grow_root.new.pass
+      c.take_root-root.ensures.own.0 c.grow_root.ensures.own.0,
+  c.grow_root.ensures.own.1,
+)
 
 pub returns-in_err-at-2-clause-own : goal.returns-in_err-at-2-clause-own
-returns-in_err-at-2-clause-own g c = (passes_both c.args.pass.now c.loop-at.pass c.grow_below.new.pass c.loop-at.invariant.same c.grow_below.ensures.own.0, c.grow_below.ensures.own.1)
+returns-in_err-at-2-clause-own g c = (
+  passes_both c.args.pass.now c.loop-at.pass c.grow_below.new.pass c.loop-at.invariant.same
+      c.grow_below.ensures.own.0,
+  c.grow_below.ensures.own.1,
+)
 
 pub returns-clause-own : goal.returns-clause-own
-returns-clause-own g c = (passes_both c.args.pass.now c.loop-at.pass c.give_back.new.pass c.loop-at.invariant.same c.give_back.ensures.own.0, c.give_back.ensures.own.1)
+returns-clause-own g c = (
+  passes_both c.args.pass.now c.loop-at.pass c.give_back.new.pass c.loop-at.invariant.same
+      c.give_back.ensures.own.0,
+  c.give_back.ensures.own.1,
+)
