@@ -1,7 +1,8 @@
-use Rattle.std.proofs.Common.{Ok, ap, sym, subst, ◌∙◌}
+use Rattle.std.proofs.Common.{refl, Ok, ap, sym, subst, ◌∙◌}
+use Rattle.buffer_pool.proofs.AgainLemmas.{passes_both}
 use Rattle.tree_shrinking.specs.Joins.{LeavesPairIf}
 use Rattle.tree_shrinking.proofs.FamilyLemmas.{points_before, points_after}
-use Rattle.tree_shrinking.proofs.JoinLemmas.{above_family, back_after}
+use Rattle.tree_shrinking.proofs.JoinLemmas.{merged_or_not, above_family, back_after}
 use Rattle.tree_shrinking.proofs.LeaveLemmas.{leaves_child, frees_after}
 use Rattle.tree_shrinking.proofs.joining.join_child.Goals as goal
 
@@ -41,3 +42,21 @@ returns-clause-freed g c e =
 pub returns-then-branch-clause-freed : goal.returns-then-branch-clause-freed
 returns-then-branch-clause-freed g c e =
     c.in_ok-join_beside.ensures.freed (ap Ok c.if-branch.true)
+
+pub returns-clause-own : goal.returns-clause-own
+returns-clause-own g c = (
+  passes_both c.args.pass.now c.join_beside.new.pass c.join_beside-2.new.pass
+      c.join_beside.ensures.own.0 c.join_beside-2.ensures.own.0,
+  c.join_beside-2.ensures.own.1,
+)
+
+pub returns-in_err-join_beside-clause-apart : goal.returns-in_err-join_beside-clause-apart
+returns-in_err-join_beside-clause-apart g c e held =
+    let no = rw e at c.from_residual.ensures in absurd no.1
+
+pub returns-in_err-join_beside-clause-freed : goal.returns-in_err-join_beside-clause-freed
+returns-in_err-join_beside-clause-freed g c e =
+    let no = rw e at c.from_residual.ensures in absurd no.1
+
+pub returns-then-branch-clause-apart : goal.returns-then-branch-clause-apart
+returns-then-branch-clause-apart g c e held = absurd (merged_or_not _ refl e)

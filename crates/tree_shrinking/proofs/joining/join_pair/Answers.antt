@@ -1,6 +1,7 @@
 use Rattle.std.proofs.Common.{[], ◌∷◌, refl}
 use Rattle.buffer_pool.proofs.CallLemmas.{frame_has}
 use Rattle.tree_growth.proofs.HandLemmas.{no_frame_but, no_table}
+use Rattle.buffer_pool.proofs.AgainLemmas.{passes_both}
 use Rattle.tree_shrinking.proofs.JoinedLemmas.{way_joined, holds_joined}
 use Rattle.tree_shrinking.proofs.JoinLemmas.{back_after, pair_still, taken_back, failed_back, merged_or_not, refused_or_not}
 use Rattle.tree_shrinking.proofs.LeaveLemmas.{leaves_pair, frees_pair}
@@ -100,3 +101,28 @@ returns-in-Err-clause-apart g c e = absurd (refused_or_not _ _ _ refl e)
 
 pub returns-in-Err-clause-freed : goal.returns-in-Err-clause-freed
 returns-in-Err-clause-freed g c e = absurd (refused_or_not _ _ _ refl e)
+
+pub returns-then-not-are_to_join-clause-own : goal.returns-then-not-are_to_join-clause-own
+returns-then-not-are_to_join-clause-own g c = (
+  passes_both c.args.pass.now c.take_pair-left.new.pass c.give_pair_back.new.pass
+      c.take_pair-left.ensures.own.0 c.give_pair_back.ensures.own.0,
+  c.give_pair_back.ensures.own.1,
+)
+
+pub returns-in-Ok-clause-own : goal.returns-in-Ok-clause-own
+returns-in-Ok-clause-own g c = (
+  passes_both c.args.pass.now c.take_pair-left.new.pass c.lift_only.new.pass
+      c.take_pair-left.ensures.own.0 (passes_both c.take_pair-left.new.pass
+      c.merge_children.new.pass c.lift_only.new.pass c.merge_children.ensures.own.0
+      c.lift_only.ensures.own.0),
+  c.lift_only.ensures.own.1,
+)
+
+pub returns-in-Err-clause-own : goal.returns-in-Err-clause-own
+returns-in-Err-clause-own g c = (
+  passes_both c.args.pass.now c.take_pair-left.new.pass c.give_pair_back-in-Err.new.pass
+      c.take_pair-left.ensures.own.0 (passes_both c.take_pair-left.new.pass
+      c.merge_children.new.pass c.give_pair_back-in-Err.new.pass c.merge_children.ensures.own.0
+      c.give_pair_back-in-Err.ensures.own.0),
+  c.give_pair_back-in-Err.ensures.own.1,
+)

@@ -1,6 +1,7 @@
 use Rattle.std.proofs.Common.{◌<◌, Ok, refl, ap, arith}
 use Rattle.latch_space.specs.Passes.{view}
 use Rattle.tree_growth.proofs.ChildLemmas.{holds_inner, level_above}
+use Rattle.buffer_pool.proofs.AgainLemmas.{passes_both}
 use Rattle.tree_shrinking.proofs.LeaveLemmas.{rests_below, rests_under, frees_one}
 use Rattle.tree_shrinking.proofs.LevelLemmas.{given_at_once, given_after, none_or_named}
 use Rattle.tree_shrinking.proofs.levels.join_level.Goals as goal
@@ -67,3 +68,41 @@ returns-else-branch-clause-rests g c e =
     let lev = level_above v i key 0 at is over inner in
     rests_under c.walk_above-at.ensures.reaches c.give_back-2.ensures.gave inner (omega (arith, above, lev))
     (c.in_ok-merged.ensures.apart (ap Ok c.if-branch.false) inner)
+
+pub returns-then-at-level-clause-own : goal.returns-then-at-level-clause-own
+returns-then-at-level-clause-own g c = (
+  passes_both c.args.pass.now c.walk_above-at.new.pass c.give_back.new.pass
+      c.walk_above-at.ensures.own.0 c.give_back.ensures.own.0,
+  c.give_back.ensures.own.1,
+)
+
+pub returns-in_err-merged-clause-own : goal.returns-in_err-merged-clause-own
+returns-in_err-merged-clause-own g c = (
+  passes_both c.args.pass.now c.walk_above-at.new.pass c.give_back-2.new.pass
+      c.walk_above-at.ensures.own.0 (passes_both c.walk_above-at.new.pass
+      c.join_child-merged.new.pass c.give_back-2.new.pass c.join_child-merged.ensures.own.0
+      c.give_back-2.ensures.own.0),
+  c.give_back-2.ensures.own.1,
+)
+
+pub returns-then-branch-clause-own : goal.returns-then-branch-clause-own
+returns-then-branch-clause-own g c = (
+  passes_both c.args.pass.now c.walk_above-at.new.pass c.give_back-2.new.pass
+      c.walk_above-at.ensures.own.0 (passes_both c.walk_above-at.new.pass
+      c.join_child-merged.new.pass c.give_back-2.new.pass c.join_child-merged.ensures.own.0
+      c.give_back-2.ensures.own.0),
+  c.give_back-2.ensures.own.1,
+)
+
+pub returns-else-branch-clause-own : goal.returns-else-branch-clause-own
+returns-else-branch-clause-own g c = (
+  passes_both c.args.pass.now c.walk_above-at.new.pass c.give_back-2.new.pass
+      c.walk_above-at.ensures.own.0 (passes_both c.walk_above-at.new.pass
+      c.join_child-merged.new.pass c.give_back-2.new.pass c.join_child-merged.ensures.own.0
+      c.give_back-2.ensures.own.0),
+  c.give_back-2.ensures.own.1,
+)
+
+pub returns-then-branch-clause-above : goal.returns-then-branch-clause-above
+returns-then-branch-clause-above g c = let high = c.if-at-level.false in
+    c.walk_above-at.ensures.above (omega (arith, high))

@@ -2,6 +2,7 @@ use Rattle.std.proofs.Common.{[], ◌∷◌}
 use Rattle.latch_space.specs.Passes.{view}
 use Rattle.tree_growth.proofs.ChildLemmas.{holds_inner}
 use Rattle.tree_growth.proofs.HandLemmas.{no_frame_but, no_table}
+use Rattle.buffer_pool.proofs.AgainLemmas.{passes_both}
 use Rattle.tree_shrinking.proofs.StepLemmas.{parent_may_go, child_held, steps_down, step_lower}
 use Rattle.tree_shrinking.proofs.levels.step_down.Goals as goal
 
@@ -38,3 +39,10 @@ pub returns-clause-lower : goal.returns-clause-lower
 returns-clause-lower g c =
     step_lower c.requires.way c.requires.held c.requires.inner c.child_for-child.ensures.took
     c.give_back.ensures.gave c.page_in_hand.result c.page_in_hand.ensures
+
+pub returns-clause-own : goal.returns-clause-own
+returns-clause-own g c = (
+  passes_both c.args.pass.now c.child_for-child.new.pass c.give_back.new.pass
+      c.child_for-child.ensures.own.0 c.give_back.ensures.own.0,
+  c.give_back.ensures.own.1,
+)

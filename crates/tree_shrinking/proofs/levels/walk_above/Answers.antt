@@ -15,3 +15,12 @@ loop-at-preserved g c =
           absurd (omega (arith, deep, high, low)));
       fits = c.step_down-at.ensures.fits;
     }
+
+pub loop-at-init : goal.loop-at-init
+loop-at-init g c = let root = c.take_root-at.ensures in record {
+  same = root.own.0;
+  own = root.own.1;
+  reaches = root.took;
+  root = λ low. root.root;
+  fits = root.fits;
+}

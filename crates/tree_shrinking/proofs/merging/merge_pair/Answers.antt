@@ -1,7 +1,10 @@
-use Rattle.std.proofs.Common.{◌≡◌, ◌∙◌}
+use Rattle.std.proofs.Common.{◌<◌, ◌^◌, sym, subst, ◌≡◌, ◌∙◌}
 use Rattle.std.proofs.lemmas.Result.{on_ok_weaker, on_err_weaker}
 use Rattle.buffer_pool.proofs.CallLemmas.{frame_has}
 use Rattle.buffer_pool.proofs.SpaceLemmas.{objects_of}
+use Rattle.latch_law.specs.declared.knows.Terms.{Terms}
+use Rattle.index_law.specs.Shape.{Shape}
+use Rattle.buffer_pool.proofs.AgainLemmas.{passes_both}
 use Rattle.tree_shrinking.proofs.InTreesLemmas.{pair_inside, behind_inside}
 use Rattle.tree_shrinking.proofs.MergeNextLemmas.{right_page, next_read, pair_last, next_live, next_other, NextTaken, merge_held, next_held, parts_took, nothing_around, pair_around}
 use Rattle.tree_shrinking.proofs.merging.merge_pair.Given as given
@@ -105,3 +108,16 @@ returns-in-Some-clause-memory g c = let at = goal.at.returns-in-Some-clause-memo
     on_err_weaker made.result
     (nothing_around (taken g at.After-page_in-behind (next_is g at.After-head_of)) made.new.pass
     c.give_back.new.pass c.give_back.ensures.gave) made.ensures.err
+
+pub merge_hashed-made-requires-clause-few : goal.merge_hashed-made-requires-clause-few
+merge_hashed-made-requires-clause-few g c = subst (λ (t : Terms Shape). t.shape.pages < 2 ^ 32)
+    (c.requires.own.1.1 ∙ sym c.page_in-behind.ensures.own.1.1) c.requires.few
+
+pub returns-in-Some-clause-own : goal.returns-in-Some-clause-own
+returns-in-Some-clause-own g c = (
+  passes_both c.args.pass.now c.page_in-behind.new.pass c.give_back.new.pass
+      c.page_in-behind.ensures.own.0 (passes_both c.page_in-behind.new.pass
+      c.merge_hashed-made.new.pass c.give_back.new.pass c.merge_hashed-made.ensures.own.0
+      c.give_back.ensures.own.0),
+  c.give_back.ensures.own.1,
+)

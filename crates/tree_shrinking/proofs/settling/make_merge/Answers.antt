@@ -5,6 +5,7 @@ use Rattle.buffer_pool.specs.Forests.{IsFittedTree}
 use Rattle.buffer_pool.proofs.AgainLemmas.{passes_both}
 use Rattle.index_page.specs.declared.head.PageHead.{PageHead}
 use Rattle.tree_smo.specs.Plans.{RelinksBehind}
+use Rattle.buffer_pool.proofs.CallLemmas.{frame_has}
 use Rattle.tree_shrinking.specs.Merging.{CanMerge}
 use Rattle.tree_smo.proofs.LawfulLemmas.{page_number}
 use Rattle.tree_shrinking.proofs.FamilyLemmas.{read_page}
@@ -116,3 +117,7 @@ returns-clause-ok g c = let at = goal.at.returns-clause-ok g c in
     let made = merged g at.After-keep_up_between (call g at.After-laws_of_moves) in
     makes_merge (linked g at.After-relink_behind made
     (left_number g at.After-head_of-left made.call.held.can)) c.settle.new.pass c.settle.ensures.did
+
+pub frame-requires-clause-held : goal.frame-requires-clause-held
+frame-requires-clause-held g c = let can = c.requires.held.can in
+    (can.lower, can.lower, frame_has c.args.pass.now c.requires.known c.args.at.child can.lower can.knows_left)

@@ -1,6 +1,7 @@
 use Rattle.buffer_pool.proofs.CallLemmas.{tree_has}
 use Rattle.tree_growth.proofs.AnswerLemmas.{on_ok_more}
 use Rattle.tree_growth.proofs.TreeLemmas.{lacks_tree, way_tree, grows_silently}
+use Rattle.buffer_pool.proofs.AgainLemmas.{passes_both}
 use Rattle.tree_shrinking.specs.Joins.{WalksUp}
 use Rattle.tree_shrinking.specs.Shrinking.{Shrinks}
 use Rattle.tree_shrinking.proofs.ShrinkLemmas.{shrinks}
@@ -34,3 +35,14 @@ returns-clause-ok g c =
     (Shrinks c.args.pass.now i key c.give_tree_back.new.pass) c.shrink_up-outcome.result
     (λ walks. shrinks c.requires.index c.requires.few c.requires.fields c.requires.nothing
     c.take_tree.ensures.took walks c.give_tree_back.ensures.gave) c.shrink_up-outcome.ensures.ok
+
+pub returns-clause-own : goal.returns-clause-own
+returns-clause-own g c = (
+  passes_both c.args.pass.now c.take_tree.new.pass c.give_tree_back.new.pass
+      c.take_tree.ensures.own.0 (passes_both c.take_tree.new.pass c.shrink_up-outcome.new.pass
+      c.give_tree_back.new.pass c.shrink_up-outcome.ensures.own.0 c.give_tree_back.ensures.own.0),
+  c.give_tree_back.ensures.own.1,
+)
+
+pub give_tree_back-requires-clause-there : goal.give_tree_back-requires-clause-there
+give_tree_back-requires-clause-there g c = c.shrink_up-outcome.ensures.to.way.index

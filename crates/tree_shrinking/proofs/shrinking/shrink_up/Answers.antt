@@ -37,3 +37,17 @@ loop-preserved g c = record {
       (subst (λ (o : Option ℕ). IfSome o (λ n. n ≡ c.loop.level + 1)) c.in-Some-2.is
       c.in_ok-above.ensures.above);
 }
+
+pub returns-in_err-above-clause-own : goal.returns-in_err-above-clause-own
+returns-in_err-above-clause-own g c = (
+  passes_both c.args.pass.now c.loop.pass c.join_level.new.pass c.loop.invariant.same
+      c.join_level.ensures.own.0,
+  c.join_level.ensures.own.1,
+)
+
+pub returns-in-None-2-clause-own : goal.returns-in-None-2-clause-own
+returns-in-None-2-clause-own g c = (
+  passes_both c.args.pass.now c.loop.pass c.join_level.new.pass c.loop.invariant.same
+      c.join_level.ensures.own.0,
+  c.join_level.ensures.own.1,
+)
