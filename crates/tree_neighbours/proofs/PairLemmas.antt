@@ -1,5 +1,5 @@
 -- A leaf in hand after a descent, with the leaf beside it or without, and ways in vain before it.
-use Rattle.std.proofs.Common.{◌≡◌, ◌≢◌, ℕ, ◌+◌, ◌⊎◌, inr, Option, Some, None, [], ◌∷◌, ◌++◌, length, sym, ap, subst, ◌∙◌, arith, append-nil, append_assoc}
+use Rattle.std.proofs.Common.{◌≡◌, ◌≢◌, ℕ, ◌+◌, ◌<◌, ◌⊎◌, inr, Option, Some, None, [], ◌∷◌, ◌++◌, length, sym, ap, subst, ◌∙◌, arith, append-nil, append_assoc}
 use Rattle.std.specs.Prelude.{IsSome}
 use mathlib.Core.Option.{some}
 use lib.ListN.{get_elem?}
@@ -13,14 +13,16 @@ use Rattle.tree_law.specs.Pages.{IsOrderly}
 use Rattle.index_law.specs.Shape.{Shape}
 use Rattle.forest_law.specs.declared.objects.Frame.{Frame}
 use Rattle.forest_law.specs.declared.objects.Object.TheVariants as object
-use Rattle.forest_law.specs.Numbers.{frame_id}
+use Rattle.forest_law.specs.Numbers.{frame_id, frames_of}
 use Rattle.forest_law.specs.State.{page_within, fields_for}
 use Rattle.forest_world.specs.Held.{TreePass, shape_of_pass}
+use Rattle.call_law.specs.Hands.{HoldsNoFrameBut, HoldsNoTable}
 use Rattle.call_law.specs.Trace.{Added, frame_references}
+use Rattle.call_law.proofs.TableLemmas.{table_no_frame, tables_lacked}
 use Rattle.call_law.proofs.TraceLemmas.{both_added}
 use Rattle.buffer_pool.specs.Calls.{Does, GetsNothing}
 use Rattle.buffer_pool.specs.Frames.{GivesFrame}
-use Rattle.buffer_pool.specs.Hands.{LacksFrame}
+use Rattle.buffer_pool.specs.Hands.{LacksFrame, MayGiveBack}
 use Rattle.buffer_pool.proofs.AddedLemmas.{only_given, frame_still}
 use Rattle.buffer_pool.proofs.CallLemmas.{does_both, does_none, does_more, does_among, does_again, gave_frame}
 use Rattle.tree_descent.specs.declared.descending.Leaf.{Leaf}
@@ -30,7 +32,7 @@ use Rattle.tree_descent.specs.Paths.{LeadFromRoot}
 use Rattle.tree_descent.specs.Ways.{HoldsPage}
 use Rattle.tree_descent.proofs.DescentLemmas.{vain_shape}
 use Rattle.tree_descent.proofs.InnerLemmas.{one_known}
-use Rattle.tree_descent.proofs.PageLemmas.{same_page}
+use Rattle.tree_descent.proofs.PageLemmas.{may_give_back, same_page}
 use Rattle.tree_descent.proofs.WayLemmas.{frames_both}
 use Rattle.tree_neighbours.specs.declared.pairs.LeafPair.{LeafPair}
 use Rattle.tree_neighbours.specs.declared.side.Side.{Side}
@@ -87,6 +89,18 @@ module _ (p q : TreePass) (i : ℕ) (mode : Mode) (tuple : FieldList) (leaf : Le
       (λ (z : TreePass). DescendsPair p i mode tuple (record { leaf = leaf; other = None }) z)
       (sym last.same)
       (leaf_alone (inr (ap (page_on (side_of mode)) (sym (one_leaf last.holds)) ∙ last.last)))
+
+  -- no other frame is held, and no table
+  pub leaf_frames : HoldsNoFrameBut (view p) [] → HoldsNoFrameBut (view q) (leaf.block ∷ [])
+  leaf_frames none c below apart = let does = down.silently.does in
+      ap (λ (t : Terms Shape). get_elem? (view q).held (frame_id t.shape c)) does.adds.numbers.terms
+      ∙ (does.rest (frame_id (shape_of_pass p) c) (λ e. apart.0 (omega (arith, e)), tt)
+      ∙ none c (subst (λ (t : Terms Shape). c < frames_of t.shape) does.adds.numbers.terms below) tt)
+
+  pub leaf_tables : HoldsNoTable (view p) → HoldsNoTable (view q)
+  leaf_tables = tables_lacked (view p) (view q) leaf_shape
+      (λ k table lacks. down.silently.does.rest k
+      (table_no_frame (shape_of_pass p) k leaf.block table, tt) ∙ lacks)
 
   module _ (m : ℕ) (r : TreePass) (took : TakesBeside q leaf.block i (side_of mode) m r) where
     abbrev j : ℕ
@@ -156,6 +170,12 @@ module _ (p q : TreePass) (i : ℕ) (mode : Mode) (tuple : FieldList) (leaf : Le
     busy_shape : shape_of_pass r ≡ shape_of_pass p
     busy_shape = ap (λ (t : Terms Shape). t.shape) busy.refused.got.silently.does.adds.numbers.terms
         ∙ leaf_shape
+
+    pub leaf_may_go : MayGiveBack r leaf.block
+    leaf_may_go = let does = busy.refused.got.silently.does in
+        may_give_back r does.known leaf.block i 0 down.frame
+        (frame_still (view q) (view r) [] does.adds.numbers does.rest leaf.block tt down.frame
+        down.knows) down.is.page.is
 
     module _ (s : TreePass) (gave : GivesFrame r leaf.block s) where
       abbrev given : Added

@@ -1,9 +1,10 @@
-use Rattle.std.proofs.Common.{◌≡◌, ℕ, true, false, Option, Some, None, is_some, refl, sym, ap, subst, ◌∙◌, inl, rules}
+use Rattle.std.proofs.Common.{arith, ◌≡◌, ℕ, true, false, Option, Some, None, is_some, refl, sym, ap, subst, ◌∙◌, inl, rules}
 use Rattle.std.specs.Prelude.{IsSome}
+use Rattle.buffer_pool.proofs.AgainLemmas.{passes_both}
 use Rattle.tree_neighbours.specs.declared.side.Side.{Side}
 use Rattle.tree_neighbours.specs.Neighbours.{IsLastOn, TakesBeside, IsBusyOn}
 use Rattle.tree_neighbours.specs.Sides.{side_of, row_on}
-use Rattle.tree_neighbours.proofs.PairLemmas.{leaf_page, leaf_alone, leaf_at_end, leaf_with_other, leaf_given_back}
+use Rattle.tree_neighbours.proofs.PairLemmas.{leaf_frames, leaf_tables, leaf_may_go, leaf_page, leaf_alone, leaf_at_end, leaf_with_other, leaf_given_back}
 use Rattle.tree_neighbours.proofs.pairs.try_pair.Goals as goal
 
 some_there : (o : Option ℕ) → is_some o ≡ true → IsSome o
@@ -56,3 +57,50 @@ returns-in-Busy-clause-tried g c = leaf_given_back c.args.pass.now c.descend-lea
     (λ (side : Side). IsBusyOn c.descend-leaf.new.pass c.descend-leaf.result.block c.args.index side
     c.take_beside.new.pass) c.side_of-side.ensures c.in-Busy.ensures.tells) c.give_back.new.pass
     c.give_back.ensures.gave
+
+pub take_beside-requires-clause-known : goal.take_beside-requires-clause-known
+take_beside-requires-clause-known g c = c.descend-leaf.ensures.went.silently.does.known
+
+pub take_beside-requires-clause-frames : goal.take_beside-requires-clause-frames
+take_beside-requires-clause-frames g c = leaf_frames c.args.pass.now c.descend-leaf.new.pass
+    c.args.index c.args.mode (g.T.Fields.fields_of c.args.tuple.now) c.descend-leaf.result
+    c.descend-leaf.ensures.went c.requires.frames
+
+pub take_beside-requires-clause-tables : goal.take_beside-requires-clause-tables
+take_beside-requires-clause-tables g c = leaf_tables c.args.pass.now c.descend-leaf.new.pass
+    c.args.index c.args.mode (g.T.Fields.fields_of c.args.tuple.now) c.descend-leaf.result
+    c.descend-leaf.ensures.went c.requires.tables
+
+pub take_beside-requires-clause-room : goal.take_beside-requires-clause-room
+take_beside-requires-clause-room g c = let one = c.descend-leaf.ensures.went.count in
+    let room = c.requires.room in omega (arith, one, room)
+
+pub give_back-requires-clause-held : goal.give_back-requires-clause-held
+give_back-requires-clause-held g c = leaf_may_go c.args.pass.now c.descend-leaf.new.pass
+    c.args.index c.args.mode (g.T.Fields.fields_of c.args.tuple.now) c.descend-leaf.result
+    c.descend-leaf.ensures.went c.take_beside.new.pass
+    (subst
+    (λ (side : Side). IsBusyOn c.descend-leaf.new.pass c.descend-leaf.result.block c.args.index side
+    c.take_beside.new.pass) c.side_of-side.ensures c.in-Busy.ensures.tells)
+
+pub returns-in-AtEnd-clause-own : goal.returns-in-AtEnd-clause-own
+returns-in-AtEnd-clause-own g c = (
+  passes_both c.args.pass.now c.descend-leaf.new.pass c.take_beside.new.pass
+      c.descend-leaf.ensures.own.0 c.take_beside.ensures.own.0,
+  c.take_beside.ensures.own.1,
+)
+
+pub returns-in-Held-clause-own : goal.returns-in-Held-clause-own
+returns-in-Held-clause-own g c = (
+  passes_both c.args.pass.now c.descend-leaf.new.pass c.take_beside.new.pass
+      c.descend-leaf.ensures.own.0 c.take_beside.ensures.own.0,
+  c.take_beside.ensures.own.1,
+)
+
+pub returns-in-Busy-clause-own : goal.returns-in-Busy-clause-own
+returns-in-Busy-clause-own g c = (
+  passes_both c.args.pass.now c.descend-leaf.new.pass c.give_back.new.pass
+      c.descend-leaf.ensures.own.0 (passes_both c.descend-leaf.new.pass c.take_beside.new.pass
+      c.give_back.new.pass c.take_beside.ensures.own.0 c.give_back.ensures.own.0),
+  c.give_back.ensures.own.1,
+)
