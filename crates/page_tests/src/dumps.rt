@@ -90,8 +90,10 @@ const SHORTER_PARTS: Parts = &[
     (120, &[0, 1, 0, 0, 0x10, 0xff, 0xf1, b'a', b'x']),
 ];
 
-/// The values that the row with `x` gets, the place where it stands then, and what the page has.
-const SETS: [(&[u8], Place, Parts); 3] = [
+/// A value that the row with `x` gets, the place where it stands then, and what the page has.
+type Set = (&'static [u8], Place, Parts);
+
+const SETS: [Set; 3] = [
     (b"y", 127, &[(0x80, b"y")]),
     (b"xyz", 136, LONGER_PARTS),
     (b"", 127, SHORTER_PARTS),
@@ -120,7 +122,7 @@ fn assert_dump<R: Abort>(rt: &R, bytes: &[u8], others: &[Line]) {
             Some(other) => other,
             None => line_at(at),
         };
-        assert!(rt; line == wanted.as_slice(), "at {at}");
+        assert!(rt; line == wanted.as_slice());
         at = at.wrapping_add(16);
     }
 }
@@ -208,9 +210,10 @@ pub(crate) fn set_first<R: AllocGlobal + Abort>(
 }
 
 /// Gives the row another value: it stands at that place then, and the page has these parts.
-fn assert_set<R: AllocGlobal + Abort>(rt: &R, bytes: &[u8], place: Place, parts: Parts) {
+fn assert_set<R: AllocGlobal + Abort>(rt: &R, set: &Set) {
+    let (value, place, parts) = *set;
     let mut page = page_with_row(rt);
-    assert!(rt; set_first(rt, &mut page, bytes) == Ok(place));
+    assert!(rt; set_first(rt, &mut page, value) == Ok(place));
     assert_parts(rt, page.bytes(), parts);
 }
 
@@ -226,8 +229,8 @@ fn a_page_with_a_row_has_the_bytes_of_the_dump(rt: HostRuntime) {
 
 #[test]
 fn a_value_goes_in_place_behind_or_over_the_one_before(rt: HostRuntime) {
-    for (value, place, parts) in SETS.iter() {
-        assert_set(&rt, value, *place, parts);
+    for set in SETS.iter() {
+        assert_set(&rt, set);
     }
 }
 

@@ -117,7 +117,7 @@ fn assert_long_dump<R: Abort>(rt: &R, bytes: &[u8], gone: bool)
     requires { length bytes.now ≡ 16384 }
 {
     for at in 0..16_384usize {
-        assert!(rt; bytes[at] == byte_at(at, gone), "at {at}");
+        assert!(rt; bytes[at] == byte_at(at, gone));
     }
 }
 
@@ -127,15 +127,31 @@ const SCATTERED: Result<Place, PageError> = Err(PageError::Scattered {
     run: 178,
 });
 
+/// What it is told once eight rows have filled it.
+const FULL: Result<Place, PageError> = Err(PageError::PageFull {
+    need: 2010,
+    free: 172,
+});
+
+/// A row with a value of so many bytes isn't taken, for that reason, and the bytes are those of the format.
+fn assert_refused<R: AllocGlobal + Abort>(
+    rt: &R,
+    page: &mut BytePage,
+    count: usize,
+    told: &Result<Place, PageError>,
+    gone: bool,
+)
+    requires fields { page.old.page.head.fields ≡ 1 }
+    requires level { page.old.page.head.level ≡ 0 }
+{
+    let value = value(rt, &[b'x'; 2001][..count.min(2001)]);
+    assert!(rt; offer(rt, page, b'i', &value) == *told);
+    assert_long_dump(rt, page.bytes(), gone);
+}
+
 #[test]
 fn a_full_page_has_the_bytes_of_the_format(rt: HostRuntime) {
-    let mut page = page_with_long(&rt);
-    let full = PageError::PageFull {
-        need: 2010,
-        free: 172,
-    };
-    assert!(rt; offer(&rt, &mut page, b'i', &value(&rt, &[b'x'; 2000])) == Err(full));
-    assert_long_dump(&rt, page.bytes(), false);
+    assert_refused(&rt, &mut page_with_long(&rt), 2000, &FULL, false);
 }
 
 /// Takes the first row out, which stands at 128.
@@ -151,8 +167,7 @@ fn take_first<R: Abort>(rt: &R, page: &mut BytePage)
 fn a_scattered_page_has_the_bytes_of_the_format(rt: HostRuntime) {
     let mut page = page_with_long(&rt);
     take_first(&rt, &mut page);
-    assert!(rt; offer(&rt, &mut page, b'i', &value(&rt, &[b'x'; 2001])) == SCATTERED);
-    assert_long_dump(&rt, page.bytes(), true);
+    assert_refused(&rt, &mut page, 2001, &SCATTERED, true);
 }
 
 #[test]

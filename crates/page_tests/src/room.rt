@@ -1,19 +1,18 @@
 //! Worked loads, moves and copies.
 use crate::setup::{
-    assert_letters, charged, entry, key, lettered, page_of, place_at, put_bytes, take_out, value,
+    assert_letters, charged, lettered, page_of, place_at, put, put_bytes, set, take_out,
 };
 use index_page::{Page, PageCopy, PageError, Place};
 use std::process::Abort;
 
 /// What a page is charged for a row with a key of one byte and a value of so many.
 fn charge_at<R: AllocGlobal + Abort>(rt: &R, count: usize) -> u16 {
-    charged(&key(rt, b"k"), &value(rt, &[7; 2048][..count.min(2048)]))
+    charged(rt, b"k", &[7; 2048][..count.min(2048)])
 }
 
 #[test]
 fn a_length_above_127_takes_two_bytes(rt: HostRuntime) {
-    assert!(rt; charge_at(&rt, 127) == 136);
-    assert!(rt; charge_at(&rt, 128) == 138);
+    assert!(rt; charge_at(&rt, 127) == 136 && charge_at(&rt, 128) == 138);
 }
 
 /// Puts rows of 1,012 bytes in, of which sixteen have room: what the next one is told.
@@ -21,15 +20,12 @@ fn fill_up<R: AllocGlobal + Abort>(rt: &R, page: &mut Page) -> Result<Place, Pag
     for n in 0..16 {
         put_bytes(rt, page, &[n], &[7; 1003]);
     }
-    entry(rt, page, &[16], &[7; 1003])
+    put(rt, page, &[16], &[7; 1003])
 }
 
 /// Gives the first row a value of so many bytes.
 fn grow<R: AllocGlobal + Abort>(rt: &R, page: &mut Page, count: usize) -> Result<Place, PageError> {
-    let value = value(rt, &[8; 2048][..count.min(2048)]);
-    let place = place_at(rt, page, &[0]).expect(rt, "a row");
-    assert!(rt; page.head().level == 0);
-    page.set(place, &value)
+    set(rt, page, &[0], &[8; 2048][..count.min(2048)])
 }
 
 /// How many bytes the value of the first row has, what that is told, and how many are free then.
@@ -46,37 +42,45 @@ const VALUES: [(usize, Result<Place, PageError>, u16); 3] = [
     (1047, Ok(0), 0),
 ];
 
-#[test]
-fn sixteen_rows_of_1012_bytes_have_room(rt: HostRuntime) {
-    let mut page = page_of(&rt, 0);
+/// Sixteen rows of 1,012 bytes have room, another one has none, and the first one grows into what is free.
+fn fill_and_grow<R: AllocGlobal + Abort>(rt: &R, page: &mut Page) {
     let full = PageError::PageFull {
         need: 1013,
         free: 44,
     };
-    assert!(rt; fill_up(&rt, &mut page) == Err(full) && page.free() == 44);
+    assert!(rt; fill_up(rt, page) == Err(full) && page.free() == 44);
     for (count, told, free) in VALUES.iter() {
-        assert!(rt; grow(&rt, &mut page, *count) == *told && page.free() == *free);
+        assert!(rt; grow(rt, page, *count) == *told && page.free() == *free);
     }
+}
+
+#[test]
+fn sixteen_rows_of_1012_bytes_have_room(rt: HostRuntime) {
+    fill_and_grow(&rt, &mut page_of(&rt, 0));
 }
 
 /// Puts the row with that number in, the shortest first: of no byte, of one, and of two.
 fn put_short<R: AllocGlobal + Abort>(rt: &R, page: &mut Page, n: u16) -> Result<Place, PageError> {
     match n {
-        0 => entry(rt, page, &[], &[]),
-        1..=256 => entry(rt, page, &[(n - 1) as u8], &[]),
-        _ => entry(rt, page, &(n - 257).to_be_bytes(), &[]),
+        0 => put(rt, page, &[], &[]),
+        1..=256 => put(rt, page, &[(n - 1) as u8], &[]),
+        _ => put(rt, page, &(n - 257).to_be_bytes(), &[]),
     }
+}
+
+/// So many of the shortest rows have room, and then not a byte is left.
+fn fill_with_short<R: AllocGlobal + Abort>(rt: &R, page: &mut Page) {
+    for n in 0..1651 {
+        assert!(rt; put_short(rt, page, n).is_ok());
+    }
+    let full = PageError::PageFull { need: 10, free: 0 };
+    assert!(rt; put_short(rt, page, 1651) == Err(full));
+    assert!(rt; page.load() == 16252 && page.count() == 1651);
 }
 
 #[test]
 fn the_shortest_1651_rows_fill_a_page(rt: HostRuntime) {
-    let mut page = page_of(&rt, 0);
-    for n in 0..1651 {
-        assert!(rt; put_short(&rt, &mut page, n).is_ok());
-    }
-    let full = PageError::PageFull { need: 10, free: 0 };
-    assert!(rt; put_short(&rt, &mut page, 1651) == Err(full));
-    assert!(rt; page.load() == 16252 && page.count() == 1651);
+    fill_with_short(&rt, &mut page_of(&rt, 0));
 }
 
 /// After how many rows a split would cut the page.
@@ -85,13 +89,17 @@ fn cut_after<R: Abort>(rt: &R, page: &Page) -> u16 {
     page.split_point()
 }
 
+/// The same once a huge row is there too.
+fn cut_with_huge<R: AllocGlobal + Abort>(rt: &R, page: &mut Page) -> u16 {
+    put_bytes(rt, page, b"c", &[7; 2000]);
+    cut_after(rt, page)
+}
+
 #[test]
 fn rows_are_cut_near_half_of_their_load(rt: HostRuntime) {
-    let forty = lettered(&rt, b"abcdefghijklmnopqrstuvwxyzABCDEFGHIJKLMN");
-    assert!(rt; cut_after(&rt, &forty) == 20);
-    let mut page = lettered(&rt, b"abde");
-    put_bytes(&rt, &mut page, b"c", &[7; 2000]);
-    assert!(rt; cut_after(&rt, &page) == 2);
+    let forty = b"abcdefghijklmnopqrstuvwxyzABCDEFGHIJKLMN";
+    assert!(rt; cut_after(&rt, &lettered(&rt, forty)) == 20);
+    assert!(rt; cut_with_huge(&rt, &mut lettered(&rt, b"abde")) == 2);
 }
 
 /// Moves the rows from that key on to the other page, which has none.
@@ -111,38 +119,36 @@ fn move_to<R: Abort>(rt: &R, page: &mut Page, to: &mut Page) {
     assert!(rt; page.move_all(to).is_ok());
 }
 
+/// The rows of c, a and b go to the other page, c back, and then a and b.
+fn move_about<R: AllocGlobal + Abort>(rt: &R, page: &mut Page, to: &mut Page) {
+    move_from(rt, page, b"a", to);
+    assert_letters(rt, to, b"abc");
+    move_from(rt, to, b"c", page);
+    assert_letters(rt, page, b"c");
+    assert_letters(rt, to, b"ab");
+    take_out(rt, page, b"c");
+    move_to(rt, to, page);
+    assert_letters(rt, page, b"ab");
+}
+
 #[test]
 fn rows_move_from_page_to_page(rt: HostRuntime) {
-    let (mut page, mut to) = (lettered(&rt, b"cab"), page_of(&rt, 0));
-    move_from(&rt, &mut page, b"a", &mut to);
-    assert_letters(&rt, &to, b"abc");
-    move_from(&rt, &mut to, b"c", &mut page);
-    assert_letters(&rt, &page, b"c");
-    assert_letters(&rt, &to, b"ab");
-    take_out(&rt, &mut page, b"c");
-    move_to(&rt, &mut to, &mut page);
-    assert_letters(&rt, &page, b"ab");
+    move_about(&rt, &mut lettered(&rt, b"cab"), &mut page_of(&rt, 0));
 }
 
-/// Gives the rows new places.
-fn reorganise<R: AllocGlobal + Abort>(rt: &R, page: &mut Page) {
-    let mut copy = PageCopy::new(rt.alloc()).expect(rt, "a copy");
-    assert!(rt; page.reorganise(&mut copy).is_ok());
-}
-
-/// Saves the page, takes a row out, and restores it.
-fn save_and_restore<R: AllocGlobal + Abort>(rt: &R, page: &mut Page) {
-    let mut copy = PageCopy::new(rt.alloc()).expect(rt, "a copy");
-    assert!(rt; page.save(&mut copy).is_ok());
+/// The rows get new places; the page is saved, a row goes, and it is restored.
+fn renew<R: AllocGlobal + Abort>(rt: &R, page: &mut Page, copy: &mut PageCopy) {
+    assert!(rt; page.reorganise(copy).is_ok());
+    assert_letters(rt, page, b"abc");
+    assert!(rt; page.save(copy).is_ok());
     take_out(rt, page, b"a");
-    page.restore(&mut copy);
+    page.restore(copy);
+    assert_letters(rt, page, b"abc");
 }
 
 #[test]
 fn a_page_is_reorganised_and_restored(rt: HostRuntime) {
     let mut page = lettered(&rt, b"cab");
-    reorganise(&rt, &mut page);
-    assert_letters(&rt, &page, b"abc");
-    save_and_restore(&rt, &mut page);
-    assert_letters(&rt, &page, b"abc");
+    let mut copy = PageCopy::new(rt.alloc()).expect(&rt, "a copy");
+    renew(&rt, &mut page, &mut copy);
 }

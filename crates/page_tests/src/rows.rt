@@ -1,9 +1,7 @@
 //! Worked pages: searches, places, children, many rows.
 ghost use Rattle.std.specs.Prelude.{◌<◌};
 
-use crate::setup::{
-    assert_letters, key, lettered, page_of, place_at, place_of, put_bytes, take_out,
-};
+use crate::setup::{assert_letters, key, lettered, page_of, place_at, put_bytes, take_out};
 use index_page::{Body, Page, Place, spots_tell_keys};
 use key_tuple::{Blank, Fields, Key, Match, Mode};
 use std::marker::Send;
@@ -24,8 +22,7 @@ fn assert_cut<R: AllocGlobal + Abort>(
     let tuple = key(rt, text);
     assert!(rt; tuple.count() == page.head().fields);
     let spot = page.search(&tuple, mode);
-    assert!(rt; spot.before == below.0 && spot.low == below.1);
-    assert!(rt; spot.after == above.0 && spot.up == above.1);
+    assert!(rt; (spot.before, spot.low) == below && (spot.after, spot.up) == above);
 }
 
 /// The first and the last row, as a tuple without fields finds them.
@@ -100,27 +97,29 @@ fn sent<T: Send>(value: T) -> T {
 /// The row with that key has this value.
 fn assert_value<R: AllocGlobal + Abort>(rt: &R, page: &Page, field: &[u8], value: &[u8]) {
     let place = place_at(rt, page, field).expect(rt, "a row");
-    assert!(rt; page.head().level == 0);
-    assert!(rt; page.row(place).value() == value);
+    assert!(rt; page.head().level == 0 && page.row(place).value() == value);
 }
 
-/// A leaf on which d with another value stands where b stood.
-fn b_gave_way_to_d<R: AllocGlobal + Abort>(rt: &R) -> Page {
-    let mut page = lettered(rt, b"cab");
-    let old = place_at(rt, &page, b"b");
-    take_out(rt, &mut page, b"b");
-    assert!(rt; place_at(rt, &page, b"b").is_none());
-    assert!(rt; Some(put_bytes(rt, &mut page, b"d", b"new")) == old);
-    page
+/// The row of b goes, and d with another value comes to its place.
+fn give_way<R: AllocGlobal + Abort>(rt: &R, page: &mut Page) {
+    let old = place_at(rt, page, b"b");
+    take_out(rt, page, b"b");
+    assert!(rt; place_at(rt, page, b"b").is_none());
+    assert!(rt; Some(put_bytes(rt, page, b"d", b"new")) == old);
+}
+
+/// Of c, a and b the first two are where they were, and d came.
+fn assert_given_way<R: AllocGlobal + Abort>(rt: &R, page: &Page) {
+    assert_letters(rt, page, b"acd");
+    assert_value(rt, page, b"d", b"new");
+    assert!(rt; place_at(rt, page, b"c") == Some(0) && place_at(rt, page, b"a") == Some(1));
 }
 
 #[test]
 fn a_place_is_taken_again(rt: HostRuntime) {
-    let page = sent(b_gave_way_to_d(&rt));
-    assert_letters(&rt, &page, b"acd");
-    assert_value(&rt, &page, b"d", b"new");
-    assert!(rt; place_at(&rt, &page, b"c") == Some(0));
-    assert!(rt; place_at(&rt, &page, b"a") == Some(1));
+    let mut page = lettered(&rt, b"cab");
+    give_way(&rt, &mut page);
+    assert_given_way(&rt, &sent(page));
 }
 
 /// Puts a child's row in, whose key isn't there.
@@ -140,8 +139,8 @@ fn put_child<R: Abort>(rt: &R, page: &mut Page, key: &Key, child: u32) {
 }
 
 /// The child under that key.
-fn child_of<R: Abort>(rt: &R, page: &Page, key: &Key) -> u32 {
-    let place = place_of(rt, page, key).expect(rt, "a row");
+fn child_of<R: AllocGlobal + Abort>(rt: &R, page: &Page, field: &[u8]) -> u32 {
+    let place = place_at(rt, page, field).expect(rt, "a row");
     assert!(rt; page.head().level != 0);
     page.row(place).child()
 }
@@ -149,9 +148,8 @@ fn child_of<R: Abort>(rt: &R, page: &Page, key: &Key) -> u32 {
 #[test]
 fn an_inner_page_has_children(rt: HostRuntime) {
     let mut page = page_of(&rt, 1);
-    let key = key(&rt, b"m");
-    put_child(&rt, &mut page, &key, 5);
-    assert!(rt; child_of(&rt, &page, &key) == 5);
+    put_child(&rt, &mut page, &key(&rt, b"m"), 5);
+    assert!(rt; child_of(&rt, &page, b"m") == 5);
 }
 
 /// The numbers up to 1,000 in an order of their own.

@@ -32,35 +32,20 @@ pub(crate) fn page_of<R: AllocGlobal + Abort>(rt: &R, level: u16) -> Page
     Page::empty(rt.alloc(), head).expect(rt, "a page")
 }
 
-/// Puts a value's row in, whose key isn't there.
-pub(crate) fn put<R: Abort>(
-    rt: &R,
-    page: &mut Page,
-    key: &Key,
-    value: &Value,
-) -> Result<Place, PageError> {
-    let head = *page.head();
-    assert!(rt; head.level == 0 && key.count() == head.fields);
-    let spot = page.search(key, Mode::Ge);
-    assert!(rt; spot.up.fields != key.count());
-    key.tuple().is_within_limits();
-    page.insert_at(&spot, key, Body::Value(value))
-}
-
-/// What a page is charged for a row with this key and value.
-pub(crate) fn charged(key: &Key, value: &Value) -> u16 {
-    key.tuple().is_within_limits();
-    charge(key, Body::Value(value))
-}
-
-/// Puts a row of these bytes in.
-pub(crate) fn entry<R: AllocGlobal + Abort>(
+/// Puts a row of these bytes in, whose key isn't there.
+pub(crate) fn put<R: AllocGlobal + Abort>(
     rt: &R,
     page: &mut Page,
     field: &[u8],
     bytes: &[u8],
 ) -> Result<Place, PageError> {
-    put(rt, page, &key(rt, field), &value(rt, bytes))
+    let (key, value) = (key(rt, field), value(rt, bytes));
+    let head = *page.head();
+    assert!(rt; head.level == 0 && key.count() == head.fields);
+    let spot = page.search(&key, Mode::Ge);
+    assert!(rt; spot.up.fields != key.count());
+    key.tuple().is_within_limits();
+    page.insert_at(&spot, &key, Body::Value(&value))
 }
 
 /// The same, where it is taken: its place.
@@ -70,10 +55,17 @@ pub(crate) fn put_bytes<R: AllocGlobal + Abort>(
     field: &[u8],
     bytes: &[u8],
 ) -> Place {
-    let Ok(place) = entry(rt, page, field, bytes) else {
+    let Ok(place) = put(rt, page, field, bytes) else {
         panic!(rt; "no room")
     };
     place
+}
+
+/// What a page is charged for a row of these bytes.
+pub(crate) fn charged<R: AllocGlobal + Abort>(rt: &R, field: &[u8], bytes: &[u8]) -> u16 {
+    let (key, value) = (key(rt, field), value(rt, bytes));
+    key.tuple().is_within_limits();
+    charge(&key, Body::Value(&value))
 }
 
 /// A leaf with a row for each letter, which is its key and its value, put in in this order.
@@ -120,11 +112,12 @@ pub(crate) fn assert_letters<R: Abort>(rt: &R, page: &Page, letters: &[u8]) {
 }
 
 /// The place of the row with that key, if it is there.
-pub(crate) fn place_of<R: Abort>(rt: &R, page: &Page, key: &Key) -> Option<Place>
+pub(crate) fn place_at<R: AllocGlobal + Abort>(rt: &R, page: &Page, field: &[u8]) -> Option<Place>
     ensures { IfSome result (λ place. IsSome (find_row place page.now.rows)) }
 {
+    let key = key(rt, field);
     assert!(rt; key.count() == page.head().fields);
-    let spot = page.search(key, Mode::Ge);
+    let spot = page.search(&key, Mode::Ge);
     if spot.up.fields == key.count() {
         spot.after
     } else {
@@ -132,11 +125,16 @@ pub(crate) fn place_of<R: Abort>(rt: &R, page: &Page, key: &Key) -> Option<Place
     }
 }
 
-/// The same of the key of these bytes.
-pub(crate) fn place_at<R: AllocGlobal + Abort>(rt: &R, page: &Page, field: &[u8]) -> Option<Place>
-    ensures { IfSome result (λ place. IsSome (find_row place page.now.rows)) }
-{
-    place_of(rt, page, &key(rt, field))
+/// Gives the row with that key, which is there, a value of these bytes.
+pub(crate) fn set<R: AllocGlobal + Abort>(
+    rt: &R,
+    page: &mut Page,
+    field: &[u8],
+    bytes: &[u8],
+) -> Result<Place, PageError> {
+    let place = place_at(rt, page, field).expect(rt, "a row");
+    assert!(rt; page.head().level == 0);
+    page.set(place, &value(rt, bytes))
 }
 
 /// Takes the row with that key out, which is there.

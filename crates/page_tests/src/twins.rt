@@ -2,10 +2,10 @@
 ghost use Rattle.std.specs.Prelude.{IfSome, IsSome};
 ghost use Rattle.index_page.specs.Rows.{find_row};
 
-use crate::setup::{charged, first, key, next, page_of, place_of, put, value};
+use crate::setup::{charged, first, key, next, page_of, place_at, put, set, take_out, value};
 use byte_page::{ByteCopy, BytePage};
 use index_page::{Body, Gaps, Page, PageError, PageHead, Place};
-use key_tuple::{Fields, Key, Mode, Value};
+use key_tuple::{Fields, Mode};
 use std::process::Abort;
 
 /// A page in both forms.
@@ -33,42 +33,40 @@ fn twin_pages<R: AllocGlobal + Abort>(rt: &R) -> Twins {
     }
 }
 
-/// Puts a row in, whose key isn't there.
-fn put_in_bytes<R: Abort>(
+/// Puts a row of these bytes in, whose key isn't there: why it isn't taken, if it isn't.
+fn put_in_bytes<R: AllocGlobal + Abort>(
     rt: &R,
     page: &mut BytePage,
-    key: &Key,
-    value: &Value,
-) -> Result<Place, PageError> {
+    field: &[u8],
+    bytes: &[u8],
+) -> Option<PageError> {
+    let (key, value) = (key(rt, field), value(rt, bytes));
     let head = page.head();
     assert!(rt; head.level == 0 && key.count() == head.fields);
-    let spot = page.search(key, Mode::Ge);
+    let spot = page.search(&key, Mode::Ge);
     assert!(rt; spot.up.fields != key.count());
     key.tuple().is_within_limits();
-    page.insert_at(&spot, key, Body::Value(value))
+    page.insert_at(&spot, &key, Body::Value(&value)).err()
 }
 
 /// The place of the row with that key, if it is there.
-fn place_in_bytes<R: Abort>(rt: &R, page: &BytePage, key: &Key) -> Option<Place>
+fn place_in_bytes<R: AllocGlobal + Abort>(rt: &R, page: &BytePage, field: &[u8]) -> Option<Place>
     ensures { IfSome result (λ place. IsSome (find_row place page.now.page.rows)) }
 {
+    let key = key(rt, field);
     assert!(rt; key.count() == page.head().fields);
-    let spot = page.search(key, Mode::Ge);
+    let spot = page.search(&key, Mode::Ge);
     if spot.up.fields != key.count() {
         return None;
     }
     spot.after
 }
 
-/// The places of the row with that key, which both pages have or neither has.
-fn places<R: Abort>(rt: &R, twins: &Twins, key: &Key) -> Option<(Place, Place)>
-    ensures { IfSome result (λ r. IsSome (find_row r.0 twins.now.plain.rows)
-        × IsSome (find_row r.1 twins.now.bytes.page.rows)) }
-{
-    let plain = place_of(rt, &twins.plain, key);
-    let bytes = place_in_bytes(rt, &twins.bytes, key);
-    assert!(rt; plain.is_some() == bytes.is_some());
-    Some((plain?, bytes?))
+/// Whether there is a row with that key, on both pages or on neither.
+fn is_there<R: AllocGlobal + Abort>(rt: &R, twins: &Twins, field: &[u8]) -> bool {
+    let plain = place_at(rt, &twins.plain, field).is_some();
+    assert!(rt; plain == place_in_bytes(rt, &twins.bytes, field).is_some());
+    plain
 }
 
 /// Some gap takes a record of this size.
@@ -87,78 +85,93 @@ fn refusal(plain: Option<PageError>, gaps: Gaps, need: u16) -> Option<PageError>
     Some(PageError::Scattered { need, run })
 }
 
-/// Both pages take the row, unless its key is there, or refuse it as they have to. Where the one alone
-/// refuses it, the other one gives it back.
-fn insert<R: Abort>(rt: &R, twins: &mut Twins, key: &Key, value: &Value) {
-    if places(rt, twins, key).is_some() {
-        return;
-    }
+/// Both pages take the row, or refuse it as they have to. Where the one alone refuses it, the other one
+/// gives it back.
+fn insert<R: AllocGlobal + Abort>(rt: &R, twins: &mut Twins, field: &[u8], bytes: &[u8]) {
+    let wanted = charged(rt, field, bytes);
     let gaps = twins.bytes.gaps();
-    let plain = put(rt, &mut twins.plain, key, value).err();
-    let bytes = put_in_bytes(rt, &mut twins.bytes, key, value).err();
-    assert!(rt; bytes == refusal(plain, gaps, charged(key, value)));
-    if plain.is_none() && bytes.is_some() {
-        take_from_plain(rt, &mut twins.plain, key);
+    let plain = put(rt, &mut twins.plain, field, bytes).err();
+    let other = put_in_bytes(rt, &mut twins.bytes, field, bytes);
+    assert!(rt; other == refusal(plain, gaps, wanted));
+    if plain.is_none() && other.is_some() {
+        take_out(rt, &mut twins.plain, field);
     }
 }
 
-/// Takes the row with that key out of the plain page.
-fn take_from_plain<R: Abort>(rt: &R, page: &mut Page, key: &Key) {
-    let place = place_of(rt, page, key).expect(rt, "a row");
-    page.delete(place);
+/// Takes the row with that key out of both pages.
+fn delete<R: AllocGlobal + Abort>(rt: &R, twins: &mut Twins, field: &[u8]) {
+    take_out(rt, &mut twins.plain, field);
+    let place = place_in_bytes(rt, &twins.bytes, field).expect(rt, "a row in bytes");
+    twins.bytes.delete(place);
 }
 
-/// Takes the row with that key out of both pages, if it is there.
-fn delete<R: Abort>(rt: &R, twins: &mut Twins, key: &Key) {
-    if let Some((plain, bytes)) = places(rt, twins, key) {
-        twins.plain.delete(plain);
-        twins.bytes.delete(bytes);
-    }
+/// Why the plain page refuses to give a row this value, if it does.
+fn refusal_in_plain<R: AllocGlobal + Abort>(
+    rt: &R,
+    page: &Page,
+    field: &[u8],
+    bytes: &[u8],
+) -> Option<PageError> {
+    let place = place_at(rt, page, field).expect(rt, "a row");
+    assert!(rt; page.head().level == 0);
+    page.refusal_to_set(place, &value(rt, bytes))
 }
 
-/// Gives the row with that key another value on both pages, if it is there.
-fn set<R: Abort>(rt: &R, twins: &mut Twins, key: &Key, value: &Value) {
-    if let Some((plain, bytes)) = places(rt, twins, key) {
-        set_both(rt, twins, plain, bytes, charged(key, value), value);
-    }
+/// Gives a row on the page in bytes this value, or is refused as the plain page is, or as its gaps want
+/// it: why, if it is.
+fn set_in_bytes<R: AllocGlobal + Abort>(
+    rt: &R,
+    page: &mut BytePage,
+    field: &[u8],
+    bytes: &[u8],
+    plain: Option<PageError>,
+) -> Option<PageError> {
+    let place = place_in_bytes(rt, page, field).expect(rt, "a row in bytes");
+    assert!(rt; page.head().level == 0);
+    let wanted = if page.row(place).tail().len() == bytes.len() {
+        plain
+    } else {
+        refusal(plain, page.gaps_without(place), charged(rt, field, bytes))
+    };
+    assert!(rt; page.set(place, &value(rt, bytes)).err() == wanted);
+    wanted
 }
 
 /// Both rows get the value, or are refused it as they have to. Where the one alone is refused it, the
 /// other isn't asked.
-fn set_both<R: Abort>(rt: &R, twins: &mut Twins, at: Place, place: Place, need: u16, value: &Value)
-    requires plain { IsSome (find_row at twins.old.plain.rows) }
-    requires bytes { IsSome (find_row place twins.old.bytes.page.rows) }
-{
-    assert!(rt; twins.plain.head().level == 0 && twins.bytes.head().level == 0);
-    let plain = twins.plain.refusal_to_set(at, value);
-    let wanted = if twins.bytes.row(place).tail().len() == value.as_bytes().len() {
-        plain
+fn set_both<R: AllocGlobal + Abort>(rt: &R, twins: &mut Twins, field: &[u8], bytes: &[u8]) {
+    let plain = refusal_in_plain(rt, &twins.plain, field, bytes);
+    let refused = set_in_bytes(rt, &mut twins.bytes, field, bytes, plain).is_some();
+    assert!(rt; refused || set(rt, &mut twins.plain, field, bytes).is_ok());
+}
+
+/// One call on both pages, by a number drawn at random, which asks for a value of up to 199 bytes.
+fn call<R: AllocGlobal + Abort>(rt: &R, twins: &mut Twins, drawn: u32) {
+    let field = (drawn % 256).to_be_bytes();
+    let count = (drawn / 256 % 200) as usize;
+    let bytes = &[7; 200][..count.min(200)];
+    let kind = drawn / 65_536 % 64;
+    if kind == 0 {
+        twins.bytes.reorganise(&mut twins.copy);
+        assert!(rt; twins.bytes.garbage() == 0);
     } else {
-        refusal(plain, twins.bytes.gaps_without(place), need)
-    };
-    assert!(rt; twins.bytes.set(place, value).err() == wanted);
-    if wanted.is_none() {
-        assert!(rt; twins.plain.set(at, value).is_ok());
+        change(rt, twins, kind, &field, bytes);
     }
 }
 
-/// The value of up to 199 bytes that a number asks for.
-fn drawn_value<R: AllocGlobal + Abort>(rt: &R, drawn: u32) -> Value {
-    let count = (drawn / 256 % 200) as usize;
-    value(rt, &[7; 200][..count.min(200)])
-}
-
-/// One call on both pages, by a number drawn at random.
-fn call<R: AllocGlobal + Abort>(rt: &R, twins: &mut Twins, drawn: u32) {
-    let key = key(rt, &(drawn % 256).to_be_bytes());
-    match drawn / 65_536 % 64 {
-        0 => {
-            twins.bytes.reorganise(&mut twins.copy);
-            assert!(rt; twins.bytes.garbage() == 0);
-        }
-        1..20 => delete(rt, twins, &key),
-        20..36 => set(rt, twins, &key, &drawn_value(rt, drawn)),
-        _ => insert(rt, twins, &key, &drawn_value(rt, drawn)),
+/// A row that is there goes or gets the value, and one that isn't comes, as the kind says.
+fn change<R: AllocGlobal + Abort>(
+    rt: &R,
+    twins: &mut Twins,
+    kind: u32,
+    field: &[u8],
+    bytes: &[u8],
+) {
+    match (kind, is_there(rt, twins, field)) {
+        (1..20, true) => delete(rt, twins, field),
+        (20..36, true) => set_both(rt, twins, field, bytes),
+        (36.., false) => insert(rt, twins, field, bytes),
+        _ => {}
     }
 }
 
