@@ -1,4 +1,5 @@
 use Rattle.buffer_pool.proofs.AgainLemmas.{passes_both}
+use Rattle.buffer_pool.proofs.CallLemmas.{frame_has}
 use Rattle.leaf_search.proofs.KeepLemmas.{figures_go_back, figures_whole, figures_follow, figures_become}
 use Rattle.leaf_search.proofs.building.keep_figures.Goals as goal
 
@@ -31,3 +32,19 @@ returns-clause-own c = (
       c.settle.ensures.own.0),
   c.settle.ensures.own.1,
 )
+
+pub frame_out-frame-requires-clause-held : goal.frame_out-frame-requires-clause-held
+frame_out-frame-requires-clause-held c = let leaf = c.requires.teach.1.leaf in (
+  leaf.frame,
+  leaf.frame,
+  frame_has c.args.pass.now c.requires.known c.args.block leaf.frame leaf.knows,
+)
+
+pub frame_back-requires-clause-own : goal.frame_back-requires-clause-own
+frame_back-requires-clause-own c = (c.requires.own.0, c.frame_out-frame.ensures.own.1)
+
+pub settle-requires-clause-own : goal.settle-requires-clause-own
+settle-requires-clause-own c = c.frame_back.ensures.own.1
+
+pub returns-clause-fits : goal.returns-clause-fits
+returns-clause-fits c = c.settle.ensures.fits

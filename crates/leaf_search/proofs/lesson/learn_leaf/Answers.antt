@@ -1,4 +1,4 @@
-use Rattle.std.proofs.Common.{ap, ◌∙◌}
+use Rattle.std.proofs.Common.{refl, ap, ◌∙◌}
 use Rattle.latch_space.specs.Passes.{view}
 use Rattle.search_info.specs.declared.outcome.Learn.TheVariants.{Learnt}
 use Rattle.leaf_search.proofs.LessonLemmas.{to_teach, teaches_no, teaches_raced, teaches_worn, teaches_hashed, figures_same}
@@ -52,3 +52,39 @@ returns-in-Worn-clause-taught g c = let p = c.args.pass.now in
     teaches_worn p p c.args.learn.now.seat.me.0 count.new.learn.seat.me.0 c.args.index
     c.args.block c.args.figures.now count.result.0 count.result.1 h (count.ensures.counted h)
     c.in-Worn.is (figures_same p c.args.block c.args.index h c.requires.known count.result.1)
+
+pub returns-in-Learnt-default-default-true-clause-own : goal.returns-in-Learnt-default-default-true-clause-own
+returns-in-Learnt-default-default-true-clause-own g c = c.hash_leaf.ensures.own
+
+pub returns-in-Learnt-default-default-true-clause-learner : goal.returns-in-Learnt-default-default-true-clause-learner
+returns-in-Learnt-default-default-true-clause-learner g c = c.count_descent-learnt.ensures.learner
+
+pub returns-in-Learnt-default-default-true-clause-fits : goal.returns-in-Learnt-default-default-true-clause-fits
+returns-in-Learnt-default-default-true-clause-fits g c = c.hash_leaf.ensures.fits
+
+pub returns-in-Learnt-default-default-false-clause-own : goal.returns-in-Learnt-default-default-false-clause-own
+returns-in-Learnt-default-default-false-clause-own g c = c.keep_figures.ensures.own
+
+pub returns-in-Learnt-default-default-false-clause-learner : goal.returns-in-Learnt-default-default-false-clause-learner
+returns-in-Learnt-default-default-false-clause-learner g c = c.count_descent-learnt.ensures.learner
+
+pub returns-in-Learnt-default-default-false-clause-fits : goal.returns-in-Learnt-default-default-false-clause-fits
+returns-in-Learnt-default-default-false-clause-fits g c = c.keep_figures.ensures.fits
+
+pub returns-in-Raced-clause-own : goal.returns-in-Raced-clause-own
+returns-in-Raced-clause-own g c = ((refl, refl), c.requires.own.1)
+
+pub returns-in-Raced-clause-learner : goal.returns-in-Raced-clause-learner
+returns-in-Raced-clause-learner g c = c.count_descent-learnt.ensures.learner
+
+pub returns-in-Raced-clause-fits : goal.returns-in-Raced-clause-fits
+returns-in-Raced-clause-fits g c = c.fits.ensures
+
+pub returns-in-Worn-clause-own : goal.returns-in-Worn-clause-own
+returns-in-Worn-clause-own g c = ((refl, refl), c.requires.own.1)
+
+pub returns-in-Worn-clause-learner : goal.returns-in-Worn-clause-learner
+returns-in-Worn-clause-learner g c = c.count_descent-learnt.ensures.learner
+
+pub returns-in-Worn-clause-fits : goal.returns-in-Worn-clause-fits
+returns-in-Worn-clause-fits g c = c.fits.ensures
