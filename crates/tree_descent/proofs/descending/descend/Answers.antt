@@ -1,7 +1,8 @@
-use Rattle.std.proofs.Common.{◌<◌, ◌≤◌, sym, subst, arith, rules, length}
+use Rattle.std.proofs.Common.{◌<◌, ◌≤◌, sym, subst, refl, arith, length}
 use Rattle.index_law.specs.Shape.{Shape}
 use Rattle.forest_law.specs.State.{fields_for}
 use Rattle.forest_world.specs.Held.{shape_of_pass}
+use Rattle.buffer_pool.proofs.AgainLemmas.{passes_both}
 use Rattle.tree_descent.specs.Leaves.{cut_in}
 use Rattle.tree_descent.proofs.DescentLemmas.{vain_none, vain_more, vain_shape, vain_frames, vain_tables, descends}
 use Rattle.tree_descent.proofs.WayLemmas.{way_page}
@@ -9,7 +10,7 @@ use Rattle.tree_descent.proofs.descending.descend.Goals as goal
 
 pub loop-init : goal.loop-init
 loop-init g c =
-    record { own = search rules; vain = vain_none c.args.pass.now c.requires.known }
+    record { own = ((refl, refl), c.requires.own.1); vain = vain_none c.args.pass.now c.requires.known }
 
 pub try_down-requires-clause-index : goal.try_down-requires-clause-index
 try_down-requires-clause-index g c = subst (λ (s : Shape). c.args.index < s.indexes)
@@ -47,7 +48,21 @@ returns-in-Some-try_down-clause-went g c =
 
 pub loop-preserved : goal.loop-preserved
 loop-preserved g c = record {
-  own = search rules;
+  own = (
+    passes_both c.args.pass.now c.loop.pass c.try_down.new.pass c.loop.invariant.own.0
+        c.try_down.ensures.own.0,
+    c.try_down.ensures.own.1,
+  );
   vain = vain_more c.args.pass.now c.loop.pass c.try_down.new.pass c.loop.invariant.vain
       c.in_default.ensures.tried;
 }
+
+pub returns-in-Some-try_down-clause-own : goal.returns-in-Some-try_down-clause-own
+returns-in-Some-try_down-clause-own g c = (
+  passes_both c.args.pass.now c.loop.pass c.try_down.new.pass c.loop.invariant.own.0
+      c.try_down.ensures.own.0,
+  c.try_down.ensures.own.1,
+)
+
+pub returns-in-Some-try_down-clause-fits : goal.returns-in-Some-try_down-clause-fits
+returns-in-Some-try_down-clause-fits g c = c.try_down.ensures.fits

@@ -1,7 +1,8 @@
-use Rattle.std.proofs.Common.{◌≡◌, ◌-◌, ◌<◌, sym, subst, arith, rules}
+use Rattle.std.proofs.Common.{◌≡◌, ◌-◌, ◌<◌, sym, subst, arith}
 use Rattle.latch_space.specs.Passes.{view}
 use Rattle.index_law.specs.Shape.{Shape}
 use Rattle.forest_world.specs.Held.{shape_of_pass}
+use Rattle.buffer_pool.proofs.AgainLemmas.{passes_both}
 use Rattle.tree_descent.specs.Leaves.{HasCutWithin, cut_in}
 use Rattle.tree_descent.specs.Ways.{GoesDown, LooksFor}
 use Rattle.tree_descent.proofs.PageLemmas.{none_others, may_give_back}
@@ -28,7 +29,7 @@ looks g c = c.leave-child.ensures.left c.args.pass.now (c.loop-level.level - 1)
 pub page_if-requires : goal.page_if-requires
 page_if-requires g c =
     let looks = looks g (goal.at.page_if-requires g c).After-leave-child in record {
-      own = search rules;
+      own = (c.requires.own.0, c.leave-child.ensures.own.1);
       there = subst (λ (s : Shape). c.leave-child.result < s.pages) (sym (looks_shape looks))
           looks.below;
       others = none_others (view c.leave-child.new.pass) c.leave-child.ensures.fits
@@ -46,7 +47,12 @@ returns-in_err-block-clause-tried g c =
 
 pub loop-level-preserved : goal.loop-level-preserved
 loop-level-preserved g c = record {
-  own = search rules;
+  own = (
+    passes_both c.args.pass.now c.loop-level.pass c.page_if.new.pass c.loop-level.invariant.own.0
+        (passes_both c.loop-level.pass c.leave-child.new.pass c.page_if.new.pass
+        c.leave-child.ensures.own.0 c.page_if.ensures.own.0),
+    c.page_if.ensures.own.1,
+  );
   way = finds_way (looks g (goal.at.loop-level-preserved g c).After-leave-child)
       c.page_if.ensures.fits (rw c.in_ok-block.was at c.page_if.ensures.did);
 }
@@ -86,3 +92,27 @@ pub returns-clause-tried : goal.returns-clause-tried
 returns-clause-tried g c =
     turns_back (at_leaf g (goal.at.returns-clause-tried g c).After-loop-level)
     c.give_back.ensures.gave
+
+pub returns-in_err-block-clause-own : goal.returns-in_err-block-clause-own
+returns-in_err-block-clause-own g c = (
+  passes_both c.args.pass.now c.loop-level.pass c.page_if.new.pass c.loop-level.invariant.own.0
+      (passes_both c.loop-level.pass c.leave-child.new.pass c.page_if.new.pass
+      c.leave-child.ensures.own.0 c.page_if.ensures.own.0),
+  c.page_if.ensures.own.1,
+)
+
+pub returns-in_err-block-clause-fits : goal.returns-in_err-block-clause-fits
+returns-in_err-block-clause-fits g c = c.page_if.ensures.fits
+
+pub returns-then-is_within-clause-own : goal.returns-then-is_within-clause-own
+returns-then-is_within-clause-own g c = c.loop-level.invariant.own
+
+pub returns-clause-own : goal.returns-clause-own
+returns-clause-own g c = (
+  passes_both c.args.pass.now c.loop-level.pass c.give_back.new.pass
+      c.loop-level.invariant.own.0 c.give_back.ensures.own.0,
+  c.give_back.ensures.own.1,
+)
+
+pub returns-clause-fits : goal.returns-clause-fits
+returns-clause-fits g c = c.give_back.ensures.fits
