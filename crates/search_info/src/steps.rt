@@ -1,6 +1,8 @@
 //! The steps on the table: a load, and an exchange after it.
-ghost use Rattle.std.specs.Prelude.{◌≡◌, ◌<◌, length, IfSome, Some};
+ghost use Rattle.std.specs.Prelude.{◌≡◌, ◌<◌, length, Some, MatchOption};
+ghost use Rattle.search_info.specs.declared.outcome.Learn.TheVariants as told;
 ghost use Rattle.search_info.specs.Exchanges.{HasRead, ExchangeTells};
+ghost use Rattle.search_info.specs.Outcomes.{TellsLearn};
 ghost use Rattle.search_info.specs.Passes.{knowledge, opening, IsLearnPassOf, IsSameLearnPass, IsSeatOf, IsSameSeat, IsEventAt};
 ghost use Rattle.search_info.specs.Steps.{Loaded, HitTells, MissTells, MayExchange, KeepsNumbers};
 
@@ -63,8 +65,9 @@ impl Learner {
         requires own { IsLearnPassOf self.now pass.old }
         requires event { IsEventAt self.now index event.now }
         ensures own { IsSameLearnPass pass.old pass.new × IsLearnPassOf self.now pass.new }
-        ensures read { IfSome result (λ r.
-            HasRead (knowledge pass.new) index event.now r.0 r.1) }
+        ensures read { MatchOption result
+            (TellsLearn (knowledge pass.old) index event.now told.Worn (knowledge pass.new))
+            (λ r. HasRead (knowledge pass.new) index event.now r.0 r.1) }
     {
         let word = self.load_at::<Brand>(&mut pass.seat, index as usize, &Some(*event));
         let before = unpack(word);
