@@ -1,19 +1,13 @@
 //! The lines of answers, byte for byte.
-ghost use Rattle.std.specs.Prelude.{ℕ, List, [], IsSome};
+ghost use Rattle.std.specs.Prelude.{ℕ, List, ◌≡◌, true, IsSome};
 ghost use Rattle.key_tuple.specs.Order.{FieldList};
-ghost use Rattle.map_history.specs.Map.{Put, Set};
-ghost use Rattle.map_history.specs.Operation.{Make};
-ghost use Rattle.map_history.specs.Told.{answer_of};
 ghost use Rattle.report_text.specs.Printed.{printed_answer};
 
-use crate::lines::is;
-use crate::setup::{MEMORY, key_of, tuple_of, value_of};
-use key_tuple::{Blank, Mode};
+use crate::setup::{Ask, MEMORY, op_of, tuple_of};
+use key_tuple::Mode;
 use map_history::{How, Note, Op, Reply, Told};
 use report_text::answer;
 use std::process::Abort;
-
-const NONE: Blank = Blank { count: 0 };
 
 /// What an operation is told, and the same without columns.
 macro_rules! told {
@@ -30,113 +24,167 @@ macro_rules! told {
     };
 }
 
-/// The line of an answer without a key.
-fn line_of<R: AllocGlobal + Abort>(rt: &R, line: u32, told: &Told, value: &[u8], op: &Op) -> Vec<u8>
-    requires { IsSome (printed_answer op.now told.now [] value.now) }
+/// Such an operation may be told this.
+fn may_be_told(op: &Op, told: &Told) -> bool
+    ensures { result ≡ true → (key : FieldList) (value : List ℕ)
+        → IsSome (printed_answer op.now told.now key value) }
 {
-    let mut out = Vec::new(rt.alloc());
-    answer(&mut out, line, told, &NONE, value, op).expect(rt, MEMORY);
-    out
+    match told.reply {
+        Reply::LogFull(_) | Reply::SpaceFull => true,
+        Reply::Absent | Reply::Ok | Reply::Duplicate => told.point.is_some(),
+        Reply::Found => match op {
+            Op::Get { .. } | Op::Seek { .. } => told.point.is_some(),
+            _ => false,
+        },
+    }
 }
 
-/// The answer to a get of the key `a` that found this value.
-fn found<R: AllocGlobal + Abort>(rt: &R, line: u32, point: u64, value: &[u8]) -> Vec<u8> {
-    let key = key_of(rt, &[b"a"]);
-    let get = Op::Get { index: 0, key };
-    line_of(rt, line, &told!(Reply::Found, point), value, &get)
+/// The answer to this operation is printed so.
+fn is_printed<R: AllocGlobal + Abort>(
+    rt: &R,
+    line: u32,
+    op: &Op,
+    told: &Told,
+    parts: &[&[u8]],
+    value: &[u8],
+    text: &[u8],
+) -> bool {
+    let row = tuple_of(rt, parts);
+    let mut out = Vec::new(rt.alloc());
+    assert!(rt; may_be_told(op, told));
+    answer(&mut out, line, told, &row, value, op).expect(rt, MEMORY);
+    out.as_slice() == text
+}
+
+/// What a line asks by these fields is told so: of the row its fields and this value are printed.
+fn tells<R: AllocGlobal + Abort>(
+    rt: &R,
+    (line, ask, by): (u32, Ask, &[&[u8]]),
+    told: &Told,
+    parts: &[&[u8]],
+    value: &[u8],
+    text: &[u8],
+) -> bool {
+    let op = op_of(rt, ask, by, b"");
+    is_printed(rt, line, &op, told, parts, value, text)
+}
+
+/// What a line asks by the key `a` is told so, without columns and without fields.
+fn says<R: AllocGlobal + Abort>(
+    rt: &R,
+    (line, ask): (u32, Ask),
+    reply: Reply,
+    point: u64,
+    value: &[u8],
+    text: &[u8],
+) -> bool {
+    let told = told!(reply, point);
+    tells(rt, (line, ask, &[b"a"]), &told, &[], value, text)
 }
 
 #[test]
-fn answers_to_a_get(rt: HostRuntime) {
+fn values_are_printed(rt: HostRuntime) {
     let bytes = b"\0 !%+,-}~\x7f\xaf\xff";
     let text = b"7 found %00%20!%25+%2c-}%7e%7f%af%ff @3 - -\n";
-    assert!(rt; is(&found(&rt, 7, 3, bytes), text));
-    let key = key_of(&rt, &[b"a"]);
-    let get = Op::Get { index: 0, key };
-    let absent = line_of(&rt, 4, &told!(Reply::Absent, 2), b"", &get);
-    assert!(rt; is(&absent, b"4 absent @2 - -\n"));
+    assert!(rt;
+        says(&rt, (7, Ask::Get), Reply::Found, 3, bytes, text)
+            && says(
+                &rt,
+                (2, Ask::Get),
+                Reply::Found,
+                1,
+                b"x",
+                b"2 found x @1 - -\n"
+            )
+            && says(
+                &rt,
+                (8, Ask::Get),
+                Reply::Found,
+                4,
+                b"",
+                b"8 found ~ @4 - -\n"
+            )
+    );
 }
 
 #[test]
-fn short_values(rt: HostRuntime) {
-    assert!(rt; is(&found(&rt, 2, 1, b"x"), b"2 found x @1 - -\n"));
-    assert!(rt; is(&found(&rt, 8, 4, b""), b"8 found ~ @4 - -\n"));
-}
-
-/// The answer to a put on line 2.
-fn put_told<R: AllocGlobal + Abort>(rt: &R, told: &Told) -> Vec<u8>
-    requires { (k : FieldList) (v : List ℕ)
-        → IsSome (answer_of (Make (Put k v)) told.now (record { key = []; value = [] })) }
-{
-    let key = key_of(rt, &[b"a"]);
-    let value = value_of(rt, b"");
-    let index = 0;
-    line_of(rt, 2, told, b"", &Op::Put { index, key, value })
-}
-
-#[test]
-fn a_put_of_a_known_key(rt: HostRuntime) {
-    let told = told!(Reply::Duplicate, 1);
-    assert!(rt; is(&put_told(&rt, &told), b"2 duplicate @1 - -\n"));
-}
-
-#[test]
-fn a_put_into_a_full_list(rt: HostRuntime) {
-    let told = told!(Reply::LogFull(2), Some(2), How::Cold, Note::No);
-    assert!(rt; is(&put_told(&rt, &told), b"2 log-full 2 cold no\n"));
-}
-
-#[test]
-fn a_put_without_a_page(rt: HostRuntime) {
-    let told = told!(Reply::SpaceFull, None, How::Cold, Note::No);
-    assert!(rt; is(&put_told(&rt, &told), b"2 space-full cold no\n"));
-}
-
-/// The answer to a set on line 3.
-fn set_told<R: AllocGlobal + Abort>(rt: &R, told: &Told) -> Vec<u8>
-    requires { (k : FieldList) (v : List ℕ)
-        → IsSome (answer_of (Make (Set k v)) told.now (record { key = []; value = [] })) }
-{
-    let key = key_of(rt, &[b"a"]);
-    let value = value_of(rt, b"");
-    let index = 0;
-    line_of(rt, 3, told, b"", &Op::Set { index, key, value })
+fn refusals_are_printed(rt: HostRuntime) {
+    let seek = Ask::Seek(Mode::L);
+    assert!(rt;
+        says(
+            &rt,
+            (4, Ask::Get),
+            Reply::Absent,
+            2,
+            b"",
+            b"4 absent @2 - -\n"
+        ) && says(
+            &rt,
+            (2, Ask::Put),
+            Reply::Duplicate,
+            1,
+            b"",
+            b"2 duplicate @1 - -\n"
+        ) && says(
+            &rt,
+            (3, Ask::Set),
+            Reply::Absent,
+            0,
+            b"",
+            b"3 absent @0 - -\n"
+        ) && says(&rt, (9, seek), Reply::Absent, 4, b"", b"9 absent @4 - -\n")
+    );
 }
 
 #[test]
-fn a_set_of_an_unknown_key(rt: HostRuntime) {
-    let told = told!(Reply::Absent, 0);
-    assert!(rt; is(&set_told(&rt, &told), b"3 absent @0 - -\n"));
-}
-
-#[test]
-fn a_set_that_is_made(rt: HostRuntime) {
+fn columns_are_printed(rt: HostRuntime) {
     let told = told!(Reply::Ok, Some(7), How::Hit, Note::Dash);
-    assert!(rt; is(&set_told(&rt, &told), b"3 ok @7 hit -\n"));
-}
-
-#[test]
-fn a_seek_that_found_a_row(rt: HostRuntime) {
+    assert!(rt;
+        tells(
+            &rt,
+            (3, Ask::Set, &[b"a"]),
+            &told,
+            &[],
+            b"",
+            b"3 ok @7 hit -\n"
+        )
+    );
     let told = told!(Reply::Found, Some(4), How::Short, Note::No);
-    let row = key_of(&rt, &[b"a", b""]);
-    let seek = Op::Seek {
-        index: 0,
-        mode: Mode::Ge,
-        tuple: tuple_of(&rt, &[]),
-    };
-    let mut out = Vec::new(rt.alloc());
-    answer(&mut out, 205, &told, &row, b"p", &seek).expect(&rt, MEMORY);
-    assert!(rt; is(&out, b"205 found a,~ p @4 short no\n"));
+    let (row, text) = ([b"a".as_slice(), b""], b"205 found a,~ p @4 short no\n");
+    assert!(rt;
+        tells(
+            &rt,
+            (205, Ask::Seek(Mode::Ge), &[]),
+            &told,
+            &row,
+            b"p",
+            text
+        )
+    );
 }
 
 #[test]
-fn a_seek_in_vain(rt: HostRuntime) {
-    let told = told!(Reply::Absent, 4);
-    let seek = Op::Seek {
-        index: 0,
-        mode: Mode::L,
-        tuple: tuple_of(&rt, &[b"a"]),
-    };
-    let line = line_of(&rt, 9, &told, b"", &seek);
-    assert!(rt; is(&line, b"9 absent @4 - -\n"));
+fn full_lists_and_spaces_are_printed(rt: HostRuntime) {
+    let told = told!(Reply::LogFull(2), Some(2), How::Cold, Note::No);
+    assert!(rt;
+        tells(
+            &rt,
+            (2, Ask::Put, &[b"a"]),
+            &told,
+            &[],
+            b"",
+            b"2 log-full 2 cold no\n"
+        )
+    );
+    let told = told!(Reply::SpaceFull, None, How::Cold, Note::No);
+    assert!(rt;
+        tells(
+            &rt,
+            (2, Ask::Put, &[b"a"]),
+            &told,
+            &[],
+            b"",
+            b"2 space-full cold no\n"
+        )
+    );
 }

@@ -12,33 +12,26 @@ pub(crate) struct Written {
     pub(crate) report: &'static str,
 }
 
+/// A text of the report, what is put in place of it, and how the report is judged then.
+pub(crate) type Edit = (&'static str, &'static str, Result<(), Lie>);
+
 impl Written {
-    /// How the report is judged with the new text where the old one first stands.
-    pub(crate) fn judge_edited<R: AllocGlobal + Abort>(
-        &self,
-        rt: &R,
-        old: &str,
-        new: &str,
-    ) -> Result<(), Lie> {
-        let report = format!(in rt.alloc(); "{}stats t {COUNTS}\nend\n", self.report);
-        let report = report.expect(rt, MEMORY);
-        let (before, after) = report.as_str().split_once(old).expect(rt, "the old text");
-        let edited = format!(in rt.alloc(); "{before}{new}{after}").expect(rt, MEMORY);
-        judge(rt.alloc(), self.schema, &[self.lane], edited.as_bytes())
+    /// The report with the new text where the old one first stands.
+    fn edited<R: AllocGlobal + Abort>(&self, rt: &R, old: &str, new: &str) -> String {
+        let (before, after) = self.report.split_once(old).expect(rt, "the old text");
+        let mut edited = String::new(rt.alloc());
+        write!(edited, "{before}{new}{after}stats t {COUNTS}\nend\n").expect(rt, MEMORY);
+        edited
     }
 
-    /// The place of the first lie that is judged otherwise: what is put in place of a text, and how
-    /// the report is judged then.
-    pub(crate) fn first_other<R: AllocGlobal + Abort>(
-        &self,
-        rt: &R,
-        lies: &[(&str, &str, Lie)],
-    ) -> Option<usize> {
-        for (place, (old, new, lie)) in lies.iter().enumerate() {
-            if self.judge_edited(rt, old, new) != Err(*lie) {
-                return Some(place);
+    /// Each edited report is judged so.
+    pub(crate) fn is_judged<R: AllocGlobal + Abort>(&self, rt: &R, edits: &[Edit]) -> bool {
+        for (old, new, judgement) in edits {
+            let report = self.edited(rt, old, new);
+            if judge(rt.alloc(), self.schema, &[self.lane], report.as_bytes()) != *judgement {
+                return false;
             }
         }
-        None
+        true
     }
 }

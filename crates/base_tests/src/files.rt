@@ -1,74 +1,84 @@
 //! How files end that are read.
-ghost use Rattle.std.specs.Prelude.{◌≤◌, length};
-ghost use Rattle.script.specs.declared.TheConstants.{MAX_FILE_BYTES};
-
-use script::{Flaw, MAX_FILE_BYTES, ScriptError, read_lane, read_schema};
-use std::alloc::Global;
+use crate::setup::has_fields;
+use key_tuple::Mode;
+use map_history::Op;
+use script::{Flaw, Line, MAX_FILE_BYTES, ScriptError, read_lane, read_schema};
+use std::process::Abort;
 
 /// Two indexes.
-pub(crate) const SCHEMA: &[u8] = b"# two indexes\n\nindex t 1\nindex two 2\n";
+const SCHEMA: &[u8] = b"# two indexes\n\nindex t 1\nindex two 2\n";
 
-/// A flaw of this line.
-fn flawed(line: u32, flaw: Flaw) -> Option<ScriptError> {
-    Some(ScriptError::Flawed { line, flaw })
-}
+/// How a file ends: it is read, or a line of it has one of three flaws.
+pub(crate) const READ: u8 = 0;
 
-pub(crate) fn bad(line: u32) -> Option<ScriptError> {
-    flawed(line, Flaw::BadLine)
-}
+pub(crate) const BAD: u8 = 1;
 
-pub(crate) fn unknown(line: u32) -> Option<ScriptError> {
-    flawed(line, Flaw::UnknownIndex)
-}
+pub(crate) const UNKNOWN: u8 = 2;
 
-pub(crate) fn long(line: u32) -> Option<ScriptError> {
-    flawed(line, Flaw::TooLong)
-}
+pub(crate) const LONG: u8 = 3;
 
-/// Why the lane isn't read over those two indexes.
-fn lane_error(alloc: Global, lane: &[u8]) -> Option<ScriptError>
-    requires { length lane.now ≤ MAX_FILE_BYTES }
-{
-    match read_schema(alloc, SCHEMA) {
-        Err(error) => Some(error),
-        Ok(schema) => read_lane(alloc, lane, &schema).err(),
+/// It ends so, at this line where it isn't read.
+fn is(error: Option<ScriptError>, end: u8, at: u32) -> bool {
+    match error {
+        None => end == READ,
+        Some(ScriptError::NoMemory) => false,
+        Some(ScriptError::Flawed { line, flaw }) => end == end_by(flaw) && at == line,
     }
 }
 
-/// The lane ends so.
-pub(crate) fn lane_ends(alloc: Global, lane: &[u8], error: Option<ScriptError>) -> bool {
-    lane.len() <= MAX_FILE_BYTES && lane_error(alloc, lane) == error
+fn end_by(flaw: Flaw) -> u8 {
+    match flaw {
+        Flaw::BadLine => BAD,
+        Flaw::UnknownIndex => UNKNOWN,
+        Flaw::TooLong => LONG,
+    }
+}
+
+/// The lane over those two indexes ends so.
+pub(crate) fn lane_ends<R: AllocGlobal + Abort>(rt: &R, lane: &[u8], end: u8, at: u32) -> bool {
+    assert!(rt; lane.len() <= MAX_FILE_BYTES);
+    let schema = read_schema(rt.alloc(), SCHEMA).expect(rt, "a schema");
+    is(read_lane(rt.alloc(), lane, &schema).err(), end, at)
 }
 
 /// The schema ends so.
-pub(crate) fn schema_ends(alloc: Global, schema: &[u8], error: Option<ScriptError>) -> bool {
-    schema.len() <= MAX_FILE_BYTES && read_schema(alloc, schema).err() == error
+pub(crate) fn schema_ends<R: AllocGlobal + Abort>(rt: &R, schema: &[u8], end: u8, at: u32) -> bool {
+    assert!(rt; schema.len() <= MAX_FILE_BYTES);
+    is(read_schema(rt.alloc(), schema).err(), end, at)
 }
 
-/// The number of the first lane that ends otherwise.
-pub(crate) fn first_other_lane(
-    alloc: Global,
-    lanes: &[&[u8]],
-    error: Option<ScriptError>,
-) -> Option<usize> {
-    for (place, lane) in lanes.iter().enumerate() {
-        if !lane_ends(alloc, lane, error) {
-            return Some(place);
-        }
-    }
-    None
+/// The lines of a lane over this schema.
+pub(crate) fn lines_of<R: AllocGlobal + Abort>(rt: &R, schema: &[u8], lane: &[u8]) -> Vec<Line> {
+    assert!(rt; schema.len() <= MAX_FILE_BYTES && lane.len() <= MAX_FILE_BYTES);
+    let schema = read_schema(rt.alloc(), schema).expect(rt, "a schema");
+    read_lane(rt.alloc(), lane, &schema).expect(rt, "a lane")
 }
 
-/// The number of the first schema that ends otherwise.
-pub(crate) fn first_other_schema(
-    alloc: Global,
-    schemas: &[&[u8]],
-    error: Option<ScriptError>,
-) -> Option<usize> {
-    for (place, schema) in schemas.iter().enumerate() {
-        if !schema_ends(alloc, schema, error) {
-            return Some(place);
-        }
+/// The lane over those two indexes has one line, of this number, which asks the second of them: a
+/// set, or a seek in this mode, by these fields.
+pub(crate) fn asks<R: AllocGlobal + Abort>(
+    rt: &R,
+    lane: &[u8],
+    number: u32,
+    mode: Option<Mode>,
+    parts: &[&[u8]],
+    bytes: &[u8],
+) -> bool {
+    let lines = lines_of(rt, SCHEMA, lane);
+    match lines.as_slice() {
+        [only] => only.line == number && is_asked(&only.op, mode, parts, bytes),
+        _ => false,
     }
-    None
+}
+
+fn is_asked(op: &Op, wanted: Option<Mode>, parts: &[&[u8]], bytes: &[u8]) -> bool {
+    match (op, wanted) {
+        (Op::Set { index, key, value }, None) => {
+            *index == 1 && has_fields(key, parts) && value.as_bytes() == bytes
+        }
+        (Op::Seek { index, mode, tuple }, Some(wanted)) => {
+            *index == 1 && *mode == wanted && has_fields(tuple, parts)
+        }
+        _ => false,
+    }
 }

@@ -1,5 +1,7 @@
 //! The edges of the grammar of schemas and lanes.
-use crate::files::{bad, first_other_lane, first_other_schema, lane_ends, schema_ends, unknown};
+use crate::files::{BAD, READ, UNKNOWN, lane_ends, schema_ends};
+use crate::schema_sizes::{BAD_SETTINGS, GOOD_SETTINGS, LATE_SETTINGS};
+use std::process::Abort;
 
 const BAD_LINES: [&[u8]; 39] = [
     b"get t a\r\n",
@@ -43,7 +45,7 @@ const BAD_LINES: [&[u8]; 39] = [
     b"get two a\n",
 ];
 
-const LANES: [&[u8]; 12] = [
+const GOOD_LANES: [&[u8]; 12] = [
     b"get t a",
     b"get t a\n\n",
     b"put t %4A %4a\n",
@@ -80,53 +82,61 @@ const BAD_SCHEMAS: [&[u8]; 11] = [
     b"index T 1\n",
 ];
 
-const SCHEMAS: [&[u8]; 3] = [
+const GOOD_SCHEMAS: [&[u8]; 3] = [
     b"index t 1",
     b"index t 4\n",
     b"index a_0123456789_0123456789_01234567 1\n",
 ];
 
-#[test]
-fn lines_in_bad_form_are_refused(rt: HostRuntime) {
-    assert_eq!(rt; first_other_lane(rt.alloc(), &BAD_LINES, bad(1)), None);
+/// Lanes, and how they end at which line: a refusal has the line that it is of.
+const LANES: [(&[&[u8]], u8, u32); 5] = [
+    (&BAD_LINES, BAD, 1),
+    (&GOOD_LANES, READ, 0),
+    (&UNKNOWN_INDEXES, UNKNOWN, 1),
+    (&[b"\n# get u a\n\nget u a"], UNKNOWN, 4),
+    (&[b"get t a\nget two a\n"], BAD, 2),
+];
+
+/// The same of schemas: one without an index is refused behind its last line, and a name stands once.
+const SCHEMAS: [(&[&[u8]], u8, u32); 8] = [
+    (&BAD_SCHEMAS, BAD, 1),
+    (&GOOD_SCHEMAS, READ, 0),
+    (&[b"# nothing\n\n"], BAD, 3),
+    (&[b"# nothing"], BAD, 2),
+    (&[b"index t 1\nindex t 2\n"], BAD, 2),
+    (&GOOD_SETTINGS, READ, 0),
+    (&BAD_SETTINGS, BAD, 1),
+    (&LATE_SETTINGS, BAD, 2),
+];
+
+fn lanes_end<R: AllocGlobal + Abort>(rt: &R, lanes: &[&[u8]], end: u8, at: u32) -> bool {
+    for lane in lanes {
+        if !lane_ends(rt, lane, end, at) {
+            return false;
+        }
+    }
+    true
+}
+
+fn schemas_end<R: AllocGlobal + Abort>(rt: &R, schemas: &[&[u8]], end: u8, at: u32) -> bool {
+    for schema in schemas {
+        if !schema_ends(rt, schema, end, at) {
+            return false;
+        }
+    }
+    true
 }
 
 #[test]
-fn good_lanes_are_read(rt: HostRuntime) {
-    assert_eq!(rt; first_other_lane(rt.alloc(), &LANES, None), None);
+fn lanes_are_read_as_their_grammar_has_them(rt: HostRuntime) {
+    for (lanes, end, at) in LANES.iter() {
+        assert!(rt; lanes_end(&rt, lanes, *end, *at));
+    }
 }
 
 #[test]
-fn unknown_indexes_are_told(rt: HostRuntime) {
-    assert_eq!(rt;
-        first_other_lane(rt.alloc(), &UNKNOWN_INDEXES, unknown(1)),
-        None
-    );
-}
-
-#[test]
-fn a_refusal_has_its_line(rt: HostRuntime) {
-    assert!(rt; lane_ends(rt.alloc(), b"\n# get u a\n\nget u a", unknown(4)));
-    assert!(rt; lane_ends(rt.alloc(), b"get t a\nget two a\n", bad(2)));
-}
-
-#[test]
-fn bad_schemas_are_refused(rt: HostRuntime) {
-    assert_eq!(rt; first_other_schema(rt.alloc(), &BAD_SCHEMAS, bad(1)), None);
-}
-
-#[test]
-fn good_schemas_are_read(rt: HostRuntime) {
-    assert_eq!(rt; first_other_schema(rt.alloc(), &SCHEMAS, None), None);
-}
-
-#[test]
-fn a_schema_without_an_index_is_refused_behind_its_last_line(rt: HostRuntime) {
-    assert!(rt; schema_ends(rt.alloc(), b"# nothing\n\n", bad(3)));
-    assert!(rt; schema_ends(rt.alloc(), b"# nothing", bad(2)));
-}
-
-#[test]
-fn a_name_stands_once(rt: HostRuntime) {
-    assert!(rt; schema_ends(rt.alloc(), b"index t 1\nindex t 2\n", bad(2)));
+fn schemas_are_read_as_their_grammar_has_them(rt: HostRuntime) {
+    for (schemas, end, at) in SCHEMAS.iter() {
+        assert!(rt; schemas_end(&rt, schemas, *end, *at));
+    }
 }

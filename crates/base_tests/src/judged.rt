@@ -1,5 +1,5 @@
 //! A report of sets, written by hand: it is legal, and with a lie it isn't.
-use crate::edited::Written;
+use crate::edited::{Edit, Written};
 use report_judge::Lie;
 
 const SETS: Written = Written {
@@ -17,71 +17,67 @@ const TRUE_START: &str =
 const FALSE_START: &str =
     "1 ok @1 - -\n2 duplicate @1 - -\n3 ok @2 - -\n4 found y @2 - -\n5 ok @3 - -\nchanges t 3\n1 1 1 set a x\n";
 
-/// What is put in place of a text, and how the report is judged then.
-const LIES: [(&str, &str, Lie); 8] = [
+/// The report as it is, and with a lie.
+const EDITS: [Edit; 9] = [
+    ("ahi run", "ahi run", Ok(())),
     (
         TRUE_START,
         FALSE_START,
-        Lie::Unlawful {
+        Err(Lie::Unlawful {
             index: 0,
             change: 1,
-        },
+        }),
     ),
     (
         "set a y\n3",
         "put a y\n3",
-        Lie::Unasked {
+        Err(Lie::Unasked {
             index: 0,
             change: 2,
-        },
+        }),
     ),
     (
         "2 1 3 set a y",
         "2 1 3 set a x",
-        Lie::Unasked {
+        Err(Lie::Unasked {
             index: 0,
             change: 2,
-        },
+        }),
     ),
     (
         "1 1 2 put a x",
         "1 1 2 set a x",
-        Lie::Unasked {
+        Err(Lie::Unasked {
             index: 0,
             change: 1,
-        },
+        }),
     ),
     (
         "1 absent @0",
         "1 absent @2",
-        Lie::Wrong { lane: 1, line: 1 },
+        Err(Lie::Wrong { lane: 1, line: 1 }),
     ),
     (
         "4 found y @2",
         "4 found x @2",
-        Lie::Wrong { lane: 1, line: 4 },
+        Err(Lie::Wrong { lane: 1, line: 4 }),
     ),
     (
         "5 ok @3",
         "5 absent @3",
-        Lie::Unasked {
+        Err(Lie::Unasked {
             index: 0,
             change: 3,
-        },
+        }),
     ),
     (
         "1 absent @0",
         "1 space-full",
-        Lie::Wrong { lane: 1, line: 1 },
+        Err(Lie::Wrong { lane: 1, line: 1 }),
     ),
 ];
 
 #[test]
-fn a_report_of_sets_is_legal(rt: HostRuntime) {
-    assert!(rt; SETS.judge_edited(&rt, "end", "end") == Ok(()));
-}
-
-#[test]
-fn lies_about_sets_are_refused(rt: HostRuntime) {
-    assert_eq!(rt; SETS.first_other(&rt, &LIES), None);
+fn a_report_of_sets_is_legal_and_with_a_lie_it_is_not(rt: HostRuntime) {
+    assert!(rt; SETS.is_judged(&rt, &EDITS));
 }

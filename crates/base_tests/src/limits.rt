@@ -3,8 +3,10 @@ use crate::setup::{of_lengths, zeros};
 use key_tuple::{Key, KeyError, Tuple, Value};
 use std::process::Abort;
 
-/// The lengths of fields, and why there is no such key and no such tuple.
-const FIELDS: [(&[usize], Option<KeyError>); 7] = [
+/// The lengths of fields, and why there is no such key and no such tuple. No fields are a tuple, and
+/// no key is asked for.
+const FIELDS: [(&[usize], Option<KeyError>); 8] = [
+    (&[], None),
     (&[1, 1, 1, 1], None),
     (&[1, 1, 1, 1, 1], Some(KeyError::TooManyFields(5))),
     (&[0, 0, 0, 0, 768], Some(KeyError::TooManyFields(5))),
@@ -24,14 +26,9 @@ const VALUES: [(usize, Option<KeyError>); 3] = [
 #[test]
 fn too_many_fields_and_bytes_are_refused(rt: HostRuntime) {
     for (lengths, refusal) in FIELDS.iter() {
-        assert!(rt; key_refusal(&rt, lengths) == *refusal);
-        assert!(rt; tuple_refusal(&rt, lengths) == *refusal);
+        assert!(rt; is_tuple_refused_so(&rt, lengths, *refusal));
+        assert!(rt; lengths.is_empty() || is_key_refused_so(&rt, lengths, *refusal));
     }
-}
-
-#[test]
-fn no_fields_are_a_tuple(rt: HostRuntime) {
-    assert!(rt; tuple_refusal(&rt, &[]).is_none());
 }
 
 #[test]
@@ -41,12 +38,20 @@ fn too_long_a_value_is_refused(rt: HostRuntime) {
     }
 }
 
-fn key_refusal<R: AllocGlobal + Abort>(rt: &R, lengths: &[usize]) -> Option<KeyError> {
+fn is_key_refused_so<R: AllocGlobal + Abort>(
+    rt: &R,
+    lengths: &[usize],
+    refusal: Option<KeyError>,
+) -> bool {
     let fields = of_lengths(rt, lengths);
     assert!(rt; !fields.is_empty());
-    Key::try_new(rt.alloc(), fields).err()
+    Key::try_new(rt.alloc(), fields).err() == refusal
 }
 
-fn tuple_refusal<R: AllocGlobal + Abort>(rt: &R, lengths: &[usize]) -> Option<KeyError> {
-    Tuple::try_new(rt.alloc(), of_lengths(rt, lengths)).err()
+fn is_tuple_refused_so<R: AllocGlobal + Abort>(
+    rt: &R,
+    lengths: &[usize],
+    refusal: Option<KeyError>,
+) -> bool {
+    Tuple::try_new(rt.alloc(), of_lengths(rt, lengths)).err() == refusal
 }

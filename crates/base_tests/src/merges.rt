@@ -4,11 +4,19 @@ use change_log::{LaneChange, LaneLog, merge};
 use map_history::{Line, Op};
 use std::process::Abort;
 
-/// The line of this number that takes a row out of an index.
-fn line_of<R: AllocGlobal + Abort>(rt: &R, line: u32, index: u32) -> Line {
-    let key = key_of(rt, &[b"k"]);
-    let op = Op::Del { index, key };
-    Line { line, op }
+/// What a lane did: the number of its line that takes a row out, the index, how far the changes that
+/// it made by that line are apart, and how many they are. The first has the lane's number.
+type Made = (u32, u32, u64, u32);
+
+/// The line of each lane.
+fn lines_of<R: AllocGlobal + Abort>(rt: &R, lanes: &[Made]) -> Vec<Line> {
+    let mut lines = Vec::new(rt.alloc());
+    for (line, index, _, _) in lanes {
+        let (line, index, key) = (*line, *index, key_of(rt, &[b"k"]));
+        let op = Op::Del { index, key };
+        lines.push(Line { line, op }).expect(rt, MEMORY);
+    }
+    lines
 }
 
 /// The log of a lane that made every `step`th change by one line, so many of them.
@@ -31,69 +39,87 @@ fn log_of<'a, R: AllocGlobal + Abort>(
     log
 }
 
-/// The changes have these numbers, lanes and lines.
-fn are(changes: &[LaneChange<'_>], expected: &[(u64, u32, u32)]) -> bool {
-    let same = |(c, e): (&LaneChange<'_>, &(u64, u32, u32))| {
-        c.number == e.0 && c.lane == e.1 && c.line.line == e.2
-    };
-    changes.len() == expected.len() && changes.iter().zip(expected.iter()).all(same)
-}
-
-/// Lane 1 made the first and the third change of index 0, lane 2 the second, and lane 3 the third
-/// of index 1.
-#[test]
-fn each_index_has_its_changes_by_number(rt: HostRuntime) {
-    let first = line_of(&rt, 4, 0);
-    let second = line_of(&rt, 9, 0);
-    let third = line_of(&rt, 7, 1);
-    let logs = [
-        log_of(&rt, 1, &first, 2, 2),
-        log_of(&rt, 2, &second, 0, 1),
-        log_of(&rt, 3, &third, 0, 1),
-    ];
-    let merged = merge(rt.alloc(), &logs, 3).expect(&rt, MEMORY);
-    assert!(rt; merged.len() == 3);
-    assert!(rt; are(&merged[0], &[(1, 1, 4), (2, 2, 9), (3, 1, 4)]));
-    assert!(rt; are(&merged[1], &[(3, 3, 7)]) && merged[2].is_empty());
-}
-
-#[test]
-fn empty_logs_have_no_changes(rt: HostRuntime) {
-    let logs = [
-        LaneLog::reserve(rt.alloc(), 0).expect(&rt, MEMORY),
-        LaneLog::reserve(rt.alloc(), 5).expect(&rt, MEMORY),
-    ];
-    let merged = merge(rt.alloc(), &logs, 1).expect(&rt, MEMORY);
-    assert!(rt; merged.len() == 1 && merged[0].is_empty());
-}
-
-/// The logs of 64 lanes that made every 64th change.
-fn many_logs<'a, R: AllocGlobal + Abort>(rt: &R, line: &'a Line) -> Vec<LaneLog<'a>> {
+/// The logs of the lanes, which are numbered from 1.
+fn logs_of<'a, R: AllocGlobal + Abort>(
+    rt: &R,
+    lanes: &[Made],
+    lines: &'a [Line],
+) -> Vec<LaneLog<'a>> {
     let mut logs = Vec::new(rt.alloc());
-    for lane in 1..65 {
-        logs.push(log_of(rt, lane, line, 64, 15_625))
+    let mut lane: u32 = 0;
+    for (place, (_, _, step, count)) in lanes.iter().enumerate() {
+        let line = lines.get(place).expect(rt, "a line");
+        lane = lane.wrapping_add(1);
+        logs.push(log_of(rt, lane, line, *step, *count))
             .expect(rt, MEMORY);
     }
     logs
 }
 
-/// They are numbered from 1.
-fn are_counted(changes: &[LaneChange<'_>]) -> bool {
+/// The change at this place has this number, lane and line.
+fn is_at(changes: &[LaneChange<'_>], place: usize, (number, lane, line): (u64, u32, u32)) -> bool {
+    match changes.get(place) {
+        Some(change) => change.number == number && change.lane == lane && change.line.line == line,
+        None => false,
+    }
+}
+
+/// Lane 1 made the first and the third change of index 0, lane 2 the second, and lane 3 the third
+/// of index 1.
+const THREE: [Made; 3] = [(4, 0, 2, 2), (9, 0, 0, 1), (7, 1, 0, 1)];
+
+fn are_by_number(lists: &[Vec<LaneChange<'_>>]) -> bool {
+    let [first, second, third] = lists else {
+        return false;
+    };
+    first.len() == 3
+        && is_at(first, 0, (1, 1, 4))
+        && is_at(first, 1, (2, 2, 9))
+        && is_at(first, 2, (3, 1, 4))
+        && second.len() == 1
+        && is_at(second, 0, (3, 3, 7))
+        && third.is_empty()
+}
+
+#[test]
+fn each_index_has_its_changes_by_number(rt: HostRuntime) {
+    let lines = lines_of(&rt, &THREE);
+    let merged = merge(rt.alloc(), &logs_of(&rt, &THREE, &lines), 3).expect(&rt, MEMORY);
+    assert!(rt; are_by_number(&merged));
+}
+
+#[test]
+fn empty_logs_have_no_changes(rt: HostRuntime) {
+    let mut logs = Vec::new(rt.alloc());
+    for room in [0, 5].iter() {
+        let log = LaneLog::reserve(rt.alloc(), *room).expect(&rt, MEMORY);
+        logs.push(log).expect(&rt, MEMORY);
+    }
+    let merged = merge(rt.alloc(), &logs, 1).expect(&rt, MEMORY);
+    assert!(rt; merged.len() == 1 && merged[0].is_empty());
+}
+
+/// Each of 64 lanes made every 64th change.
+const MANY: [Made; 64] = [(1, 0, 64, 15_625); 64];
+
+/// One list has a million changes, which are numbered from 1.
+fn are_counted(lists: &[Vec<LaneChange<'_>>]) -> bool {
+    let [only] = lists else {
+        return false;
+    };
     let mut number: u64 = 0;
-    for change in changes {
+    for change in only {
         number = number.wrapping_add(1);
         if change.number != number {
             return false;
         }
     }
-    true
+    number == 1_000_000
 }
 
 #[test]
 fn a_million_changes_are_merged(rt: HostRuntime) {
-    let line = line_of(&rt, 1, 0);
-    let logs = many_logs(&rt, &line);
-    let merged = merge(rt.alloc(), &logs, 1).expect(&rt, MEMORY);
-    assert!(rt; merged.len() == 1 && merged[0].len() == 1_000_000);
-    assert!(rt; are_counted(&merged[0]));
+    let lines = lines_of(&rt, &MANY);
+    let merged = merge(rt.alloc(), &logs_of(&rt, &MANY, &lines), 1).expect(&rt, MEMORY);
+    assert!(rt; are_counted(&merged));
 }

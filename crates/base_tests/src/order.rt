@@ -1,6 +1,6 @@
 //! How keys and tuples stand to one another.
 use crate::setup::{key_of, tuple_of};
-use key_tuple::{Blank, Fields, Key, Match, compare, compare_whole, matches};
+use key_tuple::{Blank, Fields, Key, compare, compare_whole, matches};
 use std::cmp::Ordering;
 use std::process::Abort;
 
@@ -30,17 +30,30 @@ const AGREED: [(&[&[u8]], &[&[u8]], Ordering, (u8, u16)); 8] = [
 fn a_shorter_field_comes_first(rt: HostRuntime) {
     for (place, parts) in ASCENDING.iter().enumerate() {
         let key = key_of(&rt, parts);
-        assert!(rt; is_above_blanks(&key));
-        assert!(rt; stands_at(&rt, place, &key));
+        assert!(rt; is_above_blanks(&key) && stands_at(&rt, place, &key));
     }
 }
 
 #[test]
 fn tuples_and_keys_agree_so_far(rt: HostRuntime) {
-    for (tuple, key, order, (fields, bytes)) in AGREED.iter() {
-        let (fields, bytes) = (*fields, *bytes);
-        assert!(rt; agreed(&rt, tuple, key) == (*order, Match { fields, bytes }));
+    for (tuple, key, order, agreed) in AGREED.iter() {
+        assert!(rt; agree(&rt, tuple, key, *order, *agreed));
     }
+}
+
+// A tuple stands to a key's first fields so, and they agree so far.
+fn agree<R: AllocGlobal + Abort>(
+    rt: &R,
+    tuple: &[&[u8]],
+    key: &[&[u8]],
+    order: Ordering,
+    (fields, bytes): (u8, u16),
+) -> bool {
+    let tuple = tuple_of(rt, tuple);
+    let key = tuple_of(rt, key);
+    assert!(rt; tuple.count() <= key.count());
+    let agreed = matches(&tuple, &key);
+    compare(&tuple, &key) == order && agreed.fields == fields && agreed.bytes == bytes
 }
 
 // A key begins with no fields, and comes after one empty field.
@@ -63,12 +76,4 @@ fn stand_as(left: &Key, right: &Key, order: Ordering) -> bool {
     compare_whole(left, right) == order
         && (*left < *right) == (order == Ordering::Less)
         && (left.tuple() == right.tuple()) == (order == Ordering::Equal)
-}
-
-// How a tuple stands to a key's first fields, and how far they agree.
-fn agreed<R: AllocGlobal + Abort>(rt: &R, tuple: &[&[u8]], key: &[&[u8]]) -> (Ordering, Match) {
-    let tuple = tuple_of(rt, tuple);
-    let key = tuple_of(rt, key);
-    assert!(rt; tuple.count() <= key.count());
-    (compare(&tuple, &key), matches(&tuple, &key))
 }

@@ -1,26 +1,23 @@
 //! The largest row in a buffer, and rows of one list in another.
-use crate::setup::{MEMORY, key_of};
-use key_tuple::{Fields, MAX_KEY_BYTES, MAX_VALUE_BYTES};
+use crate::setup::{MEMORY, has_fields, key_of};
+use key_tuple::{MAX_KEY_BYTES, MAX_VALUE_BYTES};
 use map_history::{RowBuf, Rows};
 use std::process::Abort;
 
-/// A buffer that is filled has as many fields, the last of them and the value.
+/// A buffer that is filled has these fields and this value.
 fn fills<R: AllocGlobal + Abort>(rt: &R, out: &mut RowBuf, parts: &[&[u8]], value: &[u8]) -> bool {
-    let key = key_of(rt, parts);
     assert!(rt; value.len() <= MAX_VALUE_BYTES);
-    out.fill(&key, value);
-    let count = usize::from(out.count());
-    count == parts.len()
-        && count > 0
-        && out.field(out.count() - 1) == parts[count - 1]
-        && out.value() == value
+    out.fill(&key_of(rt, parts), value);
+    has_fields(out, parts) && out.value() == value
 }
 
 #[test]
 fn a_buffer_takes_the_largest_row_and_a_smaller_one(rt: HostRuntime) {
     let mut out = RowBuf::new(rt.alloc()).expect(&rt, MEMORY);
-    assert!(rt; fills(&rt, &mut out, &[&[7; MAX_KEY_BYTES]], &[9; MAX_VALUE_BYTES]));
-    assert!(rt; fills(&rt, &mut out, &[b"a", b"", b"b"], b"x"));
+    assert!(rt;
+        fills(&rt, &mut out, &[&[7; MAX_KEY_BYTES]], &[9; MAX_VALUE_BYTES])
+            && fills(&rt, &mut out, &[b"a", b"", b"b"], b"x")
+    );
 }
 
 fn two_rows<R: AllocGlobal + Abort>(rt: &R) -> Rows {
@@ -41,32 +38,22 @@ fn copy_of<R: AllocGlobal + Abort>(rt: &R, rows: &Rows) -> Rows {
     more
 }
 
-fn has_both_rows(rows: &Rows) -> bool {
-    if rows.count() != 2 {
+/// There are so many rows, and the last of them has these fields and this value.
+fn ends_with(rows: &Rows, count: usize, parts: &[&[u8]], value: &[u8]) -> bool {
+    if rows.count() != count || count == 0 {
         return false;
     }
-    let row = rows.row(1);
-    row.count() == 1 && row.field(0) == b"b".as_slice()
-}
-
-fn has_the_first_alone(rows: &Rows) -> bool {
-    if rows.count() != 1 {
-        return false;
-    }
-    let row = rows.row(0);
-    row.count() == 2
-        && row.field(0) == b"a".as_slice()
-        && row.field(1).is_empty()
-        && row.value() == b"one".as_slice()
+    let row = rows.row(count - 1);
+    has_fields(&row, parts) && row.value() == value
 }
 
 #[test]
 fn rows_are_kept_read_and_cut(rt: HostRuntime) {
     let mut rows = copy_of(&rt, &two_rows(&rt));
     rows.cut(9);
-    assert!(rt; has_both_rows(&rows));
+    assert!(rt; ends_with(&rows, 2, &[b"b"], b""));
     rows.cut(1);
-    assert!(rt; has_the_first_alone(&rows));
+    assert!(rt; ends_with(&rows, 1, &[b"a", b""], b"one"));
     rows.cut(0);
     assert!(rt; rows.count() == 0);
 }

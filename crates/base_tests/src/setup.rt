@@ -1,5 +1,6 @@
-//! Keys, tuples, values and bytes; where memory lacks or they are refused, a test ends.
-use key_tuple::{Key, Tuple, Value};
+//! Keys, tuples, values, operations and bytes; where memory lacks or they are refused, a test ends.
+use key_tuple::{Fields, Key, Mode, Tuple, Value};
+use map_history::Op;
 use std::process::Abort;
 
 /// What a test says that ends for want of memory.
@@ -20,6 +21,51 @@ pub(crate) fn key_of<R: AllocGlobal + Abort>(rt: &R, parts: &[&[u8]]) -> Key {
 /// The value of these bytes.
 pub(crate) fn value_of<R: AllocGlobal + Abort>(rt: &R, bytes: &[u8]) -> Value {
     sample_rows::value_of(rt.alloc(), bytes).expect(rt, "a value")
+}
+
+/// What is asked of an index.
+#[derive(Clone, Copy)]
+pub(crate) enum Ask {
+    Get,
+    Put,
+    Set,
+    Del,
+    Seek(Mode),
+}
+
+/// The operation that asks this of the index 0, by a key or a tuple of these fields, with a value
+/// of these bytes where it has one.
+pub(crate) fn op_of<R: AllocGlobal + Abort>(rt: &R, ask: Ask, parts: &[&[u8]], bytes: &[u8]) -> Op {
+    if let Ask::Seek(mode) = ask {
+        let (index, tuple) = (0, tuple_of(rt, parts));
+        return Op::Seek { index, mode, tuple };
+    }
+    let (index, key) = (0, key_of(rt, parts));
+    match ask {
+        Ask::Put => {
+            let value = value_of(rt, bytes);
+            Op::Put { index, key, value }
+        }
+        Ask::Set => {
+            let value = value_of(rt, bytes);
+            Op::Set { index, key, value }
+        }
+        Ask::Del => Op::Del { index, key },
+        _ => Op::Get { index, key },
+    }
+}
+
+/// These are the fields.
+pub(crate) fn has_fields<K: Fields>(key: &K, parts: &[&[u8]]) -> bool {
+    if usize::from(key.count()) != parts.len() {
+        return false;
+    }
+    for i in 0..key.count() {
+        if key.field(i) != parts[usize::from(i)] {
+            return false;
+        }
+    }
+    true
 }
 
 /// So many bytes.

@@ -1,5 +1,5 @@
 //! A report of seeks, written by hand: it is legal, and with a lie it isn't.
-use crate::edited::Written;
+use crate::edited::{Edit, Written};
 use report_judge::Lie;
 
 const SEEKS: Written = Written {
@@ -18,14 +18,16 @@ const SEEKS: Written = Written {
 /// That the answer to this line is wrong.
 macro_rules! wrong {
     ($line:expr) => {
-        Lie::Wrong {
+        Err(Lie::Wrong {
             lane: 1,
             line: $line,
-        }
+        })
     };
 }
 
-const LIES: [(&str, &str, Lie); 8] = [
+/// The report as it is, and with a lie.
+const EDITS: [Edit; 9] = [
+    ("ahi run", "ahi run", Ok(())),
     ("6 found a,y,1 r", "6 found a,y,2 s", wrong!(6)),
     ("6 found a,y,1 r", "6 found a,y,1 s", wrong!(6)),
     ("7 found a,x,1 p", "7 absent", wrong!(7)),
@@ -37,11 +39,6 @@ const LIES: [(&str, &str, Lie); 8] = [
 ];
 
 #[test]
-fn a_report_of_seeks_is_legal(rt: HostRuntime) {
-    assert!(rt; SEEKS.judge_edited(&rt, "end", "end") == Ok(()));
-}
-
-#[test]
-fn lies_about_seeks_are_refused(rt: HostRuntime) {
-    assert_eq!(rt; SEEKS.first_other(&rt, &LIES), None);
+fn a_report_of_seeks_is_legal_and_with_a_lie_it_is_not(rt: HostRuntime) {
+    assert!(rt; SEEKS.is_judged(&rt, &EDITS));
 }
