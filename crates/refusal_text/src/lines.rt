@@ -10,9 +10,9 @@ pub fn line_of(file: &[u8], number: u64) -> Option<&[u8]> {
     part_of(file, b'\n', number.checked_sub(1)?)
 }
 
-/// The word at this place of a line, counted from 0.
-pub fn word_of(line: &[u8], place: u64) -> Option<&[u8]> {
-    part_of(line, b' ', place)
+/// The word at this place of a line, counted from 0; an empty one where the line has fewer.
+pub fn word_of(line: &[u8], place: u64) -> &[u8] {
+    part_of(line, b' ', place).unwrap_or(b"")
 }
 
 /// The part at this place, counted from 0, of those that stand between these bytes.
@@ -38,21 +38,10 @@ pub fn count_of_words(line: &[u8]) -> usize {
     count
 }
 
-/// Whether two spaces follow one another, or one begins or ends the line.
-pub fn has_empty_word(line: &[u8]) -> bool {
-    let mut before = b' ';
-    for byte in line {
-        if *byte == b' ' && before == b' ' {
-            return true;
-        }
-        before = *byte;
-    }
-    before == b' '
-}
-
-/// Puts some bytes as they are shown: those that can't be printed by their number, and no more than
-/// 60.
-pub fn put_shown(text: &mut String, bytes: &[u8]) -> Result<(), AllocError> {
+/// Puts some bytes behind a text, as they are shown: those that can't be printed by their number, and
+/// no more than 60.
+pub fn put_shown(text: &mut String, before: &str, bytes: &[u8]) -> Result<(), AllocError> {
+    text.push_str(before)?;
     for byte in bytes.iter().take(MOST) {
         put_byte(text, *byte)?;
     }

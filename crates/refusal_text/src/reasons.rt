@@ -1,9 +1,9 @@
 //! A run's end in words.
-use crate::flaw::{flaw_of_lane, flaw_of_schema, long_part};
+use crate::flaw::{NO_INDEX, flaw_of_lane, flaw_of_schema, long_part};
 use crate::lines::{line_of, put_shown, word_of};
 use crate::sizes::put_wanted;
 use crate::told::{Told, read};
-use crate::usage::wrong_use;
+use crate::usage::put_wrong_use;
 use std::alloc::{AllocError, Global};
 use std::fmt::Write;
 
@@ -26,17 +26,16 @@ pub fn explain(
     told: &[u8],
     bytes: Option<&[u8]>,
 ) -> Result<String, AllocError> {
-    match status {
-        0 => Ok(String::new(alloc)),
-        2 => wrong_use(alloc, words),
-        4 => String::from_str(alloc, "the standard output didn't take all that was put"),
-        6 => String::from_str(alloc, "there was no memory"),
-        _ => {
-            let mut text = String::new(alloc);
-            put_refusal(&mut text, words, told, bytes)?;
-            Ok(text)
-        }
-    }
+    let mut text = String::new(alloc);
+    let put = match status {
+        0 => Ok(()),
+        2 => put_wrong_use(&mut text, words),
+        4 => text.push_str("the standard output didn't take all that was put"),
+        6 => text.push_str("there was no memory"),
+        _ => put_refusal(&mut text, words, told, bytes),
+    };
+    put?;
+    Ok(text)
 }
 
 /// Puts in words what the line of a refusal tells.
@@ -49,14 +48,9 @@ fn put_refusal(
     match read(told) {
         Some(Told::Script { file, line, code }) => {
             put_place(text, name_of(words, file), line)?;
-            put_flaw(
-                text,
-                file,
-                code,
-                bytes.and_then(|bytes| line_of(bytes, line)),
-            )
+            put_flaw(text, file, code, line_in(bytes, line))
         }
-        Some(Told::File { file, said }) => write!(text, "{}: {said}", name_of(words, file)),
+        Some(Told::File { file, said }) => put_file(text, name_of(words, file), said),
         Some(Told::Sizes { setting }) => put_wanted(text, setting, words.len().saturating_sub(2)),
         None => text.push_str("the run was refused"),
     }
@@ -64,6 +58,10 @@ fn put_refusal(
 
 fn put_place(text: &mut String, name: &str, line: u64) -> Result<(), AllocError> {
     write!(text, "{name}, line {line}: ")
+}
+
+fn put_file(text: &mut String, name: &str, said: &str) -> Result<(), AllocError> {
+    write!(text, "{name}: {said}")
 }
 
 /// The name of the file of this number among the words.
@@ -74,6 +72,11 @@ fn name_of(words: &[String], file: usize) -> &str {
     }
 }
 
+/// The line of this number, where the file's bytes are known and have it.
+fn line_in(bytes: Option<&[u8]>, number: u64) -> Option<&[u8]> {
+    line_of(bytes?, number)
+}
+
 /// Puts what is wrong with a line, and the line itself where it is known.
 fn put_flaw(
     text: &mut String,
@@ -81,14 +84,16 @@ fn put_flaw(
     code: u64,
     line: Option<&[u8]>,
 ) -> Result<(), AllocError> {
-    match line {
-        None => text.push_str(general_flaw(code)),
-        Some([]) => text.push_str(flaw_of_schema(b"")),
-        Some(line) => {
-            put_flaw_of(text, file, code, line)?;
-            put_quoted(text, line)
-        }
+    let Some(line) = line else {
+        return text.push_str(general_flaw(code));
+    };
+    if line.is_empty() {
+        return text.push_str(NO_INDEX);
     }
+    let (flaw, name) = flaw_and_name(file, code, line);
+    put_shown(text, flaw, name)?;
+    put_shown(text, " (", line)?;
+    text.push(')')
 }
 
 /// What a code says of any line.
@@ -100,23 +105,12 @@ fn general_flaw(code: u64) -> &'static str {
     }
 }
 
-/// Puts what a code says of this line.
-fn put_flaw_of(text: &mut String, file: usize, code: u64, line: &[u8]) -> Result<(), AllocError> {
+/// What a code says of this line, and the name that is shown behind that, if one is.
+fn flaw_and_name(file: usize, code: u64, line: &[u8]) -> (&'static str, &[u8]) {
     match (file, code) {
-        (0, 1) => text.push_str(flaw_of_schema(line)),
-        (_, 1) => text.push_str(flaw_of_lane(line)),
-        (_, 2) => put_unknown(text, word_of(line, 1).unwrap_or(b"")),
-        _ => text.push_str(long_part(line)),
+        (0, 1) => (flaw_of_schema(line), &[]),
+        (_, 1) => (flaw_of_lane(line), &[]),
+        (_, 2) => ("no index is called ", word_of(line, 1)),
+        _ => (long_part(line), &[]),
     }
-}
-
-fn put_unknown(text: &mut String, name: &[u8]) -> Result<(), AllocError> {
-    text.push_str("no index is called ")?;
-    put_shown(text, name)
-}
-
-fn put_quoted(text: &mut String, line: &[u8]) -> Result<(), AllocError> {
-    text.push_str(" (")?;
-    put_shown(text, line)?;
-    text.push(')')
 }

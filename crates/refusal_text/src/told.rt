@@ -15,37 +15,39 @@ pub fn read(line: &[u8]) -> Option<Told<'_>> {
         return None;
     };
     let (word, rest) = str::from_utf8(text).ok()?.split_once(' ')?;
-    read_kind(word, rest)
-}
-
-fn read_kind<'a>(word: &str, rest: &'a str) -> Option<Told<'a>> {
     match word {
         "script" => read_script(rest),
-        "shelf" => read_file(rest, "it isn't there, or can't be read"),
-        "too-large" => read_file(
-            rest,
-            "with it the files have more than 67,108,864 bytes together",
-        ),
         "sizes" => Some(Told::Sizes { setting: rest }),
-        _ => None,
+        _ => read_file(word, rest),
     }
 }
 
-fn read_file<'a>(rest: &'a str, said: &'static str) -> Option<Told<'a>> {
-    let file = rest.parse::<usize>().ok()?;
-    Some(Told::File { file, said })
-}
-
 fn read_script(rest: &str) -> Option<Told<'_>> {
-    let (file, rest) = rest.split_once(' ')?;
-    let file = file.parse::<usize>().ok()?;
-    let (line, code) = read_place(rest)?;
-    Some(Told::Script { file, line, code })
+    let (file, rest) = number_before(rest)?;
+    let (line, code) = number_before(rest)?;
+    Some(Told::Script {
+        file: file as usize,
+        line,
+        code: number_of(code)?,
+    })
 }
 
-fn read_place(rest: &str) -> Option<(u64, u64)> {
-    let (line, code) = rest.split_once(' ')?;
-    let line = line.parse::<u64>().ok()?;
-    let code = code.parse::<u64>().ok()?;
-    Some((line, code))
+/// The number in front of the first space, and what stands behind it.
+fn number_before(text: &str) -> Option<(u64, &str)> {
+    let (number, rest) = text.split_once(' ')?;
+    Some((number_of(number)?, rest))
+}
+
+fn number_of(text: &str) -> Option<u64> {
+    text.parse::<u64>().ok()
+}
+
+fn read_file<'a>(word: &str, file: &str) -> Option<Told<'a>> {
+    let said = match word {
+        "shelf" => "it isn't there, or can't be read",
+        "too-large" => "with it the files have more than 67,108,864 bytes together",
+        _ => return None,
+    };
+    let file = number_of(file)? as usize;
+    Some(Told::File { file, said })
 }

@@ -1,36 +1,42 @@
 //! What is wrong with words that aren't accepted.
-use std::alloc::{AllocError, Global};
+use std::alloc::AllocError;
+use std::fmt::Write;
 
-/// What is wrong with the words after the program's name.
-pub fn wrong_use(alloc: Global, words: &[String]) -> Result<String, AllocError> {
-    match words {
-        [] => String::from_str(
-            alloc,
-            "no command is given, or a word isn't UTF-8; ahi run SCHEMA LANE.. is one",
-        ),
-        [command, files @ ..] => {
-            if command.as_str() == "run" {
-                wrong_files(alloc, files)
-            } else {
-                format!(in alloc; "no command is called {command}; run is one")
-            }
-        }
+/// Puts what is wrong with the words after the program's name.
+pub fn put_wrong_use(text: &mut String, words: &[String]) -> Result<(), AllocError> {
+    match wrong_word(words) {
+        Some((before, word, behind)) => write!(text, "{before}{word}{behind}"),
+        None => put_wrong_count(text, words.len()),
     }
 }
 
-fn wrong_files(alloc: Global, files: &[String]) -> Result<String, AllocError> {
+/// The first word that isn't accepted, between what is said before and behind it.
+fn wrong_word(words: &[String]) -> Option<(&'static str, &str, &'static str)> {
+    let [command, files @ ..] = words else {
+        let said = "no command is given, or a word isn't UTF-8; ahi run SCHEMA LANE.. is one";
+        return Some((said, "", ""));
+    };
+    if command.as_str() != "run" {
+        return Some(("no command is called ", command.as_str(), "; run is one"));
+    }
     for name in files {
         if name.is_empty() {
-            return String::from_str(alloc, "an empty word names no file");
+            return Some(("an empty word names no file", "", ""));
         }
         if name.starts_with('-') {
-            return format!(in alloc; "{name} begins with - and names no file");
+            return Some(("", name.as_str(), " begins with - and names no file"));
         }
     }
-    match files.len().checked_sub(1) {
-        None => String::from_str(alloc, "run wants a schema and 1 to 64 lanes"),
-        Some(lanes) => {
-            format!(in alloc; "run wants a schema and 1 to 64 lanes; {lanes} lanes are named")
-        }
+    None
+}
+
+/// Puts that the files among so many words are too few or too many.
+fn put_wrong_count(text: &mut String, words: usize) -> Result<(), AllocError> {
+    match words.checked_sub(2) {
+        None => text.push_str("run wants a schema and 1 to 64 lanes"),
+        Some(lanes) => write!(
+            text,
+            "run wants a schema and 1 to 64 lanes; {lanes} lanes are named"
+        ),
     }
 }
