@@ -7,7 +7,7 @@ ghost use Rattle.io_port.specs.Sink.{Puts};
 use io_port::{Shelf, ShelfError, Sink};
 use std::alloc::Global;
 
-#[derive(Clone, Copy, Debug, PartialEq, Eq)]
+#[derive(Clone, Copy, PartialEq)]
 pub(crate) enum Copied {
     Done,
     ShelfFault,

@@ -13,6 +13,8 @@ mod fake_files;
 #[cfg(test)]
 mod fakes;
 #[cfg(test)]
+mod flaws;
+#[cfg(test)]
 mod meeting;
 #[cfg(test)]
 mod real;

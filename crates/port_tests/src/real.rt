@@ -35,7 +35,6 @@ fn what_cannot_be_read_is_a_fault(rt: HostRuntime) {
 #[test]
 fn standard_output_takes_bytes(rt: HostRuntime) {
     let mut sink = OutSink::new(rt.alloc(), io::writer(&rt)).expect(&rt, "a sink");
-    assert!(rt; sink.put(b"a line\n").is_ok());
-    assert!(rt; sink.put(b"").is_ok());
+    assert!(rt; sink.put(b"a line\n").is_ok() && sink.put(b"").is_ok());
     assert!(rt; sink.finish().is_ok());
 }

@@ -1,4 +1,5 @@
 //! A worked report, byte for byte.
+use crate::refusals::strings;
 use change_log::LaneChange;
 use io_port::MemorySink;
 use map_history::{Counts, How, Line, Note, Op, Reply, RowBuf, Told};
@@ -7,67 +8,102 @@ use report_text::Texts;
 use sample_rows::{key_of, value_of};
 use std::process::Abort;
 
-/// A line that puts a row.
-fn put<R: AllocGlobal + Abort>(rt: &R, line: u32, field: &[u8], bytes: &[u8]) -> Line {
-    let op = Op::Put {
-        index: 0,
-        key: key_of(rt.alloc(), field).expect(rt, "a key"),
-        value: value_of(rt.alloc(), bytes).expect(rt, "a value"),
-    };
-    Line { line, op }
-}
+/// Three lines: the number of each, the key, and the value that it puts or none where it takes the
+/// row away.
+const LINES: [(u32, &[u8], Option<&[u8]>); 3] = [
+    (1, b"a", Some(b"x")),
+    (2, b"a", None),
+    (3, b"b", Some(b"y")),
+];
 
-/// A line that takes it away.
-fn del<R: AllocGlobal + Abort>(rt: &R, line: u32, field: &[u8]) -> Line {
+/// The number of a change, the lane that made it, and the place of its line among the three.
+type Made = (u64, u32, usize);
+
+/// The changes of two indexes: of the first, lane 2 made the first change and lane 1 the second.
+const CHANGES: [&[Made]; 2] = [&[(1, 2, 0), (2, 1, 1)], &[(1, 1, 2)]];
+
+/// The changes of two lanes.
+const ANSWERS: [&[Made]; 2] = [&[(2, 1, 1), (1, 1, 2)], &[(1, 2, 0)]];
+
+/// Such a line.
+fn line_of<R: AllocGlobal + Abort>(rt: &R, line: u32, field: &[u8], bytes: Option<&[u8]>) -> Line {
     let key = key_of(rt.alloc(), field).expect(rt, "a key");
-    let op = Op::Del { index: 0, key };
+    let index = 0;
+    let Some(bytes) = bytes else {
+        let op = Op::Del { index, key };
+        return Line { line, op };
+    };
+    let value = value_of(rt.alloc(), bytes).expect(rt, "a value");
+    let op = Op::Put { index, key, value };
     Line { line, op }
 }
 
-/// The answers of a lane whose changes are these.
-fn answers<R: AllocGlobal + Abort>(rt: &R, changes: &[LaneChange<'_>]) -> Texts {
+fn three_lines<R: AllocGlobal + Abort>(rt: &R) -> Vec<Line> {
+    let mut lines = Vec::new(rt.alloc());
+    for (line, field, bytes) in LINES.iter() {
+        lines
+            .push(line_of(rt, *line, field, *bytes))
+            .expect(rt, "memory for a line");
+    }
+    lines
+}
+
+/// Adds the answer to a line that made the change of this number.
+fn add_answer<R: Abort>(rt: &R, answers: &mut Texts, row: &RowBuf, number: u64, line: &Line) {
+    let told = Told {
+        reply: Reply::Ok,
+        point: Some(number),
+        how: How::Dash,
+        note: Note::Dash,
+    };
+    answers
+        .add_answer(line.line, &told, row, &line.op)
+        .expect(rt, "memory for an answer");
+}
+
+/// The answers of a lane that made these changes.
+fn answers<R: AllocGlobal + Abort>(rt: &R, lines: &[Line], made: &[Made]) -> Texts {
     let row = RowBuf::new(rt.alloc()).expect(rt, "a row buffer");
-    let mut answers = Texts::reserve(rt.alloc(), changes.len()).expect(rt, "texts");
-    for change in changes {
-        let told = Told {
-            reply: Reply::Ok,
-            point: Some(change.number),
-            how: How::Dash,
-            note: Note::Dash,
-        };
-        let line = change.line;
-        answers
-            .add_answer(line.line, &told, &row, &line.op)
-            .expect(rt, "memory for an answer");
+    let mut answers = Texts::reserve(rt.alloc(), made.len()).expect(rt, "texts");
+    for (number, _, place) in made {
+        let line = lines.get(*place).expect(rt, "a line");
+        add_answer(rt, &mut answers, &row, *number, line);
     }
     answers
 }
 
-/// The change that a line of a lane made.
-fn made(number: u64, lane: u32, line: &Line) -> LaneChange<'_> {
-    LaneChange { number, lane, line }
+fn both_answers<R: AllocGlobal + Abort>(rt: &R, lines: &[Line]) -> Vec<Texts> {
+    let mut both = Vec::new(rt.alloc());
+    for made in ANSWERS.iter() {
+        both.push(answers(rt, lines, made))
+            .expect(rt, "memory for answers");
+    }
+    both
 }
 
-fn listed<T, const N: usize, R: AllocGlobal + Abort>(rt: &R, items: [T; N]) -> Vec<T> {
-    Vec::from_array(rt.alloc(), items).expect(rt, "memory for a list")
+/// The list of an index that has these changes.
+fn list_of<'a, R: AllocGlobal + Abort>(
+    rt: &R,
+    lines: &'a [Line],
+    made: &[Made],
+) -> Vec<LaneChange<'a>> {
+    let mut list = Vec::new(rt.alloc());
+    for (number, lane, place) in made {
+        let line = lines.get(*place).expect(rt, "a line");
+        let (number, lane) = (*number, *lane);
+        list.push(LaneChange { number, lane, line })
+            .expect(rt, "memory for a change");
+    }
+    list
 }
 
-/// The changes of two indexes: of the first, lane 2 made the first change and lane 1 the second.
-fn changes<'a, R: AllocGlobal + Abort>(rt: &R, lines: &'a [Line; 3]) -> Vec<Vec<LaneChange<'a>>> {
-    let of_one = listed(rt, [made(1, 2, &lines[0]), made(2, 1, &lines[1])]);
-    let of_two = listed(rt, [made(1, 1, &lines[2])]);
-    listed(rt, [of_one, of_two])
-}
-
-/// The answers of two lanes: lane 1 has the second and the third line, lane 2 the first.
-fn both_answers<R: AllocGlobal + Abort>(rt: &R, lines: &[Line; 3]) -> Vec<Texts> {
-    let one = answers(rt, &[made(2, 1, &lines[1]), made(1, 1, &lines[2])]);
-    let two = answers(rt, &[made(1, 2, &lines[0])]);
-    listed(rt, [one, two])
-}
-
-fn name<R: AllocGlobal + Abort>(rt: &R, name: &str) -> String {
-    String::from_str(rt.alloc(), name).expect(rt, "a name")
+fn both_lists<'a, R: AllocGlobal + Abort>(rt: &R, lines: &'a [Line]) -> Vec<Vec<LaneChange<'a>>> {
+    let mut both = Vec::new(rt.alloc());
+    for made in CHANGES.iter() {
+        both.push(list_of(rt, lines, made))
+            .expect(rt, "memory for a list");
+    }
+    both
 }
 
 /// No word is counted of the first index, and of the second each as often as its place says.
@@ -80,24 +116,24 @@ fn counts() -> [Counts; 2] {
 
 /// Puts the report of two lanes over two indexes.
 fn put_two_lanes<R: AllocGlobal + Abort>(rt: &R, sink: &mut MemorySink) -> Result<(), Halt> {
-    let lines = [
-        put(rt, 1, b"a", b"x"),
-        del(rt, 2, b"a"),
-        put(rt, 3, b"b", b"y"),
-    ];
+    let lines = three_lines(rt);
     let answers = both_answers(rt, &lines);
-    let changes = changes(rt, &lines);
-    let names = [name(rt, "t"), name(rt, "u")];
-    assert!(rt; changes.len() == 2);
-    put_report(rt.alloc(), sink, &names, &answers, &changes, &counts())
+    let lists = both_lists(rt, &lines);
+    let names = strings(rt, &["t", "u"]);
+    assert!(rt; lists.len() == 2 && names.len() == 2);
+    put_report(rt.alloc(), sink, &names, &answers, &lists, &counts())
 }
 
 /// Putting it ends so, over a sink whose puts with these numbers fail, with these bytes in the sink.
-fn assert_put<R: AllocGlobal + Abort>(rt: &R, fail: &[u64], end: Result<(), Halt>, written: &[u8]) {
+fn is_put<R: AllocGlobal + Abort>(
+    rt: &R,
+    fail: &[u64],
+    end: Result<(), Halt>,
+    written: &[u8],
+) -> bool {
     let fail = fail.to_vec(rt.alloc()).expect(rt, "numbers");
     let mut sink = MemorySink::with_room(rt.alloc(), 1000, fail).expect(rt, "a sink");
-    assert!(rt; put_two_lanes(rt, &mut sink) == end);
-    assert!(rt; sink.written() == written);
+    put_two_lanes(rt, &mut sink) == end && sink.written() == written
 }
 
 const REPORT: &[u8] = b"ahi run\n\
@@ -117,17 +153,11 @@ const REPORT: &[u8] = b"ahi run\n\
     by-clock 10 by-busy 11 by-moved 12 by-last 13 built 14 same 15 arena 16 raced 17 worn 18\n\
     end\n";
 
-#[test]
-fn a_report_of_two_lanes_over_two_indexes(rt: HostRuntime) {
-    assert_put(&rt, &[], Ok(()), REPORT);
-}
+/// What stands before the fourth put.
+const THREE_LINES: &[u8] = b"ahi run\nlane 1\n2 ok @2 - -\n";
 
 #[test]
-fn a_put_is_one_line(rt: HostRuntime) {
-    assert_put(
-        &rt,
-        &[3],
-        Err(Halt::SinkFault),
-        b"ahi run\nlane 1\n2 ok @2 - -\n",
-    );
+fn a_report_of_two_lanes_over_two_indexes_is_put_line_by_line(rt: HostRuntime) {
+    assert!(rt; is_put(&rt, &[], Ok(()), REPORT));
+    assert!(rt; is_put(&rt, &[3], Err(Halt::SinkFault), THREE_LINES));
 }
