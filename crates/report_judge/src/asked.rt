@@ -1,7 +1,8 @@
 //! What a schema and its lanes ask.
+use crate::acts::{Act, asked_of};
 use crate::judging::Lie;
-use crate::keys::{Reach, reach_of};
-use crate::words::{number_of, words_of};
+use crate::keys::{count_fields, is_plain};
+use crate::words::number_of;
 use std::alloc::Global;
 
 /// An index: its name, and how many fields its keys have.
@@ -11,23 +12,15 @@ pub struct Index<'a> {
     pub fields: u64,
 }
 
-/// What is asked of a key, or of the tuple of a seek.
-#[derive(Clone, Copy, PartialEq, Eq)]
-pub enum Act<'a> {
-    Get,
-    Put(&'a str),
-    Set(&'a str),
-    Del,
-    Seek(Reach),
-}
-
-/// A line that says something, by its number in its file. The key of a seek is its tuple.
+/// A line that says something, by its number in its file. The key of a seek is its tuple, and only
+/// a put or a set has a value.
 #[derive(Clone, Copy)]
 pub struct Line<'a> {
     pub number: u64,
     pub index: usize,
-    pub act: Act<'a>,
+    pub act: Act,
     pub key: &'a str,
+    pub value: &'a str,
 }
 
 /// The indexes of a schema, in their order.
@@ -37,73 +30,74 @@ pub fn read_schema<'a>(alloc: Global, text: &'a str) -> Result<Vec<Index<'a>>, L
     for said in text.split('\n') {
         line = line.wrapping_add(1);
         if says_something(said) {
-            indexes.push(read_index(alloc, line, said)?)?;
+            let Some(index) = index_of(said) else {
+                return Err(Lie::Asked { file: 0, line });
+            };
+            indexes.push(index)?;
         }
     }
     Ok(indexes)
 }
 
-fn read_index<'a>(alloc: Global, line: u64, said: &'a str) -> Result<Index<'a>, Lie> {
-    let words = words_of(alloc, said)?;
-    index_of(&words).ok_or(Lie::Asked { file: 0, line })
+/// The lines of each lane that say something.
+pub fn read_lanes<'a>(
+    alloc: Global,
+    indexes: &[Index<'_>],
+    lanes: &[&'a str],
+) -> Result<Vec<Vec<Line<'a>>>, Lie> {
+    let mut asked = Vec::new(alloc);
+    let mut file: usize = 0;
+    for text in lanes {
+        file = file.wrapping_add(1);
+        asked.push(read_lane(alloc, indexes, file, text)?)?;
+    }
+    Ok(asked)
 }
 
-/// Reads a lane; its file is the lane's number.
-pub(crate) fn read_lane<'a>(
+/// Those of one lane, which has this file.
+fn read_lane<'a>(
     alloc: Global,
     indexes: &[Index<'_>],
     file: usize,
     text: &'a str,
 ) -> Result<Vec<Line<'a>>, Lie> {
     let mut lines = Vec::new(alloc);
-    let mut line: u64 = 0;
+    let mut number: u64 = 0;
     for said in text.split('\n') {
-        line = line.wrapping_add(1);
+        number = number.wrapping_add(1);
         if says_something(said) {
-            lines.push(read_line(alloc, indexes, file, line, said)?)?;
+            let Some(line) = line_of(indexes, number, said) else {
+                return Err(Lie::Asked { file, line: number });
+            };
+            lines.push(line)?;
         }
     }
     Ok(lines)
-}
-
-fn read_line<'a>(
-    alloc: Global,
-    indexes: &[Index<'_>],
-    file: usize,
-    line: u64,
-    said: &'a str,
-) -> Result<Line<'a>, Lie> {
-    let words = words_of(alloc, said)?;
-    line_of(indexes, line, &words).ok_or(Lie::Asked { file, line })
 }
 
 fn says_something(line: &str) -> bool {
     !line.is_empty() && !line.starts_with('#')
 }
 
-fn index_of<'a>(words: &[&'a str]) -> Option<Index<'a>> {
-    match words {
-        ["index", name, fields] => Some(Index {
-            name,
-            fields: number_of(fields)?,
-        }),
-        _ => None,
-    }
+fn index_of<'a>(line: &'a str) -> Option<Index<'a>> {
+    let (name, count) = line.strip_prefix("index ")?.split_once(' ')?;
+    let fields = number_of(count)?;
+    Some(Index { name, fields })
 }
 
-fn line_of<'a>(indexes: &[Index<'_>], number: u64, words: &[&'a str]) -> Option<Line<'a>> {
-    let [verb, name, rest @ ..] = words else {
-        return None;
-    };
-    let (key, act) = asked_of(verb, rest)?;
+fn line_of<'a>(indexes: &[Index<'_>], number: u64, said: &'a str) -> Option<Line<'a>> {
+    let (verb, rest) = said.split_once(' ')?;
+    let (name, words) = rest.split_once(' ')?;
+    let (act, key, value) = asked_of(verb, words)?;
     let (index, fields) = index_named(indexes, name)?;
     let line = Line {
         number,
         index,
         act,
         key,
+        value,
     };
-    fits(act, count_fields(key)?, fields).then_some(line)
+    fits(&line, fields).then_some(line)
 }
 
 /// The place of the index of this name, and how many fields its keys have.
@@ -116,59 +110,14 @@ fn index_named(indexes: &[Index<'_>], name: &str) -> Option<(usize, u64)> {
     None
 }
 
-/// The key or the tuple in the words behind an index, and what the verb asks of it.
-fn asked_of<'a>(verb: &str, words: &[&'a str]) -> Option<(&'a str, Act<'a>)> {
-    match words {
-        [key] => Some((key, act_alone(verb)?)),
-        [first, second] => act_with(verb, first, second),
-        _ => None,
-    }
-}
-
-/// What a verb asks of a key, without another word.
-fn act_alone<'a>(verb: &str) -> Option<Act<'a>> {
-    match verb {
-        "get" => Some(Act::Get),
-        "del" => Some(Act::Del),
-        _ => None,
-    }
-}
-
-/// The key or the tuple of two words, and what the verb asks of it.
-fn act_with<'a>(verb: &str, first: &'a str, second: &'a str) -> Option<(&'a str, Act<'a>)> {
-    match verb {
-        "put" if is_plain(second) => Some((first, Act::Put(second))),
-        "set" if is_plain(second) => Some((first, Act::Set(second))),
-        "seek" => Some((second, Act::Seek(reach_of(first)?))),
-        _ => None,
-    }
-}
-
-/// Whether so many fields may be asked about, where keys have this many.
-fn fits(act: Act<'_>, count: u64, fields: u64) -> bool {
-    match act {
+/// Whether a line may be asked where keys have this many fields.
+fn fits(line: &Line<'_>, fields: u64) -> bool {
+    let Some(count) = count_fields(line.key) else {
+        return false;
+    };
+    match line.act {
+        Act::Put | Act::Set => count == fields && is_plain(line.value),
         Act::Seek(_) => count <= fields,
-        _ => count == fields,
+        Act::Get | Act::Del => count == fields,
     }
-}
-
-/// How many fields a key or a tuple has, if each is plain.
-fn count_fields(key: &str) -> Option<u64> {
-    let mut count: u64 = 0;
-    for field in key.split(',') {
-        count = count.wrapping_add(1);
-        if !is_plain(field) {
-            return None;
-        }
-    }
-    Some(count)
-}
-
-/// Whether this is a field or a value that is printed as it stands.
-fn is_plain(field: &str) -> bool {
-    field == "~" || (!field.is_empty() && field.as_bytes().iter().all(|byte| is_plain_byte(*byte)))
-}
-
-fn is_plain_byte(byte: u8) -> bool {
-    byte > b' ' && byte < b'~' && byte != b'%' && byte != b','
 }

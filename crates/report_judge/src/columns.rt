@@ -1,5 +1,6 @@
 //! The two last words of answers, and the statistics that count them.
 use crate::answers::Answer;
+use crate::words::is_among;
 use std::alloc::{AllocError, Global};
 
 /// What a line of statistics says after the name, where all answers have two dashes.
@@ -40,29 +41,16 @@ const DESCENTS: [&str; 8] = [
     "unequal",
 ];
 
-/// What became of a build.
-const BUILDS: [&str; 4] = ["no", "built", "same", "arena"];
-
-/// Why a search wasn't counted.
-const UNCOUNTED: [&str; 2] = ["raced", "worn"];
+/// What became of a build where a search went down, or why it wasn't counted.
+const NOTES: [&str; 6] = ["no", "built", "same", "arena", "raced", "worn"];
 
 /// Whether the two words may stand beside one another.
 pub(crate) fn may_stand(how: &str, note: &str) -> bool {
     match how {
         "-" => note == "-",
-        "hit" => note == "-" || is_among(note, &UNCOUNTED),
-        _ => is_among(how, &DESCENTS) && (is_among(note, &BUILDS) || is_among(note, &UNCOUNTED)),
+        "hit" => is_among(note, &["-", "raced", "worn"]),
+        _ => is_among(how, &DESCENTS) && is_among(note, &NOTES),
     }
-}
-
-/// Whether a word is one of these.
-fn is_among(word: &str, words: &[&str]) -> bool {
-    for one in words {
-        if *one == word {
-            return true;
-        }
-    }
-    false
 }
 
 /// The line of an index's statistics, by the answers of all lanes.

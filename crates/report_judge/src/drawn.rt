@@ -37,56 +37,30 @@ pub fn lane_text(
     let mut text = String::new(alloc);
     for before in 0..lines {
         let index = draw_below(&mut state, indexes);
-        let number = draw_below(&mut state, keys);
+        let key = key_text(alloc, index, draw_below(&mut state, keys))?;
         let line = before.wrapping_add(1);
-        add_line(&mut text, &mut state, lane, line, index, number)?;
+        add_line(&mut text, &mut state, lane, line, index, key.as_str())?;
     }
     Ok(text)
 }
 
-/// Adds a line of such a lane, about the key of this number.
+/// Adds a line of such a lane, about this key.
 fn add_line(
     text: &mut String,
     state: &mut u64,
     lane: u64,
     line: u64,
     index: u64,
-    number: u64,
+    key: &str,
 ) -> Result<(), AllocError> {
-    let drawn = draw_below(state, 40);
-    match drawn {
+    match draw_below(state, 40) {
         0 => text.push('\n'),
         1 => text.push_str("# says nothing\n"),
-        10..16 => add_seek(text, state, index, number),
-        _ => {
-            add_asked(text, verb_of(drawn), index, number)?;
-            add_value(text, drawn, lane, line)
-        }
-    }
-}
-
-/// The verb of such a line, by the number that was drawn for it.
-fn verb_of(drawn: u64) -> &'static str {
-    match drawn {
-        2..10 => "get",
-        16..25 => "put",
-        25..30 => "set",
-        _ => "del",
-    }
-}
-
-/// Adds a verb, an index, and its key of this number.
-fn add_asked(text: &mut String, verb: &str, index: u64, number: u64) -> Result<(), AllocError> {
-    write!(text, "{verb} t{index} ")?;
-    add_key(text, index, number)
-}
-
-/// Adds the value of a put or a set, and ends the line.
-fn add_value(text: &mut String, drawn: u64, lane: u64, line: u64) -> Result<(), AllocError> {
-    match drawn {
-        16..25 => write!(text, " v{lane}-{line}\n"),
-        25..30 => write!(text, " w{line}-{lane}-{line}\n"),
-        _ => text.push('\n'),
+        2..10 => write!(text, "get t{index} {key}\n"),
+        10..16 => add_seek(text, state, index, key),
+        16..25 => write!(text, "put t{index} {key} v{lane}-{line}\n"),
+        25..30 => write!(text, "set t{index} {key} w{line}-{lane}-{line}\n"),
+        _ => write!(text, "del t{index} {key}\n"),
     }
 }
 
@@ -103,8 +77,8 @@ pub fn seek_lane_text(
     let mut text = String::new(alloc);
     for _ in 0..lines {
         let index = draw_below(&mut state, 4);
-        let number = draw_below(&mut state, keys);
-        add_seek_or_change(&mut text, &mut state, index, number, value)?;
+        let key = key_text(alloc, index, draw_below(&mut state, keys))?;
+        add_seek_or_change(&mut text, &mut state, index, key.as_str(), value)?;
     }
     Ok(text)
 }
@@ -114,20 +88,61 @@ fn add_seek_or_change(
     text: &mut String,
     state: &mut u64,
     index: u64,
-    number: u64,
+    key: &str,
     value: &str,
 ) -> Result<(), AllocError> {
     match draw_below(state, 4) {
-        0 => {
-            add_asked(text, "put", index, number)?;
-            write!(text, " {value}\n")
-        }
-        1 => {
-            add_asked(text, "del", index, number)?;
-            text.push('\n')
-        }
-        _ => add_seek(text, state, index, number),
+        0 => write!(text, "put t{index} {key} {value}\n"),
+        1 => write!(text, "del t{index} {key}\n"),
+        _ => add_seek(text, state, index, key),
     }
+}
+
+/// Adds a seek by a key, or by its first fields.
+fn add_seek(text: &mut String, state: &mut u64, index: u64, key: &str) -> Result<(), AllocError> {
+    let mode = mode_word(draw_below(state, 4));
+    let fields = index % 4 + 1;
+    let kept = draw_below(state, fields);
+    let left_out = if kept == 0 {
+        0
+    } else {
+        fields.wrapping_sub(kept)
+    };
+    write!(
+        text,
+        "seek t{index} {mode} {}\n",
+        without_last(key, left_out)
+    )
+}
+
+/// A mode's word.
+fn mode_word(number: u64) -> &'static str {
+    match number {
+        0 => "ge",
+        1 => "g",
+        2 => "le",
+        _ => "l",
+    }
+}
+
+/// A key of the index by its number. Keys of two fields and more share their beginnings.
+fn key_text(alloc: Global, index: u64, key: u64) -> Result<String, AllocError> {
+    let mut text = String::new(alloc);
+    for _ in 0..index % 4 {
+        write!(text, "{},", key / 4)?;
+    }
+    write!(text, "k{key}")?;
+    Ok(text)
+}
+
+/// A key without so many of its last fields.
+fn without_last(key: &str, fields: u64) -> &str {
+    let mut left = key;
+    for _ in 0..fields {
+        let (before, _) = left.rsplit_once(',').unwrap_or((left, ""));
+        left = before;
+    }
+    left
 }
 
 /// Lanes 1 to this number.
@@ -154,41 +169,4 @@ pub fn slices_of<'a>(alloc: Global, texts: &'a [String]) -> Result<Vec<&'a str>,
         slices.push(text.as_str())?;
     }
     Ok(slices)
-}
-
-/// Adds a key of the index by its number. Keys of two fields and more share their beginnings.
-fn add_key(text: &mut String, index: u64, key: u64) -> Result<(), AllocError> {
-    for _ in 0..index % 4 {
-        write!(text, "{},", key / 4)?;
-    }
-    write!(text, "k{key}")
-}
-
-/// Adds a seek by the key of this number, or by its first fields.
-fn add_seek(text: &mut String, state: &mut u64, index: u64, key: u64) -> Result<(), AllocError> {
-    write!(text, "seek t{index} {} ", mode_word(state))?;
-    match draw_below(state, index % 4 + 1) {
-        0 => add_key(text, index, key)?,
-        shared => add_beginning(text, key, shared)?,
-    }
-    text.push('\n')
-}
-
-/// A mode's word.
-fn mode_word(state: &mut u64) -> &'static str {
-    match draw_below(state, 4) {
-        0 => "ge",
-        1 => "g",
-        2 => "le",
-        _ => "l",
-    }
-}
-
-/// Adds so many of the fields that a key shares with others, one at least.
-fn add_beginning(text: &mut String, key: u64, fields: u64) -> Result<(), AllocError> {
-    write!(text, "{}", key / 4)?;
-    for _ in 1..fields {
-        write!(text, ",{}", key / 4)?;
-    }
-    Ok(())
 }

@@ -1,147 +1,101 @@
-//! The list of an index, replayed from the empty map.
-use crate::asked::Act;
+//! The list of an index, replayed from the empty map. It stands key by key as keys rise, and the
+//! changes of one key in their order.
+use crate::acts::Reach;
 use crate::changes::Change;
 use crate::judging::Lie;
-use crate::keys::{Reach, compare_fields};
-use std::alloc::Global;
+use crate::keys::compare_fields;
+use std::cmp::Ordering;
 
-/// The change of a number: its key, whether that has to be there before it, and the value that the
-/// key has from then on.
-#[derive(Clone, Copy)]
-struct Event<'a> {
-    key: &'a str,
-    point: u64,
-    wants_row: bool,
-    value: Option<&'a str>,
+/// Sorts the list of an index, in which each put has a key that isn't there, and each set or del
+/// one that is.
+pub(crate) fn replay(index: usize, list: &mut Vec<Change<'_>>) -> Result<(), Lie> {
+    list.sort_by(|one, other| compare_fields(one.key, other.key))?;
+    check_law(index, list)
 }
 
-/// The events of an index, key by key as keys rise, those of one key in the order of the list.
-#[derive(Drop)]
-pub(crate) struct History<'a> {
-    events: Vec<Event<'a>>,
-    length: u64,
-}
-
-impl<'a> History<'a> {
-    /// Replays the list, in which each put has a key that isn't there, and each set or del one that
-    /// is.
-    pub(crate) fn replay(
-        alloc: Global,
-        index: usize,
-        list: &[Change<'a>],
-    ) -> Result<History<'a>, Lie> {
-        let mut events = Vec::new(alloc);
-        let mut length: u64 = 0;
-        for change in list {
-            length = length.wrapping_add(1);
-            events.push(event_of(length, change))?;
-        }
-        events.sort_by(|one, other| compare_fields(one.key, other.key))?;
-        check_law(index, &events)?;
-        Ok(History { events, length })
-    }
-
-    /// How many changes the list has.
-    pub(crate) fn length(&self) -> u64 {
-        self.length
-    }
-
-    /// The value of the key after so many changes of the list, if the key is there.
-    pub(crate) fn value_at(&self, key: &str, point: u64) -> Option<&'a str> {
-        let after = self.events.partition_point(|event| {
-            let order = compare_fields(event.key, key);
-            order.is_lt() || (order.is_eq() && event.point <= point)
-        });
-        let last = self.events.get(after.checked_sub(1)?)?;
-        if last.key == key { last.value } else { None }
-    }
-
-    /// The row that a seek finds after so many changes of the list, if it finds one.
-    pub(crate) fn row_at(
-        &self,
-        reach: Reach,
-        tuple: &str,
-        point: u64,
-    ) -> Option<(&'a str, &'a str)> {
-        let cut = self
-            .events
-            .partition_point(|event| reach.cuts_off(tuple, event.key));
-        match reach {
-            Reach::From | Reach::Past => self.first_row(cut, point),
-            Reach::UpTo | Reach::Before => self.last_row(cut, point),
-        }
-    }
-
-    /// The first row whose key has its events from this place on.
-    fn first_row(&self, start: usize, point: u64) -> Option<(&'a str, &'a str)> {
-        for place in start..self.events.len() {
-            if let Some(row) = self.row_from(place, point) {
-                return Some(row);
-            }
-        }
-        None
-    }
-
-    /// The last row whose key has its events before this place.
-    fn last_row(&self, end: usize, point: u64) -> Option<(&'a str, &'a str)> {
-        for place in (0..end).rev() {
-            if let Some(row) = self.row_from(place, point) {
-                return Some(row);
-            }
-        }
-        None
-    }
-
-    /// The row of the key whose first event has this place, if it does and the key is there.
-    fn row_from(&self, place: usize, point: u64) -> Option<(&'a str, &'a str)> {
-        let event = self.events.get(place)?;
-        if event.key == self.key_before(place) {
-            return None;
-        }
-        Some((event.key, self.value_at(event.key, point)?))
-    }
-
-    /// The key of the event before this place; no key is empty.
-    fn key_before(&self, place: usize) -> &'a str {
-        if place == 0 {
-            return "";
-        }
-        match self.events.get(place - 1) {
-            Some(event) => event.key,
-            None => "",
-        }
-    }
-}
-
-fn event_of<'a>(point: u64, change: &Change<'a>) -> Event<'a> {
-    let (wants_row, value) = match change.act {
-        Act::Put(value) => (false, Some(value)),
-        Act::Set(value) => (true, Some(value)),
-        _ => (true, None),
-    };
-    Event {
-        key: change.key,
-        point,
-        wants_row,
-        value,
-    }
-}
-
-/// Each event has its key there or absent, as it wants it.
-fn check_law(index: usize, events: &[Event<'_>]) -> Result<(), Lie> {
-    let mut before: Option<Event<'_>> = None;
-    for event in events {
-        let was_there = match before {
-            Some(last) => last.key == event.key && last.value.is_some(),
-            None => false,
-        };
-        if was_there != event.wants_row {
+/// Each change has its key there or absent, as it wants it.
+fn check_law(index: usize, list: &[Change<'_>]) -> Result<(), Lie> {
+    let mut key = "";
+    let mut is_there = false;
+    for change in list {
+        if !change.act.is_allowed(is_there && change.key == key) {
             return Err(Lie::Unlawful {
                 index,
-                change: event.point,
+                change: change.point,
             });
         }
-        before = Some(*event);
+        key = change.key;
+        is_there = change.act.writes_row();
     }
     Ok(())
+}
+
+/// How many changes stand before a tuple: those of lower keys, and of the keys that it equals those
+/// among the first so many of the list.
+fn count_before(list: &[Change<'_>], tuple: &str, point: u64) -> usize {
+    list.partition_point(|change| match compare_fields(tuple, change.key) {
+        Ordering::Greater => true,
+        Ordering::Equal => change.point <= point,
+        Ordering::Less => false,
+    })
+}
+
+/// The last change of the key among the first so many of the list.
+pub(crate) fn change_at<'a>(list: &[Change<'a>], key: &str, point: u64) -> Option<Change<'a>> {
+    let place = count_before(list, key, point).checked_sub(1)?;
+    let last = list.get(place)?;
+    (last.key == key).then_some(*last)
+}
+
+/// The value of the key after so many changes of the list, if the key is there.
+pub(crate) fn value_at<'a>(list: &[Change<'a>], key: &str, point: u64) -> Option<&'a str> {
+    let change = change_at(list, key, point)?;
+    change.act.writes_row().then_some(change.value)
+}
+
+/// The row that a seek finds after so many changes of the list, if it finds one.
+pub(crate) fn row_at<'a>(
+    list: &[Change<'a>],
+    reach: Reach,
+    tuple: &str,
+    point: u64,
+) -> Option<(&'a str, &'a str)> {
+    match reach {
+        Reach::From => first_row(list, count_before(list, tuple, 0), point),
+        Reach::Past => first_row(list, count_before(list, tuple, u64::MAX), point),
+        Reach::UpTo => last_row(list, count_before(list, tuple, u64::MAX), point),
+        Reach::Before => last_row(list, count_before(list, tuple, 0), point),
+    }
+}
+
+/// The first row that a change from this place on leaves.
+fn first_row<'a>(list: &[Change<'a>], start: usize, point: u64) -> Option<(&'a str, &'a str)> {
+    for place in start..list.len() {
+        if let Some(row) = row_left(list, place, point) {
+            return Some(row);
+        }
+    }
+    None
+}
+
+/// The last row that a change before this place leaves.
+fn last_row<'a>(list: &[Change<'a>], end: usize, point: u64) -> Option<(&'a str, &'a str)> {
+    for place in (0..end).rev() {
+        if let Some(row) = row_left(list, place, point) {
+            return Some(row);
+        }
+    }
+    None
+}
+
+/// The row of the key of the change at this place, if that is the last one of the key among the
+/// first so many of the list, and writes it.
+fn row_left<'a>(list: &[Change<'a>], place: usize, point: u64) -> Option<(&'a str, &'a str)> {
+    let change = list.get(place)?;
+    let is_last = match list.get(place.wrapping_add(1)) {
+        Some(next) => next.point > point || next.key != change.key,
+        None => true,
+    };
+    let is_row = is_last && change.point <= point && change.act.writes_row();
+    is_row.then_some((change.key, change.value))
 }

@@ -1,11 +1,11 @@
 //! A naive reading of what a legal report is. It takes texts and knows nothing of the program: no
 //! parser, no map and no printing of its crates. Keys and values have to be plain, without escapes.
 
-use crate::asked::{Index, Line, read_lane, read_schema};
+use crate::asked::{read_lanes, read_schema};
 use crate::changes::Change;
-use crate::history::History;
+use crate::history::replay;
 use crate::told::{Report, read_report};
-use crate::verdict::{Evidence, check_changes, rows_written};
+use crate::verdict::{Evidence, check_changes};
 use std::alloc::{AllocError, AllocFailed, Global};
 use std::str;
 
@@ -23,7 +23,7 @@ pub const LIMITS: Limits = Limits {
 };
 
 /// Why a report isn't legal. Lines, lanes and changes are counted from 1, indexes from 0.
-#[derive(Clone, Copy, PartialEq, Eq, Debug)]
+#[derive(Clone, Copy, PartialEq)]
 pub enum Lie {
     /// Memory lacked, and nothing is said of the report.
     NoMemory,
@@ -72,53 +72,33 @@ pub fn judge_within<'a>(
     };
     let indexes = read_schema(alloc, schema)?;
     let asked = read_lanes(alloc, &indexes, lanes)?;
-    let told = read_report(alloc, &indexes, &asked, text)?;
-    check_report(alloc, limits, &told)
+    let mut report = read_report(alloc, &indexes, &asked, text)?;
+    check_report(alloc, limits, &mut report)
 }
 
-fn check_report(alloc: Global, limits: Limits, told: &Report<'_>) -> Result<(), Lie> {
-    check_changes(told)?;
-    let histories = replay_all(alloc, &told.lists)?;
-    check_lanes(alloc, limits, told, &histories)
+fn check_report(alloc: Global, limits: Limits, report: &mut Report<'_>) -> Result<(), Lie> {
+    check_changes(&report.lanes, &report.lists)?;
+    replay_all(&mut report.lists)?;
+    check_lanes(alloc, limits, report)
 }
 
-/// The lines of each lane that say something.
-pub fn read_lanes<'a>(
-    alloc: Global,
-    indexes: &[Index<'_>],
-    lanes: &[&'a str],
-) -> Result<Vec<Vec<Line<'a>>>, Lie> {
-    let mut asked = Vec::new(alloc);
-    for (place, text) in lanes.iter().enumerate() {
-        asked.push(read_lane(alloc, indexes, place.wrapping_add(1), text)?)?;
+/// Replays the list of each index.
+fn replay_all(lists: &mut Vec<Vec<Change<'_>>>) -> Result<(), Lie> {
+    for (index, list) in lists.iter_mut().enumerate() {
+        replay(index, list)?;
     }
-    Ok(asked)
+    Ok(())
 }
 
-fn replay_all<'a>(alloc: Global, lists: &[Vec<Change<'a>>]) -> Result<Vec<History<'a>>, Lie> {
-    let mut histories = Vec::new(alloc);
-    for (index, list) in lists.iter().enumerate() {
-        histories.push(History::replay(alloc, index, list)?)?;
-    }
-    Ok(histories)
-}
-
-fn check_lanes<'r, 'a>(
-    alloc: Global,
-    limits: Limits,
-    report: &'r Report<'a>,
-    histories: &'r [History<'a>],
-) -> Result<(), Lie> {
-    let pages_are_few = limits.pages <= pages_taken(report);
+/// Each answer is one that its lane may be told where the lists are replayed.
+fn check_lanes(alloc: Global, limits: Limits, report: &Report<'_>) -> Result<(), Lie> {
+    let evidence = Evidence {
+        pages_are_few: limits.pages <= pages_taken(report),
+        most_changes: limits.changes,
+        lists: &report.lists,
+    };
     for (place, answers) in report.lanes.iter().enumerate() {
-        let evidence = Evidence {
-            most_changes: limits.changes,
-            pages_are_few,
-            lane: place.wrapping_add(1),
-            lists: &report.lists,
-            histories,
-        };
-        evidence.check_lane(alloc, answers)?;
+        evidence.check_lane(alloc, place.wrapping_add(1), answers)?;
     }
     Ok(())
 }
@@ -132,4 +112,23 @@ fn pages_taken(report: &Report<'_>) -> u64 {
         .wrapping_add(rows_written(&report.lists))
         .wrapping_mul(2)
         .wrapping_add(lanes)
+}
+
+/// How many rows the lists write: their puts and sets.
+fn rows_written(lists: &[Vec<Change<'_>>]) -> u64 {
+    let mut rows: u64 = 0;
+    for list in lists {
+        rows = rows.wrapping_add(rows_of(list));
+    }
+    rows
+}
+
+fn rows_of(list: &[Change<'_>]) -> u64 {
+    let mut rows: u64 = 0;
+    for change in list {
+        if change.act.writes_row() {
+            rows = rows.wrapping_add(1);
+        }
+    }
+    rows
 }

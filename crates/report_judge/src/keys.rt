@@ -1,41 +1,6 @@
 //! The order of keys: field by field, and fields byte by byte.
 use std::cmp::Ordering;
 
-/// Which row a seek asks for, by its tuple.
-#[derive(Clone, Copy, PartialEq, Eq)]
-pub enum Reach {
-    /// The first that isn't below it.
-    From,
-    /// The first that is above it.
-    Past,
-    /// The last that isn't above it.
-    UpTo,
-    /// The last that is below it.
-    Before,
-}
-
-/// The reach of a mode's word.
-pub(crate) fn reach_of(word: &str) -> Option<Reach> {
-    match word {
-        "ge" => Some(Reach::From),
-        "g" => Some(Reach::Past),
-        "le" => Some(Reach::UpTo),
-        "l" => Some(Reach::Before),
-        _ => None,
-    }
-}
-
-impl Reach {
-    /// Whether the key stands before the cut that the seek makes: below its tuple, or not above it.
-    pub(crate) fn cuts_off(self, tuple: &str, key: &str) -> bool {
-        let order = compare_fields(tuple, key);
-        match self {
-            Reach::From | Reach::Before => order.is_gt(),
-            Reach::Past | Reach::UpTo => order.is_ge(),
-        }
-    }
-}
-
 /// How a tuple stands to a key. Where it has fewer fields, the others of the key don't count.
 pub(crate) fn compare_fields(tuple: &str, key: &str) -> Ordering {
     let mut fields = key.split(',');
@@ -55,4 +20,33 @@ fn bytes_of(field: &str) -> &[u8] {
         "~" => &[],
         _ => field.as_bytes(),
     }
+}
+
+/// How many fields a key or a tuple has, if each is plain.
+pub(crate) fn count_fields(key: &str) -> Option<u64> {
+    let mut count: u64 = 0;
+    for field in key.split(',') {
+        count = count.wrapping_add(1);
+        if !is_plain(field) {
+            return None;
+        }
+    }
+    Some(count)
+}
+
+/// Whether this is a field or a value that is printed as it stands.
+pub(crate) fn is_plain(field: &str) -> bool {
+    if field == "~" {
+        return true;
+    }
+    for byte in field.as_bytes() {
+        if !is_plain_byte(*byte) {
+            return false;
+        }
+    }
+    !field.is_empty()
+}
+
+fn is_plain_byte(byte: u8) -> bool {
+    byte > b' ' && byte < b'~' && byte != b'%' && byte != b','
 }

@@ -2,6 +2,7 @@
 //! the program: no parser, no map and no printing of its crates.
 #![tactic(auto)]
 
+mod acts;
 mod answers;
 mod asked;
 mod changes;
@@ -14,8 +15,8 @@ mod told;
 mod verdict;
 mod words;
 
-pub use asked::{Act, Index, Line, read_schema};
+pub use acts::{Act, Reach};
+pub use asked::{Index, Line, read_lanes, read_schema};
 pub use columns::{COUNTED, COUNTS};
 pub use drawn::{draw, lane_text, lane_texts, schema_text, seek_lane_text, slices_of};
-pub use judging::{LIMITS, Lie, Limits, judge, judge_within, read_lanes};
-pub use keys::Reach;
+pub use judging::{LIMITS, Lie, Limits, judge, judge_within};

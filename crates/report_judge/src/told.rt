@@ -24,14 +24,12 @@ pub(crate) fn read_report<'a>(
     reader.expect_line("ahi run")?;
     let lanes = read_lanes(alloc, &mut reader, asked)?;
     let lists = read_lists(alloc, &mut reader, indexes)?;
-    read_statistics(alloc, &mut reader, indexes, &lanes)?;
-    reader.expect_line("end")?;
-    reader.expect_end()?;
+    read_end(alloc, &mut reader, indexes, &lanes)?;
     Ok(Report { lanes, lists })
 }
 
-/// The lines that count the columns of the lanes' answers, one of each index.
-fn read_statistics(
+/// The lines that count the columns of the lanes' answers, one of each index, and the last line.
+fn read_end(
     alloc: Global,
     reader: &mut Reader<'_>,
     indexes: &[Index<'_>],
@@ -41,5 +39,6 @@ fn read_statistics(
         let line = statistics_of(alloc, index.name, place, lanes)?;
         reader.expect_line(line.as_str())?;
     }
-    Ok(())
+    reader.expect_line("end")?;
+    reader.expect_end()
 }

@@ -1,15 +1,5 @@
 //! Texts taken apart: lines, words and numbers.
 use crate::judging::Lie;
-use std::alloc::{AllocError, Global};
-
-/// What stands between single spaces.
-pub(crate) fn words_of<'a>(alloc: Global, line: &'a str) -> Result<Vec<&'a str>, AllocError> {
-    let mut words = Vec::new(alloc);
-    for word in line.split(' ') {
-        words.push(word)?;
-    }
-    Ok(words)
-}
 
 /// The number that a word spells in its one way.
 pub(crate) fn number_of(word: &str) -> Option<u64> {
@@ -19,9 +9,14 @@ pub(crate) fn number_of(word: &str) -> Option<u64> {
     word.parse::<u64>().ok()
 }
 
-/// The number of the lane whose answers begin with a line.
-fn lane_of(line: &str) -> Option<u64> {
-    number_of(line.strip_prefix("lane ")?)
+/// Whether a word is one of these.
+pub(crate) fn is_among(word: &str, words: &[&str]) -> bool {
+    for one in words {
+        if *one == word {
+            return true;
+        }
+    }
+    false
 }
 
 /// What is left of a report, and how many of its lines were taken.
@@ -44,46 +39,27 @@ impl<'a> Reader<'a> {
         Lie::Form { line: self.line }
     }
 
-    pub(crate) fn take_line(&mut self) -> Result<&'a str, Lie> {
+    /// The next line. Where none is left that ends, it is empty, as none of a report is.
+    pub(crate) fn take_line(&mut self) -> &'a str {
+        let (line, rest) = self.rest.split_once('\n').unwrap_or(("", ""));
+        self.rest = rest;
         self.line = self.line.wrapping_add(1);
-        match self.rest.split_once('\n') {
-            Some((line, rest)) => {
-                self.rest = rest;
-                Ok(line)
-            }
-            None => Err(self.lie()),
-        }
+        line
     }
 
-    /// The words of the next line.
-    pub(crate) fn take_words(&mut self, alloc: Global) -> Result<Vec<&'a str>, Lie> {
-        let line = self.take_line()?;
-        Ok(words_of(alloc, line)?)
-    }
-
-    /// The line with which the answers of this lane begin.
-    pub(crate) fn expect_lane(&mut self, lane: u64) -> Result<(), Lie> {
-        if lane_of(self.take_line()?) == Some(lane) {
-            Ok(())
-        } else {
-            Err(self.lie())
-        }
-    }
-
+    /// Takes the next line, which is this one.
     pub(crate) fn expect_line(&mut self, wanted: &str) -> Result<(), Lie> {
-        if self.take_line()? == wanted {
-            Ok(())
-        } else {
-            Err(self.lie())
-        }
+        let line = self.take_line();
+        self.expect(line == wanted)
     }
 
     /// That nothing is left.
     pub(crate) fn expect_end(&self) -> Result<(), Lie> {
-        if self.rest.is_empty() {
-            Ok(())
-        } else {
-            Err(self.lie())
-        }
+        self.expect(self.rest.is_empty())
+    }
+
+    /// That the line taken last may stand there.
+    pub(crate) fn expect(&self, may_stand: bool) -> Result<(), Lie> {
+        if may_stand { Ok(()) } else { Err(self.lie()) }
     }
 }

@@ -131,8 +131,10 @@ pub(crate) fn deal_out<R: AllocGlobal + Abort>(
 
 /// The same of the lanes' texts.
 fn dealt_report<R: AllocGlobal + Abort>(rt: &R, schema: &str, lanes: &[&str], seed: u64) -> String {
-    let indexes = read_schema(rt.alloc(), schema).expect(rt, "a schema");
-    let asked = read_lanes(rt.alloc(), &indexes, lanes).expect(rt, "lanes");
+    let indexes = read_schema(rt.alloc(), schema).ok().expect(rt, "a schema");
+    let asked = read_lanes(rt.alloc(), &indexes, lanes)
+        .ok()
+        .expect(rt, "lanes");
     deal_out(rt, &indexes, &asked, seed)
 }
 

@@ -214,8 +214,8 @@ impl Texts {
         let value = self.values.get(asked.value as usize)?.as_str();
         let act = match asked.act {
             0 => Act::Get,
-            1 => Act::Put(value),
-            2 => Act::Set(value),
+            1 => Act::Put,
+            2 => Act::Set,
             _ => Act::Del,
         };
         Some(Line {
@@ -223,6 +223,7 @@ impl Texts {
             index,
             act,
             key,
+            value,
         })
     }
 }

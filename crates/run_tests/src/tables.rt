@@ -72,15 +72,15 @@ impl<'a> Table<'a> {
 
     /// Makes the change that the line asks for where the rows allow it, and gives what it is told.
     fn change<R: Abort>(&mut self, rt: &R, lane: usize, line: &Line<'a>) -> &'static str {
-        let is_put = matches!(line.act, Act::Put(_));
+        let is_put = matches!(line.act, Act::Put);
         if self.rows.get(line.key).is_some() == is_put {
             return if is_put { "duplicate" } else { "absent" };
         }
         self.count = self.count.wrapping_add(1);
         write!(self.list, "{} {lane} {} ", self.count, line.number).expect(rt, MEMORY);
         match line.act {
-            Act::Put(value) => self.write(rt, "put", line.key, value),
-            Act::Set(value) => self.write(rt, "set", line.key, value),
+            Act::Put => self.write(rt, "put", line.key, line.value),
+            Act::Set => self.write(rt, "set", line.key, line.value),
             _ => self.remove(rt, line.key),
         }
         "ok"
