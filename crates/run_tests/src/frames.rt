@@ -2,7 +2,6 @@
 use crate::rows::{Look, Numbers, puts_and_gets};
 use crate::setup::{LANE, MEMORY, SCHEMA, legal_within};
 use crate::trees::counted;
-use io_port::MemorySink;
 use report_judge::{LIMITS, Limits, slices_of};
 use std::process::Abort;
 use std::sync::Wait;
@@ -14,7 +13,7 @@ fn report_under<R: AllocGlobal + Abort + Threads + Wait + Sync>(
     blocks: u64,
     pages: u64,
     lanes: &[&str],
-) -> MemorySink {
+) -> String {
     let sizes = format!(in rt.alloc(); "blocks {blocks}\npages {pages}\n").expect(rt, MEMORY);
     let limits = Limits { pages, ..LIMITS };
     legal_within(rt, limits, sizes.as_str(), SCHEMA, lanes)
@@ -35,7 +34,7 @@ fn rows_within<R: AllocGlobal + Abort + Threads + Wait + Sync>(rt: &R, pages: u6
         value: 2000,
     };
     let lane = puts_and_gets(rt, numbers, look);
-    counted(report_under(rt, 16, pages, &[lane.as_str()]).written())
+    counted(report_under(rt, 16, pages, &[lane.as_str()]).as_str())
 }
 
 /// Eight such rows fill a leaf, and four stay on the left of each split: so 499 leaves and a root
@@ -75,7 +74,7 @@ fn eight_lanes<R: AllocGlobal + Abort>(rt: &R) -> Vec<String> {
 fn changes_of_eight<R: AllocGlobal + Abort + Threads + Wait + Sync>(rt: &R) -> Option<u64> {
     let lanes = eight_lanes(rt);
     let texts = slices_of(rt.alloc(), &lanes).expect(rt, MEMORY);
-    counted(report_under(rt, 72, LIMITS.pages, &texts).written())
+    counted(report_under(rt, 72, LIMITS.pages, &texts).as_str())
 }
 
 #[test]

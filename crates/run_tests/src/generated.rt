@@ -1,29 +1,24 @@
 //! Generated lanes against plain maps: each report is the same byte for byte, but for what learning
 //! makes of it.
 use crate::dealt::deal_out;
-use crate::reading::{Asked, SCHEMA, Texts, draw_lines, lane_text};
-use crate::setup::{ROOMY, run};
+use crate::reading::{SCHEMA, lane_text, read_lines};
+use crate::setup::done;
 use crate::statistics::without_columns;
-use ahi_cli::Status;
 use report_judge::read_schema;
 use std::process::Abort;
 use std::sync::Wait;
 use std::thread::Threads;
 
-/// The report of a lane that asks this, whose run is done.
-fn run_asked<R: AllocGlobal + Abort + Threads + Wait + Sync>(rt: &R, asked: &[Asked]) -> String {
-    let lane = lane_text(rt, asked);
-    let (status, sink) = run(rt, SCHEMA, &[lane.as_str()], ROOMY);
-    assert!(rt; status == Status::Done);
-    without_columns(rt, sink.written())
+/// What is reported of a lane, without columns and statistics.
+fn told_of<R: AllocGlobal + Abort + Threads + Wait + Sync>(rt: &R, lane: &str) -> String {
+    without_columns(rt, done(rt, SCHEMA, &[lane]).as_str())
 }
 
-/// The report of plain maps with so many keys that are asked this.
-fn deal_asked<R: AllocGlobal + Abort>(rt: &R, asked: &[Asked], keys: u64) -> String {
-    let texts = Texts::new(rt, keys);
+/// What plain maps report of a lane whose escapes are in lower case.
+fn dealt_of<R: AllocGlobal + Abort>(rt: &R, lane: &str) -> String {
     let indexes = read_schema(rt.alloc(), SCHEMA).ok().expect(rt, "a schema");
-    let report = deal_out(rt, &indexes, &[texts.read(rt, asked)], 1);
-    without_columns(rt, report.as_bytes())
+    let report = deal_out(rt, &indexes, &[read_lines(rt, lane)], 1);
+    without_columns(rt, report.as_str())
 }
 
 /// How many changes a line of a report says that an index has, if it says so.
@@ -51,9 +46,8 @@ fn is_read_alike<R: AllocGlobal + Abort + Threads + Wait + Sync>(
     keys: u64,
     changes: u64,
 ) -> bool {
-    let asked = draw_lines(rt, lines, keys);
-    let told = run_asked(rt, &asked);
-    let dealt = deal_asked(rt, &asked, keys);
+    let told = told_of(rt, lane_text(rt, lines, keys, true).as_str());
+    let dealt = dealt_of(rt, lane_text(rt, lines, keys, false).as_str());
     told.as_str() == dealt.as_str() && indexes_above(told.as_str(), changes) == 3
 }
 

@@ -1,6 +1,5 @@
 //! Drawn lanes through the program, judged by the naive reading.
 use crate::setup::{MEMORY, legal_report};
-use io_port::MemorySink;
 use report_judge::{lane_texts, schema_text, slices_of};
 use std::process::Abort;
 use std::sync::Wait;
@@ -13,7 +12,7 @@ const RUNS: u32 = 20;
 type Drawn = (u64, u64, u64, u64, u64);
 
 /// The legal report of drawn lanes.
-fn report_of<R: AllocGlobal + Abort + Threads + Wait + Sync>(rt: &R, drawn: Drawn) -> MemorySink {
+fn report_of<R: AllocGlobal + Abort + Threads + Wait + Sync>(rt: &R, drawn: Drawn) -> String {
     let (seed, count, lines, indexes, keys) = drawn;
     let schema = schema_text(rt.alloc(), indexes).expect(rt, MEMORY);
     let lanes = lane_texts(rt.alloc(), seed, count, lines, indexes, keys).expect(rt, MEMORY);
@@ -26,7 +25,7 @@ fn count_others<R: AllocGlobal + Abort + Threads + Wait + Sync>(rt: &R, drawn: D
     let first = report_of(rt, drawn);
     let mut others: u32 = 0;
     for _ in 1..RUNS {
-        if report_of(rt, drawn).written() != first.written() {
+        if report_of(rt, drawn).as_str() != first.as_str() {
             others = others.wrapping_add(1);
         }
     }

@@ -1,5 +1,5 @@
 //! Lanes whose searches are alike, until the hash answers them: reports byte for byte.
-use crate::setup::{MEMORY, PLAIN, ends, run};
+use crate::setup::{MEMORY, done, ends};
 use crate::statistics::add_end;
 use ahi_cli::Status;
 use std::process::Abort;
@@ -136,30 +136,20 @@ fn report_text<R: AllocGlobal + Abort>(rt: &R, case: &Case) -> String {
 fn is_reported_so<R: AllocGlobal + Abort + Threads + Wait + Sync>(rt: &R, case: &Case) -> bool {
     let lane = lane_text(rt, &case.lane);
     let report = report_text(rt, case);
-    let lanes = [lane.as_str()];
     ends(
         rt,
         case.schema,
-        &lanes,
-        PLAIN,
+        &[lane.as_str()],
         Status::Done,
         report.as_str(),
     )
 }
 
-/// The place of the first lane that is reported otherwise.
-fn other_case<R: AllocGlobal + Abort + Threads + Wait + Sync>(rt: &R) -> Option<usize> {
-    for (place, case) in CASES.iter().enumerate() {
-        if !is_reported_so(rt, case) {
-            return Some(place);
-        }
-    }
-    None
-}
-
 #[test]
 fn searches_that_are_alike_become_hits(rt: HostRuntime) {
-    assert_eq!(rt; other_case(&rt), None);
+    for case in CASES.iter() {
+        assert!(rt; is_reported_so(&rt, case));
+    }
 }
 
 /// Three keys of which one bit of a fold can't tell one from another: they are one group, and the
@@ -184,7 +174,6 @@ fn a_hash_that_errs_is_told_so(rt: HostRuntime) {
     let lane = lane_text(&rt, &ALIKE);
     let mut end = String::new(rt.alloc());
     add_end(&rt, &mut end, &ALIKE_COUNTED);
-    let (status, sink) = run(&rt, "fold_bits 1\nindex t 1\n", &[lane.as_str()], PLAIN);
-    assert!(rt; status == Status::Done);
-    assert!(rt; sink.written().ends_with(end.as_bytes()));
+    let report = done(&rt, "fold_bits 1\nindex t 1\n", &[lane.as_str()]);
+    assert!(rt; report.ends_with(end.as_str()));
 }

@@ -1,7 +1,7 @@
 //! How long files, keys, values and lanes may be.
-use crate::reported::{is_reported, report_of};
+use crate::reported::is_reported;
 use crate::rows::bytes_of;
-use crate::setup::{MEMORY, PLAIN, SCHEMA, ends, legal_report};
+use crate::setup::{MEMORY, SCHEMA, ends, legal_report};
 use ahi_cli::Status;
 use std::process::Abort;
 use std::sync::Wait;
@@ -18,9 +18,7 @@ fn long_comment<R: AllocGlobal + Abort>(rt: &R) -> String {
 #[test]
 fn files_have_64_mib_together(rt: HostRuntime) {
     let comment = long_comment(&rt);
-    let report = report_of(&rt, "changes t 0\n");
-    let lanes = [comment.as_str()];
-    assert!(rt; ends(&rt, SCHEMA, &lanes, PLAIN, Status::Done, report.as_str()));
+    assert!(rt; is_reported(&rt, SCHEMA, comment.as_str(), "changes t 0\n"));
 }
 
 /// Whether these lanes are too long at a file.
@@ -29,7 +27,7 @@ fn are_too_long<R: AllocGlobal + Abort + Threads + Wait + Sync>(
     lanes: &[&str],
     text: &str,
 ) -> bool {
-    ends(rt, SCHEMA, lanes, PLAIN, Status::TooLarge, text)
+    ends(rt, SCHEMA, lanes, Status::TooLarge, text)
 }
 
 #[test]
@@ -65,8 +63,13 @@ fn is_too_long<R: AllocGlobal + Abort + Threads + Wait + Sync>(
     value: usize,
 ) -> bool {
     let (lane, _) = row_lines(rt, key, value);
-    let lanes = [lane.as_str()];
-    ends(rt, SCHEMA, &lanes, PLAIN, Status::Script, "script 1 1 3\n")
+    ends(
+        rt,
+        SCHEMA,
+        &[lane.as_str()],
+        Status::Script,
+        "script 1 1 3\n",
+    )
 }
 
 #[test]

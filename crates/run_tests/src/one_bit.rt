@@ -1,8 +1,7 @@
 //! A thousand searches where a fold has one bit: the hash errs again and again, and each answer is
 //! right.
-use crate::setup::{MEMORY, ROOMY, run};
-use crate::statistics::{count_in, without_columns};
-use ahi_cli::Status;
+use crate::setup::{MEMORY, done};
+use crate::statistics::{is_counted, without_columns};
 use std::process::Abort;
 
 const SCHEMA: &str = "fold_bits 1\nindex t 1\n";
@@ -115,7 +114,7 @@ impl Asked {
         for row in 1..ROWS.wrapping_add(1) {
             let digits = digits_of(row.wrapping_mul(2));
             write!(self.lane, "put t k{digits} v{digits}\n").expect(rt, MEMORY);
-            write!(self.report, "{row} ok @{row} \n").expect(rt, MEMORY);
+            write!(self.report, "{row} ok @{row}\n").expect(rt, MEMORY);
         }
         self.lines = ROWS;
     }
@@ -126,7 +125,7 @@ impl Asked {
         write!(self.lane, "{} k{}\n", way.words(), digits_of(number)).expect(rt, MEMORY);
         write!(self.report, "{} ", self.lines).expect(rt, MEMORY);
         add_told(rt, &mut self.report, way, way.sought(number));
-        write!(self.report, " @{ROWS} \n").expect(rt, MEMORY);
+        write!(self.report, " @{ROWS}\n").expect(rt, MEMORY);
     }
 
     fn search_all<R: Abort>(&mut self, rt: &R, searches: &Searches) {
@@ -185,9 +184,8 @@ fn puts_and_searches<R: AllocGlobal + Abort>(rt: &R) -> Asked {
 #[test]
 fn a_thousand_searches_are_right_where_the_hash_errs(rt: HostRuntime) {
     let asked = puts_and_searches(&rt);
-    let (status, sink) = run(&rt, SCHEMA, &[asked.lane.as_str()], ROOMY);
-    let plain = without_columns(&rt, sink.written());
-    assert!(rt; status == Status::Done && plain.as_str() == asked.report.as_str());
-    assert!(rt; count_in(sink.written(), "hit") > Some(0));
-    assert!(rt; count_in(sink.written(), "unequal") > Some(0));
+    let report = done(&rt, SCHEMA, &[asked.lane.as_str()]);
+    let plain = without_columns(&rt, report.as_str());
+    assert!(rt; plain.as_str() == asked.report.as_str());
+    assert!(rt; is_counted(report.as_str(), "hit") && is_counted(report.as_str(), "unequal"));
 }

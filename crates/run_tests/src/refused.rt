@@ -1,9 +1,6 @@
 //! Refusals, with their statuses and lines.
-use crate::setup::{LANE, PLAIN, SCHEMA, Setup, USAGE, ends, run_given, strings};
+use crate::setup::{Faults, LANE, USAGE, is_end, run_failing, run_given};
 use ahi_cli::Status;
-use std::process::Abort;
-use std::sync::Wait;
-use std::thread::Threads;
 
 const GET: &str = "get t a\n";
 
@@ -60,24 +57,15 @@ const REFUSED: [(&[&str], Option<u64>, Option<u64>, Status, &str); 12] = [
     ),
 ];
 
-/// The place of the first lanes that are refused otherwise.
-fn other_refusal<R: AllocGlobal + Abort + Threads + Wait + Sync>(rt: &R) -> Option<usize> {
-    for (place, (lanes, failing_load, failing_put, status, text)) in REFUSED.iter().enumerate() {
-        let setup = Setup {
-            failing_load: *failing_load,
-            failing_put: *failing_put,
-            ..PLAIN
-        };
-        if !ends(rt, SCHEMA, lanes, setup, *status, text) {
-            return Some(place);
-        }
-    }
-    None
-}
-
 #[test]
 fn each_refusal_is_told(rt: HostRuntime) {
-    assert_eq!(rt; other_refusal(&rt), None);
+    for (lanes, load, put, status, text) in REFUSED.iter() {
+        let faults = Faults {
+            load: *load,
+            put: *put,
+        };
+        assert!(rt; is_end(&run_failing(&rt, lanes, faults), *status, text));
+    }
 }
 
 /// Words where a schema `s` and one lane `l1` are held, the status, and what is written.
@@ -91,29 +79,9 @@ const WORDS: [(&[&str], Status, &str); 7] = [
     (&["Run", "s", "l1"], Status::Usage, USAGE),
 ];
 
-/// Whether a run of these words ends so, and writes this.
-fn ends_given<R: AllocGlobal + Abort + Threads + Wait + Sync>(
-    rt: &R,
-    words: &[&str],
-    status: Status,
-    text: &str,
-) -> bool {
-    let words = strings(rt, words);
-    let (ended, sink) = run_given(rt, &words, SCHEMA, &[LANE], PLAIN, &mut None);
-    ended == status && sink.written() == text.as_bytes()
-}
-
-/// The place of the first words that are judged otherwise.
-fn other_words<R: AllocGlobal + Abort + Threads + Wait + Sync>(rt: &R) -> Option<usize> {
-    for (place, (words, status, text)) in WORDS.iter().enumerate() {
-        if !ends_given(rt, words, *status, text) {
-            return Some(place);
-        }
-    }
-    None
-}
-
 #[test]
 fn words_are_judged_first(rt: HostRuntime) {
-    assert_eq!(rt; other_words(&rt), None);
+    for (words, status, text) in WORDS.iter() {
+        assert!(rt; is_end(&run_given(&rt, words), *status, text));
+    }
 }

@@ -1,5 +1,5 @@
 //! Reports byte for byte.
-use crate::setup::{LANE, MEMORY, PLAIN, SCHEMA, Setup, ends, run};
+use crate::setup::{Faults, LANE, MEMORY, SCHEMA, done, ends, run_failing};
 use crate::statistics::add_end;
 use ahi_cli::Status;
 use std::process::Abort;
@@ -65,65 +65,42 @@ pub(crate) fn is_reported<R: AllocGlobal + Abort + Threads + Wait + Sync>(
     middle: &str,
 ) -> bool {
     let report = report_of(rt, middle);
-    ends(rt, schema, &[lane], PLAIN, Status::Done, report.as_str())
-}
-
-/// The place of the first lane that is reported otherwise.
-fn other_report<R: AllocGlobal + Abort + Threads + Wait + Sync>(rt: &R) -> Option<usize> {
-    for (place, (schema, lane, middle)) in REPORTS.iter().enumerate() {
-        if !is_reported(rt, schema, lane, middle) {
-            return Some(place);
-        }
-    }
-    None
+    ends(rt, schema, &[lane], Status::Done, report.as_str())
 }
 
 #[test]
 fn lanes_are_reported_byte_for_byte(rt: HostRuntime) {
-    assert_eq!(rt; other_report(&rt), None);
+    for (schema, lane, middle) in REPORTS.iter() {
+        assert!(rt; is_reported(&rt, schema, lane, middle));
+    }
 }
 
-/// How many bytes the first lines of a text have.
-fn length_of_lines(text: &[u8], lines: u64) -> usize {
-    let mut left = lines;
-    for (i, byte) in text.iter().enumerate() {
-        if left == 0 {
-            return i;
-        }
-        if *byte == b'\n' {
-            left -= 1;
-        }
-    }
-    text.len()
+/// How many lines a text has, if the last one ends.
+fn count_lines(text: &str) -> Option<usize> {
+    let is_whole = text.is_empty() || text.ends_with('\n');
+    is_whole.then_some(text.split('\n').count().wrapping_sub(1))
 }
 
 /// Whether a sink that fails at this put has the lines before it.
 fn has_lines_before<R: AllocGlobal + Abort + Threads + Wait + Sync>(
     rt: &R,
-    whole: &[u8],
+    whole: &str,
     put: u64,
 ) -> bool {
-    let setup = Setup {
-        failing_put: Some(put),
-        ..PLAIN
+    let faults = Faults {
+        load: None,
+        put: Some(put),
     };
-    let before = whole.get(..length_of_lines(whole, put)).unwrap_or(&[]);
-    let (status, sink) = run(rt, SCHEMA, &[LANE], setup);
-    status == Status::SinkFault && sink.written() == before
+    let (status, written) = run_failing(rt, &[LANE], faults);
+    let is_start = whole.starts_with(written.as_str());
+    status == Status::SinkFault && is_start && count_lines(written.as_str()) == Some(put as usize)
 }
 
-/// The first of the puts of a report at which a sink that fails has other lines.
-fn other_put<R: AllocGlobal + Abort + Threads + Wait + Sync>(rt: &R, whole: &[u8]) -> Option<u64> {
-    for put in 0..11 {
-        if !has_lines_before(rt, whole, put) {
-            return Some(put);
-        }
-    }
-    None
-}
-
+/// The report has eleven lines.
 #[test]
 fn a_sink_that_fails_has_the_lines_before(rt: HostRuntime) {
-    let (_, whole) = run(&rt, SCHEMA, &[LANE], PLAIN);
-    assert_eq!(rt; other_put(&rt, whole.written()), None);
+    let whole = done(&rt, SCHEMA, &[LANE]);
+    for put in 0..11 {
+        assert!(rt; has_lines_before(&rt, whole.as_str(), put));
+    }
 }

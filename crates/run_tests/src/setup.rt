@@ -5,6 +5,7 @@ use lanes::{Gate, NoGate};
 use report_judge::{LIMITS, Limits, judge_within};
 use std::alloc::Global;
 use std::process::Abort;
+use std::str;
 use std::sync::Wait;
 use std::thread::Threads;
 
@@ -20,89 +21,136 @@ pub(crate) const LANE: &str = "put t a x\nget t a\ndel t a\nget t a\n";
 pub(crate) const USAGE: &str =
     "usage: ahi run SCHEMA LANE.. | ahi page FILE | ahi gen NUMBER LANES LINES\n";
 
-/// What a run meets. The load and the put that are to fail are counted from 0.
+/// How many bytes of a report there is room for.
+const ROOM: usize = 80_000_000;
+
+/// The load and the put of a run that are to fail, counted from 0.
 #[derive(Clone, Copy)]
-pub(crate) struct Setup<'a, G> {
-    pub(crate) failing_load: Option<u64>,
-    pub(crate) failing_put: Option<u64>,
-    pub(crate) room: usize,
-    pub(crate) gate: &'a G,
+pub(crate) struct Faults {
+    pub(crate) load: Option<u64>,
+    pub(crate) put: Option<u64>,
 }
 
-/// Nothing fails, no lane waits, and there is room for a short report.
-pub(crate) const PLAIN: Setup<'static, NoGate> = Setup {
-    failing_load: None,
-    failing_put: None,
-    room: 32_768,
-    gate: &NoGate,
+pub(crate) const NO_FAULTS: Faults = Faults {
+    load: None,
+    put: None,
 };
 
-/// There is room for a long report.
-pub(crate) const ROOMY: Setup<'static, NoGate> = Setup {
-    failing_load: None,
-    failing_put: None,
-    room: 80_000_000,
-    gate: &NoGate,
-};
+/// How a run ends, and what it writes.
+pub(crate) type Ended = (Status, String);
 
-/// The lanes ask this gate.
-pub(crate) fn at_gate<G>(gate: &G) -> Setup<'_, G> {
-    Setup {
-        failing_load: None,
-        failing_put: None,
-        room: PLAIN.room,
-        gate,
-    }
-}
-
-/// How a run of a schema and lanes ends, and what it writes.
-pub(crate) fn run<R: AllocGlobal + Abort + Threads + Wait + Sync, G: Gate + Sync>(
+/// How a run of a schema and lanes ends.
+pub(crate) fn run<R: AllocGlobal + Abort + Threads + Wait + Sync>(
     rt: &R,
     schema: &str,
     lanes: &[&str],
-    setup: Setup<'_, G>,
-) -> (Status, MemorySink) {
-    run_leaving(rt, schema, lanes, setup, &mut None)
+) -> Ended {
+    run_at(rt, &NoGate, schema, lanes)
+}
+
+/// The same of lanes that ask this gate.
+pub(crate) fn run_at<R: AllocGlobal + Abort + Threads + Wait + Sync, G: Gate + Sync>(
+    rt: &R,
+    gate: &G,
+    schema: &str,
+    lanes: &[&str],
+) -> Ended {
+    let words = run_line(rt, lanes.len());
+    run_words_at(rt, gate, &words, schema, lanes, NO_FAULTS)
+}
+
+/// How a run of these lanes ends that meets these faults.
+pub(crate) fn run_failing<R: AllocGlobal + Abort + Threads + Wait + Sync>(
+    rt: &R,
+    lanes: &[&str],
+    faults: Faults,
+) -> Ended {
+    let words = run_line(rt, lanes.len());
+    run_words_at(rt, &NoGate, &words, SCHEMA, lanes, faults)
 }
 
 /// The same of lanes that leave their pass.
-pub(crate) fn run_leaving<R: AllocGlobal + Abort + Threads + Wait + Sync, G: Gate + Sync>(
+pub(crate) fn run_leaving<R: AllocGlobal + Abort + Threads + Wait + Sync>(
     rt: &R,
-    schema: &str,
     lanes: &[&str],
-    setup: Setup<'_, G>,
+    faults: Faults,
     trail: &mut Option<EnginePass>,
-) -> (Status, MemorySink) {
+) -> Ended {
     let words = run_line(rt, lanes.len());
-    run_given(rt, &words, schema, lanes, setup, trail)
+    run_whole(rt, &NoGate, &words, SCHEMA, lanes, faults, trail)
 }
 
-/// The same of these words, where a schema and lanes are held.
-pub(crate) fn run_given<R: AllocGlobal + Abort + Threads + Wait + Sync, G: Gate + Sync>(
+/// How a run of these words ends, where a schema `s` and a lane `l1` are held.
+pub(crate) fn run_given<R: AllocGlobal + Abort + Threads + Wait + Sync>(
     rt: &R,
+    words: &[&str],
+) -> Ended {
+    let words = strings(rt, words);
+    run_words_at(rt, &NoGate, &words, SCHEMA, &[LANE], NO_FAULTS)
+}
+
+/// How a run of these words ends, where a schema and lanes are held.
+fn run_words_at<R: AllocGlobal + Abort + Threads + Wait + Sync, G: Gate + Sync>(
+    rt: &R,
+    gate: &G,
     words: &[String],
     schema: &str,
     lanes: &[&str],
-    setup: Setup<'_, G>,
-    trail: &mut Option<EnginePass>,
-) -> (Status, MemorySink) {
-    let mut shelf = shelf_of(rt, schema, lanes, setup.failing_load);
-    let mut sink = sink_of(rt, setup.room, setup.failing_put);
-    let status = run_words(rt, rt, words, &mut shelf, &mut sink, setup.gate, trail);
-    (status, sink)
+    faults: Faults,
+) -> Ended {
+    run_whole(rt, gate, words, schema, lanes, faults, &mut None)
 }
 
-/// Whether a run ends so, and writes this.
-pub(crate) fn ends<R: AllocGlobal + Abort + Threads + Wait + Sync, G: Gate + Sync>(
+/// The same of lanes that leave their pass.
+fn run_whole<R: AllocGlobal + Abort + Threads + Wait + Sync, G: Gate + Sync>(
+    rt: &R,
+    gate: &G,
+    words: &[String],
+    schema: &str,
+    lanes: &[&str],
+    faults: Faults,
+    trail: &mut Option<EnginePass>,
+) -> Ended {
+    let mut shelf = shelf_of(rt, schema, lanes, faults.load);
+    let mut sink = sink_of(rt, faults.put);
+    let status = run_words(rt, rt, words, &mut shelf, &mut sink, gate, trail);
+    (status, text_of(rt, sink.written()))
+}
+
+/// A report as a text.
+fn text_of<R: AllocGlobal + Abort>(rt: &R, report: &[u8]) -> String {
+    string(rt, str::from_utf8(report).ok().expect(rt, "a text"))
+}
+
+fn sink_of<R: AllocGlobal + Abort>(rt: &R, failing_put: Option<u64>) -> MemorySink {
+    MemorySink::with_room(rt.alloc(), ROOM, listed(rt, failing_put)).expect(rt, MEMORY)
+}
+
+/// Whether a run ends with this status, and writes this.
+pub(crate) fn is_end(ended: &Ended, status: Status, text: &str) -> bool {
+    ended.0 == status && ended.1.as_str() == text
+}
+
+/// Whether a run of a schema and lanes ends so.
+pub(crate) fn ends<R: AllocGlobal + Abort + Threads + Wait + Sync>(
     rt: &R,
     schema: &str,
     lanes: &[&str],
-    setup: Setup<'_, G>,
     status: Status,
     text: &str,
 ) -> bool {
-    let (ended, sink) = run(rt, schema, lanes, setup);
-    ended == status && sink.written() == text.as_bytes()
+    is_end(&run(rt, schema, lanes), status, text)
+}
+
+/// The report of these lanes, which are done.
+pub(crate) fn done<R: AllocGlobal + Abort + Threads + Wait + Sync>(
+    rt: &R,
+    schema: &str,
+    lanes: &[&str],
+) -> String {
+    let (status, report) = run(rt, schema, lanes);
+    assert!(rt; status == Status::Done);
+    report
 }
 
 /// The report of these lanes, by a schema with sizes before its indexes: they are done, and it is
@@ -113,17 +161,16 @@ pub(crate) fn legal_within<R: AllocGlobal + Abort + Threads + Wait + Sync>(
     sizes: &str,
     schema: &str,
     lanes: &[&str],
-) -> MemorySink {
+) -> String {
     let sized = format!(in rt.alloc(); "{sizes}{schema}").expect(rt, MEMORY);
-    let (status, sink) = run(rt, sized.as_str(), lanes, ROOMY);
-    assert!(rt; status == Status::Done);
-    assert!(rt; is_legal(rt.alloc(), limits, schema, lanes, sink.written()));
-    sink
+    let report = done(rt, sized.as_str(), lanes);
+    assert!(rt; is_legal(rt.alloc(), limits, schema, lanes, report.as_str()));
+    report
 }
 
 /// Whether a report of these lanes is legal within these limits.
-fn is_legal(alloc: Global, limits: Limits, schema: &str, lanes: &[&str], report: &[u8]) -> bool {
-    judge_within(alloc, limits, schema, lanes, report) == Ok(())
+fn is_legal(alloc: Global, limits: Limits, schema: &str, lanes: &[&str], report: &str) -> bool {
+    judge_within(alloc, limits, schema, lanes, report.as_bytes()).is_ok()
 }
 
 /// The same by a schema that sets no sizes.
@@ -131,7 +178,7 @@ pub(crate) fn legal_report<R: AllocGlobal + Abort + Threads + Wait + Sync>(
     rt: &R,
     schema: &str,
     lanes: &[&str],
-) -> MemorySink {
+) -> String {
     legal_within(rt, LIMITS, "", schema, lanes)
 }
 
@@ -144,7 +191,7 @@ fn run_line<R: AllocGlobal + Abort>(rt: &R, lanes: usize) -> Vec<String> {
     words
 }
 
-pub(crate) fn strings<R: AllocGlobal + Abort>(rt: &R, texts: &[&str]) -> Vec<String> {
+fn strings<R: AllocGlobal + Abort>(rt: &R, texts: &[&str]) -> Vec<String> {
     let mut strings = Vec::new(rt.alloc());
     for text in texts {
         strings.push(string(rt, text)).expect(rt, MEMORY);
@@ -170,13 +217,15 @@ fn listed<R: AllocGlobal + Abort>(rt: &R, number: Option<u64>) -> Vec<u64> {
     numbers
 }
 
-fn sink_of<R: AllocGlobal + Abort>(rt: &R, room: usize, failing_put: Option<u64>) -> MemorySink {
-    MemorySink::with_room(rt.alloc(), room, listed(rt, failing_put)).expect(rt, MEMORY)
-}
-
-/// The file of this name and text.
-fn file<R: AllocGlobal + Abort>(rt: &R, name: String, text: &str) -> (String, Vec<u8>) {
-    (name, text.as_bytes().to_vec(rt.alloc()).expect(rt, MEMORY))
+/// Adds the file of this name and text.
+fn add_file<R: AllocGlobal + Abort>(
+    rt: &R,
+    files: &mut Vec<(String, Vec<u8>)>,
+    name: String,
+    text: &str,
+) {
+    let bytes = text.as_bytes().to_vec(rt.alloc()).expect(rt, MEMORY);
+    files.push((name, bytes)).expect(rt, MEMORY);
 }
 
 fn shelf_of<R: AllocGlobal + Abort>(
@@ -186,13 +235,9 @@ fn shelf_of<R: AllocGlobal + Abort>(
     failing_load: Option<u64>,
 ) -> MemoryShelf {
     let mut files = Vec::new(rt.alloc());
-    files
-        .push(file(rt, string(rt, "s"), schema))
-        .expect(rt, MEMORY);
+    add_file(rt, &mut files, string(rt, "s"), schema);
     for (place, lane) in lanes.iter().enumerate() {
-        files
-            .push(file(rt, lane_name(rt, place), lane))
-            .expect(rt, MEMORY);
+        add_file(rt, &mut files, lane_name(rt, place), lane);
     }
     MemoryShelf::new(files, listed(rt, failing_load))
 }

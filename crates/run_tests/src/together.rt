@@ -1,6 +1,6 @@
 //! Several lanes: how many there may be, and that they meet.
 use crate::meeting::Meeting;
-use crate::setup::{PLAIN, SCHEMA, USAGE, at_gate, ends, run};
+use crate::setup::{SCHEMA, USAGE, done, ends, run_at};
 use crate::statistics::without_columns;
 use ahi_cli::Status;
 use std::process::Abort;
@@ -14,12 +14,12 @@ const TWO_GETS: &str = "# says nothing\nget t a\nget t b\n";
 
 /// The report of two such lanes, without columns: an event of one may be overtaken by the other's.
 const REPORT_OF_TWO: &str =
-    "ahi run\nlane 1\n2 absent @0 \n3 absent @0 \nlane 2\n2 absent @0 \n3 absent @0 \nchanges t 0\nend\n\n";
+    "ahi run\nlane 1\n2 absent @0\n3 absent @0\nlane 2\n2 absent @0\n3 absent @0\nchanges t 0\nend\n\n";
 
 /// Whether two lanes that meet at this gate are reported.
 fn two_meet<R: AllocGlobal + Abort + Threads + Wait + Sync>(rt: &R, gate: &Meeting) -> bool {
-    let (status, sink) = run(rt, SCHEMA, &[TWO_GETS; 2], at_gate(gate));
-    status == Status::Done && without_columns(rt, sink.written()).as_str() == REPORT_OF_TWO
+    let (status, report) = run_at(rt, gate, SCHEMA, &[TWO_GETS; 2]);
+    status == Status::Done && without_columns(rt, report.as_str()).as_str() == REPORT_OF_TWO
 }
 
 #[test]
@@ -32,27 +32,9 @@ fn two_lanes_meet_before_each_line(rt: HostRuntime) {
 #[test]
 fn a_lane_alone_meets_none(rt: HostRuntime) {
     let gate = Meeting::new();
-    let (status, _) = run(&rt, SCHEMA, &[TWO_GETS], at_gate(&gate));
+    let (status, _) = run_at(&rt, &gate, SCHEMA, &[TWO_GETS]);
     assert!(rt; status == Status::Done);
     assert!(rt; gate.gave_up() && gate.counts() == [1, 1, 0, 0, 0]);
-}
-
-/// Whether so many lanes are refused so.
-fn are_refused<R: AllocGlobal + Abort + Threads + Wait + Sync>(
-    rt: &R,
-    count: usize,
-    status: Status,
-    text: &str,
-) -> bool {
-    let lanes = [GET; 65];
-    ends(
-        rt,
-        SCHEMA,
-        lanes.get(..count).unwrap_or(&[]),
-        PLAIN,
-        status,
-        text,
-    )
 }
 
 /// Numbers of lanes that are refused, with the status and with what is written.
@@ -63,19 +45,12 @@ const REFUSED: [(usize, Status, &str); 4] = [
     (0, Status::Usage, USAGE),
 ];
 
-/// The first of these that isn't refused so.
-fn other_count<R: AllocGlobal + Abort + Threads + Wait + Sync>(rt: &R) -> Option<usize> {
-    for (count, status, text) in REFUSED.iter() {
-        if !are_refused(rt, *count, *status, text) {
-            return Some(*count);
-        }
-    }
-    None
-}
-
 #[test]
 fn lanes_are_counted(rt: HostRuntime) {
-    assert_eq!(rt; other_count(&rt), None);
-    let (status, _) = run(&rt, SCHEMA, &[GET; 31], PLAIN);
-    assert!(rt; status == Status::Done);
+    let lanes = [GET; 65];
+    for (count, status, text) in REFUSED.iter() {
+        let some = lanes.get(..*count).unwrap_or(&[]);
+        assert!(rt; ends(&rt, SCHEMA, some, *status, text));
+    }
+    let _report = done(&rt, SCHEMA, &[GET; 31]);
 }

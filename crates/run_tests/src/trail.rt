@@ -1,5 +1,5 @@
 //! The pass that lanes leave.
-use crate::setup::{LANE, PLAIN, SCHEMA, Setup, run_leaving};
+use crate::setup::{Faults, LANE, NO_FAULTS, run_leaving};
 use ahi_cli::{EnginePass, Status};
 use script::DEFAULT_SIZES;
 use std::process::Abort;
@@ -11,15 +11,15 @@ const LANES: [&str; 3] = [LANE; 3];
 /// The pass of the three lanes, which are done, and how many lanes are reported.
 fn left<R: AllocGlobal + Abort + Threads + Wait + Sync>(rt: &R) -> (EnginePass, u32) {
     let mut trail = None;
-    let (status, sink) = run_leaving(rt, SCHEMA, &LANES, PLAIN, &mut trail);
+    let (status, report) = run_leaving(rt, &LANES, NO_FAULTS, &mut trail);
     assert!(rt; status == Status::Done);
-    (trail.expect(rt, "a pass"), count_of_lanes(sink.written()))
+    (trail.expect(rt, "a pass"), count_of_lanes(report.as_str()))
 }
 
-fn count_of_lanes(report: &[u8]) -> u32 {
+fn count_of_lanes(report: &str) -> u32 {
     let mut count: u32 = 0;
-    for line in report.split(|byte| *byte == b'\n') {
-        if line.starts_with(b"lane ") {
+    for line in report.split('\n') {
+        if line.starts_with("lane ") {
             count = count.wrapping_add(1);
         }
     }
@@ -46,32 +46,22 @@ const UNDONE: [(&[&str], Option<u64>, Option<u64>, Status); 6] = [
 fn leaves_none<R: AllocGlobal + Abort + Threads + Wait + Sync>(
     rt: &R,
     lanes: &[&str],
-    failing_load: Option<u64>,
-    failing_put: Option<u64>,
+    faults: Faults,
     status: Status,
 ) -> bool {
-    let setup = Setup {
-        failing_load,
-        failing_put,
-        ..PLAIN
-    };
     let (pass, _) = left(rt);
     let mut trail = Some(pass);
-    let (ended, _) = run_leaving(rt, SCHEMA, lanes, setup, &mut trail);
+    let (ended, _) = run_leaving(rt, lanes, faults, &mut trail);
     ended == status && trail.is_none()
-}
-
-/// The place of the first lanes that end otherwise or leave a pass.
-fn other_end<R: AllocGlobal + Abort + Threads + Wait + Sync>(rt: &R) -> Option<usize> {
-    for (place, (lanes, failing_load, failing_put, status)) in UNDONE.iter().enumerate() {
-        if !leaves_none(rt, lanes, *failing_load, *failing_put, *status) {
-            return Some(place);
-        }
-    }
-    None
 }
 
 #[test]
 fn no_pass_is_left_by_a_run_that_is_not_done(rt: HostRuntime) {
-    assert_eq!(rt; other_end(&rt), None);
+    for (lanes, load, put, status) in UNDONE.iter() {
+        let faults = Faults {
+            load: *load,
+            put: *put,
+        };
+        assert!(rt; leaves_none(&rt, lanes, faults, *status));
+    }
 }

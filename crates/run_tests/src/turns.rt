@@ -1,7 +1,7 @@
 //! A gate that looks at what the lanes have done so far, and lets their lines take turns: so each is
 //! asked before its line, and not after it.
 use crate::reported::report_of;
-use crate::setup::{SCHEMA, at_gate, ends};
+use crate::setup::{SCHEMA, is_end, run_at};
 use ahi_cli::Status;
 use lanes::Gate;
 use std::hint;
@@ -76,16 +76,7 @@ const MIDDLE: &str =
 fn the_gate_is_asked_before_each_line(rt: HostRuntime) {
     let gate = InTurns::new();
     let report = report_of(&rt, MIDDLE);
-    let lanes = [FIRST, SECOND];
-    assert!(rt;
-        ends(
-            &rt,
-            SCHEMA,
-            &lanes,
-            at_gate(&gate),
-            Status::Done,
-            report.as_str()
-        )
-    );
+    let ended = run_at(&rt, &gate, SCHEMA, &[FIRST, SECOND]);
+    assert!(rt; is_end(&ended, Status::Done, report.as_str()));
     assert!(rt; !gate.gave_up());
 }

@@ -61,6 +61,5 @@ const COLUMNS: Edits = &[
 
 #[test]
 fn a_run_of_two_lanes_is_legal(rt: HostRuntime) {
-    assert!(rt; judge_edited(&rt, &[]) == Ok(()));
-    assert!(rt; judge_edited(&rt, COLUMNS) == Ok(()));
+    assert!(rt; judge_edited(&rt, &[]).is_ok() && judge_edited(&rt, COLUMNS).is_ok());
 }

@@ -2,7 +2,6 @@
 use crate::judging::by_hand::{Edits, SCHEMA, judge_edited};
 use report_judge::{Lie, judge};
 use std::alloc::Global;
-use std::process::Abort;
 
 /// Edits of the report, and the line that isn't in its form then.
 const FORMS: [(Edits, u64); 19] = [
@@ -33,19 +32,11 @@ const FORMS: [(Edits, u64); 19] = [
     (&[("end\n", "end\nend\n")], 26),
 ];
 
-/// The place of the first edits with which another line isn't in its form.
-fn other_form<R: AllocGlobal + Abort>(rt: &R) -> Option<usize> {
-    for (place, (edits, line)) in FORMS.iter().enumerate() {
-        if judge_edited(rt, edits) != Err(Lie::Form { line: *line }) {
-            return Some(place);
-        }
-    }
-    None
-}
-
 #[test]
 fn a_report_has_its_form(rt: HostRuntime) {
-    assert_eq!(rt; other_form(&rt), None);
+    for (edits, line) in FORMS.iter() {
+        assert!(rt; judge_edited(&rt, edits) == Err(Lie::Form { line: *line }));
+    }
 }
 
 /// How some bytes are judged as the report of one lane.
@@ -70,21 +61,13 @@ const ASKED: [(&str, &str, usize, u64); 7] = [
     (SCHEMA, "del t\n", 1, 1),
 ];
 
-/// The place of the first schema and lane that are read otherwise.
-fn other_asked(alloc: Global) -> Option<usize> {
-    for (place, (schema, lane, file, line)) in ASKED.iter().enumerate() {
+#[test]
+fn what_is_asked_is_plain(rt: HostRuntime) {
+    for (schema, lane, file, line) in ASKED.iter() {
         let lie = Lie::Asked {
             file: *file,
             line: *line,
         };
-        if judge_bytes(alloc, schema, lane, b"") != Err(lie) {
-            return Some(place);
-        }
+        assert!(rt; judge_bytes(rt.alloc(), schema, lane, b"") == Err(lie));
     }
-    None
-}
-
-#[test]
-fn what_is_asked_is_plain(rt: HostRuntime) {
-    assert_eq!(rt; other_asked(rt.alloc()), None);
 }

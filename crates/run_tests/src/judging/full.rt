@@ -33,119 +33,73 @@ fn report_of<R: AllocGlobal + Abort>(rt: &R, line: usize, other: &str) -> String
     report
 }
 
-/// The line that is told something else, this, the most changes, the pages, and how it is judged.
-type Told = (usize, &'static str, u64, u64, Result<(), Lie>);
+/// The line that is told something else, this, the most changes, the pages, and the line whose answer
+/// is wrong then, if one is.
+type Told = (usize, &'static str, u64, u64, Option<u64>);
 
 const MANY: u64 = LIMITS.pages;
 
-const TOLD: [Told; 10] = [
-    (0, "", 2, MANY, Ok(())),
-    (0, "", 3, MANY, Err(Lie::Wrong { lane: 1, line: 3 })),
-    (
-        0,
-        "",
-        LIMITS.changes,
-        MANY,
-        Err(Lie::Wrong { lane: 1, line: 3 }),
-    ),
-    (
-        3,
-        "3 log-full 3",
-        2,
-        MANY,
-        Err(Lie::Wrong { lane: 1, line: 3 }),
-    ),
-    (
-        3,
-        "3 log-full 1",
-        2,
-        MANY,
-        Err(Lie::Back { lane: 1, line: 3 }),
-    ),
-    (
-        3,
-        "3 absent @2",
-        2,
-        MANY,
-        Err(Lie::Wrong { lane: 1, line: 3 }),
-    ),
-    (
-        4,
-        "4 absent @2",
-        2,
-        MANY,
-        Err(Lie::Wrong { lane: 1, line: 4 }),
-    ),
-    (
-        5,
-        "5 log-full 2",
-        2,
-        MANY,
-        Err(Lie::Wrong { lane: 1, line: 5 }),
-    ),
-    (
-        6,
-        "6 log-full 2",
-        2,
-        MANY,
-        Err(Lie::Wrong { lane: 1, line: 6 }),
-    ),
-    (
-        7,
-        "7 log-full 2",
-        2,
-        MANY,
-        Err(Lie::Wrong { lane: 1, line: 7 }),
-    ),
+const TOLD: [Told; 9] = [
+    (0, "", 2, MANY, None),
+    (0, "", 3, MANY, Some(3)),
+    (0, "", LIMITS.changes, MANY, Some(3)),
+    (3, "3 log-full 3", 2, MANY, Some(3)),
+    (3, "3 absent @2", 2, MANY, Some(3)),
+    (4, "4 absent @2", 2, MANY, Some(4)),
+    (5, "5 log-full 2", 2, MANY, Some(5)),
+    (6, "6 log-full 2", 2, MANY, Some(6)),
+    (7, "7 log-full 2", 2, MANY, Some(7)),
 ];
 
 /// Two rows of one index by one lane take seven pages at most.
 const ROOM: [Told; 4] = [
-    (3, "3 space-full", 2, 7, Ok(())),
-    (
-        3,
-        "3 space-full",
-        2,
-        8,
-        Err(Lie::Wrong { lane: 1, line: 3 }),
-    ),
-    (
-        4,
-        "4 space-full",
-        2,
-        7,
-        Err(Lie::Wrong { lane: 1, line: 4 }),
-    ),
-    (
-        7,
-        "7 space-full",
-        2,
-        7,
-        Err(Lie::Wrong { lane: 1, line: 7 }),
-    ),
+    (3, "3 space-full", 2, 7, None),
+    (3, "3 space-full", 2, 8, Some(3)),
+    (4, "4 space-full", 2, 7, Some(4)),
+    (7, "7 space-full", 2, 7, Some(7)),
 ];
 
-/// The place of the first report that is judged otherwise.
-fn other_verdict<R: AllocGlobal + Abort>(rt: &R, table: &[Told]) -> Option<usize> {
-    for (place, (line, other, changes, pages, wanted)) in table.iter().enumerate() {
-        let report = report_of(rt, *line, other);
-        let limits = Limits {
-            changes: *changes,
-            pages: *pages,
-        };
-        if judge_within(rt.alloc(), limits, SCHEMA, &[LANE], report.as_bytes()) != *wanted {
-            return Some(place);
-        }
+/// How a report is judged in which a line is told something else.
+fn judge_told<R: AllocGlobal + Abort>(
+    rt: &R,
+    line: usize,
+    other: &str,
+    limits: Limits,
+) -> Result<(), Lie> {
+    let report = report_of(rt, line, other);
+    judge_within(rt.alloc(), limits, SCHEMA, &[LANE], report.as_bytes())
+}
+
+/// Whether such a report is judged as a row has it.
+fn is_judged_so<R: AllocGlobal + Abort>(rt: &R, told: &Told) -> bool {
+    let (line, other, changes, pages, wrong) = *told;
+    let judged = judge_told(rt, line, other, Limits { changes, pages });
+    match wrong {
+        Some(line) => judged == Err(Lie::Wrong { lane: 1, line }),
+        None => judged.is_ok(),
     }
-    None
 }
 
 #[test]
 fn a_full_list_refuses_what_its_map_allows(rt: HostRuntime) {
-    assert_eq!(rt; other_verdict(&rt, &TOLD), None);
+    for told in TOLD.iter() {
+        assert!(rt; is_judged_so(&rt, told), "{}", told.1);
+    }
+    let judged = judge_told(
+        &rt,
+        3,
+        "3 log-full 1",
+        Limits {
+            changes: 2,
+            ..LIMITS
+        },
+    );
+    assert!(rt; judged == Err(Lie::Back { lane: 1, line: 3 }));
 }
 
 #[test]
 fn pages_run_out_only_where_they_are_few(rt: HostRuntime) {
-    assert_eq!(rt; other_verdict(&rt, &ROOM), None);
+    for told in ROOM.iter() {
+        assert!(rt; is_judged_so(&rt, told), "{}", told.1);
+    }
 }

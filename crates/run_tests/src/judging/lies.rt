@@ -125,19 +125,11 @@ const LIES: [(&str, Edits, Lie); 17] = [
     ),
 ];
 
-/// The name of the first lie that isn't refused as what it is.
-fn other_lie<R: AllocGlobal + Abort>(rt: &R) -> Option<&'static str> {
-    for (name, edits, lie) in LIES.iter() {
-        if judge_edited(rt, edits) != Err(*lie) {
-            return Some(*name);
-        }
-    }
-    None
-}
-
 #[test]
 fn each_lie_is_refused(rt: HostRuntime) {
-    assert_eq!(rt; other_lie(&rt), None);
+    for (name, edits, lie) in LIES.iter() {
+        assert!(rt; judge_edited(&rt, edits) == Err(*lie), "{name}");
+    }
 }
 
 /// How a report of two lanes that put the same row is judged, where this is told to the second.
