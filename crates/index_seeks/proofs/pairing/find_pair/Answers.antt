@@ -1,4 +1,5 @@
 use Rattle.std.proofs.Common.{◌≤◌, length, arith, sym, subst}
+use Rattle.latch_space.proofs.Pointwise.{none_known}
 use Rattle.search_info.specs.Passes.{HasUnique, knowledge}
 use Rattle.forest_law.specs.State.{fields_for}
 use Rattle.forest_world.specs.Held.{shape_of_pass}
@@ -73,3 +74,6 @@ returns-clause-held g c = let p = c.args.pass.now in let q = c.descend_pair-pair
     c.learn_leaf-note.result c.learn_leaf-note.ensures.taught c.args.mode tuple
     (held_pair p q i c.args.mode tuple pair went
     (went_only p q i c.args.mode tuple pair went (none_held p objects c.requires.nothing)))
+
+pub descend_pair-pair-requires-clause-known : goal.descend_pair-pair-requires-clause-known
+descend_pair-pair-requires-clause-known g c = none_known c.args.pass.now c.requires.nothing

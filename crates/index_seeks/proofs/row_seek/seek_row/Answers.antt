@@ -1,5 +1,6 @@
 use Rattle.std.proofs.Common.{◌≡◌, ◌≤◌, true, length, sym, ap, subst, ◌∙◌, inl, inr}
 use Rattle.latch_space.specs.Passes.{view}
+use Rattle.latch_space.specs.Spaces.{IsPassOf}
 use Rattle.learning.specs.declared.event.Event.TheVariants as event
 use Rattle.map_history.specs.declared.columns.How.TheVariants as ways
 use Rattle.map_history.specs.Columns.{may_stand}
@@ -8,6 +9,7 @@ use Rattle.search_info.specs.Passes.{knowledge}
 use Rattle.forest_law.specs.State.{fields_for}
 use Rattle.forest_world.specs.Held.{shape_of_pass}
 use Rattle.buffer_pool.proofs.SpaceLemmas.{objects_of}
+use Rattle.buffer_pool.proofs.AgainLemmas.{passes_both}
 use Rattle.hash_guess.specs.Guesses.{Guesses}
 use Rattle.leaf_search.specs.Downs.{figures_at}
 use Rattle.search_info.specs.Tries.{TriesAfter}
@@ -173,3 +175,39 @@ returns-in-Miss-clause-searched g c = let p = c.args.pass.now in
       went = c.find_pair-note.ensures.found;
       told = c.seek.ensures.columns ∙ (λ j. record { how = how j; note = call.1 j });
     })
+
+pub returns-in-Miss-clause-own : goal.returns-in-Miss-clause-own
+returns-in-Miss-clause-own g c = let p = c.args.pass.now in let q = c.guess.new.pass in
+    let r = c.find_pair-note.new.pass in let s = c.seek.new.pass in (
+      passes_both p q s c.guess.ensures.own.0
+          (passes_both q r s c.find_pair-note.ensures.own.0 c.seek.ensures.own.0),
+      subst (λ z. IsPassOf z s) c.seek_call-in-Miss.ensures.space c.seek.ensures.own.1,
+    )
+
+pub returns-in-Miss-clause-learner : goal.returns-in-Miss-clause-learner
+returns-in-Miss-clause-learner g c = let guess = c.guess.ensures.learner.0 in
+    let found = c.find_pair-note.ensures.learner in
+    ((found.0.0 ∙ guess.0, found.0.1 ∙ guess.1), found.1)
+
+pub returns-in-Miss-clause-nothing : goal.returns-in-Miss-clause-nothing
+returns-in-Miss-clause-nothing g c = c.seek.ensures.nothing
+
+pub seek-requires-clause-own : goal.seek-requires-clause-own
+seek-requires-clause-own g c = subst (λ s. IsPassOf s c.find_pair-note.new.pass)
+    (sym c.seek_call-in-Miss.ensures.space) c.find_pair-note.ensures.own.1
+
+pub returns-in-Hit-clause-own : goal.returns-in-Hit-clause-own
+returns-in-Hit-clause-own g c = let q = c.guess.new.pass in let r = c.end_on_hit.new.pass in (
+  passes_both c.args.pass.now q r c.guess.ensures.own.0 c.end_on_hit.ensures.own.0,
+  subst (λ z. IsPassOf z r) c.seek_call.ensures.space c.end_on_hit.ensures.own.1,
+)
+
+pub returns-in-Hit-clause-nothing : goal.returns-in-Hit-clause-nothing
+returns-in-Hit-clause-nothing g c = c.end_on_hit.ensures.nothing
+
+pub returns-in-Hit-clause-learner : goal.returns-in-Hit-clause-learner
+returns-in-Hit-clause-learner g c = c.guess.ensures.learner
+
+pub end_on_hit-requires-clause-own : goal.end_on_hit-requires-clause-own
+end_on_hit-requires-clause-own g c = subst (λ s. IsPassOf s c.guess.new.pass)
+    (sym c.seek_call.ensures.space) c.guess.ensures.own.1

@@ -7,6 +7,7 @@ use Rattle.index_law.specs.Shape.{Shape}
 use Rattle.forest_law.specs.declared.objects.Frame.{Frame}
 use Rattle.forest_world.specs.Held.{shape_of_pass}
 use Rattle.buffer_pool.proofs.CallLemmas.{frame_has}
+use Rattle.buffer_pool.proofs.AgainLemmas.{passes_both}
 use Rattle.index_seeks.specs.Seeks.{TellsRow, CanTell}
 use Rattle.engine_law.proofs.KnownLemmas.{knows_same, page_number, same_page}
 use Rattle.index_seeks.proofs.SeekHandLemmas.{only_same, only_gave, may_leave}
@@ -84,3 +85,22 @@ returns-clause-ends g c = let call = c.args.self.now in let p = c.args.pass.now 
     (page_number last.frame call.index 0 last.is.page.is) last.knows
     (knows_same p c.tell-told.new.pass c.args.leaf.now.block last.frame
     c.tell-told.ensures.kept.held terms last.knows)
+
+pub frame-requires-clause-held : goal.frame-requires-clause-held
+frame-requires-clause-held g c = let last = c.requires.held in (
+  last.frame,
+  last.frame,
+  frame_has c.args.pass.now last.only.known c.args.leaf.now.block last.frame last.knows,
+)
+
+pub returns-clause-own : goal.returns-clause-own
+returns-clause-own g c = (
+  passes_both c.args.pass.now c.tell-told.new.pass c.leave.new.pass c.tell-told.ensures.own.0 c.leave.ensures.own.0,
+  c.leave.ensures.own.1,
+)
+
+pub returns-clause-columns : goal.returns-clause-columns
+returns-clause-columns g c = c.tell-told.ensures.columns
+
+pub leave-requires-clause-own : goal.leave-requires-clause-own
+leave-requires-clause-own g c = c.tell-told.ensures.own.1

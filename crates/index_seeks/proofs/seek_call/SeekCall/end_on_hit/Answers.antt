@@ -1,11 +1,15 @@
-use Rattle.std.proofs.Common.{[], ◌∷◌, ◌∙◌, sym, ap, subst, refl, Option, IsSome}
+use Rattle.std.proofs.Common.{[], ◌∷◌, ◌∙◌, sym, ap, subst, refl, Option, IsSome, ◌≡◌, IfSome}
+use Rattle.map_history.specs.Told.{columns_told}
+use Rattle.map_history.specs.declared.reply.Told.{Told}
 use Rattle.latch_space.specs.Passes.{view}
 use Rattle.map_history.specs.Operation.{Seek}
 use Rattle.index_page.specs.Page.{PageRows, PlacesDiffer}
 use Rattle.index_page.specs.Rows.{Row, Bytes, find_row}
 use Rattle.forest_law.specs.declared.objects.Frame.{Frame}
 use Rattle.buffer_pool.proofs.CallLemmas.{frame_has}
+use Rattle.buffer_pool.proofs.AgainLemmas.{passes_both}
 use Rattle.hash_guess.proofs.HitLemmas.{found_at}
+use Rattle.engine_law.specs.Says.{columns_by}
 use Rattle.index_seeks.specs.SeekSteps.{SaysIf}
 use Rattle.engine_law.proofs.KnownLemmas.{knows_same, same_page}
 use Rattle.index_seeks.proofs.SeekHandLemmas.{gave_page, only_same, only_gave, may_leave}
@@ -82,3 +86,24 @@ returns-clause-told g c = let p = c.args.pass.now in let q = c.tell.new.pass in
           (knows_same p q b hit.frame c.tell.ensures.kept.held terms hit.knows) hit.is
           c.leave.ensures.gave;
     }
+
+pub returns-clause-own : goal.returns-clause-own
+returns-clause-own g c = (
+  passes_both c.args.pass.now c.tell.new.pass c.leave.new.pass c.tell.ensures.own.0 c.leave.ensures.own.0,
+  c.leave.ensures.own.1,
+)
+
+pub frame-requires-clause-held : goal.frame-requires-clause-held
+frame-requires-clause-held g c = let held = c.requires.held in let hit = held.hit in (
+  hit.frame,
+  hit.frame,
+  frame_has c.args.pass.now held.only.known c.args.block hit.frame hit.knows,
+)
+
+pub leave-requires-clause-own : goal.leave-requires-clause-own
+leave-requires-clause-own g c = c.tell.ensures.own.1
+
+pub returns-clause-columns : goal.returns-clause-columns
+returns-clause-columns g c = subst
+    (λ o. IfSome o (λ (t : Told). columns_told t ≡ columns_by c.args.self.now.found)) c.in-Some.is
+    c.tell.ensures.columns

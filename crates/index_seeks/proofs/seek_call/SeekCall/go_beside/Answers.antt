@@ -3,6 +3,7 @@ use Rattle.latch_law.specs.declared.knows.Terms.{Terms}
 use Rattle.latch_space.specs.Passes.{view}
 use Rattle.index_law.specs.Shape.{Shape}
 use Rattle.forest_world.specs.Held.{shape_of_pass}
+use Rattle.buffer_pool.proofs.AgainLemmas.{passes_both}
 use Rattle.index_seeks.specs.SeekSteps.{StandsThen, EndsSeek}
 use Rattle.engine_law.proofs.KnownLemmas.{knows_same, page_number}
 use Rattle.index_seeks.proofs.SeekHandLemmas.{gave_page, only_same, only_gave, page_same, page_gave, may_leave}
@@ -107,3 +108,21 @@ leave-requires-in-Ends-clause-held g c = let call = c.args.self.now in let p = c
     may_leave r (m ∷ []) m call.index holds.frame
     (only_gave q r b (m ∷ []) (only_same p q (b ∷ m ∷ []) both.only kept terms) gave)
     holds.knows holds.is
+
+pub returns-in-On-clause-own : goal.returns-in-On-clause-own
+returns-in-On-clause-own g c = (
+  passes_both c.args.pass.now c.stand_on-stand.new.pass c.walk.new.pass c.stand_on-stand.ensures.own.0 (passes_both c.stand_on-stand.new.pass c.leave.new.pass c.walk.new.pass c.leave.ensures.own.0 c.walk.ensures.own.0),
+  c.walk.ensures.own.1,
+)
+
+pub returns-in-Ends-clause-own : goal.returns-in-Ends-clause-own
+returns-in-Ends-clause-own g c = (
+  passes_both c.args.pass.now c.stand_on-stand.new.pass c.leave-in-Ends.new.pass c.stand_on-stand.ensures.own.0 (passes_both c.stand_on-stand.new.pass c.leave.new.pass c.leave-in-Ends.new.pass c.leave.ensures.own.0 c.leave-in-Ends.ensures.own.0),
+  c.leave-in-Ends.ensures.own.1,
+)
+
+pub returns-in-On-clause-nothing : goal.returns-in-On-clause-nothing
+returns-in-On-clause-nothing g c = c.walk.ensures.nothing
+
+pub returns-in-On-clause-columns : goal.returns-in-On-clause-columns
+returns-in-On-clause-columns g c = c.walk.ensures.columns

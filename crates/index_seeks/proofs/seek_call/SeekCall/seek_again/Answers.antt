@@ -1,12 +1,16 @@
-use Rattle.std.proofs.Common.{subst, rules}
+use Rattle.std.proofs.Common.{subst, ◌≡◌, IfSome, refl}
+use Rattle.map_history.specs.Told.{columns_told}
+use Rattle.map_history.specs.declared.reply.Told.{Told}
 use Rattle.latch_space.specs.Passes.{view}
+use Rattle.buffer_pool.proofs.AgainLemmas.{passes_both}
+use Rattle.engine_law.specs.Says.{columns_by}
 use Rattle.index_seeks.specs.SeekSteps.{TriesSeek}
 use Rattle.index_seeks.proofs.SeekTryLemmas.{tries_vain, tries_way, vain_none, vain_both, vain_then_way}
 use Rattle.index_seeks.proofs.seek_call.SeekCall.seek_again.Goals as goal
 
 pub loop-init : goal.loop-init
 loop-init g c = record {
-  own = search rules;
+  own = ((refl, refl), c.requires.own);
   nothing = c.requires.nothing;
   vain = vain_none (view c.args.pass.now) c.args.self.now.index;
 }
@@ -23,7 +27,11 @@ returns-in-Some-try_seek-clause-told g c = let call = c.args.self.now in
 
 pub loop-preserved : goal.loop-preserved
 loop-preserved g c = let call = c.args.self.now in record {
-  own = search rules;
+  own = (
+    passes_both c.args.pass.now c.loop.pass c.try_seek.new.pass c.loop.invariant.own.0
+        c.try_seek.ensures.own.0,
+    c.try_seek.ensures.own.1,
+  );
   nothing = c.try_seek.ensures.nothing;
   vain = vain_both (view c.args.pass.now) (view c.loop.pass) (view c.try_seek.new.pass) call.index
       c.loop.invariant.vain
@@ -33,3 +41,24 @@ loop-preserved g c = let call = c.args.self.now in record {
       (λ o. TriesSeek (view c.loop.pass) (view c.try_seek.new.pass) call.index call.mode
       call.tuple.now o c.try_seek.new.out) c.in_default.is c.try_seek.ensures.tried));
 }
+
+pub returns-in-Some-try_seek-clause-own : goal.returns-in-Some-try_seek-clause-own
+returns-in-Some-try_seek-clause-own g c = (
+  passes_both c.args.pass.now c.loop.pass c.try_seek.new.pass c.loop.invariant.own.0
+      c.try_seek.ensures.own.0,
+  c.try_seek.ensures.own.1,
+)
+
+pub returns-in-Some-try_seek-clause-nothing : goal.returns-in-Some-try_seek-clause-nothing
+returns-in-Some-try_seek-clause-nothing g c = c.try_seek.ensures.nothing
+
+pub returns-in-Some-try_seek-clause-columns : goal.returns-in-Some-try_seek-clause-columns
+returns-in-Some-try_seek-clause-columns g c = subst
+    (λ o. IfSome o (λ (t : Told). columns_told t ≡ columns_by c.args.self.now.found))
+    c.in-Some-try_seek.is c.try_seek.ensures.columns
+
+pub try_seek-requires-clause-own : goal.try_seek-requires-clause-own
+try_seek-requires-clause-own g c = c.loop.invariant.own.1
+
+pub try_seek-requires-clause-nothing : goal.try_seek-requires-clause-nothing
+try_seek-requires-clause-nothing g c = c.loop.invariant.nothing

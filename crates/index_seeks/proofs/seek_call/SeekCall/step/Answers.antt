@@ -1,6 +1,7 @@
 use Rattle.std.proofs.Common.{[], ◌∷◌, ◌∙◌, sym, ap, subst}
 use Rattle.latch_law.specs.declared.knows.Terms.{Terms}
 use Rattle.index_law.specs.Shape.{Shape}
+use Rattle.buffer_pool.proofs.AgainLemmas.{passes_both}
 use Rattle.tree_neighbours.specs.Neighbours.{TellsBeside}
 use Rattle.tree_neighbours.specs.declared.beside.Beside.TheVariants.{AtEnd, Held, Busy}
 use Rattle.index_seeks.proofs.SeekHandLemmas.{only_same, only_gave, page_same, may_leave}
@@ -113,3 +114,27 @@ leave-requires-in-Busy-clause-held g c = let call = c.args.self.now in let p = c
     may_leave q (b ∷ []) b call.index walks.holds.frame
     (busy_only p call.index call.mode call.tuple.now c.args.from walks q busy)
     (busy_knows p call.index call.mode call.tuple.now c.args.from walks q busy) walks.holds.is
+
+pub returns-in-AtEnd-clause-own : goal.returns-in-AtEnd-clause-own
+returns-in-AtEnd-clause-own g c = (
+  passes_both c.args.pass.now c.take_beside.new.pass c.leave-in-AtEnd.new.pass c.take_beside.ensures.own.0 (passes_both c.take_beside.new.pass c.tell-told.new.pass c.leave-in-AtEnd.new.pass c.tell-told.ensures.own.0 c.leave-in-AtEnd.ensures.own.0),
+  c.leave-in-AtEnd.ensures.own.1,
+)
+
+pub returns-in-Busy-clause-own : goal.returns-in-Busy-clause-own
+returns-in-Busy-clause-own g c = (
+  passes_both c.args.pass.now c.take_beside.new.pass c.leave-in-Busy.new.pass c.take_beside.ensures.own.0 c.leave-in-Busy.ensures.own.0,
+  c.leave-in-Busy.ensures.own.1,
+)
+
+pub returns-in-Held-clause-own : goal.returns-in-Held-clause-own
+returns-in-Held-clause-own g c = (
+  passes_both c.args.pass.now c.take_beside.new.pass c.step_onto.new.pass c.take_beside.ensures.own.0 (passes_both c.take_beside.new.pass c.leave.new.pass c.step_onto.new.pass c.leave.ensures.own.0 c.step_onto.ensures.own.0),
+  c.step_onto.ensures.own.1,
+)
+
+pub returns-in-Held-clause-columns : goal.returns-in-Held-clause-columns
+returns-in-Held-clause-columns g c = c.step_onto.ensures.columns
+
+pub returns-in-AtEnd-clause-columns : goal.returns-in-AtEnd-clause-columns
+returns-in-AtEnd-clause-columns g c = c.tell-told.ensures.columns

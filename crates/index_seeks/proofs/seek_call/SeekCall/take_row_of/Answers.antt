@@ -52,3 +52,10 @@ returns g c = λ h. (let call = c.args.self.now in
     (c.frame.ensures h.frame h.frame
     (frame_has c.args.pass.now c.requires.known c.args.block h.frame h.knows)) h.is.paged
     c.page_of-page.ensures) c.take_row.ensures.row)
+
+pub frame-requires-clause-held : goal.frame-requires-clause-held
+frame-requires-clause-held g c = let held = c.requires.held in (
+  held.frame,
+  held.frame,
+  frame_has c.args.pass.now c.requires.known c.args.block held.frame held.knows,
+)

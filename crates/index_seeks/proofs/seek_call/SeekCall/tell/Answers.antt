@@ -1,5 +1,7 @@
-use Rattle.std.proofs.Common.{◌∙◌, sym}
+use Rattle.std.proofs.Common.{◌∙◌, sym, ap}
+use Rattle.std.proofs.lemmas.Bool.{false≢true}
 use Rattle.latch_space.specs.Passes.{view}
+use Rattle.index_law.specs.Answers.{speaks_at}
 use Rattle.index_seeks.proofs.TellingLemmas.{may_tell, tells_nothing, tells_answer}
 use Rattle.index_seeks.proofs.seek_call.SeekCall.tell.Goals as goal
 
@@ -21,3 +23,8 @@ returns-else-speaks_at-clause-did g c = let call = c.args.self.now in
     c.args.reply c.args.row.now c.requires.can call.found (view c.read_point-point.new.pass)
     c.read_point-point.result c.read_point-point.ensures.did
     (sym c.speaks_at.ensures ∙ c.if-speaks_at.false)
+
+pub returns-else-speaks_at-clause-speaks : goal.returns-else-speaks_at-clause-speaks
+returns-else-speaks_at-clause-speaks g c = λ none. absurd (false≢true
+    (sym c.if-speaks_at.false ∙ (c.speaks_at.ensures
+    ∙ ap (λ bound. speaks_at bound c.read_point-point.result) none)))
