@@ -5,6 +5,7 @@ pub mod WayLemmas
 pub mod RoomLemmas
 pub mod TryLemmas
 pub mod DelLemmas
+pub mod NumberLemmas
 pub mod LearnerLemmas
 pub mod ReadLemmas
 pub mod ClosingLemmas

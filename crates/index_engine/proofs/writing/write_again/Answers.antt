@@ -1,8 +1,11 @@
-use Rattle.std.proofs.Common.{refl, subst}
+use Rattle.std.proofs.Common.{refl, subst, ◌≡◌, IfSome}
 use Rattle.list_facts.proofs.Outcomes.{when_err}
+use Rattle.map_history.specs.Told.{columns_told}
+use Rattle.map_history.specs.declared.reply.Told.{Told}
 use Rattle.latch_space.specs.Passes.{view}
 use Rattle.call_law.proofs.TraceLemmas.{quiet_both}
 use Rattle.buffer_pool.proofs.AgainLemmas.{passes_both}
+use Rattle.engine_law.specs.Says.{columns_by}
 use Rattle.index_engine.specs.Writes.{write_asked, TriesWrite}
 use Rattle.index_engine.proofs.TryLemmas.{quiet_yet, quiet_then_again, way_tells, way_quiet, way_unanswered}
 use Rattle.index_engine.proofs.writing.write_again.Goals as goal
@@ -66,3 +69,20 @@ returns-in-Some-2-clause-own g c = let p = c.loop.pass in let q = c.try_write.ne
       c.hold_leaf-leaf.ensures.own.0 c.try_write.ensures.own.0),
   c.try_write.ensures.own.1,
 )
+
+pub returns-in-Some-2-clause-nothing : goal.returns-in-Some-2-clause-nothing
+returns-in-Some-2-clause-nothing g c = c.try_write.ensures.nothing
+
+pub returns-in-Some-2-clause-columns : goal.returns-in-Some-2-clause-columns
+returns-in-Some-2-clause-columns g c = subst
+    (λ o. IfSome o (λ (t : Told). columns_told t ≡ columns_by c.args.call.now.found))
+    c.in-Some-2.is c.in_ok-told.ensures.columns
+
+pub returns-in-Some-2-clause-err : goal.returns-in-Some-2-clause-err
+returns-in-Some-2-clause-err g c = tt
+
+pub returns-in_err-told-clause-nothing : goal.returns-in_err-told-clause-nothing
+returns-in_err-told-clause-nothing g c = c.try_write.ensures.nothing
+
+pub try_write-requires-clause-most : goal.try_write-requires-clause-most
+try_write-requires-clause-most g c = c.requires.most

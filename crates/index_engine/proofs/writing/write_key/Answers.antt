@@ -28,3 +28,10 @@ returns-in-None-clause-own g c = (
       c.write_again.ensures.own.0,
   c.write_again.ensures.own.1,
 )
+
+pub returns-in-Some-clause-ok : goal.returns-in-Some-clause-ok
+returns-in-Some-clause-ok g c = let call = c.args.call.now in
+    let key = call.key.now.tuple in let value = c.args.value.now in subst
+    (λ o. TriesWrite c.args.pass.now c.args.leaf.now.block call.index key value
+    (write_asked c.args.write key value) o c.try_write.new.pass) c.in-Some.is
+    c.in_ok-told.ensures.ok

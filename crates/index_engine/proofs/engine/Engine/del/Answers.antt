@@ -1,7 +1,11 @@
 use Rattle.std.proofs.Common.{refl, sym, subst, ap, ◌∙◌}
 use Rattle.map_history.specs.Report.{Columns}
+use Rattle.latch_law.specs.declared.knows.Terms.{Terms}
+use Rattle.latch_space.specs.Passes.{view}
 use Rattle.search_info.specs.Passes.{knowledge}
 use Rattle.latch_space.specs.Spaces.{IsPassOf}
+use Rattle.index_law.specs.Shape.{Shape}
+use Rattle.call_law.proofs.TraceLemmas.{same_numbers}
 use Rattle.leaf_changes.specs.Holds.{HoldsFreshAlone}
 use Rattle.buffer_pool.proofs.AgainLemmas.{passes_both}
 use Rattle.search_info.specs.Tries.{TriesAfter}
@@ -9,6 +13,7 @@ use Rattle.index_engine.specs.Engines.{lessons_of}
 use Rattle.index_engine.specs.Leaving.{AnswersDel}
 use Rattle.index_engine.proofs.DelLemmas.{search_then_del}
 use Rattle.index_engine.proofs.WayLemmas.{by_search, about_key}
+use Rattle.index_engine.proofs.NumberLemmas.{del_numbers}
 use Rattle.index_engine.proofs.engine.Engine.del.Goals as goal
 
 pub returns-clause-told : goal.returns-clause-told
@@ -60,3 +65,19 @@ returns-clause-tried g c = subst
     (λ h. TriesAfter (lessons_of c.args.pass.now) c.args.index h (knowledge c.find-searched.new.learn))
     (sym (ap (λ (z : Columns). z.how) (c.delete_key.ensures.columns ∙ c.call-call.ensures.found)))
     c.find-searched.ensures.searched.tried
+
+pub invariant_of-pass : goal.invariant_of-pass
+invariant_of-pass g c = let pass = c.args.pass.now in
+    let p = c.find-searched.new.pass in let q = c.delete_key.new.pass in
+    let searched = c.find-searched.ensures.searched in let tried = searched.tried in
+    let call = c.call-call.result in
+    let numbers = same_numbers (view pass.world) (view p) (view q)
+    searched.silently.does.adds.numbers
+    (del_numbers p q c.find-searched.result.leaf.block call.index call.key.now.tuple
+    c.delete_key.result c.delete_key.ensures.told) in
+    record {
+      nothing = c.delete_key.ensures.nothing;
+      most = pass.most ∙ ap (λ (t : Terms Shape). t.max_changes) (sym numbers.terms);
+      low = tried.low ∙ (pass.low ∙ sym numbers.low);
+      end = tried.end ∙ (pass.end ∙ sym numbers.end);
+    }

@@ -1,15 +1,22 @@
-use Rattle.std.proofs.Common.{◌≡◌, true, ap, sym, subst, ◌∙◌}
+use Rattle.std.proofs.Common.{◌≡◌, true, ap, sym, subst, ◌∙◌, refl}
+use Rattle.latch_law.specs.declared.knows.Terms.{Terms}
 use Rattle.latch_space.specs.Passes.{view}
 use Rattle.map_history.specs.Columns.{may_stand}
 use Rattle.map_history.specs.Operation as asked
 use Rattle.map_history.specs.Report.{Columns}
 use Rattle.map_history.specs.declared.columns.How.TheVariants as ways
+use Rattle.latch_space.specs.Spaces.{IsPassOf}
+use Rattle.learning.specs.declared.event.Event.TheVariants as event
 use Rattle.search_info.specs.Passes.{knowledge}
 use Rattle.key_tuple.specs.declared.mode.Mode.TheVariants.{Ge}
+use Rattle.index_law.specs.Shape.{Shape}
+use Rattle.call_law.proofs.TraceLemmas.{same_numbers}
 use Rattle.forest_world.specs.Held.{shape_of_pass}
 use Rattle.search_info.specs.Tries.{TriesAfter}
+use Rattle.buffer_pool.proofs.AgainLemmas.{passes_both}
 use Rattle.leaf_search.proofs.KeyRowLemmas.{key_traces, told_hit}
 use Rattle.leaf_search.proofs.SearchLemmas.{hit_stands}
+use Rattle.leaf_search.proofs.TryLemmas.{of_tries}
 use Rattle.index_engine.specs.Engines.{lessons_of}
 use Rattle.leaf_changes.specs.Holds.{HoldsFreshAlone, HoldsKeyRow}
 use Rattle.leaf_changes.specs.Says.{AnswersAndLeaves}
@@ -17,6 +24,7 @@ use Rattle.index_engine.specs.Traces.{IsFoundBy}
 use Rattle.index_engine.proofs.ReadLemmas.{free_parts, key_whole, row_in_hand, row_searches, row_spot_there, searched_alone}
 use Rattle.index_engine.proofs.FoundLemmas.{tells_found}
 use Rattle.index_engine.proofs.WayLemmas.{by_search, about_key, tells_search}
+use Rattle.index_engine.proofs.NumberLemmas.{answers_numbers}
 use Rattle.index_engine.proofs.engine.Engine.get.Goals as goal
 
 pub call-requires-clause-stands : goal.call-requires-clause-stands
@@ -120,3 +128,70 @@ returns-in-Leaf-clause-searched g c = record {
   trace = c.in-Leaf.ensures.searched.1;
   told = c.get.ensures.columns ∙ c.call-in-Leaf.ensures.found;
 }
+
+pub returns-in-Leaf-clause-tried : goal.returns-in-Leaf-clause-tried
+returns-in-Leaf-clause-tried g c = subst
+    (λ h. TriesAfter (lessons_of c.args.pass.now) c.args.index h (knowledge c.search.new.learn))
+    (sym (ap (λ (z : Columns). z.how) (c.get.ensures.columns ∙ c.call-in-Leaf.ensures.found)))
+    c.in-Leaf.ensures.searched.0.tried
+
+pub returns-in-Leaf-clause-own : goal.returns-in-Leaf-clause-own
+returns-in-Leaf-clause-own g c = let q = c.get.new.pass in (
+  record {
+    pass = passes_both c.args.pass.now.world c.search.new.pass q c.search.ensures.own.0
+        c.get.ensures.own.0;
+    learn = c.search.ensures.learner.0;
+    sizes = refl;
+  },
+  (
+    subst (λ s. IsPassOf s q) c.call-in-Leaf.ensures.space c.get.ensures.own.1,
+    c.search.ensures.learner.1,
+  ),
+)
+
+pub returns-in-Row-clause-own : goal.returns-in-Row-clause-own
+returns-in-Row-clause-own g c = let q = c.read.new.pass in (
+  record {
+    pass = passes_both c.args.pass.now.world c.search.new.pass q c.search.ensures.own.0
+        c.read.ensures.own.0;
+    learn = c.search.ensures.learner.0;
+    sizes = refl;
+  },
+  (
+    subst (λ s. IsPassOf s q) c.call.ensures.space c.read.ensures.own.1,
+    c.search.ensures.learner.1,
+  ),
+)
+
+pub invariant_of-pass : goal.invariant_of-pass
+invariant_of-pass g c = let pass = c.args.pass.now in
+    let row = c.in-Row in let hits = row.ensures.searched in
+    let p = c.search.new.pass in let q = c.read.new.pass in let call = c.call.result in
+    let tried = of_tries (lessons_of pass) c.args.index hits.guess.info event.Hit hits.learn
+    (knowledge c.search.new.learn) hits.guess.learns in
+    let numbers = same_numbers (view pass.world) (view p) (view q)
+    hits.guess.hits.does.adds.numbers
+    (answers_numbers p row.block call.index (asked.Get call.key.now.tuple) c.read.result
+    c.read.new.out q c.read.ensures.told) in
+    record {
+      nothing = c.read.ensures.nothing;
+      most = pass.most ∙ ap (λ (t : Terms Shape). t.max_changes) (sym numbers.terms);
+      low = tried.low ∙ (pass.low ∙ sym numbers.low);
+      end = tried.end ∙ (pass.end ∙ sym numbers.end);
+    }
+
+pub invariant_of-pass-in-Leaf : goal.invariant_of-pass-in-Leaf
+invariant_of-pass-in-Leaf g c = let pass = c.args.pass.now in
+    let p = c.search.new.pass in let q = c.get.new.pass in
+    let searched = c.in-Leaf.ensures.searched.0 in let tried = searched.tried in
+    let call = c.call-in-Leaf.result in
+    let numbers = same_numbers (view pass.world) (view p) (view q)
+    searched.silently.does.adds.numbers
+    (answers_numbers p c.in-Leaf.searched.leaf.block call.index (asked.Get call.key.now.tuple)
+    c.get.result c.get.new.out q c.get.ensures.told) in
+    record {
+      nothing = c.get.ensures.nothing;
+      most = pass.most ∙ ap (λ (t : Terms Shape). t.max_changes) (sym numbers.terms);
+      low = tried.low ∙ (pass.low ∙ sym numbers.low);
+      end = tried.end ∙ (pass.end ∙ sym numbers.end);
+    }

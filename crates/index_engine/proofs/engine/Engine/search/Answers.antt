@@ -1,5 +1,5 @@
 use Rattle.std.proofs.Common.{sym, subst, arith}
-use Rattle.latch_space.proofs.Pointwise.{lacks_each}
+use Rattle.latch_space.proofs.Pointwise.{lacks_each, none_known}
 use Rattle.search_info.specs.Passes.{HasUnique}
 use Rattle.forest_law.specs.Numbers.{pool_id, frame_id, part_id}
 use Rattle.forest_law.specs.State.{fields_for}
@@ -29,3 +29,6 @@ search_key-requires-clause-tables g c = let p = c.args.pass.now in
       parts = λ k below. lacks_each p (part_id (shape_of_pass p) k) c.requires.nothing
           (omega (arith, objects, below));
     }
+
+pub search_key-requires-clause-known : goal.search_key-requires-clause-known
+search_key-requires-clause-known g c = none_known c.args.pass.now c.requires.nothing

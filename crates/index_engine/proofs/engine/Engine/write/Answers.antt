@@ -1,10 +1,14 @@
 use Rattle.std.proofs.Common.{refl, sym, ◌≡◌, ap, subst, ◌∙◌, IfOk, OnErr}
 use Rattle.std.proofs.lemmas.Result.{IfOk-weaker}
+use Rattle.latch_law.specs.declared.knows.Terms.{Terms}
+use Rattle.latch_space.specs.Passes.{view}
 use Rattle.search_info.specs.Passes.{knowledge}
 use Rattle.map_history.specs.declared.reply.Told.{Told}
 use Rattle.map_history.specs.Report.{Columns}
 use Rattle.map_history.specs.Told.{columns_told}
 use Rattle.latch_space.specs.Spaces.{IsPassOf}
+use Rattle.index_law.specs.Shape.{Shape}
+use Rattle.call_law.proofs.TraceLemmas.{same_numbers}
 use Rattle.leaf_changes.specs.Holds.{HoldsFreshAlone}
 use Rattle.buffer_pool.proofs.AgainLemmas.{passes_both}
 use Rattle.search_info.specs.Tries.{TriesAfter}
@@ -15,6 +19,7 @@ use Rattle.index_engine.specs.Searched.{SearchedFor}
 use Rattle.index_engine.specs.Writes.{mode_of_write, write_asked, AnswersWrite, LeavesUnanswered}
 use Rattle.index_engine.proofs.TryLemmas.{search_then_write, search_then_gives_up}
 use Rattle.index_engine.proofs.WayLemmas.{by_search, about_key}
+use Rattle.index_engine.proofs.NumberLemmas.{write_numbers}
 use Rattle.index_engine.proofs.engine.Engine.write.Goals as goal
 
 pub returns-clause-ok : goal.returns-clause-ok
@@ -95,3 +100,21 @@ returns-clause-tried g c = let i = c.args.index in let l = lessons_of c.args.pas
     (λ told same. subst (λ h. TriesAfter l i h m)
     (sym (ap (λ (z : Columns). z.how) (same ∙ c.call-call.ensures.found)))
     c.find-searched.ensures.searched.tried) c.write_key.ensures.columns
+
+pub invariant_of-pass : goal.invariant_of-pass
+invariant_of-pass g c = let pass = c.args.pass.now in
+    let p = c.find-searched.new.pass in let q = c.write_key.new.pass in
+    let searched = c.find-searched.ensures.searched in let tried = searched.tried in
+    let call = c.call-call.result in let key = call.key.now.tuple in
+    let value = c.args.value.now in
+    let numbers = same_numbers (view pass.world) (view p) (view q)
+    searched.silently.does.adds.numbers
+    (write_numbers p q c.find-searched.result.leaf.block call.index key value
+    (write_asked c.args.write key value) c.write_key.result c.write_key.ensures.ok
+    c.write_key.ensures.err) in
+    record {
+      nothing = c.write_key.ensures.nothing;
+      most = pass.most ∙ ap (λ (t : Terms Shape). t.max_changes) (sym numbers.terms);
+      low = tried.low ∙ (pass.low ∙ sym numbers.low);
+      end = tried.end ∙ (pass.end ∙ sym numbers.end);
+    }
