@@ -4,6 +4,7 @@ use Rattle.search_info.specs.Passes.{HasUnique, knowledge}
 use Rattle.forest_law.specs.State.{fields_for}
 use Rattle.forest_world.specs.Held.{shape_of_pass}
 use Rattle.buffer_pool.proofs.SpaceLemmas.{objects_of}
+use Rattle.buffer_pool.proofs.AgainLemmas.{passes_both}
 use Rattle.leaf_search.specs.Downs.{figures_at}
 use Rattle.index_seeks.proofs.SeekLearnLemmas.{held_pair, learnt_pair, pair_leaf, pair_figures, none_held, few_held}
 use Rattle.index_seeks.proofs.StandLemmas.{went_only}
@@ -77,3 +78,12 @@ returns-clause-held g c = let p = c.args.pass.now in let q = c.descend_pair-pair
 
 pub descend_pair-pair-requires-clause-known : goal.descend_pair-pair-requires-clause-known
 descend_pair-pair-requires-clause-known g c = none_known c.args.pass.now c.requires.nothing
+
+pub returns-clause-own : goal.returns-clause-own
+returns-clause-own g c = (
+  passes_both c.args.pass.now c.descend_pair-pair.new.pass c.learn_leaf-note.new.pass c.descend_pair-pair.ensures.own.0 c.learn_leaf-note.ensures.own.0,
+  c.learn_leaf-note.ensures.own.1,
+)
+
+pub returns-clause-learner : goal.returns-clause-learner
+returns-clause-learner g c = c.learn_leaf-note.ensures.learner

@@ -22,3 +22,15 @@ returns-then-speaks_at-clause-past g c = let call = c.args.self.now in let p = c
 pub returns-else-speaks_at-clause-looked : goal.returns-else-speaks_at-clause-looked
 returns-else-speaks_at-clause-looked g c = looks c.args.pass.now c.read_point-point.new.pass
     c.args.self.now.index c.read_point-point.result c.read_point-point.ensures.did
+
+pub returns-then-speaks_at-clause-own : goal.returns-then-speaks_at-clause-own
+returns-then-speaks_at-clause-own g c = c.read_point-point.ensures.own
+
+pub returns-else-speaks_at-clause-own : goal.returns-else-speaks_at-clause-own
+returns-else-speaks_at-clause-own g c = c.read_point-point.ensures.own
+
+pub returns-then-speaks_at-clause-kept : goal.returns-then-speaks_at-clause-kept
+returns-then-speaks_at-clause-kept g c = c.read_point-point.ensures.kept
+
+pub returns-else-speaks_at-clause-kept : goal.returns-else-speaks_at-clause-kept
+returns-else-speaks_at-clause-kept g c = c.read_point-point.ensures.kept

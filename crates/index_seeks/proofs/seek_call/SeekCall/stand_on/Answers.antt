@@ -34,3 +34,24 @@ returns-in-Some-clause-then g c = let call = c.args.self.now in let stands = c.r
             (c.take_row_of.ensures stands.holds)));
       },
     )
+
+pub returns-in-Some-clause-own : goal.returns-in-Some-clause-own
+returns-in-Some-clause-own g c = c.count_changes.ensures.own
+
+pub returns-in-Some-clause-kept : goal.returns-in-Some-clause-kept
+returns-in-Some-clause-kept g c = c.count_changes.ensures.kept
+
+pub returns-in-None-clause-own : goal.returns-in-None-clause-own
+returns-in-None-clause-own g c = c.count_changes.ensures.own
+
+pub returns-in-None-clause-kept : goal.returns-in-None-clause-kept
+returns-in-None-clause-kept g c = c.count_changes.ensures.kept
+
+pub returns-then-take_row_of-clause-own : goal.returns-then-take_row_of-clause-own
+returns-then-take_row_of-clause-own g c = c.tell.ensures.own
+
+pub returns-then-take_row_of-clause-kept : goal.returns-then-take_row_of-clause-kept
+returns-then-take_row_of-clause-kept g c = c.tell.ensures.kept
+
+pub returns-then-take_row_of-clause-columns : goal.returns-then-take_row_of-clause-columns
+returns-then-take_row_of-clause-columns g c = c.tell.ensures.columns

@@ -3,6 +3,7 @@ use Rattle.latch_law.specs.declared.knows.Terms.{Terms}
 use Rattle.latch_space.specs.Passes.{view}
 use Rattle.index_law.specs.Shape.{Shape}
 use Rattle.forest_world.specs.Held.{shape_of_pass}
+use Rattle.buffer_pool.proofs.AgainLemmas.{passes_both}
 use Rattle.index_seeks.specs.SeekSteps.{StandsThen}
 use Rattle.index_seeks.proofs.SeekHandLemmas.{gave_page, only_same, only_gave, page_same, may_leave}
 use Rattle.index_seeks.proofs.SeekTraceLemmas.{said_then_gave}
@@ -44,3 +45,12 @@ returns-in-Ends-clause-then g c = let call = c.args.self.now in let p = c.args.p
           c.in-Ends.is c.stand_on.ensures.then)
           (gave_page q r b call.index holds.frame holds.knows holds.is gave),
     )
+
+pub returns-in-Ends-clause-own : goal.returns-in-Ends-clause-own
+returns-in-Ends-clause-own g c = (
+  passes_both c.args.pass.now c.stand_on.new.pass c.leave.new.pass c.stand_on.ensures.own.0 c.leave.ensures.own.0,
+  c.leave.ensures.own.1,
+)
+
+pub returns-in-On-clause-own : goal.returns-in-On-clause-own
+returns-in-On-clause-own g c = c.stand_on.ensures.own

@@ -28,3 +28,15 @@ pub returns-else-speaks_at-clause-speaks : goal.returns-else-speaks_at-clause-sp
 returns-else-speaks_at-clause-speaks g c = λ none. absurd (false≢true
     (sym c.if-speaks_at.false ∙ (c.speaks_at.ensures
     ∙ ap (λ bound. speaks_at bound c.read_point-point.result) none)))
+
+pub returns-then-speaks_at-clause-own : goal.returns-then-speaks_at-clause-own
+returns-then-speaks_at-clause-own g c = c.read_point-point.ensures.own
+
+pub returns-else-speaks_at-clause-own : goal.returns-else-speaks_at-clause-own
+returns-else-speaks_at-clause-own g c = c.read_point-point.ensures.own
+
+pub returns-then-speaks_at-clause-kept : goal.returns-then-speaks_at-clause-kept
+returns-then-speaks_at-clause-kept g c = c.read_point-point.ensures.kept
+
+pub returns-else-speaks_at-clause-kept : goal.returns-else-speaks_at-clause-kept
+returns-else-speaks_at-clause-kept g c = c.read_point-point.ensures.kept
