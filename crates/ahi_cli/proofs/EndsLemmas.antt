@@ -159,3 +159,16 @@ leaves_none DidBy out trail status none other = record { done = λ is. absurd (o
 pub halted_other : (halt : Halt) → halted halt ≢ Done
 halted_other halt.SinkFault = λ e. cc
 halted_other halt.NoMemory = λ e. cc
+
+-- nor is a refusal, however far its line was put
+pub refused_other : (r : Result (Unit {0}) Halt) (refusal : Stop) → ended r (status_of refusal) ≢ Done
+refused_other (Ok x) refusal = line_of_other_status refusal
+refused_other (Err h) refusal = halted_other h
+
+-- want of memory, when nothing was put, ends a call so
+pub lacked_ends : (Writes : List ℕ → Type 0) (Refuses : Stop → Type 0) (out : Output) → out.new ≡ out.old → Ends Writes Refuses out NoMemory
+lacked_ends Writes Refuses out same = by_status Writes Refuses out NoMemory (inl same)
+
+-- and leaves no pass
+pub lacked_leaves : (DidBy : EnginePass → List ℕ → Type 0) (out : Output) (trail : Option EnginePass) → trail ≡ None → LeavesTrail DidBy out trail NoMemory
+lacked_leaves DidBy out trail none = leaves_none DidBy out trail NoMemory none (λ e. cc)

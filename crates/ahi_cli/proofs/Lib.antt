@@ -1,3 +1,4 @@
+pub mod WordLemmas
 pub mod FirstLemmas
 pub mod FileLemmas
 pub mod LaneLemmas

@@ -1,9 +1,11 @@
 -- What is put of lanes that were run is a legal report, and their pass did what it tells.
-use Rattle.std.proofs.Common.{◌≡◌, ℕ, None, List, length, map, ap, ◌∙◌, sym, subst}
+use Rattle.std.proofs.Common.{◌≡◌, ℕ, None, List, length, map, ap, ◌∙◌, sym, subst, String, Vec}
 use Rattle.std.proofs.lemmas.List.{length-map}
 use Rattle.std.specs.String.{string_bytes}
-use Rattle.change_log.specs.Log.{ChangeNote, Log}
-use Rattle.change_log.specs.Merge.{AreMerges}
+use Rattle.std.specs.declared.alloc.Global.{Global}
+use Rattle.change_log.specs.declared.change.LaneChange.{LaneChange}
+use Rattle.change_log.specs.Log.{ChangeNote, note_of, Log}
+use Rattle.change_log.specs.Merge.{AreMerges, note_lists}
 use Rattle.change_log.specs.Entries.{printed_entries}
 use Rattle.map_history.specs.LegalReport.{Line}
 use Rattle.map_history.specs.declared.counts.Counts.{Counts}
@@ -74,3 +76,8 @@ tells_script script is allowed texts logs counts pass ran n logs' changes count 
   sizes = allowed;
   told = told_by script is texts logs counts pass ran changes (merged_for (length script.schema.names.items) n logs logs' changes count same merged);
 }
+
+-- there is a list of merged changes for each name
+pub as_many_lists : (shown lists : List (Vec LaneChange Global)) (named names : List (String Global)) (n : ℕ) → shown ≡ lists → named ≡ names → n ≡ length names → length (note_lists lists) ≡ n → length shown ≡ length named
+as_many_lists shown lists named names n is is' count merged =
+    ap length is ∙ (sym (length-map lists (λ (list : Vec LaneChange Global). map note_of list.items)) ∙ (merged ∙ (count ∙ ap length (sym is'))))

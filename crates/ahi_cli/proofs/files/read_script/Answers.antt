@@ -1,5 +1,7 @@
-use Rattle.std.proofs.Common.{◌∙◌, sym}
+use Rattle.std.proofs.Common.{◌∙◌, sym, arith}
+use Rattle.std.proofs.lemmas.List.{length-map}
 use Rattle.std.proofs.lemmas.Result.{err_from_is_err_and}
+use Rattle.std.specs.String.{string_bytes}
 use Rattle.ahi_cli.specs.Words.{names_of, file_names}
 use Rattle.ahi_cli.proofs.FileLemmas.{unread_schema, unread_lanes}
 use Rattle.ahi_cli.proofs.files.read_script.Goals as goal
@@ -24,3 +26,13 @@ returns-clause-ok g c = λ files told. record {
   schema_file = c.in_ok-schema.ensures.ok files told;
   lane_files = c.in_ok-lanes.ensures.ok files (c.in_ok-schema.ensures.kept.0 ∙ told);
 }
+
+pub returns-clause-indexes : goal.returns-clause-indexes
+returns-clause-indexes g c =
+    let schema = c.in_ok-schema.schema in
+    let shape = schema.shape in
+    let named = length-map schema.names.items string_bytes in (
+      omega (arith, shape.some, named, schema.names.ok.0),
+      omega (arith, shape.few, named, schema.names.ok.0),
+      omega (arith, shape.paired, named, schema.names.ok.0, schema.fields.ok.0),
+    )

@@ -1,7 +1,8 @@
-use Rattle.std.proofs.Common.{◌≡◌, ◌∙◌, sym, ap, map, length, arith, Some}
+use Rattle.std.proofs.Common.{◌≡◌, ◌∙◌, sym, ap, map, length, arith, Some, None}
 use Rattle.std.proofs.lemmas.List.{length-map}
 use Rattle.std.specs.Option.{option_map}
 use Rattle.std.specs.String.{string_bytes}
+use Rattle.ahi_cli.specs.declared.stop.Stop.TheVariants as stop
 use Rattle.ahi_cli.specs.Ends.{output_of}
 use Rattle.ahi_cli.specs.Run.{Asked, asked_of, IsReportOf, IsReportBy, Reports, ReportsBy, Stops}
 use Rattle.ahi_cli.specs.Scripts.{TellsScript, RefusesSizes}
@@ -39,3 +40,22 @@ returns-in-Err-clause-ends g c =
     let accepts : accepted asked.words ≡ Some (names_of c.in-Some.command) = sym c.accept.ensures.accepted ∙ ap (option_map names_of) c.in-Some.is in
     let cause = reading_stops asked (names_of c.in-Some.command) c.in-Err.stop accepts c.in-Err.ensures.err in
     refused_ends (Reports asked) (Stops asked) (output_of g.K.Sink c.args.sink.now c.refuse-in-Err.new.sink) c.in-Err.stop c.refuse-in-Err.result cause c.refuse-in-Err.ensures.ends
+
+pub returns-in_default-clause-ends : goal.returns-in_default-clause-ends
+returns-in_default-clause-ends g c =
+    let asked : Asked = asked_of (map string_bytes c.args.words.now) g.F.Shelf c.args.shelf.now c.args.shelf.now in
+    let unaccepted : accepted asked.words ≡ None = sym c.in_default.ensures.accepted in
+    refused_ends (Reports asked) (Stops asked) (output_of g.K.Sink c.args.sink.now c.refuse.new.sink) stop.Usage c.refuse.result (λ other. unaccepted) c.refuse.ensures.ends
+
+pub run_script-requires-clause-script : goal.run_script-requires-clause-script
+run_script-requires-clause-script g c κs lives =
+    let script = c.in-Ok.script in
+    let names = c.in-Ok.ensures.indexes in
+    let lanes = c.in-Some.ensures.lanes in
+    let read = c.in-Ok.ensures.lanes in
+    record {
+      names = (omega (arith, names.0, script.schema.names.ok.0), omega (arith, names.1, script.schema.names.ok.0));
+      fields = omega (arith, names.2, script.schema.names.ok.0, script.schema.fields.ok.0);
+      lanes = (omega (arith, lanes.0, read, script.lanes.ok.0), omega (arith, lanes.1, read, script.lanes.ok.0));
+      lines = c.in-Ok.ensures.lines;
+    }

@@ -1,4 +1,4 @@
-use Rattle.std.proofs.Common.{◌≡◌, length, map, ◌∙◌, sym, refl, subst, arith, Ok, Err}
+use Rattle.std.proofs.Common.{◌≡◌, length, map, ap, ◌∙◌, sym, refl, subst, arith, Ok, Err}
 use Rattle.std.specs.String.{string_bytes}
 use Rattle.script.specs.Views.{schema_text}
 use Rattle.change_log.specs.Merge.{note_lists}
@@ -8,8 +8,8 @@ use Rattle.ahi_cli.specs.declared.status.Status.TheVariants.{Done}
 use Rattle.ahi_cli.specs.Ends.{output_of}
 use Rattle.ahi_cli.specs.Run.{IsReportOf, IsReportBy}
 use Rattle.ahi_cli.specs.Scripts.{TellsScript, RefusesSizes}
-use Rattle.ahi_cli.proofs.EndsLemmas.{done_ends, halted_ends, halted_other, leaves_none, leaves_pass}
-use Rattle.ahi_cli.proofs.ReportLemmas.{tells_script}
+use Rattle.ahi_cli.proofs.EndsLemmas.{done_ends, halted_ends, halted_other, leaves_none, leaves_pass, lacked_ends, lacked_leaves}
+use Rattle.ahi_cli.proofs.ReportLemmas.{tells_script, as_many_lists}
 use Rattle.ahi_cli.proofs.script_run.put_work.Goals as goal
 
 pub returns-in-Ok-put_report-clause-ends : goal.returns-in-Ok-put_report-clause-ends
@@ -44,3 +44,18 @@ returns-clause-ends g c =
 
 pub returns-clause-trail : goal.returns-clause-trail
 returns-clause-trail g c = leaves_none (λ pass. TellsScript (IsReportBy pass) c.args.script.now) (output_of g.K.Sink c.args.sink.now c.put_report.new.sink) c.args.trail.now c.halted.result c.requires.trail (λ is. halted_other c.in-Err.halt (sym c.halted.ensures ∙ is))
+
+pub put_report-requires-clause-changes : goal.put_report-requires-clause-changes
+put_report-requires-clause-changes g c =
+    let names = c.args.script.now.schema.names in
+    let count : c.len.result ≡ length names.items = omega (arith, c.len.ensures, names.ok.0) in
+    as_many_lists c.deref-4.result.now c.in-Ok.changes.items c.deref-2.result.now names.items c.len.result c.deref-4.ensures.value c.deref-2.ensures.value count c.in-Ok.ensures.count
+
+pub put_report-requires-clause-counts : goal.put_report-requires-clause-counts
+put_report-requires-clause-counts g c = ap length c.deref-5.ensures.value ∙ (c.requires.ran.counted.long ∙ (c.requires.script.fields ∙ ap length (sym c.deref-2.ensures.value)))
+
+pub returns-in_default-clause-ends : goal.returns-in_default-clause-ends
+returns-in_default-clause-ends g c = lacked_ends (TellsScript IsReportOf c.args.script.now) (RefusesSizes c.args.script.now) (output_of g.K.Sink c.args.sink.now c.args.sink.now) refl
+
+pub returns-in_default-clause-trail : goal.returns-in_default-clause-trail
+returns-in_default-clause-trail g c = lacked_leaves (λ pass. TellsScript (IsReportBy pass) c.args.script.now) (output_of g.K.Sink c.args.sink.now c.args.sink.now) c.args.trail.now c.requires.trail
