@@ -1,5 +1,6 @@
 -- Places in lists.
-use Rattle.std.proofs.Common.{◌≡◌, ◌⊎◌, ℕ, zero, suc, ◌+◌, ◌<◌, List, [], ◌∷◌, ◌++◌, length, ap, refl, sym, ◌∙◌, subst, inl, inr, arith, append_assoc}
+use Rattle.std.proofs.Common.{◌≡◌, ◌⊎◌, ℕ, zero, suc, ◌+◌, ◌<◌, List, [], ◌∷◌, ◌++◌, length, get_or, ap, refl, sym, ◌∙◌, subst, inl, inr, arith, append_assoc}
+use Rattle.std.specs.List.{AllByRecursion}
 use mathlib.Core.Option.{some, some-ne-none}
 use lib.ListN.{get_elem?}
 
@@ -35,3 +36,9 @@ within (y ∷ xs) (suc k) x e = let rest = within xs k x e in omega (arith, rest
 -- what the last of the first list is put before, once it is taken off
 pub taken_off : {X : Type 0} (all xs xs' : List X) (y : X) (ys : List X) → all ≡ xs' ++ ys → xs' ≡ xs ++ y ∷ [] → all ≡ xs ++ y ∷ ys
 taken_off all xs xs' y ys is last = is ∙ (ap (λ (zs : List _). zs ++ ys) last ∙ append_assoc xs (y ∷ []) ys)
+
+-- what holds of all in a list holds of what stands at a place
+pub all_at : {X : Type 0} (P : X → Type 0) (xs : List X) (i : ℕ) (d : X) → AllByRecursion P xs → i < length xs → P (get_or xs i d)
+all_at P [] i d all below = absurd (omega arith)
+all_at P (x ∷ xs) zero d all below = all.0
+all_at P (x ∷ xs) (suc i) d all below = all_at P xs i d all.1 (omega arith)

@@ -1,8 +1,12 @@
 use Rattle.std.proofs.Common.{◌≡◌, ◌+◌, List, ◌++◌, length, drop, suc, ap, sym, ◌∙◌, subst, arith, length-drop}
+use Rattle.std.specs.Prelude.{Vec}
+use Rattle.std.specs.declared.alloc.Global.{Global}
 use Rattle.std.specs.Vec.Iter.{into_iter_items}
 use Rattle.map_history.specs.declared.line.Line.{Line}
 use Rattle.lane_threads.specs.declared.doer.LaneDoer.{LaneDoer}
 use Rattle.lane_threads.specs.Doing.{IsReadyFor, AreReadyFor}
+use Rattle.lane_work.specs.Workable.{AreWorkable}
+use Rattle.lane_threads.proofs.ListLemmas.{all_at}
 use Rattle.lane_threads.proofs.BuildLemmas.{drop_at, built_more, built_all}
 use Rattle.lane_threads.proofs.readying.ready_lanes.Goals as goal
 
@@ -39,6 +43,11 @@ ready-requires-clause-one c =
     let low = lane.low in
     let end = lane.end in
     omega (arith, low, end)
+
+pub ready-requires-clause-lines : goal.ready-requires-clause-lines
+ready-requires-clause-lines c =
+    let at : AreWorkable c.args.engine.now c.lines-item.result.items = subst (λ (ls : Vec Line Global). AreWorkable c.args.engine.now ls.items) (sym c.lines-item.is) (all_at (λ (ls : Vec Line Global). AreWorkable c.args.engine.now ls.items) c.args.lanes.now c.loop-lines.lines-index c.lines-item.result c.requires.lines c.loop-lines-test.true) in
+    subst (AreWorkable c.args.engine.now) (sym c.deref.ensures.value) at
 
 pub loop-lines-preserved : goal.loop-lines-preserved
 loop-lines-preserved c =

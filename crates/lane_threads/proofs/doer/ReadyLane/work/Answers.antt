@@ -12,3 +12,10 @@ work_lane-requires-clause-lines g c = (ready_is c.args.self.engine.now c.args.se
 
 pub work_lane-requires-clause-indexes : goal.work_lane-requires-clause-indexes
 work_lane-requires-clause-indexes g c = (ready_is c.args.self.engine.now c.args.self.lane c.args.self.indexes c.args.self.pass c.args.self.lines.now c.args.self.ready).indexes_are
+
+pub returns : goal.returns
+returns g c = record {
+  same = c.work_lane.ensures.own.0;
+  own = c.work_lane.ensures.own.1;
+  works = c.in_ok-work.ensures.ok;
+}
