@@ -1,5 +1,6 @@
 -- What is told of a change shows no row.
 use Rattle.std.proofs.Common.{ℕ, Option, Result, Ok, Err, IfOk, List}
+use Rattle.std.specs.Prelude.{OnErr}
 use Rattle.key_tuple.specs.Order.{FieldList}
 use Rattle.map_history.specs.declared.columns.How.{How}
 use Rattle.map_history.specs.declared.columns.Note.{Note}
@@ -9,9 +10,11 @@ use Rattle.map_history.specs.declared.reply.Told.{Told}
 use Rattle.map_history.specs.Map.{Pair, MapChange}
 use Rattle.map_history.specs.Operation.{Make}
 use Rattle.map_history.specs.Report.{Answer}
+use Rattle.call_law.specs.Once.{IsQuiet}
 use Rattle.call_law.specs.Spoken.{View}
 use Rattle.engine_law.specs.Tells.{IsTold, TellsOnce}
-use Rattle.index_engine.specs.Traces.{TellsOfWrite}
+use Rattle.search_info.specs.declared.knows.Knows.{Knows}
+use Rattle.index_engine.specs.Traces.{TellsOfWrite, GivesUp}
 
 any_row : (c : MapChange) (reply : Reply) (point : Option ℕ) (how : How) (note : Note) (row other : Pair) (answer : Answer) → IsTold (Make c) (record { reply = reply; point = point; how = how; note = note }) row answer → IsTold (Make c) (record { reply = reply; point = point; how = how; note = note }) other answer
 any_row c word.Found point how note row other answer t = record { is = t.is; point = t.point; key = t.key; stands = t.stands }
@@ -38,3 +41,10 @@ pub result_shows_no_row : {E : Type 0} (result : Result Told E) (v v' : View) (i
 result_shows_no_row (Err e) v v' i key bytes c row other t = t
 result_shows_no_row (Ok told) v v' i key bytes c row other t =
     shows_no_row told v v' i c row other t.tells
+
+-- a call that gave up was quiet
+pub gave_up_quiet : {E : Type 0} (result : Result Told E) (v v' : View) (l m : Knows) (i : ℕ)
+    (key : FieldList) (bytes : List ℕ) → OnErr result (GivesUp v v' l m i key bytes)
+    → OnErr result (IsQuiet v v' i)
+gave_up_quiet (Err e) v v' l m i key bytes given = given.quiet
+gave_up_quiet (Ok told) v v' l m i key bytes given = given

@@ -1,4 +1,6 @@
-use Rattle.std.proofs.Common.{◌≡◌, ◌∙◌, ◌+◌, ◌∷◌, [], ◌++◌, ap, sym, subst, arith, length, length-append, take}
+use Rattle.std.proofs.Common.{List, ◌≡◌, ◌∙◌, ◌+◌, ◌∷◌, [], ◌++◌, ap, sym, subst, arith, length, length-append, take}
+use Rattle.std.proofs.lemmas.List.{take_all}
+use Rattle.map_history.specs.declared.line.Line.{Line}
 use Rattle.map_history.specs.Lines.{line_text, line_texts}
 use Rattle.index_engine.specs.Engines.{known, indexes_of}
 use Rattle.lane_work.specs.Workable.{IsWorkable}
@@ -42,3 +44,33 @@ loop-line-preserved g c =
       room = added.room ∙ so_far.room;
       few = omega (arith, few, one, noted, length-append old.log.noted (told_notes c.args.lane (line_text line) c.in_ok-told.told));
     }
+
+pub work_line-requires-clause-own : goal.work_line-requires-clause-own
+work_line-requires-clause-own g c = c.loop-line.invariant.own
+
+pub work_line-requires-clause-line : goal.work_line-requires-clause-line
+work_line-requires-clause-line g c = subst (IsWorkable c.args.engine.now) (sym c.line-item.is) (workable_at c.args.engine.now c.args.lines.now c.loop-line.line-index c.line-item.result c.requires.lines c.loop-line-test.true)
+
+pub add-requires-clause-room : goal.add-requires-clause-room
+add-requires-clause-room g c = let so_far = c.loop-line.invariant in omega (arith, so_far.room, so_far.few, c.loop-line-test.true)
+
+pub returns-clause-own : goal.returns-clause-own
+returns-clause-own g c = (c.loop-line.invariant.same, c.loop-line.invariant.own)
+
+pub returns-clause-ok : goal.returns-clause-ok
+returns-clause-ok g c =
+    let work = c.loop-line.work in
+    let all = take_all c.loop-line.line-index c.args.lines.now c.loop-line-test.false in
+    subst (λ (ls : List Line). Works c.args.pass.now c.loop-line.pass (line_texts ls) work.answers work.log work.counts.items) all c.loop-line.invariant.works
+
+pub returns-in_err-work-clause-own : goal.returns-in_err-work-clause-own
+returns-in_err-work-clause-own g c = (same_none c.args.pass.now, c.requires.own)
+
+pub returns-in_err-row-clause-own : goal.returns-in_err-row-clause-own
+returns-in_err-row-clause-own g c = (same_none c.args.pass.now, c.requires.own)
+
+pub returns-in_err-told-clause-own : goal.returns-in_err-told-clause-own
+returns-in_err-told-clause-own g c = (same_more c.args.pass.now c.loop-line.pass c.work_line.new.pass c.loop-line.invariant.same c.work_line.ensures.own.0, c.work_line.ensures.own.1)
+
+pub returns-in_err-add-clause-own : goal.returns-in_err-add-clause-own
+returns-in_err-add-clause-own g c = (same_more c.args.pass.now c.loop-line.pass c.work_line.new.pass c.loop-line.invariant.same c.work_line.ensures.own.0, c.work_line.ensures.own.1)
