@@ -48,6 +48,12 @@ differ_drop [] row right differ = differ.1
 differ_drop (x ∷ left) row right differ =
     (each_drop _ left row right differ.0, differ_drop left row right differ.1)
 
+-- the key belongs at the spot on the page that the frame has
+pub spot_on : (f : Frame) (page : PageRows) (key : FieldList) (spot : Spot) → f.page ≡ Some page
+    → HasSpotIn f key spot → HasSpot page key spot
+spot_on f page key spot paged spot_in = subst (λ (r : PageRows). HasSpot r key spot)
+    (same_some spot_in.page page (sym spot_in.paged ∙ paged)) spot_in.finds
+
 -- what a search of a frame's leaf finds
 pub finds_row : (f : Frame) (page : PageRows) (key : FieldList) (spot : Spot) (o : Option ℕ)
     → f.page ≡ Some page → IsPageInOrder page → f.clock ≤ last_clock → HasSpotIn f key spot
@@ -56,8 +62,7 @@ finds_row f page key spot o paged order within spot_in found =
     by_place o found
   where
     finds : HasSpot page key spot
-    finds = subst (λ (r : PageRows). HasSpot r key spot)
-        (same_some spot_in.page page (sym spot_in.paged ∙ paged)) spot_in.finds
+    finds = spot_on f page key spot paged spot_in
 
     by_place : (place : Option ℕ) → IsFoundAt page key place → FindsRow f key spot place
     by_place None absent =

@@ -8,7 +8,7 @@ use Rattle.latch_law.specs.declared.knows.Terms.{Terms}
 use Rattle.latch_law.specs.Views.{holding}
 use Rattle.latch_law.specs.Whole.{reference}
 use Rattle.latch_space.specs.Has.{SameHands, IsKnown}
-use Rattle.latch_space.specs.Passes.{view}
+use Rattle.latch_space.specs.Passes.{view, count}
 use Rattle.map_history.specs.declared.reply.Reply.TheVariants as words
 use Rattle.map_history.specs.declared.reply.Told.{Told}
 use Rattle.map_history.specs.Map.{Pair, MapChange}
@@ -36,7 +36,7 @@ use Rattle.buffer_pool.proofs.AddedLemmas.{only_given, gave_adds, frame_no_tree,
 use Rattle.tree_descent.specs.declared.descending.Leaf.{Leaf}
 use Rattle.engine_law.specs.declared.found.Found.{Found}
 use Rattle.leaf_changes.specs.Commits.{IsCommitted}
-use Rattle.leaf_changes.specs.Holds.{HoldsLeaf, KeepsNumber}
+use Rattle.leaf_changes.specs.Holds.{HoldsLeaf, HoldsKnown, KeepsNumber}
 use Rattle.leaf_changes.specs.Hashed.{GivesPartOf}
 use Rattle.leaf_changes.specs.Says.{AnswersAndLeaves}
 use Rattle.engine_law.specs.Says.{SaysOnce, OnlyLooks, columns_by}
@@ -206,3 +206,14 @@ pub number_gave : (p q r : TreePass) (b : ℕ) (f : Frame) → KnowsFrame (view 
 number_gave p q r b f knows same terms gave = subst (KeepsNumber (view p) b)
     (gave_known q r b f (knows_same p q b f same.held terms knows) gave)
     (number_stays (view p) b f knows)
+
+-- a leaf that is held alone is so still while something is said
+pub known_still : (p q : TreePass) (b i : ℕ) (key : FieldList) (f : Frame)
+    → HoldsLeaf p b i key f f → SameHands p q → (view q).terms ≡ (view p).terms → count p ≡ 1
+    → HoldsKnown q b
+known_still p q b i key f holds same terms one = record {
+  frame = f;
+  has = frame_again p q b f f same terms holds.has;
+  inside = leaf_inside p b i key f f holds;
+  one = same.count ∙ one;
+}

@@ -36,3 +36,6 @@ returns-clause-did g c = let call = c.args.self.now in let p = c.args.pass.now i
     (whole_kept p can.index can.block can.known can.made can.made can.made can.holds.has can.hash)
     (change_by c.deed.result) room c.deed.ensures c.commit.result c.commit.ensures.did
     c.commit.ensures.hands
+
+pub returns-clause-own : goal.returns-clause-own
+returns-clause-own g c = c.commit.ensures.own

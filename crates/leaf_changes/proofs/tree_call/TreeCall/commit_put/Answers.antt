@@ -4,6 +4,8 @@ use Rattle.map_history.specs.Operation.{Make}
 use Rattle.index_law.specs.Meanings.{lent_row}
 use Rattle.forest_world.specs.Held.{shape_of_pass}
 use Rattle.leaf_rows.specs.Changing.{PutsRow}
+use Rattle.map_history.specs.Told.{columns_told}
+use Rattle.buffer_pool.proofs.AgainLemmas.{passes_both}
 use Rattle.leaf_changes.proofs.BackLemmas.{back_as, back_leaf, back_full, back_most, back_answers}
 use Rattle.leaf_changes.proofs.CallLemmas.{can_refuse}
 use Rattle.leaf_changes.proofs.HashedLemmas.{hash_again}
@@ -72,3 +74,26 @@ returns-in-Err-clause-did g c = let held = c.requires.held in let call = c.args.
     c.in-Err.field-0.0 key held.known held.made held.holds c.in-Err.ensures.did
     c.take_out.ensures.back c.say.new.pass (Make (map.Put key c.args.value.now)) c.say.result
     (lent_row None) c.say.ensures.kept c.say.ensures.did
+
+pub returns-in-Ok-clause-own : goal.returns-in-Ok-clause-own
+returns-in-Ok-clause-own g c = c.commit.ensures.own
+
+pub returns-in-Ok-clause-columns : goal.returns-in-Ok-clause-columns
+returns-in-Ok-clause-columns g c = ap columns_told c.made.ensures
+
+pub returns-in-Err-clause-own : goal.returns-in-Err-clause-own
+returns-in-Err-clause-own g c = (
+  passes_both c.args.pass.now c.commit.new.pass c.say.new.pass c.commit.ensures.own.0 (passes_both
+      c.commit.new.pass c.take_out.new.pass c.say.new.pass c.take_out.ensures.own.0
+      c.say.ensures.own.0),
+  c.say.ensures.own.1,
+)
+
+pub returns-in-Err-clause-columns : goal.returns-in-Err-clause-columns
+returns-in-Err-clause-columns g c = c.say.ensures.columns
+
+pub take_out-requires-clause-own : goal.take_out-requires-clause-own
+take_out-requires-clause-own g c = c.commit.ensures.own.1
+
+pub say-requires-clause-own : goal.say-requires-clause-own
+say-requires-clause-own g c = c.take_out.ensures.own.1

@@ -4,6 +4,8 @@ use Rattle.map_history.specs.Operation.{Make}
 use Rattle.index_law.specs.Meanings.{lent_row}
 use Rattle.forest_world.specs.Held.{shape_of_pass}
 use Rattle.leaf_rows.specs.Setting.{SetsValue}
+use Rattle.map_history.specs.Told.{columns_told}
+use Rattle.buffer_pool.proofs.AgainLemmas.{passes_both}
 use Rattle.leaf_changes.proofs.BackLemmas.{back_as, back_leaf, back_full, back_most, back_answers}
 use Rattle.leaf_changes.proofs.CallLemmas.{can_refuse}
 use Rattle.leaf_changes.proofs.HashedLemmas.{hash_again}
@@ -73,3 +75,26 @@ returns-in-Err-clause-did g c = let held = c.requires.held in let call = c.args.
     c.in-Err.field-0.0 key held.known held.made held.holds c.in-Err.ensures.did
     c.shrink_row.ensures.back c.say_of_set.new.pass (Make (map.Set key c.args.value.now))
     c.say_of_set.result (lent_row None) c.say_of_set.ensures.kept c.say_of_set.ensures.did
+
+pub returns-in-Ok-clause-own : goal.returns-in-Ok-clause-own
+returns-in-Ok-clause-own g c = c.commit.ensures.own
+
+pub returns-in-Ok-clause-columns : goal.returns-in-Ok-clause-columns
+returns-in-Ok-clause-columns g c = ap columns_told c.made.ensures
+
+pub returns-in-Err-clause-own : goal.returns-in-Err-clause-own
+returns-in-Err-clause-own g c = (
+  passes_both c.args.pass.now c.commit.new.pass c.say_of_set.new.pass c.commit.ensures.own.0
+      (passes_both c.commit.new.pass c.shrink_row.new.pass c.say_of_set.new.pass
+      c.shrink_row.ensures.own.0 c.say_of_set.ensures.own.0),
+  c.say_of_set.ensures.own.1,
+)
+
+pub returns-in-Err-clause-columns : goal.returns-in-Err-clause-columns
+returns-in-Err-clause-columns g c = c.say_of_set.ensures.columns
+
+pub shrink_row-requires-clause-own : goal.shrink_row-requires-clause-own
+shrink_row-requires-clause-own g c = c.commit.ensures.own.1
+
+pub say_of_set-requires-clause-own : goal.say_of_set-requires-clause-own
+say_of_set-requires-clause-own g c = c.shrink_row.ensures.own.1

@@ -1,5 +1,6 @@
 use Rattle.std.proofs.Common.{ap, subst, sym, ◌∙◌, None}
 use Rattle.hash_maintain.specs.Leaves.{kept_frame}
+use Rattle.buffer_pool.proofs.AgainLemmas.{passes_both}
 use Rattle.leaf_changes.specs.Holds.{IsLeafOf}
 use Rattle.leaf_changes.proofs.GoneLemmas.{answers_earlier}
 use Rattle.leaf_changes.proofs.RehashLemmas.{has_row}
@@ -81,3 +82,22 @@ returns-in-None-clause-did g c = let held = c.requires.held.fresh in let call = 
     said_holding c.args.pass.now c.say_of_del.new.pass c.args.leaf.now.block call.index key
     held.frame (Make (map.Del key)) c.say_of_del.result (lent_row None) held.holds held.known
     c.say_of_del.ensures.kept c.say_of_del.ensures.did
+
+pub returns-in-Some-clause-own : goal.returns-in-Some-clause-own
+returns-in-Some-clause-own g c = (
+  passes_both c.args.pass.now c.row_goes.new.pass c.del_row.new.pass c.row_goes.ensures.own.0
+      c.del_row.ensures.own.0,
+  c.del_row.ensures.own.1,
+)
+
+pub returns-in-Some-clause-columns : goal.returns-in-Some-clause-columns
+returns-in-Some-clause-columns g c = c.del_row.ensures.columns
+
+pub returns-in-None-clause-own : goal.returns-in-None-clause-own
+returns-in-None-clause-own g c = c.say_of_del.ensures.own
+
+pub returns-in-None-clause-columns : goal.returns-in-None-clause-columns
+returns-in-None-clause-columns g c = c.say_of_del.ensures.columns
+
+pub del_row-requires-clause-own : goal.del_row-requires-clause-own
+del_row-requires-clause-own g c = c.row_goes.ensures.own.1

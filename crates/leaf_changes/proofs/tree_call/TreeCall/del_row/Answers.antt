@@ -7,6 +7,8 @@ use Rattle.forest_world.specs.Held.{shape_of_pass, HasFrame}
 use Rattle.hash_maintain.specs.Leaves.{kept_frame}
 use Rattle.latch_space.specs.Has.{IsKnownBut}
 use Rattle.forest_law.specs.Numbers.{frame_id}
+use Rattle.buffer_pool.proofs.AgainLemmas.{passes_both}
+use Rattle.map_history.specs.Told.{columns_told}
 use Rattle.leaf_changes.specs.Changes.{HasOldRow}
 use Rattle.leaf_changes.specs.Commits.{CanWriteAhead}
 use Rattle.leaf_changes.specs.Holds.{KeepsParts}
@@ -110,3 +112,33 @@ returns-in-Err-clause-did g c = let held = c.requires.held in let call = c.args.
     c.args.block c.in-Err.field-0.0 key held.known (kept_frame held.answer held.known) held.holds
     c.in-Err.ensures.did c.come_back.ensures.back c.say_of_del.new.pass (Make (map.Del key))
     c.say_of_del.result (lent_row None) c.say_of_del.ensures.kept c.say_of_del.ensures.did
+
+pub returns-in-Ok-clause-own : goal.returns-in-Ok-clause-own
+returns-in-Ok-clause-own g c = (
+  passes_both c.args.pass.now c.write_ahead.new.pass c.delete.new.pass c.write_ahead.ensures.own.0
+      c.delete.ensures.own.0,
+  c.delete.ensures.own.1,
+)
+
+pub returns-in-Ok-clause-columns : goal.returns-in-Ok-clause-columns
+returns-in-Ok-clause-columns g c = ap columns_told c.made.ensures
+
+pub returns-in-Err-clause-own : goal.returns-in-Err-clause-own
+returns-in-Err-clause-own g c = (
+  passes_both c.args.pass.now c.write_ahead.new.pass c.say_of_del.new.pass
+      c.write_ahead.ensures.own.0 (passes_both c.write_ahead.new.pass c.come_back.new.pass
+      c.say_of_del.new.pass c.come_back.ensures.own.0 c.say_of_del.ensures.own.0),
+  c.say_of_del.ensures.own.1,
+)
+
+pub returns-in-Err-clause-columns : goal.returns-in-Err-clause-columns
+returns-in-Err-clause-columns g c = c.say_of_del.ensures.columns
+
+pub delete-requires-clause-own : goal.delete-requires-clause-own
+delete-requires-clause-own g c = c.write_ahead.ensures.own.1
+
+pub come_back-requires-clause-own : goal.come_back-requires-clause-own
+come_back-requires-clause-own g c = c.write_ahead.ensures.own.1
+
+pub say_of_del-requires-clause-own : goal.say_of_del-requires-clause-own
+say_of_del-requires-clause-own g c = c.come_back.ensures.own.1

@@ -23,3 +23,6 @@ returns-clause-held g c = let alone = c.requires.alone in
     ∙ ap (λ f. part_of_index (shape_of_pass c.args.pass.now) f.hashed)
     (c.frame.ensures alone.fresh.frame alone.fresh.frame alone.fresh.holds.has))
     c.hold_part_for.ensures.held
+
+pub returns-clause-own : goal.returns-clause-own
+returns-clause-own g c = c.hold_part_for.ensures.own

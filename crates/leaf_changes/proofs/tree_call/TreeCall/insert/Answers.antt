@@ -1,4 +1,5 @@
-use Rattle.leaf_changes.proofs.ChangeLemmas.{lacks_there, inserted_ok, inserted_err}
+use Rattle.buffer_pool.proofs.AgainLemmas.{passes_both}
+use Rattle.leaf_changes.proofs.ChangeLemmas.{lacks_there, inserted_ok, inserted_err, knows_same}
 use Rattle.leaf_changes.proofs.tree_call.TreeCall.insert.Goals as goal
 
 pub put_row-result-requires : goal.put_row-result-requires
@@ -26,3 +27,17 @@ returns-clause-err g c = let held = c.requires.held in let call = c.args.self.no
     c.frame_out-frame.ensures.out c.frame_back.ensures.back call.index call.key.now.tuple
     c.args.value.now held.frame held.holds c.put_row-result.result c.put_row-result.ensures.full
     c.put_row-result.ensures.err
+
+pub returns-clause-same : goal.returns-clause-same
+returns-clause-same g c =
+    knows_same c.args.pass.now c.frame_out-frame.new.pass c.frame_back.new.pass
+    c.args.leaf.now.block
+    c.frame_out-frame.result c.put_row-result.new.frame c.frame_out-frame.ensures.out
+    c.frame_back.ensures.back
+
+pub returns-clause-own : goal.returns-clause-own
+returns-clause-own g c = (
+  passes_both c.args.pass.now c.frame_out-frame.new.pass c.frame_back.new.pass
+      c.frame_out-frame.ensures.own.0 c.frame_back.ensures.own.0,
+  c.frame_back.ensures.own.1,
+)

@@ -17,3 +17,9 @@ returns-clause-full g c = let call = c.args.self.now in let p = c.args.pass.now 
       look_full p q call.index c.read_point.result c.read_point.ensures.did room c.args.most most,
       full_look p q call.index c.read_point.result c.read_point.ensures.did room c.args.most most,
     )
+
+pub returns-clause-own : goal.returns-clause-own
+returns-clause-own g c = c.read_point.ensures.own
+
+pub returns-clause-kept : goal.returns-clause-kept
+returns-clause-kept g c = c.read_point.ensures.kept

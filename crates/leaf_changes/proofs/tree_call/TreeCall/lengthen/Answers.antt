@@ -1,3 +1,5 @@
+use Rattle.buffer_pool.proofs.AgainLemmas.{passes_both}
+use Rattle.leaf_changes.proofs.ChangeLemmas.{knows_same}
 use Rattle.leaf_changes.proofs.SettingLemmas.{stands_to_grow, longer_then, lengthened_ok, lengthened_err}
 use Rattle.leaf_changes.proofs.tree_call.TreeCall.lengthen.Goals as goal
 
@@ -28,3 +30,16 @@ returns-clause-err g c = let did = c.grow_value-result.ensures in
     c.frame_out-frame.result c.grow_value-result.new.frame c.frame_out-frame.ensures.out
     c.frame_back.ensures.back c.args.place c.args.value.now c.grow_value-result.result did.cause
     did.err
+
+pub returns-clause-same : goal.returns-clause-same
+returns-clause-same g c =
+    knows_same c.args.pass.now c.frame_out-frame.new.pass c.frame_back.new.pass c.args.block
+    c.frame_out-frame.result c.grow_value-result.new.frame c.frame_out-frame.ensures.out
+    c.frame_back.ensures.back
+
+pub returns-clause-own : goal.returns-clause-own
+returns-clause-own g c = (
+  passes_both c.args.pass.now c.frame_out-frame.new.pass c.frame_back.new.pass
+      c.frame_out-frame.ensures.own.0 c.frame_back.ensures.own.0,
+  c.frame_back.ensures.own.1,
+)

@@ -1,3 +1,4 @@
+use Rattle.buffer_pool.proofs.AgainLemmas.{passes_both}
 use Rattle.leaf_changes.proofs.BothLemmas.{may_go, frame_stays, nothing_left}
 use Rattle.leaf_changes.proofs.tree_call.TreeCall.let_both_go.Goals as goal
 
@@ -18,3 +19,10 @@ returns-clause-gave g c = record {
   frame = frame_stays c.args.pass.now c.give_part.new.pass c.args.block c.args.part
       c.requires.held c.give_part.ensures.gave;
 }
+
+pub returns-clause-own : goal.returns-clause-own
+returns-clause-own g c = (
+  passes_both c.args.pass.now c.give_part.new.pass c.give_back.new.pass c.give_part.ensures.own.0
+      c.give_back.ensures.own.0,
+  c.give_back.ensures.own.1,
+)

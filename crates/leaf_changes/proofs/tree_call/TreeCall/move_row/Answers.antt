@@ -1,3 +1,4 @@
+use Rattle.buffer_pool.proofs.AgainLemmas.{passes_both}
 use Rattle.leaf_changes.proofs.GrowLemmas.{goes_first, to_grow, comes_grown, grown_row, grown_much, back_ungrown, refuses}
 use Rattle.leaf_changes.proofs.tree_call.TreeCall.move_row.Goals as goal
 
@@ -50,3 +51,22 @@ returns-in-Err-clause-err g c = let call = c.args.self.now in let held = c.requi
     (c.row_goes.ensures.kept held.index held.known held.known held.holds.has held.hash)
     c.lengthen.new.pass c.lengthen.ensures.same c.in-Err.refusal c.in-Err.ensures.err
     c.come_back.new.pass c.come_back.ensures.back
+
+pub returns-in-Ok-clause-own : goal.returns-in-Ok-clause-own
+returns-in-Ok-clause-own g c = (
+  passes_both c.args.pass.now c.row_goes.new.pass c.row_came.new.pass c.row_goes.ensures.own.0
+      (passes_both c.row_goes.new.pass c.lengthen.new.pass c.row_came.new.pass
+      c.lengthen.ensures.own.0 c.row_came.ensures.own.0),
+  c.row_came.ensures.own.1,
+)
+
+pub returns-in-Err-clause-own : goal.returns-in-Err-clause-own
+returns-in-Err-clause-own g c = (
+  passes_both c.args.pass.now c.row_goes.new.pass c.come_back.new.pass c.row_goes.ensures.own.0
+      (passes_both c.row_goes.new.pass c.lengthen.new.pass c.come_back.new.pass
+      c.lengthen.ensures.own.0 c.come_back.ensures.own.0),
+  c.come_back.ensures.own.1,
+)
+
+pub row_came-requires-clause-own : goal.row_came-requires-clause-own
+row_came-requires-clause-own g c = c.lengthen.ensures.own.1

@@ -4,6 +4,7 @@ use Rattle.map_history.specs.Map as map
 use Rattle.map_history.specs.Operation.{Make}
 use Rattle.index_law.specs.Meanings.{lent_row}
 use Rattle.forest_world.specs.Held.{shape_of_pass}
+use Rattle.buffer_pool.proofs.AgainLemmas.{passes_both}
 use Rattle.leaf_changes.specs.Changes.{FindsRow}
 use Rattle.leaf_changes.proofs.CallLemmas.{can_duplicate, can_refuse}
 use Rattle.leaf_changes.proofs.HashedLemmas.{hash_again}
@@ -142,3 +143,49 @@ returns-in-Err-clause-err g c = let call = c.args.self.now in
         count = c.put_in.ensures.same.count ∙ c.is_full.ensures.kept.count;
       };
     }
+
+pub returns-then-is_some-clause-own : goal.returns-then-is_some-clause-own
+returns-then-is_some-clause-own g c = c.say.ensures.own
+
+pub returns-then-is_some-clause-columns : goal.returns-then-is_some-clause-columns
+returns-then-is_some-clause-columns g c = c.say.ensures.columns
+
+pub returns-then-is_full-clause-own : goal.returns-then-is_full-clause-own
+returns-then-is_full-clause-own g c = (
+  passes_both c.args.pass.now c.is_full.new.pass c.say-then-is_full.new.pass c.is_full.ensures.own.0
+      c.say-then-is_full.ensures.own.0,
+  c.say-then-is_full.ensures.own.1,
+)
+
+pub returns-then-is_full-clause-columns : goal.returns-then-is_full-clause-columns
+returns-then-is_full-clause-columns g c = c.say-then-is_full.ensures.columns
+
+pub returns-in-Ok-clause-own : goal.returns-in-Ok-clause-own
+returns-in-Ok-clause-own g c = (
+  passes_both c.args.pass.now c.is_full.new.pass c.commit_put.new.pass c.is_full.ensures.own.0
+      (passes_both c.is_full.new.pass c.put_in.new.pass c.commit_put.new.pass c.put_in.ensures.own.0
+      c.commit_put.ensures.own.0),
+  c.commit_put.ensures.own.1,
+)
+
+pub returns-in-Ok-clause-columns : goal.returns-in-Ok-clause-columns
+returns-in-Ok-clause-columns g c = c.commit_put.ensures.columns
+
+pub returns-in-Err-clause-own : goal.returns-in-Err-clause-own
+returns-in-Err-clause-own g c = (
+  passes_both c.args.pass.now c.is_full.new.pass c.put_in.new.pass c.is_full.ensures.own.0
+      c.put_in.ensures.own.0,
+  c.put_in.ensures.own.1,
+)
+
+pub commit_put-requires-clause-held : goal.commit_put-requires-clause-held
+commit_put-requires-clause-held g c = c.in-Ok.ensures.ok
+
+pub commit_put-requires-clause-own : goal.commit_put-requires-clause-own
+commit_put-requires-clause-own g c = c.put_in.ensures.own.1
+
+pub put_in-requires-clause-own : goal.put_in-requires-clause-own
+put_in-requires-clause-own g c = c.is_full.ensures.own.1
+
+pub say-requires-then-is_full-clause-own : goal.say-requires-then-is_full-clause-own
+say-requires-then-is_full-clause-own g c = c.is_full.ensures.own.1

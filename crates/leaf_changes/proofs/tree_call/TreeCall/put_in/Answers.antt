@@ -1,3 +1,4 @@
+use Rattle.buffer_pool.proofs.AgainLemmas.{passes_both}
 use Rattle.leaf_changes.proofs.PutLemmas.{row_came_held, new_row, new_view}
 use Rattle.leaf_changes.proofs.SettleLemmas.{known_after}
 use Rattle.leaf_changes.proofs.tree_call.TreeCall.put_in.Goals as goal
@@ -25,3 +26,22 @@ pub returns-in-Err-clause-known : goal.returns-in-Err-clause-known
 returns-in-Err-clause-known g c = let held = c.in-Err.ensures.err in
     known_after c.args.pass.now c.insert.new.pass c.args.leaf.now.block held.frame
     c.insert.ensures.same (λ j h differs has. c.requires.held.known j h has) held.holds.has
+
+pub returns-in-Ok-clause-own : goal.returns-in-Ok-clause-own
+returns-in-Ok-clause-own g c = (
+  passes_both c.args.pass.now c.insert.new.pass c.row_came.new.pass c.insert.ensures.own.0
+      c.row_came.ensures.own.0,
+  c.row_came.ensures.own.1,
+)
+
+pub returns-in-Err-clause-own : goal.returns-in-Err-clause-own
+returns-in-Err-clause-own g c = c.insert.ensures.own
+
+pub returns-in-Err-clause-err : goal.returns-in-Err-clause-err
+returns-in-Err-clause-err g c = c.in-Err.ensures.err
+
+pub returns-in-Err-clause-same : goal.returns-in-Err-clause-same
+returns-in-Err-clause-same g c = let same = c.insert.ensures.same in record {
+  view = same.view;
+  count = same.count;
+}

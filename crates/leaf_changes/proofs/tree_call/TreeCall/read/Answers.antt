@@ -1,8 +1,9 @@
 use Rattle.std.proofs.Common.{ap, ◌∙◌}
 use Rattle.latch_space.specs.Passes.{view}
 use Rattle.map_history.specs.Operation as asked
+use Rattle.buffer_pool.proofs.AgainLemmas.{passes_both}
 use Rattle.leaf_changes.proofs.CallLemmas.{can_get}
-use Rattle.leaf_changes.proofs.TellLemmas.{beside_of, number_gave}
+use Rattle.leaf_changes.proofs.TellLemmas.{beside_of, number_gave, known_still}
 use Rattle.leaf_changes.proofs.tree_call.TreeCall.read.Goals as goal
 
 pub read_row-reply-requires : goal.read_row-reply-requires
@@ -38,3 +39,25 @@ returns-clause-told g c = let call = c.args.self.now in
 
 pub returns-clause-found : goal.returns-clause-found
 returns-clause-found g c = c.say-told.ensures.reply ∙ c.read_row-reply.ensures.found
+
+pub returns-clause-own : goal.returns-clause-own
+returns-clause-own g c = (
+  passes_both c.args.pass.now c.say-told.new.pass c.let_go.new.pass c.say-told.ensures.own.0
+      c.let_go.ensures.own.0,
+  c.let_go.ensures.own.1,
+)
+
+pub returns-clause-nothing : goal.returns-clause-nothing
+returns-clause-nothing g c = c.let_go.ensures.nothing
+
+pub returns-clause-columns : goal.returns-clause-columns
+returns-clause-columns g c = c.say-told.ensures.columns
+
+pub let_go-requires-clause-own : goal.let_go-requires-clause-own
+let_go-requires-clause-own g c = c.say-told.ensures.own.1
+
+pub let_go-requires-clause-held : goal.let_go-requires-clause-held
+let_go-requires-clause-held g c = let alone = c.requires.held.alone in let call = c.args.self.now in
+    known_still c.args.pass.now c.say-told.new.pass c.args.block call.index call.key.now.tuple
+    alone.fresh.frame alone.fresh.holds c.say-told.ensures.kept
+    c.say-told.ensures.did.once.adds.numbers.terms alone.one

@@ -1,5 +1,6 @@
 use Rattle.std.proofs.Common.{refl, sym, subst}
 use Rattle.hash_maintain.specs.Leaves.{without_row, HasRowInFrame}
+use Rattle.buffer_pool.proofs.AgainLemmas.{passes_both}
 use Rattle.leaf_changes.specs.Hashed.{MayNotDrop}
 use Rattle.leaf_changes.proofs.UpkeepLemmas.{asks_tidy, asks_exact, asks_place, asks_room, goes_back, row_is_kept}
 use Rattle.leaf_changes.proofs.tree_call.TreeCall.row_goes.Goals as goal
@@ -50,3 +51,15 @@ returns-clause-kept g c o f h has hash =
     o f h has hash c.upkeep_keeps_the_hash.ensures.tidy c.frame_back.new.pass
     c.frame_back.ensures.back (λ how is. (c.delete_in_frame.ensures.keeps how is).room) MayNotDrop
     c.delete_in_frame.ensures.kept
+
+pub returns-clause-own : goal.returns-clause-own
+returns-clause-own g c = (
+  passes_both c.args.pass.now c.frame_out-frame.new.pass c.frame_back.new.pass
+      c.frame_out-frame.ensures.own.0 (passes_both c.frame_out-frame.new.pass
+      c.delete_in_frame.new.pass c.frame_back.new.pass c.delete_in_frame.ensures.own.0
+      c.frame_back.ensures.own.0),
+  c.frame_back.ensures.own.1,
+)
+
+pub frame_back-requires-clause-own : goal.frame_back-requires-clause-own
+frame_back-requires-clause-own g c = (c.args.self.now.forest, c.delete_in_frame.ensures.own.1)

@@ -43,3 +43,21 @@ returns-in-None-clause-ok g c = let held = c.requires.held.fresh in let call = c
     said_holding c.args.pass.now c.say_of_set.new.pass c.args.leaf.now.block call.index key
     held.frame (Make (map.Set key c.args.value.now)) c.say_of_set.result (lent_row None)
     held.holds held.known c.say_of_set.ensures.kept c.say_of_set.ensures.did
+
+pub returns-in-Some-clause-own : goal.returns-in-Some-clause-own
+returns-in-Some-clause-own g c = c.set_row.ensures.own
+
+pub returns-in-None-clause-own : goal.returns-in-None-clause-own
+returns-in-None-clause-own g c = c.say_of_set.ensures.own
+
+pub returns-in-None-clause-columns : goal.returns-in-None-clause-columns
+returns-in-None-clause-columns g c = c.say_of_set.ensures.columns
+
+pub returns-in-Some-clause-ok : goal.returns-in-Some-clause-ok
+returns-in-Some-clause-ok g c = c.set_row.ensures.ok
+
+pub returns-in-Some-clause-columns : goal.returns-in-Some-clause-columns
+returns-in-Some-clause-columns g c = c.set_row.ensures.columns
+
+pub returns-in-Some-clause-err : goal.returns-in-Some-clause-err
+returns-in-Some-clause-err g c = c.set_row.ensures.err

@@ -4,6 +4,8 @@ use Rattle.map_history.specs.Map as map
 use Rattle.map_history.specs.Operation.{Make}
 use Rattle.index_law.specs.Meanings.{lent_row}
 use Rattle.forest_world.specs.Held.{shape_of_pass, HasFrame}
+use Rattle.buffer_pool.proofs.AgainLemmas.{passes_both}
+use Rattle.map_history.specs.Told.{columns_told}
 use Rattle.leaf_changes.specs.Commits.{MakesChange, CanWriteAhead}
 use Rattle.latch_space.specs.Has.{IsKnownBut}
 use Rattle.forest_law.specs.Numbers.{frame_id}
@@ -122,3 +124,29 @@ returns-in-Err-clause-did g c = let held = c.requires.held in let call = c.args.
           (stays_same q r c.say_of_set.ensures.kept
           c.say_of_set.ensures.did.once.adds.numbers.terms (known_again p q full.same held.all));
     }
+
+pub returns-in-Ok-clause-own : goal.returns-in-Ok-clause-own
+returns-in-Ok-clause-own g c = (
+  passes_both c.args.pass.now c.write_ahead.new.pass c.rewrite.new.pass c.write_ahead.ensures.own.0
+      c.rewrite.ensures.own.0,
+  c.rewrite.ensures.own.1,
+)
+
+pub returns-in-Ok-clause-columns : goal.returns-in-Ok-clause-columns
+returns-in-Ok-clause-columns g c = ap columns_told c.made.ensures
+
+pub returns-in-Err-clause-own : goal.returns-in-Err-clause-own
+returns-in-Err-clause-own g c = (
+  passes_both c.args.pass.now c.write_ahead.new.pass c.say_of_set.new.pass
+      c.write_ahead.ensures.own.0 c.say_of_set.ensures.own.0,
+  c.say_of_set.ensures.own.1,
+)
+
+pub returns-in-Err-clause-columns : goal.returns-in-Err-clause-columns
+returns-in-Err-clause-columns g c = c.say_of_set.ensures.columns
+
+pub rewrite-requires-clause-own : goal.rewrite-requires-clause-own
+rewrite-requires-clause-own g c = c.write_ahead.ensures.own.1
+
+pub say_of_set-requires-clause-own : goal.say_of_set-requires-clause-own
+say_of_set-requires-clause-own g c = c.write_ahead.ensures.own.1

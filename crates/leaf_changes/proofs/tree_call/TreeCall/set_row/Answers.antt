@@ -8,6 +8,7 @@ use Rattle.leaf_rows.specs.Changing.{HasSomeRow, HasRowOf}
 use Rattle.leaf_rows.specs.Setting.{frame_with}
 use Rattle.forest_world.proofs.HashHandLemmas.{one_frame}
 use Rattle.leaf_rows.specs.Setting.{IsLongerValue}
+use Rattle.buffer_pool.proofs.AgainLemmas.{passes_both}
 use Rattle.leaf_changes.proofs.HashedLemmas.{hash_again}
 use Rattle.leaf_changes.proofs.SetRowLemmas.{ok_later, err_later}
 use Rattle.leaf_changes.proofs.SettleLemmas.{known_again, parts_same, stays_both, stays_same}
@@ -126,3 +127,38 @@ returns-clause-err g c = let call = c.args.self.now in
     err_later c.args.pass.now c.is_full.new.pass c.grow_row.new.pass c.args.block call.index
     c.is_full.ensures.looked c.is_full.ensures.kept call.key.now.tuple c.args.value.now
     c.grow_row.result c.grow_row.ensures.err
+
+pub returns-then-as_bytes-before-clause-own : goal.returns-then-as_bytes-before-clause-own
+returns-then-as_bytes-before-clause-own g c = c.set_in_place.ensures.own
+
+pub returns-then-as_bytes-before-clause-ok : goal.returns-then-as_bytes-before-clause-ok
+returns-then-as_bytes-before-clause-ok g c = c.set_in_place.ensures.did
+
+pub returns-then-as_bytes-before-clause-columns : goal.returns-then-as_bytes-before-clause-columns
+returns-then-as_bytes-before-clause-columns g c = c.set_in_place.ensures.columns
+
+pub returns-then-is_full-clause-own : goal.returns-then-is_full-clause-own
+returns-then-is_full-clause-own g c = (
+  passes_both c.args.pass.now c.is_full.new.pass c.say_of_set.new.pass c.is_full.ensures.own.0
+      c.say_of_set.ensures.own.0,
+  c.say_of_set.ensures.own.1,
+)
+
+pub returns-then-is_full-clause-columns : goal.returns-then-is_full-clause-columns
+returns-then-is_full-clause-columns g c = c.say_of_set.ensures.columns
+
+pub returns-clause-own : goal.returns-clause-own
+returns-clause-own g c = (
+  passes_both c.args.pass.now c.is_full.new.pass c.grow_row.new.pass c.is_full.ensures.own.0
+      c.grow_row.ensures.own.0,
+  c.grow_row.ensures.own.1,
+)
+
+pub returns-clause-columns : goal.returns-clause-columns
+returns-clause-columns g c = c.grow_row.ensures.columns
+
+pub grow_row-requires-clause-own : goal.grow_row-requires-clause-own
+grow_row-requires-clause-own g c = c.is_full.ensures.own.1
+
+pub say_of_set-requires-clause-own : goal.say_of_set-requires-clause-own
+say_of_set-requires-clause-own g c = c.is_full.ensures.own.1

@@ -23,3 +23,6 @@ returns-clause-did g c = let held = c.requires.held in let call = c.args.self.no
     settles c.blocks_ask_the_same.ensures p c.args.block held
     (held_below p c.args.block (object.Frame held.known) (object.Frame held.now) held.has objects)
     c.settle.new.pass c.settle.ensures.did call.index
+
+pub returns-clause-own : goal.returns-clause-own
+returns-clause-own g c = c.settle.ensures.own

@@ -1,3 +1,4 @@
+use Rattle.buffer_pool.proofs.AgainLemmas.{passes_both}
 use Rattle.leaf_changes.proofs.GrowLemmas.{grown_goes, paged_still, comes_back, shrunk}
 use Rattle.leaf_changes.proofs.tree_call.TreeCall.shrink_row.Goals as goal
 
@@ -25,3 +26,11 @@ returns-clause-back g c = let held = c.requires.held in
     (c.row_goes.ensures.kept held.index held.known held.now held.has held.hash)
     c.restore.new.pass c.restore.ensures.same c.restore.ensures.back c.args.self.now.index
     c.come_back.new.pass c.come_back.ensures.back
+
+pub returns-clause-own : goal.returns-clause-own
+returns-clause-own g c = (
+  passes_both c.args.pass.now c.row_goes.new.pass c.come_back.new.pass c.row_goes.ensures.own.0
+      (passes_both c.row_goes.new.pass c.restore.new.pass c.come_back.new.pass
+      c.restore.ensures.own.0 c.come_back.ensures.own.0),
+  c.come_back.ensures.own.1,
+)

@@ -1,3 +1,4 @@
+use Rattle.buffer_pool.proofs.AgainLemmas.{passes_both}
 use Rattle.leaf_changes.proofs.PutLemmas.{goes_again, put_then, at_rest, taken_out}
 use Rattle.leaf_changes.proofs.tree_call.TreeCall.take_out.Goals as goal
 
@@ -22,3 +23,11 @@ returns-clause-back g c = let held = c.requires.held in
     (c.row_goes.ensures.kept held.index held.known held.now held.has held.hash)
     c.take_back.new.pass c.take_back.ensures.same c.take_back.ensures.back c.args.self.now.index
     c.settle.new.pass c.settle.ensures.did
+
+pub returns-clause-own : goal.returns-clause-own
+returns-clause-own g c = (
+  passes_both c.args.pass.now c.row_goes.new.pass c.settle.new.pass c.row_goes.ensures.own.0
+      (passes_both c.row_goes.new.pass c.take_back.new.pass c.settle.new.pass
+      c.take_back.ensures.own.0 c.settle.ensures.own.0),
+  c.settle.ensures.own.1,
+)

@@ -39,3 +39,6 @@ returns-clause-did g c = let can = c.requires.held in let call = c.args.self.now
     (next_at p b can.known can.now next can.holds.has) (next_else p b next)
     (whole_kept p can.index b can.known next can.now next can.holds.has can.hash)
     c.commit_ahead.result c.commit_ahead.ensures.did c.commit_ahead.ensures.hands
+
+pub returns-clause-own : goal.returns-clause-own
+returns-clause-own g c = c.commit_ahead.ensures.own
