@@ -1,5 +1,5 @@
 -- The row that a node names, looked at on the leaf in hand.
-use Rattle.std.proofs.Common.{◌≡◌, ℕ, ◌≤◌, [], ◌∷◌, length, sym, ap, subst, ◌∙◌, refl, Bool, Option, Some, None, IsSome, IfNone, IfSome}
+use Rattle.std.proofs.Common.{◌≡◌, ℕ, ◌≤◌, [], ◌∷◌, length, sym, ap, subst, ◌∙◌, refl, Bool, true, false, Option, Some, None, IsSome, IfNone, IfSome, is_some, not}
 use lib.ListN.{get_elem?}
 use Rattle.key_tuple.specs.Order.{FieldList}
 use Rattle.key_tuple.specs.declared.mode.Mode.{Mode}
@@ -108,3 +108,17 @@ module _ (p : TreePass) (index : ℕ) (n : Node) (row : HoldsNamedRow p index n)
             checks;
       },
     )
+
+-- of what is seen to be none nothing is told
+pub none_tells : (P : Bool → Type 0) (told : Option Bool) (none : Bool) → is_some told ≡ not none
+    → none ≡ true → IfSome told P
+none_tells P None none is seen = tt
+none_tells P (Some found) true is seen = absurd cc
+none_tells P (Some found) false is seen = absurd cc
+
+-- and what is not is some
+pub some_tells : (P : Type 0) (told : Option Bool) (none : Bool) → is_some told ≡ not none
+    → none ≡ false → IfNone told P
+some_tells P None true is seen = absurd cc
+some_tells P None false is seen = absurd cc
+some_tells P (Some found) none is seen = tt

@@ -26,10 +26,10 @@ use Rattle.forest_law.specs.declared.objects.Object.{Object}
 use Rattle.forest_law.specs.declared.objects.Object.TheVariants as object
 use Rattle.forest_law.specs.Hashed.{folds_for, hash_block}
 use Rattle.forest_law.specs.Law.{IsLawful}
-use Rattle.forest_law.specs.Numbers.{part_id, frame_id}
+use Rattle.forest_law.specs.Numbers.{part_id, frame_id, frames_of}
 use Rattle.forest_law.specs.References.{IsReference}
 use Rattle.forest_world.specs.Held.{TreePass, shape_of_pass}
-use Rattle.call_law.specs.Hands.{LacksObject}
+use Rattle.call_law.specs.Hands.{LacksObject, HoldsNoFrameBut}
 use Rattle.call_law.specs.Spoken.{View}
 use Rattle.buffer_pool.specs.Calls.{Does, GetsNothing}
 use Rattle.buffer_pool.specs.Tries.{tries_and_given}
@@ -121,6 +121,14 @@ module _ (p m : TreePass) (index : ℕ) (tuple : FieldList) (info : Info) (n : N
 
   takes : Does p m (part_id_in p index ∷ []) none_added
   takes = took_does p m (part_in p index) known entry.took entry.at_once
+
+  -- no frame is held where none was
+  pub no_frame : part_in p index < (shape_of_pass p).parts → HoldsNoFrameBut (view p) []
+      → HoldsNoFrameBut (view m) []
+  no_frame below lacks b few apart =
+      ap (λ (s : Shape). get_elem? (view m).held (frame_id s b)) same_shape
+      ∙ (takes.rest (frame_id_in p b) ((λ e. omega (arith, e, below)), tt)
+      ∙ lacks b (subst (λ (s : Shape). b < frames_of s) same_shape few) tt)
 
   names_place : NamesPlace p index tuple info part n.block n.place
   names_place = search n

@@ -1,5 +1,5 @@
 -- A partition that one try takes, and that is given back where it has no node of the fold.
-use Rattle.std.proofs.Common.{◌≡◌, ℕ, List, [], ◌∷◌, sym, ap, subst, ◌∙◌, arith, Some, None}
+use Rattle.std.proofs.Common.{◌≡◌, ◌<◌, ℕ, List, [], ◌∷◌, refl, sym, ap, subst, ◌∙◌, arith, Some, None}
 use lib.ListN.{get_elem?}
 use Rattle.atomic_table.proofs.Lists.{set_here}
 use Rattle.list_facts.proofs.Places.{inside}
@@ -18,6 +18,7 @@ use Rattle.chain_arena.specs.declared.node.Node.{Node}
 use Rattle.chain_arena.specs.Bag.{HasNode, HasNoFold}
 use Rattle.hash_partition.specs.Part.{Part}
 use Rattle.learning.specs.declared.info.Info.{Info}
+use Rattle.hash_law.specs.Blocks.{part_for}
 use Rattle.index_law.specs.Shape.{Shape}
 use Rattle.forest_law.specs.declared.objects.Object.{Object}
 use Rattle.forest_law.specs.declared.objects.Object.TheVariants as object
@@ -30,8 +31,17 @@ use Rattle.buffer_pool.specs.Tries.{tries_alone, tries_and_given}
 use Rattle.buffer_pool.proofs.AddedLemmas.{none_added, only_refused, only_given, took_adds, tried_adds, gave_adds, given_spares, none_spares, rest_but_one}
 use Rattle.buffer_pool.proofs.CallLemmas.{does_both, does_again}
 use Rattle.buffer_pool.proofs.FrameLemmas.{one_held}
-use Rattle.buffer_pool.proofs.PartLemmas.{part_no_tree}
+use Rattle.buffer_pool.specs.Forests.{IsFittedTree}
+use Rattle.buffer_pool.proofs.PartLemmas.{part_no_tree, part_below}
 use Rattle.hash_guess.specs.Leads.{part_in, fold_in, refused_try, IsAsked, HoldsEntry, MissesPart, MissesEntry}
+
+-- the partition of an index is one of all, and stays so over the same space
+pub part_there : (p m : TreePass) (layout : Shape) (k index : ℕ) → IsFittedTree (view p)
+    → layout ≡ shape_of_pass p → k ≡ part_for layout.parts index → (view p).terms ≡ (view m).terms
+    → k < (shape_of_pass m).parts
+part_there p m layout k index fitted same is terms =
+    subst (λ (t : Terms Shape). k < t.shape.parts) terms
+    (part_below p layout (shape_of_pass p) k index fitted same refl is)
 
 -- a partition was another's
 pub refused_part : (p q : TreePass) (k n : ℕ) → IsKnown p → RefusesPart p k n q

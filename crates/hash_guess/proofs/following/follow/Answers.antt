@@ -9,7 +9,8 @@ use Rattle.hash_maintain.specs.Parting.{GivesPart}
 use Rattle.buffer_pool.specs.Frames.{TellsFrame}
 use Rattle.buffer_pool.proofs.PartLemmas.{part_below}
 use Rattle.hash_guess.specs.Leads.{part_in}
-use Rattle.hash_guess.proofs.FollowLemmas.{block_there, finds_busy, follows_to}
+use Rattle.hash_guess.proofs.FollowLemmas.{block_there, has_part, still_in_hand, finds_busy, follows_to}
+use Rattle.hash_guess.proofs.LeadLemmas.{part_there}
 use Rattle.hash_guess.proofs.following.follow.Goals as goal
 
 pub try_frame-take-requires-clause-there : goal.try_frame-take-requires-clause-there
@@ -54,3 +55,24 @@ returns-clause-busy c = λ h is. let p = c.args.pass.now in
     (c.part_for-part.ensures ∙ ap (λ (z : Shape). part_for z.parts c.args.index) layout)
     c.give_part_back.ensures.gave)
     h (subst (λ r. TellsFrame p c.args.node.now.block r m) is c.try_frame-take.ensures.did)
+
+pub give_part_back-requires-clause-there : goal.give_part_back-requires-clause-there
+give_part_back-requires-clause-there c =
+    part_there c.args.pass.now c.try_frame-take.new.pass c.shape.result.now c.part_for-part.result
+    c.args.index c.fits.ensures
+    (c.shape.ensures ∙ ap (λ (t : Terms Shape). t.shape) (sym c.requires.own.1.1))
+    c.part_for-part.ensures (c.requires.own.1.1 ∙ sym c.try_frame-take.ensures.own.1.1)
+
+pub give_part_back-requires-clause-held : goal.give_part_back-requires-clause-held
+give_part_back-requires-clause-held c = let p = c.args.pass.now in let s = shape_of_pass p in
+    let m = c.try_frame-take.new.pass in let node = c.requires.node in
+    let layout : c.shape.result.now ≡ s =
+    c.shape.ensures ∙ ap (λ (t : Terms Shape). t.shape) (sym c.requires.own.1.1) in (
+      node.part,
+      has_part p m c.args.index c.args.node.now node c.requires.known c.part_for-part.result
+          (c.part_for-part.ensures ∙ ap (λ (z : Shape). part_for z.parts c.args.index) layout)
+          (still_in_hand p m c.args.index c.args.node.now node c.requires.known
+          c.try_frame-take.result
+          (part_below p s s (part_in p c.args.index) c.args.index c.fits.ensures refl refl refl)
+          c.try_frame-take.ensures.did),
+    )

@@ -44,3 +44,17 @@ returns-else-is_miss-clause-did g c = let told = c.in-Err.ensures.err in record 
       c.recommend-info.result None (knowledge c.recommend-info.new.pass))
       (sym c.if-is_miss.false ∙ c.is_miss.ensures) (refl, c.recommend-info.ensures.did);
 }
+
+pub after_hit-requires-clause-index : goal.after_hit-requires-clause-index
+after_hit-requires-clause-index g c = c.requires.index
+
+pub after_miss-requires-clause-index : goal.after_miss-requires-clause-index
+after_miss-requires-clause-index g c = c.requires.index
+
+pub returns-in-Ok-clause-learner : goal.returns-in-Ok-clause-learner
+returns-in-Ok-clause-learner g c = let read = c.recommend-info.ensures.own.0 in
+    let hit = c.after_hit.ensures.own in ((hit.0.0 ∙ read.0, hit.0.1 ∙ read.1), hit.1)
+
+pub returns-then-is_miss-clause-learner : goal.returns-then-is_miss-clause-learner
+returns-then-is_miss-clause-learner g c = let read = c.recommend-info.ensures.own.0 in
+    let miss = c.after_miss.ensures.own in ((miss.0.0 ∙ read.0, miss.0.1 ∙ read.1), miss.1)

@@ -1,12 +1,13 @@
 -- hash_guess/proofs/leading/look_up/Answers.antt
-use Rattle.std.proofs.Common.{◌≡◌, sym, ap, ◌∙◌}
+use Rattle.std.proofs.Common.{◌≡◌, refl, sym, ap, ◌∙◌}
 use Rattle.key_tuple.specs.Fold.{fold_of}
 use Rattle.latch_law.specs.declared.knows.Terms.{Terms}
 use Rattle.hash_law.specs.Blocks.{part_for}
 use Rattle.index_law.specs.Shape.{Shape}
 use Rattle.forest_world.specs.Held.{shape_of_pass}
+use Rattle.buffer_pool.proofs.AgainLemmas.{passes_both}
 use Rattle.hash_guess.specs.Leads.{part_in, fold_in}
-use Rattle.hash_guess.proofs.LeadLemmas.{misses_part, holds_entry, misses_entry}
+use Rattle.hash_guess.proofs.LeadLemmas.{part_there, misses_part, holds_entry, misses_entry}
 use Rattle.hash_guess.proofs.leading.look_up.Given as given
 use Rattle.hash_guess.proofs.leading.look_up.Goals as goal
 use Rattle.hash_guess.proofs.leading.look_up.Goals.{After-try_part}
@@ -57,3 +58,37 @@ partition-requires-clause-held g c =
 pub give_part_back-requires-clause-held : goal.give_part_back-requires-clause-held
 give_part_back-requires-clause-held g c =
     let took = c.in_default.ensures.did.0 in (took.part, took.has)
+
+pub try_part-requires-clause-there : goal.try_part-requires-clause-there
+try_part-requires-clause-there g c = let p = c.args.pass.now in
+    part_there p p c.shape-layout.result.now c.part_for-part.result c.args.index c.fits.ensures
+    (c.shape-layout.ensures ∙ ap (λ (t : Terms Shape). t.shape) (sym c.requires.own.1))
+    c.part_for-part.ensures refl
+
+pub try_part-requires-clause-lacks : goal.try_part-requires-clause-lacks
+try_part-requires-clause-lacks g c = let p = c.args.pass.now in
+    c.requires.parts c.part_for-part.result
+    (part_there p p c.shape-layout.result.now c.part_for-part.result c.args.index c.fits.ensures
+    (c.shape-layout.ensures ∙ ap (λ (t : Terms Shape). t.shape) (sym c.requires.own.1))
+    c.part_for-part.ensures refl)
+
+pub partition-requires-clause-there : goal.partition-requires-clause-there
+partition-requires-clause-there g c =
+    part_there c.args.pass.now c.try_part.new.pass c.shape-layout.result.now
+    c.part_for-part.result c.args.index c.fits.ensures
+    (c.shape-layout.ensures ∙ ap (λ (t : Terms Shape). t.shape) (sym c.requires.own.1))
+    c.part_for-part.ensures (c.requires.own.1 ∙ sym c.try_part.ensures.own.1.1)
+
+pub give_part_back-requires-clause-there : goal.give_part_back-requires-clause-there
+give_part_back-requires-clause-there g c =
+    part_there c.args.pass.now c.try_part.new.pass c.shape-layout.result.now
+    c.part_for-part.result c.args.index c.fits.ensures
+    (c.shape-layout.ensures ∙ ap (λ (t : Terms Shape). t.shape) (sym c.requires.own.1))
+    c.part_for-part.ensures (c.requires.own.1 ∙ sym c.try_part.ensures.own.1.1)
+
+pub returns-clause-own : goal.returns-clause-own
+returns-clause-own g c = (
+  passes_both c.args.pass.now c.try_part.new.pass c.give_part_back.new.pass
+      c.try_part.ensures.own.0 c.give_part_back.ensures.own.0,
+  c.give_part_back.ensures.own.1,
+)
