@@ -6,6 +6,6 @@ use Rattle.index_engine.specs.declared.engine.Engine.{Engine}
 use Rattle.index_engine.specs.Engines.{indexes_of}
 
 -- there is an index, and the keys of the first one have so many fields
-abbrev pub HasFields : Engine → ℕ → Type 0
-HasFields engine n =
+abbrev pub FirstHasFields : Engine → ℕ → Type 0
+FirstHasFields engine n =
     (0 < indexes_of engine) × (get_elem? engine.space.terms.shape.fields 0 ≡ some n)

@@ -1,7 +1,7 @@
 //! Eight callers on eight threads over leaves that are hashed, changed and evicted: a recount at the
 //! end.
 ghost use Rattle.index_engine.specs.Engines.{IsOf};
-ghost use Rattle.engine_tests.specs.Fields.{HasFields};
+ghost use Rattle.engine_tests.specs.Fields.{FirstHasFields};
 
 use crate::asked::Order;
 use crate::recount::Counted;
@@ -90,7 +90,7 @@ fn told<R: AllocGlobal + Abort + Wait>(
     ahead: u32,
 ) -> EnginePass
     requires own { IsOf engine.now pass }
-    requires fields { HasFields engine.now 1 }
+    requires fields { FirstHasFields engine.now 1 }
     ensures own { IsOf engine.now result }
 {
     let asked = asked_in(rt, rounds, ahead);
@@ -102,7 +102,7 @@ fn told<R: AllocGlobal + Abort + Wait>(
 /// The pass of one caller, once it has worked the rounds on the rows from its number on.
 fn one_lane<R: AllocGlobal + Abort + Wait>(rt: &R, engine: &Engine, pass: EnginePass) -> EnginePass
     requires own { IsOf engine.now pass }
-    requires fields { HasFields engine.now 1 }
+    requires fields { FirstHasFields engine.now 1 }
     ensures own { IsOf engine.now result }
 {
     let (number, _) = pass.numbers();
@@ -116,18 +116,18 @@ fn two_lanes<R: AllocGlobal + Abort + Threads + Wait + Sync>(
     pass: EnginePass,
 ) -> EnginePass
     requires own { IsOf engine.now pass }
-    requires fields { HasFields engine.now 1 }
+    requires fields { FirstHasFields engine.now 1 }
     ensures own { IsOf engine.now result }
 {
     let (one, two) = split(rt, engine, pass);
     let (one, two) = join(
         rt,
         || -> EnginePass
-            requires { IsOf engine.now one × HasFields engine.now 1 }
+            requires { IsOf engine.now one × FirstHasFields engine.now 1 }
             ensures { IsOf engine.entry.now result }
         { one_lane(rt, engine, one) },
         || -> EnginePass
-            requires { IsOf engine.now two × HasFields engine.now 1 }
+            requires { IsOf engine.now two × FirstHasFields engine.now 1 }
             ensures { IsOf engine.entry.now result }
         { one_lane(rt, engine, two) },
     );
@@ -141,18 +141,18 @@ fn four_lanes<R: AllocGlobal + Abort + Threads + Wait + Sync>(
     pass: EnginePass,
 ) -> EnginePass
     requires own { IsOf engine.now pass }
-    requires fields { HasFields engine.now 1 }
+    requires fields { FirstHasFields engine.now 1 }
     ensures own { IsOf engine.now result }
 {
     let (one, two) = split(rt, engine, pass);
     let (one, two) = join(
         rt,
         || -> EnginePass
-            requires { IsOf engine.now one × HasFields engine.now 1 }
+            requires { IsOf engine.now one × FirstHasFields engine.now 1 }
             ensures { IsOf engine.entry.now result }
         { two_lanes(rt, engine, one) },
         || -> EnginePass
-            requires { IsOf engine.now two × HasFields engine.now 1 }
+            requires { IsOf engine.now two × FirstHasFields engine.now 1 }
             ensures { IsOf engine.entry.now result }
         { two_lanes(rt, engine, two) },
     );
@@ -166,18 +166,18 @@ fn eight_lanes<R: AllocGlobal + Abort + Threads + Wait + Sync>(
     pass: EnginePass,
 ) -> EnginePass
     requires own { IsOf engine.now pass }
-    requires fields { HasFields engine.now 1 }
+    requires fields { FirstHasFields engine.now 1 }
     ensures own { IsOf engine.now result }
 {
     let (one, two) = split(rt, engine, pass);
     let (one, two) = join(
         rt,
         || -> EnginePass
-            requires { IsOf engine.now one × HasFields engine.now 1 }
+            requires { IsOf engine.now one × FirstHasFields engine.now 1 }
             ensures { IsOf engine.entry.now result }
         { four_lanes(rt, engine, one) },
         || -> EnginePass
-            requires { IsOf engine.now two × HasFields engine.now 1 }
+            requires { IsOf engine.now two × FirstHasFields engine.now 1 }
             ensures { IsOf engine.entry.now result }
         { four_lanes(rt, engine, two) },
     );

@@ -3,7 +3,7 @@ ghost use Rattle.std.specs.Prelude.{◌≡◌, ◌<◌, ◌≤◌};
 ghost use Rattle.key_tuple.specs.declared.TheConstants.{MAX_FIELDS};
 ghost use Rattle.map_history.specs.declared.TheConstants.{MAX_LANES};
 ghost use Rattle.index_engine.specs.Engines.{IsOf};
-ghost use Rattle.engine_tests.specs.Fields.{HasFields};
+ghost use Rattle.engine_tests.specs.Fields.{FirstHasFields};
 
 use crate::asked::{Asked, Order, key_of, value_of};
 use crate::recount::{Counted, recount};
@@ -36,7 +36,7 @@ pub(crate) fn open<R: AllocGlobal + Abort>(
     requires fields { (1 ≤ fields) × (fields ≤ MAX_FIELDS) }
     requires lanes { (0 < lanes) × (lanes ≤ MAX_LANES) }
     ensures own { IsOf result.0 result.1 }
-    ensures fields { HasFields result.0 fields }
+    ensures fields { FirstHasFields result.0 fields }
 {
     Engine::open(rt.alloc(), sizes, &[fields], lanes).expect(rt, "an engine")
 }
@@ -51,7 +51,7 @@ fn ask<R: AllocGlobal + Abort + Wait>(
     asked: &Asked,
 ) -> Told
     requires own { IsOf engine.now pass.old }
-    requires fields { HasFields engine.now fields }
+    requires fields { FirstHasFields engine.now fields }
     ensures own { IsOf engine.now pass.new }
 {
     let key = key_of(rt, &asked.name);
@@ -82,7 +82,7 @@ pub(crate) fn worked<R: AllocGlobal + Abort + Wait>(
     asked: &[Asked],
 ) -> (EnginePass, u32)
     requires own { IsOf engine.now pass }
-    requires fields { HasFields engine.now fields }
+    requires fields { FirstHasFields engine.now fields }
     ensures own { IsOf engine.now result.0 }
 {
     let mut out = RowBuf::new(rt.alloc()).expect(rt, "a row buffer");
