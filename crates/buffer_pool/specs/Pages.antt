@@ -1,10 +1,11 @@
 -- What the calls on a page by its number do.
-use Rattle.std.specs.Prelude.{ℕ, ◌≡◌, ◌≢◌, ◌+◌, ◌⊎◌, false, Option, Some, None, [], ◌∷◌, List}
+use Rattle.std.specs.Prelude.{ℕ, ◌≡◌, ◌≢◌, ◌+◌, ◌⊎◌, false, Option, Some, None, [], ◌∷◌, ◌++◌, List}
 use Rattle.latch_law.specs.declared.knows.Reference.{Reference}
 use Rattle.latch_law.specs.declared.knows.Refusal.{Refusal}
 use Rattle.latch_law.specs.Whole.{reference}
 use Rattle.latch_space.specs.Passes.{view, count}
 use Rattle.index_page.specs.Page.{PageRows}
+use Rattle.index_page.specs.Rows.{Row, Child}
 use Rattle.tree_law.specs.TreeShape.{In}
 use Rattle.tree_law.specs.Pages.{Page, is_own}
 use Rattle.forest_law.specs.declared.objects.Frame.{Frame}
@@ -61,6 +62,14 @@ pub record HasTreePage (f : Frame) (i level : ℕ) : Type 0 where
   pub tree : is_own page.head.number page.head.prev ≡ false
   pub index : page.head.index ≡ i
   pub at_level : page.head.level ≡ level
+
+-- a row points to the page n
+pub record PointsAt (rows : List Row) (n : ℕ) : Type 0 where
+  pub fore : List Row
+  pub this : Row
+  pub aft : List Row
+  pub was : rows ≡ fore ++ this ∷ aft
+  pub child : this.body ≡ Child n
 
 -- a page of the number was held, for a cause, and given back as one that isn't of the trees, or not
 -- of this index and level

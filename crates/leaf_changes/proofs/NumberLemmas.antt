@@ -24,7 +24,7 @@ use Rattle.call_law.specs.Hands.{KnowsFrame}
 use Rattle.call_law.specs.Spoken.{View}
 use Rattle.buffer_pool.specs.Frames.{GivesFrame}
 use Rattle.buffer_pool.specs.Pages.{HasNumber, HasTreePage}
-use Rattle.tree_descent.proofs.PageLemmas.{tree_page_inside}
+use Rattle.buffer_pool.proofs.PageLemmas.{tree_page_inside}
 use Rattle.engine_law.proofs.KnownLemmas.{one_frame, knows_same}
 use Rattle.leaf_changes.specs.Commits.{MakesChange}
 use Rattle.leaf_changes.specs.Holds.{HoldsLeaf, KeepsNumber}

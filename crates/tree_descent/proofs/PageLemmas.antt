@@ -20,7 +20,6 @@ use Rattle.forest_law.specs.FramePages.{HasCutPage}
 use Rattle.forest_law.specs.Law.{IsLawful}
 use Rattle.forest_law.specs.Numbers.{frame_id, frames_of}
 use Rattle.forest_law.specs.Objects.{IsFrameOf}
-use Rattle.forest_law.specs.Outside.{HasNoOutside}
 use Rattle.forest_law.specs.State.{ForestState, bound, page_within, pages_of, fields_for}
 use Rattle.forest_law.proofs.FramePageLemmas.{frames_tell_pages, number_below}
 use Rattle.tree_facts.specs.TreeFrames.{IsTreeFrame}
@@ -30,9 +29,9 @@ use Rattle.call_law.specs.Hands.{KnowsFrame, HoldsNoFrameBut}
 use Rattle.call_law.specs.Spoken.{View}
 use Rattle.buffer_pool.specs.Forests.{FitsTrees, IsFittedTree}
 use Rattle.buffer_pool.specs.Hands.{MayGiveBack}
-use Rattle.buffer_pool.specs.Pages.{HasTreePage, HasNumber, HoldsOtherPages}
+use Rattle.buffer_pool.specs.Pages.{HasTreePage, HasNumber, HoldsOtherPages, PointsAt}
 use Rattle.buffer_pool.proofs.CallLemmas.{frame_has}
-use Rattle.tree_descent.specs.Descents.{PointsAt}
+use Rattle.buffer_pool.proofs.PageLemmas.{tree_page_inside}
 use Rattle.tree_descent.specs.Leaves.{HasCutWithin, IsPageFor, cut_in}
 use Rattle.tree_descent.specs.Paths.{PicksChild}
 
@@ -114,12 +113,6 @@ pub number_is : (f : Frame) (n i level : ℕ) → HasNumber f n → (page : HasT
     → page.page.head.number ≡ n
 number_is f n i level has page = ap (λ (z : PageRows). z.head.number)
     (same_some page.page has.page (sym page.paged ∙ has.paged)) ∙ has.number
-
--- a frame with a page of the trees has none outside them
-pub tree_page_inside : (f : Frame) (i level : ℕ) → HasTreePage f i level → HasNoOutside f
-tree_page_inside f i level has page is =
-    ap (λ (z : PageRows). is_own z.head.number z.head.prev)
-    (same_some page has.page (sym is ∙ has.paged)) ∙ has.tree
 
 -- so it may be given back
 pub may_give_back : (p : TreePass) → IsKnown p → (b i level : ℕ) (f : Frame)

@@ -36,11 +36,10 @@ use Rattle.call_law.proofs.TraceLemmas.{both_added}
 use Rattle.buffer_pool.specs.Calls.{Does, DoesSilently, GetsNothing}
 use Rattle.buffer_pool.specs.Forests.{IsFittedTree}
 use Rattle.buffer_pool.specs.Frames.{GivesFrame}
-use Rattle.buffer_pool.specs.Pages.{IsLive, HasTreePage, PagesIn, FindsPage, FindsNoPage}
+use Rattle.buffer_pool.specs.Pages.{IsLive, HasTreePage, PagesIn, FindsPage, FindsNoPage, PointsAt}
 use Rattle.buffer_pool.proofs.AddedLemmas.{none_added, only_given, held_adds, none_spares}
 use Rattle.buffer_pool.proofs.CallLemmas.{does_both, does_none, does_again, silently_both, gave_frame}
 use Rattle.buffer_pool.proofs.FrameLemmas.{one_held}
-use Rattle.tree_descent.specs.Descents.{PointsAt}
 use Rattle.tree_descent.specs.Paths.{PicksChild, LeadsTo, LeadDown, LeadFromRoot}
 use Rattle.tree_descent.specs.Ways.{HoldsPage, GoesDown, LooksFor}
 use Rattle.tree_descent.proofs.PageLemmas.{picked_points, cut_is_for, known_tree_frame, number_is}

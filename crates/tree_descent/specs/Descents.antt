@@ -15,6 +15,7 @@ use Rattle.call_law.specs.Spoken.{View}
 use Rattle.call_law.specs.Trace.{Added, frame_references}
 use Rattle.buffer_pool.specs.Calls.{DoesSilently}
 use Rattle.buffer_pool.specs.Hands.{LacksFrame}
+use Rattle.buffer_pool.specs.Pages.{PointsAt}
 use Rattle.tree_descent.specs.declared.descending.Leaf.{Leaf}
 use Rattle.tree_descent.specs.Leaves.{cut_in, IsPageFor, IsLeafFor}
 use Rattle.tree_descent.specs.Paths.{PicksChild, LeadFromRoot}
@@ -46,14 +47,6 @@ pub record HoldsInner (v : View) (b i : ℕ) (mode : Mode) (tuple : FieldList) :
   pub frame : Frame
   pub knows : KnowsFrame v b frame
   pub page : IsPageFor v.terms.shape frame i (suc level) (cut_in v.terms.shape i mode tuple)
-
--- a row points to the page n
-pub record PointsAt (rows : List Row) (n : ℕ) : Type 0 where
-  pub fore : List Row
-  pub this : Row
-  pub aft : List Row
-  pub was : rows ≡ fore ++ this ∷ aft
-  pub child : this.body ≡ Child n
 
 -- the child that has the position is held besides, in the frame of the block c, a level lower, and
 -- no frame was given back

@@ -13,8 +13,7 @@ use Rattle.call_law.specs.Spoken.{View}
 use Rattle.call_law.specs.Trace.{frame_references}
 use Rattle.buffer_pool.specs.Calls.{DoesSilently, GetsNothing}
 use Rattle.buffer_pool.specs.Hands.{LacksFrame}
-use Rattle.buffer_pool.specs.Pages.{HasTreePage}
-use Rattle.tree_descent.specs.Descents.{PointsAt}
+use Rattle.buffer_pool.specs.Pages.{HasTreePage, PointsAt}
 use Rattle.tree_descent.specs.Leaves.{HasCutWithin}
 use Rattle.tree_descent.specs.Paths.{LeadFromRoot}
 

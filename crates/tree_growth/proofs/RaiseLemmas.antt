@@ -16,8 +16,7 @@ use Rattle.forest_law.specs.Numbers.{tree_id, frame_id}
 use Rattle.forest_law.specs.State.{bound, page_within, fields_for}
 use Rattle.forest_world.specs.Held.{TreePass, shape_of_pass}
 use Rattle.buffer_pool.specs.Forests.{IsFittedTree}
-use Rattle.buffer_pool.specs.Pages.{HasTreePage}
-use Rattle.tree_descent.specs.Descents.{PointsAt}
+use Rattle.buffer_pool.specs.Pages.{HasTreePage, PointsAt}
 use Rattle.tree_descent.specs.Leaves.{cut_in}
 use Rattle.tree_smo.specs.Raising.{RaisesRoot}
 use Rattle.tree_restructure.specs.Charges.{most_for_pointer}

@@ -11,8 +11,7 @@ use Rattle.forest_law.specs.State.{bound, page_within, fields_for}
 use Rattle.forest_world.specs.Held.{TreePass, HasFrame}
 use Rattle.call_law.specs.Hands.{KnowsFrame}
 use Rattle.call_law.specs.Spoken.{View}
-use Rattle.buffer_pool.specs.Pages.{HasNumber, HasTreePage}
-use Rattle.tree_descent.specs.Descents.{PointsAt}
+use Rattle.buffer_pool.specs.Pages.{HasNumber, HasTreePage, PointsAt}
 use Rattle.tree_descent.specs.Leaves.{cut_in, IsPageFor}
 use Rattle.tree_restructure.specs.Charges.{most_for_pointer}
 use Rattle.tree_growth.specs.declared.looking.PageInHand.{PageInHand}

@@ -7,7 +7,7 @@ use Rattle.latch_space.specs.Passes.{view}
 use Rattle.forest_world.specs.Held.{TreePass}
 use Rattle.buffer_pool.specs.Calls.{GetsNothing}
 use Rattle.tree_descent.specs.Descents.{HoldsInner}
-use Rattle.tree_descent.proofs.PageLemmas.{tree_page_inside}
+use Rattle.buffer_pool.proofs.PageLemmas.{tree_page_inside}
 use Rattle.tree_growth.specs.Ways.{IsGoingDown}
 use Rattle.tree_growth.proofs.AddLemmas.{goes_nowhere}
 use Rattle.tree_shrinking.specs.declared.pairs.Pair.{Pair}

@@ -18,8 +18,9 @@ use Rattle.buffer_pool.specs.Frames.{GivesFrame}
 use Rattle.buffer_pool.specs.Hands.{MayGiveBack}
 use Rattle.buffer_pool.proofs.AddedLemmas.{frame_no_tree, frame_still, tree_still}
 use Rattle.buffer_pool.proofs.CallLemmas.{silently_both}
-use Rattle.tree_descent.specs.Descents.{PointsAt}
-use Rattle.tree_descent.proofs.PageLemmas.{tree_page_inside, may_give_back}
+use Rattle.buffer_pool.specs.Pages.{PointsAt}
+use Rattle.buffer_pool.proofs.PageLemmas.{tree_page_inside}
+use Rattle.tree_descent.proofs.PageLemmas.{may_give_back}
 use Rattle.tree_smo.proofs.SilentLemmas.{silently_weaker, does_shape}
 use Rattle.tree_growth.specs.Pages.{HoldsPagedFrame}
 use Rattle.tree_growth.specs.Ways.{IsGoingDown}

@@ -9,8 +9,7 @@ use Rattle.forest_law.specs.Outside.{HasNoOutside}
 use Rattle.forest_world.specs.Held.{TreePass, HasFrame}
 use Rattle.call_law.specs.Hands.{KnowsFrame}
 use Rattle.call_law.specs.Spoken.{View}
-use Rattle.buffer_pool.specs.Pages.{HasTreePage}
-use Rattle.tree_descent.specs.Descents.{PointsAt}
+use Rattle.buffer_pool.specs.Pages.{HasTreePage, PointsAt}
 use Rattle.tree_growth.specs.Ways.{IsGoingDown, GoesOn}
 use Rattle.tree_shrinking.specs.declared.TheConstants.{MERGED_LOAD, LIGHT_LOAD}
 use Rattle.tree_shrinking.specs.declared.pairs.Pair.{Pair}

@@ -25,7 +25,7 @@ use Rattle.call_law.specs.Hands.{KnowsFrame, HoldsNoFrameBut, HoldsNoOutside}
 use Rattle.call_law.specs.Spoken.{View}
 use Rattle.buffer_pool.specs.Pages.{HasTreePage}
 use Rattle.buffer_pool.proofs.SpaceLemmas.{known_below}
-use Rattle.tree_descent.proofs.PageLemmas.{tree_page_inside}
+use Rattle.buffer_pool.proofs.PageLemmas.{tree_page_inside}
 use Rattle.tree_smo.specs.declared.plans.SplitPlan.{SplitPlan}
 use Rattle.tree_smo.specs.Plans.{HoldsNext, HoldsPlan, next_blocks}
 use Rattle.tree_smo.proofs.LawfulLemmas.{one_frame}

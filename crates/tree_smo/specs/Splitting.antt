@@ -16,8 +16,7 @@ use Rattle.call_law.specs.Spoken.{View}
 use Rattle.buffer_pool.specs.Calls.{DoesSilently}
 use Rattle.buffer_pool.specs.Hands.{LacksFrame}
 use Rattle.buffer_pool.specs.NewPages.{HasOutsidePage}
-use Rattle.buffer_pool.specs.Pages.{HasTreePage}
-use Rattle.tree_descent.specs.Descents.{PointsAt}
+use Rattle.buffer_pool.specs.Pages.{HasTreePage, PointsAt}
 
 -- the pass holds a page of an index, which has two rows or more and no room for one row more of the
 -- largest charge, and the page above it, which points to it and has room for any pointer

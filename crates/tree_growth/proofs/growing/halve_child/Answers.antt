@@ -1,6 +1,7 @@
 use Rattle.std.proofs.Common.{[], ◌∷◌, ap, suc, sym, Err}
 use Rattle.latch_space.specs.Passes.{view}
-use Rattle.tree_descent.proofs.PageLemmas.{may_give_back, tree_page_inside}
+use Rattle.buffer_pool.proofs.PageLemmas.{tree_page_inside}
+use Rattle.tree_descent.proofs.PageLemmas.{may_give_back}
 use Rattle.buffer_pool.proofs.AgainLemmas.{passes_both}
 use Rattle.tree_growth.proofs.HandLemmas.{no_frame_but, no_table}
 use Rattle.tree_growth.proofs.RefusalLemmas.{is_refused, holds_second, stops_two}
