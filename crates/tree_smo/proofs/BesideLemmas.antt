@@ -1,5 +1,5 @@
 -- A new page is held besides, or was given back.
-use Rattle.std.proofs.Common.{◌≡◌, ◌≢◌, ℕ, ◌<◌, [], ◌∷◌, sym, ap, subst, ◌∙◌, refl, arith, Option, Some, None, Result, Err}
+use Rattle.std.proofs.Common.{◌≡◌, ◌≢◌, ℕ, ◌<◌, [], ◌∷◌, sym, ap, subst, ◌∙◌, refl, arith, Option, Some, None, Result, Ok, Err}
 use mathlib.Core.Option.{some}
 use lib.ListN.{get_elem?}
 use Rattle.list_facts.proofs.Places.{none_is_not, same_some}
@@ -189,3 +189,7 @@ module _ (p q : TreePass) (head : PageHead) (b : ℕ) (got : GetsPage p head b q
 pub memory_not_full : (r : Result ℕ PoolError) → r ≡ Err refused.NoMemory
     → r ≡ Err refused.SpaceFull → ⊥
 memory_not_full r memory full = absurd cc
+
+-- and the number of a new page is no refusal
+pub page_not_refused : (n : ℕ) (e : PoolError) → Ok n ≡ Err e → ⊥
+page_not_refused n e is = absurd cc

@@ -6,7 +6,7 @@ use Rattle.buffer_pool.proofs.AgainLemmas.{passes_both}
 use Rattle.buffer_pool.proofs.CallLemmas.{frame_has}
 use Rattle.tree_smo.proofs.InsideLemmas.{none_outside_but, knows_inside}
 use Rattle.buffer_pool.specs.NewPages.{FindsNoneFree}
-use Rattle.tree_smo.proofs.BesideLemmas.{holds_outside, no_table, still_no_table, gets_nothing, memory_not_full}
+use Rattle.tree_smo.proofs.BesideLemmas.{holds_outside, no_table, still_no_table, gets_nothing, memory_not_full, page_not_refused}
 use Rattle.tree_smo.proofs.RootLemmas.{root_page, index_is, index_there, root_fields, root_got, storeys_held, raises_root}
 use Rattle.tree_smo.proofs.SilentLemmas.{does_shape}
 use Rattle.tree_smo.proofs.raising.raise_root.Goals as goal
@@ -132,3 +132,9 @@ returns-in-Err-clause-own g c = (
       c.raise_hashed.ensures.own.0 c.free_page.ensures.own.0),
   c.free_page.ensures.own.1,
 )
+
+pub returns-in-Ok-clause-full : goal.returns-in-Ok-clause-full
+returns-in-Ok-clause-full g c = λ e. absurd (page_not_refused _ _ e)
+
+pub returns-in-Ok-clause-memory : goal.returns-in-Ok-clause-memory
+returns-in-Ok-clause-memory g c = λ e. absurd (page_not_refused _ _ e)

@@ -5,7 +5,7 @@ use Rattle.buffer_pool.proofs.SpaceLemmas.{objects_of}
 use Rattle.buffer_pool.proofs.AgainLemmas.{passes_both}
 use Rattle.tree_smo.specs.Plans.{next_blocks}
 use Rattle.tree_smo.proofs.InsideLemmas.{none_outside_but, plan_inside}
-use Rattle.tree_smo.proofs.BesideLemmas.{index_below, fields_are, plan_still, holds_outside, no_table, still_no_table, splits_beside, gets_nothing, memory_not_full}
+use Rattle.tree_smo.proofs.BesideLemmas.{index_below, fields_are, plan_still, holds_outside, no_table, still_no_table, splits_beside, gets_nothing, memory_not_full, page_not_refused}
 use Rattle.tree_smo.proofs.SilentLemmas.{does_shape}
 use Rattle.tree_smo.proofs.splitting.split_beside.Goals as goal
 
@@ -105,3 +105,9 @@ returns-in-Err-clause-own g c = (
       c.split_hashed.ensures.own.0 c.free_page.ensures.own.0),
   c.free_page.ensures.own.1,
 )
+
+pub returns-in-Ok-clause-full : goal.returns-in-Ok-clause-full
+returns-in-Ok-clause-full g c = λ e. absurd (page_not_refused _ _ e)
+
+pub returns-in-Ok-clause-memory : goal.returns-in-Ok-clause-memory
+returns-in-Ok-clause-memory g c = λ e. absurd (page_not_refused _ _ e)
