@@ -53,6 +53,13 @@ slots_written {m = m} slots from r same above head value room names unused =
       unused = λ k g w. head.above k (omega arith) ∙ unused k g w;
     }
 
+-- behind the records there is room for fewer slots than this
+pub slots_few : {bytes : List ℕ} {m : Mirror} → Mirrors bytes m → length m.slots < 8149
+slots_few r =
+    let begins = top_above r.heap in
+    let room = r.room in
+    omega arith
+
 -- one slot more
 pub slot_opened : {b0 b1 b2 : List ℕ} {m : Mirror} (s h : ℕ) → Mirrors b0 m → s ≤ length m.slots → h < m.count
     → m.top + 2 * length m.slots + 2 ≤ 16376 → OpensSlot b0 b1 (length m.slots) s (origin_of m h)
