@@ -77,6 +77,17 @@ next_in_slots can =
     let inner = can.inner in
     omega (arith, slots_counted can.page.groups)
 
+pub here_in_slots : {bytes : List ℕ} {m : Mirror} {gs : List Group} {free : List ℕ} {s : ℕ} → CanBalanceSlot bytes m gs free s → s < length m.slots
+here_in_slots can =
+    let next = next_in_slots can in
+    omega (arith, next)
+
+-- a page's end has room for fewer slots than a u16 counts
+pub next_fits : {bytes : List ℕ} {m : Mirror} {gs : List Group} {free : List ℕ} {s : ℕ} → CanBalanceSlot bytes m gs free s → s + 1 < 65536
+next_fits can =
+    let next = next_in_slots can in
+    omega (arith, next, can.page.is.room)
+
 -- the next slot's owner owns at most eight, and the sizes around the two
 pub record SizesAt (gs : List Group) (s n : ℕ) (low high : List ℕ) : Type 0 where
   pub is : group_sizes gs ≡ low ++ (3 ∷ n ∷ high)

@@ -166,3 +166,8 @@ pub in_slots : {bytes : List ℕ} {m : Mirror} {gs : List Group} {free : List �
 in_slots {gs = gs} can =
     let within = can.sizes.within in
     omega (arith, slots_counted can.page.groups, count_sizes gs)
+
+pub last_in_slots : {bytes : List ℕ} {m : Mirror} {gs : List Group} {free : List ℕ} {s : ℕ} → CanSplitSlot bytes m gs free s → s - 1 < length m.slots
+last_in_slots can =
+    let within = in_slots can in
+    omega (arith, within)

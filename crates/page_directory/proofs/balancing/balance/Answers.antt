@@ -1,6 +1,6 @@
 use Rattle.std.proofs.Common.{sym}
 use Rattle.page_directory.specs.Sizes.{group_sizes}
-use Rattle.page_directory.proofs.BalanceLemmas.{balanced_few, balanced_many}
+use Rattle.page_directory.proofs.BalanceLemmas.{balanced_few, balanced_many, next_fits}
 use Rattle.page_directory.proofs.balancing.balance.Goals as goal
 
 pub owned-count-requires : goal.owned-count-requires
@@ -27,3 +27,6 @@ pub returns-else-count-gt4 : goal.returns-else-count-gt4
 returns-else-count-gt4 c = λ m gs free r.
     let size = sym (c.owned-count.ensures m gs free r.page r.inner) in
     balanced_few c.args.slot (group_sizes gs) size c.if-count-gt4.false (c.join_next.ensures m gs free r size)
+
+pub overflow_add-slot : goal.overflow_add-slot
+overflow_add-slot c = record { fits = next_fits c.requires.3 }

@@ -1,7 +1,7 @@
 use Rattle.std.proofs.Common.{arith, refl, ◌+◌, slice_index}
 use Rattle.page_mirror.specs.Steps.{owning}
 use Rattle.page_mirror.proofs.HeadLemmas.{still}
-use Rattle.page_directory.proofs.BalanceLemmas.{joins, next_in_slots}
+use Rattle.page_directory.proofs.BalanceLemmas.{joins, next_in_slots, here_in_slots, next_fits}
 use Rattle.page_directory.proofs.balancing.join_next.Goals as goal
 
 pub own-requires-clause-there : goal.own-requires-clause-there
@@ -49,3 +49,16 @@ returns c = λ m gs free r size.
     let second = c.own-2.ensures (owning m o 0) p (still {n = owning m o 0} next first refl refl) in
     let third = c.close_slot.ensures (owning (owning m o 0) p (c.args.count + 3)) second (omega arith) in
     joins r size c.requires.few o p refl refl third
+
+pub overflow_add-slot : goal.overflow_add-slot
+overflow_add-slot c = record { fits = next_fits c.requires.there.3 }
+
+pub slot_owner-next-requires : goal.slot_owner-next-requires
+slot_owner-next-requires c =
+    let r = c.requires.there in
+    (r.0, r.3.page.is, next_in_slots r.3)
+
+pub slot_owner-owner-requires : goal.slot_owner-owner-requires
+slot_owner-owner-requires c =
+    let r = c.requires.there in
+    (r.0, r.3.page.is, here_in_slots r.3)

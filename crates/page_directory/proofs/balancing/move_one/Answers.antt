@@ -1,7 +1,7 @@
 use Rattle.std.proofs.Common.{arith, refl, ◌-◌, ◌+◌, slice_index}
 use Rattle.page_mirror.specs.Steps.{owning}
 use Rattle.page_mirror.proofs.HeadLemmas.{still}
-use Rattle.page_directory.proofs.BalanceLemmas.{next_in_slots, next_most}
+use Rattle.page_directory.proofs.BalanceLemmas.{next_in_slots, here_in_slots, next_fits, next_most}
 use Rattle.page_directory.proofs.MoveLemmas.{moves}
 use Rattle.page_directory.proofs.balancing.move_one.Goals as goal
 
@@ -78,3 +78,16 @@ returns c = λ m gs free r size.
     let three = c.own-3.ensures m2 p (still {n = m2} next two refl refl) in
     let four = c.name_slot.ensures m3 (m.next o) (omega arith) (still {n = m3} first three refl refl) in
     moves r size c.requires.many o (m.next o) p refl refl refl four
+
+pub overflow_add-slot : goal.overflow_add-slot
+overflow_add-slot c = record { fits = next_fits c.requires.there.3 }
+
+pub slot_owner-next-requires : goal.slot_owner-next-requires
+slot_owner-next-requires c =
+    let r = c.requires.there in
+    (r.0, r.3.page.is, next_in_slots r.3)
+
+pub slot_owner-owner-requires : goal.slot_owner-owner-requires
+slot_owner-owner-requires c =
+    let r = c.requires.there in
+    (r.0, r.3.page.is, here_in_slots r.3)

@@ -1,4 +1,4 @@
-use Rattle.std.proofs.Common.{arith, ◌≡◌, ◌∙◌, sym, slice_index, ℕ, subst}
+use Rattle.std.proofs.Common.{arith, ◌≡◌, ◌<◌, ◌∙◌, sym, slice_index, ℕ, subst}
 use Rattle.page_mirror.specs.Steps.{HasOrigin}
 use Rattle.page_directory.proofs.OwnerLemmas.{slots_counted, slot_once}
 use Rattle.page_directory.proofs.owners.find_slot.Goals as goal
@@ -33,3 +33,9 @@ returns c = λ m gs free s r.
     let within = r.within in
     let count = c.slot_count-count.ensures m r.page.is in
     absurd (omega arith)
+
+pub slot_owner-requires : goal.slot_owner-requires
+slot_owner-requires c =
+    let r = c.requires in
+    let count = c.slot_count-count.ensures r.0 r.4.page.is in
+    (r.0, r.4.page.is, subst (λ (n : ℕ). c.loop-slot.slot < n) count c.loop-slot-test.true)

@@ -1,7 +1,7 @@
 use Rattle.std.proofs.Common.{arith, refl, ◌-◌, slice_index}
 use Rattle.page_mirror.specs.Steps.{owning}
 use Rattle.page_mirror.proofs.HeadLemmas.{still}
-use Rattle.page_directory.proofs.SplitLemmas.{splits, in_slots}
+use Rattle.page_directory.proofs.SplitLemmas.{splits, in_slots, last_in_slots}
 use Rattle.page_directory.proofs.split.split_slot.Goals as goal
 
 pub fourth_after-fourth-requires : goal.fourth_after-fourth-requires
@@ -69,3 +69,13 @@ returns c = λ m gs free r.
     let third = c.open_slot.ensures (owning (owning m q 4) o 5) q (omega arith) r.room
     (still {n = owning (owning m q 4) o 5} fourth second refl refl) in
     splits r q o refl refl third
+
+pub slot_owner-owner-requires : goal.slot_owner-owner-requires
+slot_owner-owner-requires c =
+    let r = c.requires in
+    (r.0, r.3.page.is, in_slots r.3)
+
+pub slot_owner-last-requires : goal.slot_owner-last-requires
+slot_owner-last-requires c =
+    let r = c.requires in
+    (r.0, r.3.page.is, last_in_slots r.3)
