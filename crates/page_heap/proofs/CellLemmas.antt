@@ -10,7 +10,7 @@ use Rattle.compact_record.proofs.PartLemmas.{length-concat}
 use Rattle.page_mirror.specs.Cells.{Cell, StandsHere, origin_in, end_in}
 use Rattle.page_mirror.specs.Mirror.{Mirror, Mirrors, HasCell}
 use Rattle.page_mirror.specs.Steps.{HasOrigin}
-use Rattle.page_heap.specs.Heap.{cell_of}
+use Rattle.page_heap.specs.Heap.{cell_of, record_from, FitsBehind}
 
 -- it ends where the record ends
 pub cell_end : (r : PlacedRecord) → end_in (cell_of r) ≡ finish r
@@ -70,3 +70,18 @@ number_in_page h r is within e =
     let numbered = is.heap.numbered h within in
     let number = ap (λ (c : Cell). c.number) e in
     omega (arith, status_small r.kind, numbered, number)
+
+-- it is as sound under an equal heap number, and from another byte on
+pub sound_from : {r : PlacedRecord} (start number : ℕ) → number ≡ r.heap_number → IsRecord r → IsRecord (record_from start number r.kind r.key r.tail)
+sound_from start number is s = record {
+  number = rw is s.number;
+  key = s.key;
+  tail = s.tail;
+  child = s.child;
+}
+
+-- a record that goes behind all others is within the page
+pub behind_in_page : {bytes : List ℕ} {m : Mirror} {r : PlacedRecord} → FitsBehind bytes m r → finish r ≤ length bytes
+behind_in_page f =
+    let fits = f.fits in
+    omega (arith, f.is.len)
