@@ -7,7 +7,7 @@ use Rattle.page_mirror.specs.Mirror.{Mirror}
 use Rattle.page_directory.specs.Groups.{Group, owners, HasGroups}
 use Rattle.page_directory.specs.Sizes.{group_sizes, IsSized, IsSizedBut, sizes_balanced, sizes_joined, sizes_moved}
 use Rattle.page_directory.specs.Calls.{CanBalanceSlot, Regroups}
-use Rattle.page_directory.proofs.OwnerLemmas.{sizes_append, count_sizes}
+use Rattle.page_directory.proofs.OwnerLemmas.{slots_counted, sizes_append, count_sizes}
 use Rattle.page_list.specs.Leaving.{Between, CanLeave, GroupAround, IsLinkedOut, groups_around, linked_out, HasShortSlot, sizes_mended, begins_with_few}
 use Rattle.page_list.proofs.SlotSizeLemmas.{same_beside}
 use Rattle.page_list.proofs.AroundLemmas.{of_group}
@@ -137,3 +137,10 @@ mended_count xs n ys s is = elim (cases_eq n 3) [
 
 pub slot_of : {bytes : List ℕ} {m : Mirror} {gs : List Group} {free : List ℕ} {s : ℕ} → HasShortSlot bytes m gs free s → s < length gs
 slot_of {gs = gs} h = let within = h.sizes.within in omega (arith, count_sizes gs)
+
+-- a page's end has room for fewer slots than a u16 counts
+pub slot_fits : {bytes : List ℕ} {m : Mirror} {gs : List Group} {free : List ℕ} {s : ℕ} → HasShortSlot bytes m gs free s → s + 1 < 65536
+slot_fits h =
+    let within = slot_of h in
+    let room = h.page.is.room in
+    omega (arith, slots_counted h.page.groups)

@@ -1,6 +1,6 @@
 use Rattle.std.proofs.Common.{◌∙◌, ◌+◌, ◌<◌, length, sym, arith}
 use Rattle.page_directory.proofs.OwnerLemmas.{slots_counted}
-use Rattle.page_list.proofs.MendLemmas.{can_balance, mended_three, mended_other, slot_of}
+use Rattle.page_list.proofs.MendLemmas.{can_balance, mended_three, mended_other, slot_of, slot_fits}
 use Rattle.page_list.proofs.leaving.mend_slot.Goals as goal
 use Rattle.page_list.proofs.leaving.mend_slot.Goals.{else-slot-slot_count-via-then-slot-slot_count+else-count-eq3, else-slot-slot_count-via-else-slot-slot_count}
 
@@ -32,3 +32,6 @@ returns-else-slot-slot_count c = λ m gs free h.
       | else-slot-slot_count-via-then-slot-slot_count+else-count-eq3 w ↦ w.if-count-eq3.false (size ∙ three)
       | else-slot-slot_count-via-else-slot-slot_count w ↦ let test = w.if-slot-slot_count.false in omega arith
     ])
+
+pub overflow_add-slot : goal.overflow_add-slot
+overflow_add-slot c = record { fits = slot_fits c.requires.3 }
