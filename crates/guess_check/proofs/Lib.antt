@@ -1,2 +1,3 @@
 pub mod CheckLemmas
 pub mod BesideLemmas
+pub mod EndLemmas
