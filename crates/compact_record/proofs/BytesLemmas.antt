@@ -1,8 +1,8 @@
 -- What a write to a part of a page leaves as it was.
-use Rattle.std.proofs.Common.{◌≡◌, ℕ, ◌+◌, ◌-◌, ◌≤◌, List, ◌++◌, length, take, drop, refl, sym, ◌∙◌, arith, length-append, ◌⊎◌, inl, inr}
-use Rattle.std.proofs.lemmas.List.{places, get_or_append_left}
+use Rattle.std.proofs.Common.{◌≡◌, ℕ, ◌+◌, ◌-◌, ◌*◌, ◌≤◌, List, ◌∷◌, ◌++◌, length, take, drop, slice_index, refl, sym, ap, ap₂, ◌∙◌, arith, length-append, length-take-le, ◌⊎◌, inl, inr}
+use Rattle.std.proofs.lemmas.List.{places, get_or_append_left, get_or-append-add}
 use Rattle.std.proofs.lemmas.Bool.{cases_lt}
-use borrow.Rule.Slice.PartMut.{put_mid}
+use borrow.Rule.Slice.PartMut.{put_mid, post_of}
 use Rattle.compact_record.specs.Bytes.{u16_at, SameOutside, SpellsAt}
 
 -- a write of `part` at the start of `xs[a..]`
@@ -77,3 +77,13 @@ u16_kept same at apart = elim apart [
   | inl low ↦ rw (same.below at (omega arith), same.below (at + 1) (omega arith)) refl
   | inr high ↦ rw (same.above at (omega arith), same.above (at + 1) (omega arith)) refl
 ]
+
+-- the number of the two bytes at the start of `xs[a..]`
+pub u16_written : (xs ys rest : List ℕ) (a x y : ℕ) → a + 2 ≤ length xs → ys ≡ x ∷ y ∷ rest → u16_at (put_mid a (length xs - a) xs ys) a ≡ x * 256 + y
+u16_written xs ys rest a x y fits is =
+    let front = take a xs in
+    let behind = (x ∷ y ∷ rest) ++ post_of a (length xs - a) xs in
+    let size : length front ≡ a = length-take-le a xs (omega arith) in
+    let first : slice_index (front ++ behind) a ≡ x = ap (slice_index (front ++ behind)) (omega (arith, size)) ∙ get_or-append-add front behind 0 0 in
+    let second : slice_index (front ++ behind) (a + 1) ≡ y = ap (slice_index (front ++ behind)) (omega (arith, size)) ∙ get_or-append-add front behind 1 0 in
+    rw is (ap₂ (λ (m n : ℕ). m * 256 + n) first second)

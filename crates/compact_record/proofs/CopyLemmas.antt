@@ -2,6 +2,7 @@
 use Rattle.std.proofs.Common.{◌≡◌, ℕ, ◌+◌, ◌-◌, ◌*◌, ◌/◌, ◌<◌, ◌≤◌, List, ◌++◌, length, slice_index, slice_range, sym, ap, ap₂, subst, ◌∙◌, arith, length-append}
 use Rattle.std.specs.List.{concat}
 use Rattle.std.proofs.lemmas.List.{places}
+use Rattle.std.proofs.lemmas.List.Edits.{length-between}
 use Rattle.compact_record.specs.declared.TheConstants.{HEAD_BYTES}
 use Rattle.compact_record.specs.Bytes.{u16_at, SpellsAt}
 use Rattle.compact_record.specs.Record.{PlacedRecord, origin, finish, measured_parts, lengths_bytes}
@@ -63,3 +64,10 @@ copy_made old new to part place fields start end from size r s start_is end_is f
     let made : Copies old new from size = copies old new from size (omega arith) (subst (SpellsAt new 0) part_is spells) in
     subst (λ (x : ℕ). IsRecordAt new (place - x) fields (placed_from 0 r)) (sym start_is)
     (record_copied old new place fields size r s (omega arith) (subst (λ (x : ℕ). Copies old new x size) begin made) (omega arith))
+
+-- there is room for the part that is copied
+pub part_fits : (old to part : List ℕ) (start end from size : ℕ) (r : PlacedRecord) → finish r ≤ length old → start ≡ r.start → end ≡ finish r → from ≡ start → size ≡ end - start
+    → part ≡ slice_range old from (from + size) → finish r ≤ r.start + length to → 0 + length part ≤ length to
+part_fits old to part start end from size r fits start_is end_is from_is size_is part_is room =
+    let len : length part ≡ from + size - from = ap length part_is ∙ length-between old from (from + size) (omega arith) in
+    omega arith

@@ -1,10 +1,10 @@
 -- What stands is what is read, and stays where nothing is written.
-use Rattle.std.proofs.Common.{◌≡◌, ℕ, ◌+◌, ◌-◌, ◌*◌, ◌/◌, ◌%◌, ◌<◌, ◌≤◌, ◌⊎◌, List, [], ◌∷◌, ◌++◌, length, sum_by, All, slice_index, slice_range, refl, sym, ap, ap₂, subst, ◌∙◌, arith, add-zero, length-append, inl, inr}
+use Rattle.std.proofs.Common.{◌≡◌, ℕ, ◌+◌, ◌-◌, ◌*◌, ◌/◌, ◌%◌, ◌<◌, ◌≤◌, ◌⊎◌, Bool, cond, List, [], ◌∷◌, ◌++◌, length, sum_by, All, slice_index, slice_range, refl, sym, ap, ap₂, subst, ◌∙◌, arith, add-zero, length-append, inl, inr}
 use Rattle.std.specs.List.{concat}
 use Rattle.std.proofs.lemmas.List.{append_assoc, append-nil}
 use Rattle.std.proofs.lemmas.List.Sums.{sum_by-cons}
 use Rattle.std.proofs.lemmas.List.Elements.{All-head, All-tail}
-use Rattle.std.proofs.lemmas.Bool.{cases_lt}
+use Rattle.std.proofs.lemmas.Bool.{cases_lt, lt-ltb, le-ltb}
 use Rattle.std.proofs.lemmas.Bool.Decides.{nat_tests}
 use Rattle.key_tuple.specs.Order.{FieldList, byte_count}
 use Rattle.key_tuple.specs.Sizes.{length_size, field_size}
@@ -14,6 +14,7 @@ use Rattle.compact_record.specs.declared.kind.RecordKind.TheVariants.{Row, Point
 use Rattle.compact_record.specs.Bytes.{u16_at, SpellsAt, SameOutside}
 use Rattle.compact_record.specs.Kind.{status_bits, info_bits, kind_with, measured}
 use Rattle.compact_record.specs.Record.{PlacedRecord, IsRecord, Stands, origin, finish, record_size_of, measured_parts, length_bytes, lengths_bytes}
+use Rattle.compact_record.specs.Lengths.{EndsLength}
 use Rattle.compact_record.specs.Reading.{length_at, fields_at, tail_length, kind_in, record_at, IsRecordAt, HasRecord}
 use Rattle.compact_record.proofs.BytesLemmas.{spells_kept, spells_front, spells_end, u16_kept}
 use Rattle.compact_record.proofs.PartLemmas.{lengths-append, length-concat}
@@ -170,3 +171,22 @@ record_read bytes place fields r s =
 
 pub record_there : (bytes : List ℕ) (place fields : ℕ) (r : PlacedRecord) → IsRecordAt bytes place fields r → HasRecord bytes place fields
 record_there bytes place fields r s = subst (λ (x : PlacedRecord). IsRecordAt bytes place fields x) (sym (record_read bytes place fields r s)) s
+
+-- so does the length that ends at a place
+pub ends_read : {bytes : List ℕ} {n top : ℕ} → EndsLength bytes n top → length_at bytes top ≡ n
+ends_read {bytes} {n} {top} e =
+    let room = e.room in
+    let up : top - length (length_bytes n) + length (length_bytes n) ≡ top = omega arith in
+    ap (length_at bytes) (sym up) ∙ length_read bytes n (top - length (length_bytes n)) e.small e.spells
+
+-- it is told by two bytes where the last is above 127, and else by that one
+pub long_told : (bytes : List ℕ) (top last low : ℕ) → last ≡ slice_index bytes (top - 1) → low ≡ slice_index bytes (top - 2) → 127 < last
+    → (last - 128) * 256 + low ≡ length_at bytes top
+long_told bytes top last low last_is low_is long =
+    let end = slice_index bytes (top - 1) in
+    rw (last_is, low_is) (sym (ap (λ (b : Bool). cond b ((end - 128) * 256 + slice_index bytes (top - 2)) end) (lt-ltb 127 end (rw last_is at long))))
+
+pub short_told : (bytes : List ℕ) (top last : ℕ) → last ≡ slice_index bytes (top - 1) → last ≤ 127 → last ≡ length_at bytes top
+short_told bytes top last last_is short =
+    let end = slice_index bytes (top - 1) in
+    rw last_is (sym (ap (λ (b : Bool). cond b ((end - 128) * 256 + slice_index bytes (top - 2)) end) (le-ltb 127 end (rw last_is at short))))

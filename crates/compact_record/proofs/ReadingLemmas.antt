@@ -1,5 +1,5 @@
 -- Where the parts of a record that stands are.
-use Rattle.std.proofs.Common.{◌≡◌, ◌≢◌, ℕ, ◌+◌, ◌-◌, ◌<◌, ◌≤◌, List, [], ◌∷◌, ◌++◌, length, take, drop, get_or, All, refl, sym, ap, subst, ◌∙◌, arith, length-append, inl, inr}
+use Rattle.std.proofs.Common.{◌≡◌, ◌≢◌, ℕ, ◌+◌, ◌-◌, ◌<◌, ◌≤◌, List, [], ◌∷◌, ◌++◌, length, take, drop, get_or, All, refl, sym, ap, subst, ◌∙◌, arith, length-append, ◌⊎◌, inl, inr}
 use Rattle.std.specs.List.{concat, slice_range}
 use Rattle.std.proofs.lemmas.List.{append_assoc, take_more, drop_more, take-append-drop, take_all, drop_all, get_or_append_left, same_lists, get_or_default}
 use Rattle.std.proofs.Math.Seq.{get_or-append_seam, drop-append_seam}
@@ -15,7 +15,7 @@ use Rattle.compact_record.specs.declared.kind.RecordKind.TheVariants.{Row, Point
 use Rattle.compact_record.specs.declared.reading.Part.{Part}
 use Rattle.compact_record.specs.Bytes.{SpellsAt}
 use Rattle.compact_record.specs.Kind.{status_bits, measured}
-use Rattle.compact_record.specs.Record.{PlacedRecord, origin, finish, parts_of, measured_parts, length_bytes, lengths_bytes}
+use Rattle.compact_record.specs.Record.{PlacedRecord, IsRecord, origin, finish, parts_of, measured_parts, length_bytes, lengths_bytes}
 use Rattle.compact_record.specs.Lengths.{EndsLength}
 use Rattle.compact_record.specs.Reading.{record_at, kind_in, IsRecordAt, IsPart}
 use Rattle.compact_record.proofs.BytesLemmas.{spells_front, spells_end}
@@ -199,6 +199,10 @@ pub kind_is : (bytes : List ℕ) (place fields : ℕ) → (record_at bytes place
 unfolding record_at
 kind_is bytes place fields = refl
 
+-- a pointer's kind isn't a row's
+pub not_row : {kind told : RecordKind} → kind ≡ told → (told ≡ Pointer) ⊎ (told ≡ LeftmostPointer) → kind ≢ Row
+not_row is which = λ row. elim which [ inl p ↦ cc | inr p ↦ cc ]
+
 -- where a row's tail and its length stand
 pub record RowEnd (bytes : List ℕ) (r : PlacedRecord) (part : Part) : Type 0 where
   pub there : EndsLength bytes (length r.tail) part.top
@@ -241,3 +245,22 @@ pointer_end {bytes} {fields = fields} {r = r} part s p isnt =
       tail = rw (← begins.1) (spells_range bytes part.from r.tail there (omega arith));
       size = begins.1;
     }
+
+-- a field of the key is among the parts that have a length, and within the limit
+pub key_measured : {r s : PlacedRecord} (i : ℕ) → r ≡ s → i < length s.key → i < length (measured_parts r)
+key_measured {r} i is low =
+    let size = ap (λ (x : PlacedRecord). length x.key) is in
+    omega (arith, count_measured r.kind r.key r.tail)
+
+pub key_field_is : {r s : PlacedRecord} (i : ℕ) → r ≡ s → i < length s.key → get_or (parts_of r) i [] ≡ get_or s.key i []
+key_field_is {r} i is low =
+    let size = ap (λ (x : PlacedRecord). length x.key) is in
+    get_or_append_left r.key (r.tail ∷ []) [] i (omega arith) ∙ ap (λ (x : PlacedRecord). get_or x.key i []) is
+
+pub field_small : {r s : PlacedRecord} (i : ℕ) (bytes : List ℕ) → r ≡ s → IsRecord r → i < length s.key → bytes ≡ get_or (parts_of r) i [] → length bytes < 65536
+field_small {r} i bytes is sound low bytes_is =
+    let size = ap (λ (x : PlacedRecord). length x.key) is in
+    let within : i < length r.key = omega arith in
+    let small = sound.key i [] within in
+    let same = ap length (bytes_is ∙ get_or_append_left r.key (r.tail ∷ []) [] i within) in
+    omega arith

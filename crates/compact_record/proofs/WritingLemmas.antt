@@ -1,6 +1,7 @@
 -- How what is written part by part makes a record.
-use Rattle.std.proofs.Common.{◌≡◌, ℕ, ◌+◌, ◌-◌, ◌*◌, ◌/◌, ◌%◌, ◌<◌, ◌≤◌, List, [], ◌∷◌, ◌++◌, length, take, drop, get_or, slice_index, refl, sym, ap, subst, ◌∙◌, arith, length-append, inl}
+use Rattle.std.proofs.Common.{◌≡◌, ℕ, ◌+◌, ◌-◌, ◌*◌, ◌/◌, ◌%◌, ◌<◌, ◌≤◌, List, [], ◌∷◌, ◌++◌, length, take, drop, set, get_or, slice_index, refl, sym, ap, subst, ◌∙◌, arith, length-append, inl}
 use Rattle.std.specs.List.{concat}
+use Rattle.std.proofs.lemmas.List.{take_all, drop_all, length-set, get_or-set_same, get_or-set_other}
 use Rattle.key_tuple.specs.Order.{FieldList, byte_count}
 use Rattle.compact_record.specs.declared.TheConstants.{HEAD_BYTES}
 use Rattle.compact_record.specs.declared.kind.RecordKind.{RecordKind}
@@ -102,3 +103,33 @@ parts_write {old} {b1} {b2} {b3} {b4} {b5} {r} {low} {top} {from} {middle} p =
       next = rw next_at (u16_kept body.kept (top + 3) (inl (omega arith)) ∙ p.next);
       kept = rw ends (outside-then {from' = top} (omega arith) (omega arith) (omega arith) lengths.kept whole);
     }
+
+-- no length is written yet
+pub lengths_start : (bytes : List ℕ) (at n : ℕ) (parts : FieldList) → n ≡ length parts → PutsPart bytes bytes (lengths_bytes (drop n parts)) at at
+lengths_start bytes at n parts is =
+    let none : lengths_bytes (drop n parts) ≡ [] = ap lengths_bytes (drop_all n parts (omega arith)) in
+    rw none (record {
+      end = omega arith;
+      spells = record { each = λ k h. absurd (omega arith) };
+      kept = record { len = refl; below = λ k h. refl; above = λ k h. refl };
+    })
+
+-- all fields are written
+pub fields_end : {a b : List ℕ} {from to : ℕ} (fields : FieldList) (i : ℕ) → length fields ≤ i → PutsPart a b (concat (take i fields)) from to → PutsPart a b (concat fields) from to
+fields_end {a} {b} {from} {to} fields i over p = subst (λ (xs : FieldList). PutsPart a b (concat xs) from to) (take_all i fields over) p
+
+-- the head's first byte, then its two numbers
+pub record HeadWritten (old new : List ℕ) (at x : ℕ) : Type 0 where
+  pub byte : slice_index new at ≡ x
+  pub kept : SameOutside old new at (at + HEAD_BYTES)
+
+pub head_written : {b new : List ℕ} (old : List ℕ) (at x : ℕ) → at + HEAD_BYTES ≤ length old → SameOutside (set old at x) b (at + 1) (at + 1 + 2)
+    → SameOutside b new (at + 3) (at + 3 + 2) → HeadWritten old new at x
+head_written {b} {new} old at x room number next = record {
+  byte = next.below at (omega arith) ∙ number.below at (omega arith) ∙ get_or-set_same old at x 0 (omega arith);
+  kept = record {
+    len = next.len ∙ number.len ∙ length-set old at x;
+    below = λ k h. next.below k (omega arith) ∙ number.below k (omega arith) ∙ get_or-set_other old at k x 0 (λ e. omega arith);
+    above = λ k h. next.above k (omega arith) ∙ number.above k (omega arith) ∙ get_or-set_other old at k x 0 (λ e. omega arith);
+  };
+}

@@ -1,12 +1,25 @@
-use Rattle.std.proofs.Common.{ℕ, length, sym, ap, ◌∙◌, arith}
-use Rattle.compact_record.specs.Record.{length_bytes}
+use Rattle.std.proofs.Common.{ℕ, ◌+◌, ◌<◌, ◌≤◌, List, length, sym, ap, ◌∙◌, arith}
+use Rattle.compact_record.specs.declared.TheConstants.{CHILD_BYTES}
+use Rattle.compact_record.specs.declared.reading.Part.{Part}
+use Rattle.compact_record.specs.Record.{PlacedRecord, length_bytes}
 use Rattle.compact_record.specs.Reading.{record_at}
-use Rattle.compact_record.proofs.ReadingLemmas.{kind_is, RowEnd, row_end, top_of_part, part_there}
+use Rattle.compact_record.proofs.ReadingLemmas.{kind_is, not_row, RowEnd, row_end, PointerEnd, pointer_end, top_of_part, part_there}
 use Rattle.compact_record.proofs.reading.measure.Goals as goal
-use Rattle.compact_record.proofs.reading.measure.Goals.{In-Row}
+use Rattle.compact_record.proofs.reading.measure.Goals.{In-Row, In-Pointer}
 
 row : (c : In-Row) → RowEnd c.args.page.now (record_at c.args.page.now c.args.place c.args.fields) c.part_at-tail.result
 row c = row_end c.part_at-tail.result c.requires.there c.part_at-tail.ensures (kind_is c.args.page.now c.args.place c.args.fields ∙ sym c.kind_at.ensures ∙ c.in-Row.is)
+
+pointer : (c : In-Pointer) → PointerEnd c.args.page.now (record_at c.args.page.now c.args.place c.args.fields) c.part_at-tail.result
+pointer c =
+    let kind = kind_is c.args.page.now c.args.place c.args.fields ∙ sym c.kind_at.ensures in
+    pointer_end c.part_at-tail.result c.requires.there c.part_at-tail.ensures (not_row kind c.in-Pointer.is)
+
+end_fits : {bytes : List ℕ} {r : PlacedRecord} {part : Part} → PointerEnd bytes r part → length bytes ≤ 65535 → part.from + CHILD_BYTES < 65536
+end_fits e small =
+    let end = e.end in
+    let fits = e.fits in
+    omega arith
 
 pub get_length-len-requires-clause-there : goal.get_length-len-requires-clause-there
 get_length-len-requires-clause-there c = (length (record_at c.args.page.now c.args.place c.args.fields).tail, (row c).there)
@@ -61,3 +74,15 @@ pub overflow_add-result-in-Pointer : goal.overflow_add-result-in-Pointer
 overflow_add-result-in-Pointer c =
     let tail = part_there c.args.fields c.part_at-tail.result c.requires.there c.part_at-tail.ensures (omega arith) in
     omega (arith, tail.within)
+
+pub overflow_cast-result-in-Pointer-2 : goal.overflow_cast-result-in-Pointer-2
+overflow_cast-result-in-Pointer-2 c =
+    record { fits = end_fits (pointer (goal.at.overflow_cast-result-in-Pointer-2 c).In-Pointer) c.requires.page }
+
+pub returns-in-Pointer : goal.returns-in-Pointer
+returns-in-Pointer c =
+    let e = pointer (goal.at.returns-in-Pointer c).In-Pointer in
+    record { start = e.start; end = e.end }
+
+pub part_at-tail-requires-clause-there : goal.part_at-tail-requires-clause-there
+part_at-tail-requires-clause-there c = c.requires.there

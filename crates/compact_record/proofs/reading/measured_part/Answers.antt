@@ -27,3 +27,6 @@ returns c =
     let is = c.get_length-len.ensures _ (length_of_part c.args.number c.part_at-part.result c.requires.there c.part_at-part.ensures c.requires.measured) in
     let bytes = part_there c.args.number c.part_at-part.result c.requires.there c.part_at-part.ensures c.requires.number in
     c.get_bytes.ensures ∙ rw is (spells_range c.args.page.now c.part_at-part.result.from (get_or (parts_of r) c.args.number []) bytes.spells bytes.within)
+
+pub part_at-part-requires-clause-there : goal.part_at-part-requires-clause-there
+part_at-part-requires-clause-there c = c.requires.there

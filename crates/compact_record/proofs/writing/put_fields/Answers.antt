@@ -1,5 +1,5 @@
-use Rattle.std.proofs.Common.{arith}
-use Rattle.compact_record.proofs.WritingLemmas.{field_fits, field_put}
+use Rattle.std.proofs.Common.{ℕ, ◌≤◌, subst, arith}
+use Rattle.compact_record.proofs.WritingLemmas.{field_fits, field_put, fields_end}
 use Rattle.compact_record.proofs.writing.put_fields.Goals as goal
 
 pub put_bytes-requires : goal.put_bytes-requires
@@ -13,3 +13,7 @@ overflow_add-at g c =
 pub loop-i-preserved : goal.loop-i-preserved
 loop-i-preserved g c =
     field_put (g.A.Fields.fields_of c.args.key.now) c.loop-i.i c.field-field.result.now (omega arith) c.field-field.ensures.bytes c.loop-i.invariant c.put_bytes.ensures.spells c.put_bytes.ensures.kept
+
+pub returns : goal.returns
+returns g c =
+    fields_end (g.A.Fields.fields_of c.args.key.now) c.loop-i.i (subst (λ (n : ℕ). n ≤ c.loop-i.i) c.count-i-end.ensures c.loop-i-test.false) c.loop-i.invariant

@@ -47,3 +47,6 @@ returns-clause-writes g c = parts_write {r = placed c.args.start c.args.head (g.
   tail = c.put_bytes.ensures.spells;
   last = c.put_bytes.ensures.kept;
 })
+
+pub put_key_lengths-top-requires-clause-small : goal.put_key_lengths-top-requires-clause-small
+put_key_lengths-top-requires-clause-small g c = c.requires.record.key
