@@ -31,3 +31,6 @@ returns g c =
       admitted = c.is_admitted.ensures ∙ admits_is c.args.mode t c.view.result.key c.compare_from-found.result.order c.compare_from-found.ensures.order ∙ ap (λ (x : PlacedRecord). cut_of c.args.mode t (At x.key)) c.view.ensures;
       figures = match_is c.new.result c.new.ensures.fields c.new.ensures.bytes ∙ c.compare_from-found.ensures.figures ∙ ap (λ (x : PlacedRecord). matching t x.key) c.view.ensures;
     }
+
+pub view-requires : goal.view-requires
+view-requires g c = c.requires.there
