@@ -20,3 +20,6 @@ pub returns-clause-start : goal.returns-clause-start
 returns-clause-start c =
     let is = c.requires.spells.page.is in
     c.free_extent-free.ensures.start ∙ ap (head_start c.args.page.now c.args.fields) (c.first_free.ensures c.requires.parts.mirror is ∙ sym is.head.first_free)
+
+pub free_extent-free-requires-clause-head : goal.free_extent-free-requires-clause-head
+free_extent-free-requires-clause-head c = λ p. c.first_free.ensures p.parts.mirror p.spells.page.is
