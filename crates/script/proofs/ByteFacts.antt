@@ -19,7 +19,8 @@ in_front_each P (Some x) (Some xs) ys h one more =
     let is : x ∷ xs ≡ ys = cc in
     subst (λ (zs : List _). AllByRecursion P zs) is (one x refl, more xs refl)
 
-upto : (low high b : ℕ) → is_from low high b ≡ true → b ≤ high
+-- a byte of a range is no larger than its end
+pub upto : (low high b : ℕ) → is_from low high b ≡ true → b ≤ high
 upto low high b h = leb-true _ _ (both_so (leb low b) (leb b high) h).1
 
 plain_small : (b x : ℕ) → plain b ≡ Some x → x < 256

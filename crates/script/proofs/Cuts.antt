@@ -1,5 +1,5 @@
 -- Pieces and lines at their first cut.
-use Rattle.std.proofs.Common.{◌≡◌, ℕ, suc, ◌+◌, ◌-◌, ◌<◌, ◌≤◌, Bool, true, false, eqb, List, [], ◌∷◌, ◌++◌, length, get_or, take, drop, refl, subst, arith, add-one}
+use Rattle.std.proofs.Common.{◌≡◌, ℕ, suc, ◌+◌, ◌-◌, ◌<◌, ◌≤◌, Bool, true, false, eqb, List, [], ◌∷◌, ◌++◌, length, get_or, take, drop, refl, sym, subst, arith, add-one}
 use Rattle.memchr.specs.Find.{Nowhere, NoneBefore, Passes, is_byte}
 use Rattle.std.proofs.lemmas.Bool.{eqb-true, eq-eqb}
 use Rattle.std.proofs.lemmas.List.Splits.{slice_split_none, slice_split_at}
@@ -58,6 +58,10 @@ lines_whole x (y ∷ s) h =
     let ne : eqb x 10 ≡ false = h 0 0 (omega arith) in
     let rest : lines_of (y ∷ s) ≡ (y ∷ s) ∷ [] = lines_whole y s (λ k d lt. h (suc k) d (omega arith)) in
     rw (ne, rest) refl
+
+pub lines_none : (s : List ℕ) → true ≡ eqb (length s) 0 → lines_of s ≡ []
+lines_none [] h = refl
+lines_none (x ∷ s) h = absurd (omega (arith, eqb-true _ _ (sym h)))
 
 -- some bytes are the one line where none ends it
 pub lines_last : (s : List ℕ) → 0 < length s → LacksByte 10 s → lines_of s ≡ s ∷ []

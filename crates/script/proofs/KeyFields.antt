@@ -12,7 +12,7 @@ use Rattle.script.specs.declared.error.Refusal.TheVariants as refusal
 use Rattle.script.specs.Grammar.{in_front, behind, field_of, fields_in, exactly, at_most}
 use Rattle.script.specs.Steps.{Fails, or_bad}
 use Rattle.script.proofs.Results.{some_of, given}
-use Rattle.script.proofs.Steps.{behind_in_front}
+use Rattle.script.proofs.Steps.{behind_in_front, behind_nothing}
 
 too_long : (n : ℕ) (front : FieldList) (f : Option (List ℕ)) (o : Option FieldList) → length front ≡ n → at_most n (behind front (in_front f o)) ≡ None
 too_long n front None o e = refl
@@ -60,6 +60,10 @@ not_put front o (refusal.Flawed f) h = unread_behind front o f h
 pub record AreSoFar (whole : Option FieldList) (bytes ends : List ℕ) (left : List (List ℕ)) : Type 0 where
   pub told : whole ≡ behind (parts bytes 0 ends) (fields_in left)
   pub rise : RiseTo 0 ends (length bytes)
+
+-- before the first field
+pub none_so_far : (whole : Option FieldList) (bytes ends : List ℕ) (left : List (List ℕ)) → bytes ≡ [] → ends ≡ [] → whole ≡ fields_in left → AreSoFar whole bytes ends left
+none_so_far whole bytes ends left none no_ends is = rw (none, no_ends) (record { told = is ∙ sym (behind_nothing (fields_in left)); rise = refl })
 
 -- one field more, right behind them
 field_there : (whole : Option FieldList) (bytes ends more : List ℕ) (left : List (List ℕ)) (text : List ℕ) (texts : List (List ℕ))

@@ -11,3 +11,4 @@ pub mod LaneFacts
 pub mod NumberFacts
 pub mod Decimals
 pub mod Runs
+pub mod NameFacts

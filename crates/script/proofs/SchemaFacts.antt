@@ -52,6 +52,10 @@ is_new names name h k d lt same =
     let passes : bytes_eq (get_or names k d) name ≡ true = (bytes_eq-Decides (get_or names k d) name).1 same in
     cc
 
+-- a name that is taken has the form of one
+pub taken_name : (s : SchemaText) (name : List ℕ) → takes_name s name ≡ true → is_name name ≡ true
+taken_name s name takes = (both_so (is_name name) (ltb (length s.names) MAX_INDEXES) (both_so _ (is_none (index_by_name s.names name)) takes).0).0
+
 -- one index more, of a new name
 with_index_keeps : (s : SchemaText) (name : List ℕ) (n : ℕ) → IsDraft s → takes_name s name ≡ true → IsFieldCount n → IsDraft (with_index s name n)
 with_index_keeps s name n d takes count =

@@ -50,3 +50,6 @@ pub returns-in_err-extend_from_slice-2 : goal.returns-in_err-extend_from_slice-2
 returns-in_err-extend_from_slice-2 c =
     let p = err_from_is_err_and c.from_residual-in_err-extend_from_slice-2.result c.from_residual-in_err-extend_from_slice-2.ensures.1 in
     rw (p.1, p.2) tt
+
+pub slice_bounds-first_byte-start : goal.slice_bounds-first_byte-start
+slice_bounds-first_byte-start c = omega (arith, escape_inside c.text.rest.now c.in-Some.at (sym c.in-Some.ensures))

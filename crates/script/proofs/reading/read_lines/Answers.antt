@@ -1,10 +1,10 @@
 -- A line that isn't read is the file's flaw, and one that is read leaves those after it.
-use Rattle.std.proofs.Common.{length, ap, arith}
+use Rattle.std.proofs.Common.{length, ap, ◌∙◌, arith}
 use Rattle.map_history.specs.Lines.{line_texts}
 use Rattle.script.specs.Pieces.{lines_left}
 use Rattle.script.specs.Lane.{lane_of}
 use Rattle.script.specs.Views.{schema_text}
-use Rattle.script.proofs.Whole.{lane_stops, lane_goes}
+use Rattle.script.proofs.Whole.{few_lines, lane_begins, lane_stops, lane_goes}
 use Rattle.script.proofs.reading.read_lines.Goals as goal
 
 pub returns-in-Err : goal.returns-in-Err
@@ -22,3 +22,14 @@ loop-line-preserved c =
           (lane_of schema c.args.bytes.now) c.loop-line.invariant.told c.in-Some.ensures.steps c.in_default.ensures.ok;
       room = omega (arith, fewer, c.loop-line.invariant.room);
     }
+
+pub loop-line-init : goal.loop-line-init
+loop-line-init c =
+    let all = ap lines_left c.into_iter-line-iterator.ensures.into_iter_gives ∙ c.new-line-items.ensures in
+    record {
+      told = lane_begins (schema_text c.args.schema.now) c.args.bytes.now (line_texts c.new-lines.result.items) (lines_left c.into_iter-line-iterator.result) (ap line_texts c.new-lines.ensures.items) all;
+      room = omega (arith, few_lines c.args.bytes.now, ap length all);
+    }
+
+pub overflow_add-number : goal.overflow_add-number
+overflow_add-number c = omega (arith, c.loop-line.invariant.room, c.requires)

@@ -1,7 +1,7 @@
 -- The first line and those after it, or the last line.
 use Rattle.std.proofs.Common.{◌≡◌, length, sym, ap, arith}
 use Rattle.std.proofs.lemmas.Bool.{eqb-false}
-use Rattle.script.proofs.Cuts.{lines_cut, lines_last}
+use Rattle.script.proofs.Cuts.{lines_cut, lines_last, lines_none}
 use Rattle.script.proofs.pieces.LinesIterator.next.Goals as goal
 
 pub returns-in-Some-clause-steps : goal.returns-in-Some-clause-steps
@@ -21,3 +21,6 @@ pub returns-in-None-clause-goes : goal.returns-in-None-clause-goes
 returns-in-None-clause-goes c =
     let fewer = ap length (returns-in-None-clause-steps c) in
     record { on = λ _. (tt, tt, omega (arith, fewer)); keeps = tt; rests = λ _. tt }
+
+pub returns-then-is_empty-clause-steps : goal.returns-then-is_empty-clause-steps
+returns-then-is_empty-clause-steps c = let none = lines_none c.args.self.now.rest.now c.if-is_empty.ensures in (none, none)

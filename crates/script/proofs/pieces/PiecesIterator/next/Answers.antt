@@ -19,3 +19,6 @@ pub returns-in-None-clause-goes : goal.returns-in-None-clause-goes
 returns-in-None-clause-goes c =
     let fewer = ap length (returns-in-None-clause-steps c) in
     record { on = λ _. (tt, tt, omega (arith, fewer)); keeps = tt; rests = λ _. tt }
+
+pub returns-in_err-rest-clause-goes : goal.returns-in_err-rest-clause-goes
+returns-in_err-rest-clause-goes c = rw c.from_residual.ensures (record { on = λ _. tt; keeps = tt; rests = λ _. tt })
