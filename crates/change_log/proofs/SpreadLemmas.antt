@@ -1,7 +1,7 @@
 -- Changes that are put to the lists of their indexes.
-use Rattle.std.proofs.Common.{◌≡◌, ℕ, ◌+◌, ◌<◌, ◌≤◌, eqb, eq-eqb, Some, List, [], ◌∷◌, ◌++◌, length, map, get_or, set, replicate, take, refl, ap, sym, ◌∙◌, subst, arith, Vec, append_assoc}
+use Rattle.std.proofs.Common.{◌≡◌, ℕ, ◌+◌, ◌<◌, ◌≤◌, eqb, eq-eqb, Some, List, [], ◌∷◌, ◌++◌, length, map, get_or, set, replicate, take, refl, vec_len, ap, sym, ◌∙◌, subst, arith, Vec, append_assoc}
 use Rattle.std.proofs.lemmas.Bool.{ne_eqb}
-use Rattle.std.proofs.lemmas.List.{append-nil, length-map, map-append, length-set, length-replicate, get_or-set_same, get_or-set_other, take_more}
+use Rattle.std.proofs.lemmas.List.{append-nil, length-map, map-append, length-set, length-replicate, replicate_more, get_or-set_same, get_or-set_other, take_more}
 use Rattle.std.proofs.lemmas.List.Elements.{filter-append}
 use Rattle.std.proofs.lemmas.Grind.{flat_map-append}
 use Rattle.std.proofs.lemmas.Option.{slice_get-get_or, get_or_from_slice_get}
@@ -100,6 +100,17 @@ spread_begins n lists is = record {
   count = ap length is ∙ length-replicate n [];
   each = λ i list e. sym (replicate_is n i [] list (elem_from_get (replicate n []) i list (ap (λ z. slice_get z i) (sym is) ∙ e)));
 }
+
+-- one empty list more
+pub empty_more : (n : ℕ) (old new : List (Vec LaneChange Global)) (one : Vec LaneChange Global) → new ≡ old ++ one ∷ [] → one.items ≡ [] → note_lists old ≡ replicate n []
+    → note_lists new ≡ replicate (n + 1) []
+empty_more n old new one grown none so_far =
+    ap note_lists grown ∙ map-append notes old (one ∷ []) ∙ ap (λ (ls : List (List ChangeNote)). ls ++ notes one ∷ []) so_far
+    ∙ ap (λ (cs : List LaneChange). replicate n [] ++ map note_of cs ∷ []) none ∙ replicate_more n []
+
+-- so many lists are below a number
+pub lists_below : (lists : Vec (Vec LaneChange Global) Global) (n most : ℕ) → note_lists lists.items ≡ replicate n [] → n < most → vec_len lists < most
+lists_below lists n most are below = omega (arith, below, lists.ok.0, as_many lists.items, ap length are, length-replicate {A = List ChangeNote} n [])
 
 -- one change more of some
 pub spread_next : (changes : List LaneChange) (i : ℕ) (c : LaneChange) (x y z : List (List ChangeNote)) → i < length changes → c ≡ get_or changes i c → Spreads (map note_of (take i changes)) x y → Spreads (note_of c ∷ []) y z → Spreads (map note_of (take (i + 1) changes)) x z

@@ -1,4 +1,5 @@
 use Rattle.std.proofs.Common.{◌≡◌, List, [], ◌∷◌, ◌++◌, length, ap, sym, ◌∙◌, subst, arith, append_assoc, append-nil, Vec}
+use Rattle.std.proofs.lemmas.Result.{err_from_is_err_and}
 use Rattle.std.specs.List.{AllZip}
 use Rattle.std.specs.Vec.Iter.{into_iter_items}
 use Rattle.std.specs.declared.alloc.Global.{Global}
@@ -35,3 +36,9 @@ returns c =
     let empty : into_iter_items c.loop-list.list-iterator ≡ [] = empty_list _ (sym so_far.count ∙ c.in-None.ensures.steps.0) in
     let all : c.loop-list.yielded ≡ c.args.lists.items = sym (append-nil c.loop-list.yielded) ∙ (ap (λ (ls : List (Vec LaneChange Global)). c.loop-list.yielded ++ ls) (sym empty) ∙ so_far.rest) in
     subst (λ (ls : List (Vec LaneChange Global)). AllZip IsSorted (note_lists ls) (note_lists c.loop-list.sorted.items)) all so_far.sorted
+
+pub loop-list-preserved-derived : goal.loop-list-preserved-derived
+loop-list-preserved-derived c = (tt, tt)
+
+pub returns-in_err-push : goal.returns-in_err-push
+returns-in_err-push c = rw (err_from_is_err_and c.from_residual-in_err-push.result c.from_residual-in_err-push.ensures.1).1 tt
