@@ -1,5 +1,5 @@
 -- A setting that is within its limits isn't the first that is broken.
-use Rattle.std.proofs.Common.{◌≡◌, ℕ, zero, suc, ◌+◌, ◌<◌, true, cond, List, [], ◌∷◌, length, drop, get_or, ap, ◌∙◌, arith, Some}
+use Rattle.std.proofs.Common.{◌≡◌, ℕ, zero, suc, ◌+◌, ◌<◌, true, false, cond, List, [], ◌∷◌, length, drop, get_or, ap, ◌∙◌, arith, Some}
 use Rattle.map_history.specs.declared.sizes.Sizes.{Sizes}
 use Rattle.settings.specs.declared.setting.Setting.{Setting}
 use Rattle.settings.specs.Limits.{fits_limits, first_outside}
@@ -14,6 +14,16 @@ module _ (sizes : Sizes) (indexes lanes : ℕ) where
       ap (λ b. cond b (first_outside sizes indexes lanes items) (Some x)) allowed
   next_setting (x ∷ items) (suc k) d below allowed =
       next_setting items k d (omega (arith, below)) allowed
+
+  -- the first setting that is left is outside
+  pub setting_outside : (items : List Setting) (k : ℕ) (d : Setting) → k < length items
+      → fits_limits sizes indexes lanes (get_or items k d) ≡ false
+      → first_outside sizes indexes lanes (drop k items) ≡ Some (get_or items k d)
+  setting_outside [] k d below broken = absurd (omega (arith, below))
+  setting_outside (x ∷ items) zero d below broken =
+      ap (λ b. cond b (first_outside sizes indexes lanes items) (Some x)) broken
+  setting_outside (x ∷ items) (suc k) d below broken =
+      setting_outside items k d (omega (arith, below)) broken
 
   -- one setting more is judged
   pub setting_passed : (items : List Setting) (k : ℕ) (d : Setting) → k < length items
