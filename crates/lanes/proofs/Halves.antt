@@ -33,3 +33,8 @@ pub AllZip-one : {D : Type 0} (worked : D → D → Type 0) (all : List D) (none
 AllZip-one worked [] none after some single did = absurd (omega (arith, some))
 AllZip-one worked (x ∷ []) none after some single did = (did, tt)
 AllZip-one worked (x ∷ y ∷ all) none after some single did = absurd (omega (arith, single))
+
+-- and of none
+pub AllZip-none : {D : Type 0} (worked : D → D → Type 0) (all : List D) → length all ≡ 0 → AllZip worked all all
+AllZip-none worked [] none = tt
+AllZip-none worked (x ∷ all) none = absurd (omega (arith, none))
