@@ -1,7 +1,8 @@
 -- Lines that grow by one part at a time.
-use Rattle.std.proofs.Common.{◌≡◌, ℕ, ◌+◌, ◌<◌, ◌≤◌, Result, Ok, Err, List, [], ◌∷◌, ◌++◌, length, map, take, get_or, refl, sym, ap, ◌∙◌, append_assoc, arith, length-append}
+use Rattle.std.proofs.Common.{◌≡◌, ℕ, true, false, ◌+◌, ◌<◌, ◌≤◌, Result, Ok, Err, List, [], ◌∷◌, ◌++◌, length, map, take, get_or, refl, sym, ap, ◌∙◌, append_assoc, arith, length-append}
 use Rattle.std.proofs.lemmas.List.{take_all, take_at, take-take, map_more, length-take-le, length-map}
-use Rattle.std.specs.Result.{OnErr}
+use Rattle.std.specs.Bool.{if◌then◌else◌}
+use Rattle.std.specs.Result.{IsErr, OnErr, OnOk, is_err, is_ok}
 use Rattle.std.specs.List.{join_with_byte}
 use Rattle.report_text.specs.Line.{KeepsBytes, separator}
 
@@ -34,6 +35,40 @@ stays a c same = ap (take (length a)) same ∙ take_all (length a) a (omega arit
 pub Stays-at_exit : {T E : Type 0} (r : Result T E) (a c : List ℕ) → c ≡ a → OnErr r (KeepsBytes a c)
 Stays-at_exit (Ok y) a c same = tt
 Stays-at_exit (Err y) a c same = stays a c same
+
+-- the same of a call that puts some bytes or leaves all as it is
+pub Stays-where_err : {T E : Type 0} (r : Result T E) (a x c : List ℕ) → c ≡ (if is_ok r then a ++ x else a) → OnErr r (KeepsBytes a c)
+Stays-where_err (Ok y) a x c put = tt
+Stays-where_err (Err y) a x c same = stays a c same
+
+-- what such a call put
+pub put_where_ok : {T E : Type 0} (r : Result T E) (a x text c : List ℕ) → x ≡ text → c ≡ (if is_ok r then a ++ x else a) → OnOk r (c ≡ a ++ text)
+put_where_ok (Ok y) a x text c is put = put ∙ ap (λ l. a ++ l) is
+put_where_ok (Err y) a x text c is same = tt
+
+-- and what it left where it is known to have failed
+pub same_where_err : {T E : Type 0} (r : Result T E) (a x c : List ℕ) → true ≡ is_err r → c ≡ (if is_ok r then a ++ x else a) → c ≡ a
+same_where_err (Ok y) a x c failed put = absurd (cc failed)
+same_where_err (Err y) a x c failed same = same
+
+pub put_where_no_err : {T E : Type 0} (r : Result T E) (a x c : List ℕ) → false ≡ is_err r → c ≡ (if is_ok r then a ++ x else a) → c ≡ a ++ x
+put_where_no_err (Ok y) a x c done put = put
+put_where_no_err (Err y) a x c done same = absurd (cc done)
+
+-- where a `?` leaves, nothing is asked of what would have been put
+pub OnOk-at_exit : {T E : Type 0} (r : Result T E) (P : Type 0) → IsErr r → OnOk r P
+OnOk-at_exit (Ok y) P failed = absurd (cc failed)
+OnOk-at_exit (Err y) P failed = tt
+
+-- two steps and a last one, which may fail
+pub Extends-at_third_step : {T E : Type 0} (r : Result T E) (a x b y c d : List ℕ) → b ≡ a ++ x → c ≡ b ++ y → OnErr r (KeepsBytes c d) → OnErr r (KeepsBytes a d)
+Extends-at_third_step r a x b y c d e f h = Extends-at_last_step r a (x ++ y) c d (f ∙ ap (λ front. front ++ y) e ∙ append_assoc a x y) h
+
+pub put_in_three : {T E : Type 0} (r : Result T E) (a x text b y c z d : List ℕ) → x ≡ text → b ≡ a ++ x → c ≡ b ++ y → OnOk r (d ≡ c ++ z) → OnOk r (d ≡ a ++ (text ++ (y ++ z)))
+put_in_three (Ok w) a x text b y c z d is e f h =
+    let front : c ≡ (a ++ text) ++ y = f ∙ ap (λ l. l ++ y) (e ∙ ap (λ l. a ++ l) is) in
+    h ∙ ap (λ l. l ++ z) front ∙ simp append_assoc
+put_in_three (Err w) a x text b y c z d is e f h = tt
 
 -- the same behind other steps
 pub Extends-at_last_exit : {T E : Type 0} (r : Result T E) (a x b c : List ℕ) → b ≡ a ++ x → c ≡ b → OnErr r (KeepsBytes a c)

@@ -1,5 +1,5 @@
 -- Bytes that stand for themselves, put together.
-use Rattle.std.proofs.Common.{◌≡◌, ℕ, suc, ◌+◌, ◌-◌, ◌<◌, ◌≤◌, Bool, true, false, cond, not, List, [], ◌∷◌, ◌++◌, length, get_or, take, drop, Some, None, refl, sym, subst, ap, ◌∙◌, arith, append_assoc, add-one}
+use Rattle.std.proofs.Common.{length-drop, ◌≡◌, ℕ, suc, ◌+◌, ◌-◌, ◌<◌, ◌≤◌, Bool, true, false, cond, not, List, [], ◌∷◌, ◌++◌, length, get_or, take, drop, Some, None, refl, sym, subst, ap, ◌∙◌, arith, append_assoc, add-one}
 use Rattle.std.specs.List.{All, flat_map, position, position_or_len}
 use Rattle.std.proofs.lemmas.Bool.{ltb-false}
 use Rattle.std.proofs.lemmas.List.Quantifiers.{position-Some}
@@ -36,6 +36,13 @@ plain_before : (s : List ℕ) (i : ℕ) → position needs_escape s ≡ Some i �
 plain_before s i h k d lt =
     let below : k < i = omega (arith, length-take i s) in
     rw (get_or-take i s k d below) ((position-Some needs_escape s i d h).2 k below)
+
+pub at_within : (s : List ℕ) (i : ℕ) → position needs_escape s ≡ Some i → i < length s
+at_within s i h = (position-Some needs_escape s i 0 h).0
+
+-- what is left is shorter
+pub rest_shorter : (s : List ℕ) (i : ℕ) → position needs_escape s ≡ Some i → length (take (length s - (i + 1)) (drop (i + 1) s)) < length s
+rest_shorter s i h = let within = at_within s i h in rw (take_rest s (i + 1), length-drop (i + 1) s) (omega (arith, within))
 
 one_text : (s : List ℕ) (i : ℕ) → position needs_escape s ≡ Some i → flat_map byte_text s ≡ take i s ++ (byte_text (get_or s i 0) ++ flat_map byte_text (drop (i + 1) s))
 one_text s i h =

@@ -23,3 +23,6 @@ returns-in_err-push-clause-err g c =
 pub returns-clause-ok : goal.returns-clause-ok
 returns-clause-ok g c =
     joined_ended 32 (text_of g.K.Fields.fields_of) c.args.words.now c.loop-i.i _ _ _ (10 ∷ []) (omega (arith, c.loop-i-test.false)) c.loop-i.invariant c.in_ok-push.ensures.items
+
+pub returns-clause-err : goal.returns-clause-err
+returns-clause-err g c = tt
