@@ -1,3 +1,4 @@
 pub mod Calls
 mod Files
+mod ReadLemmas
 mod RealFiles

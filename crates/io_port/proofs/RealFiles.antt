@@ -1,10 +1,11 @@
 -- From what a load of real files leaves to what each shelf promises.
-use Rattle.std.proofs.Common.{◌≡◌, ℕ, ◌-◌, ◌^◌, List, Some, None, Result, Ok, Err, Vec, inl, inr, ⊎_elim, ap, subst, sym, arith, IfOk}
+use Rattle.std.proofs.Common.{◌≡◌, ℕ, ◌-◌, ◌^◌, List, Some, None, Result, Ok, Err, Vec, inl, inr, ⊎_elim, ap, subst, sym, arith, IfErr, IfOk, IsErrAnd, Option}
 use Rattle.std.proofs.lemmas.Bool.{cases_lt}
 use Rattle.std.specs.declared.alloc.Global.{Global}
 use Rattle.io_port.specs.Faults.{ShowsFault, next_count}
 use Rattle.io_port.specs.FileShelf.{LoadFaults, after_failure}
-use Rattle.io_port.specs.Shelf.{IsFileOf, OnFailed, UnlessFailed}
+use Rattle.io_port.specs.Shelf.{IsFileOf, IsTooLong, OnFailed, OnTooLong, UnlessFailed}
+use Rattle.io_port.specs.Streams.{HasMore, IsAllOf, ReadsTooMany}
 use Rattle.io_port.specs.declared.shelf.ShelfError.{ShelfError}
 use Rattle.io_port.specs.declared.shelf.ShelfError.TheVariants.{Failed, TooLong, NoMemory}
 
@@ -45,3 +46,34 @@ failure_shows old new name is = (subst (ShowsFault old.faults) (sym (ap (λ s. s
 -- without one both stay
 pub nothing_shows : (old new : LoadFaults) → new ≡ old → (new.faults ≡ old.faults) × (new.failed ≡ old.failed)
 nothing_shows old new is = (ap (λ s. s.faults) is, ap (λ s. s.failed) is)
+
+pub UnlessFailed-always : {T P : Type 0} → (result : Result T ShelfError) → P → UnlessFailed result P
+UnlessFailed-always (Ok x) p = p
+UnlessFailed-always (Err Failed) p = tt
+UnlessFailed-always (Err (TooLong n)) p = p
+UnlessFailed-always (Err NoMemory) p = p
+
+-- the answer of a load that only lacked memory
+pub no_memory : {T : Type 0} → (result : Result T ShelfError) → IsErrAnd result (λ e. e ≡ NoMemory) → result ≡ Err NoMemory
+no_memory (Ok x) lacks = absurd lacks
+no_memory (Err e) lacks = ap (λ (e : ShelfError). Err e) lacks
+
+-- what was read of an open file is what was loaded
+pub loads_all : {F : Type 0} (remaining : F → Option (List ℕ)) (file : F) (result : Result (Vec ℕ Global) ShelfError) → IfOk result (λ bytes. IsAllOf (remaining file) bytes.items)
+    → IfOk result (λ bytes. (file : F) × IsAllOf (remaining file) bytes.items)
+loads_all remaining file (Ok bytes) read = (file, read)
+loads_all remaining file (Err e) read = tt
+
+-- and the file had more where too much was read
+pub loads_more : {F : Type 0} (remaining : F → Option (List ℕ)) (file : F) (limit : ℕ) (result : Result (Vec ℕ Global) ShelfError) → IfErr result (ReadsTooMany (remaining file) limit)
+    → OnTooLong result ((file : F) × HasMore (remaining file) limit)
+loads_more remaining file limit (Ok bytes) read = tt
+loads_more remaining file limit (Err Failed) read = tt
+loads_more remaining file limit (Err (TooLong n)) read = (file, read.1)
+loads_more remaining file limit (Err NoMemory) read = tt
+
+pub IsTooLong-untold : (known : Option (List ℕ)) (name : List ℕ) (limit : ℕ) (result : Result (Vec ℕ Global) ShelfError) → IfErr result (ReadsTooMany known limit) → IfErr result (IsTooLong None name limit)
+IsTooLong-untold known name limit (Ok bytes) read = tt
+IsTooLong-untold known name limit (Err Failed) read = tt
+IsTooLong-untold known name limit (Err (TooLong n)) read = (read.0, λ files told. cc)
+IsTooLong-untold known name limit (Err NoMemory) read = tt

@@ -1,7 +1,7 @@
 use Rattle.std.proofs.Common.{◌≡◌, ◌-◌, length, take, drop, arith, length-drop}
 use Rattle.std.proofs.lemmas.List.{take_all}
 use Rattle.std.proofs.Math.Seq.{take-add}
-use Rattle.std.proofs.KnownBytes.{Appends-trans}
+use Rattle.std.proofs.KnownBytes.{Appends-kept, Appends-trans}
 use Rattle.io_port.proofs.streams.write_whole.Goals as goal
 
 pub writes-preserved : goal.writes-preserved
@@ -17,3 +17,6 @@ writes-preserved g c =
 
 pub returns-clause-ok : goal.returns-clause-ok
 returns-clause-ok g c = rw (take_all c.writes.done c.args.bytes.now c.writes-test.false) at c.writes.invariant.taken
+
+pub returns-in-None-clause-err : goal.returns-in-None-clause-err
+returns-in-None-clause-err g c = (c.writes.done, Appends-kept _ _ _ _ c.writes.invariant.taken c.in-None.ensures.none)
