@@ -10,3 +10,4 @@ pub mod RaiseLemmas
 pub mod BackLemmas
 pub mod FrameCutLemmas
 pub mod RootLemmas
+pub mod OutcomeLemmas

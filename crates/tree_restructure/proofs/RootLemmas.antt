@@ -1,5 +1,7 @@
 -- The rows of a root that rises, and its one pointer.
 use Rattle.std.proofs.Common.{◌≡◌, ◌≢◌, ◌≤◌, ℕ, zero, suc, true, [], ◌∷◌, ◌++◌, List, sym, subst, ◌∙◌, refl, arith, replicate, Some, None}
+use lib.ListN.{length-replicate}
+use Rattle.key_tuple.specs.Limits.{IsWithinLimits}
 use Rattle.key_tuple.specs.Order.{byte_count}
 use Rattle.key_tuple.specs.KeyPlace.{Start}
 use Rattle.key_tuple.specs.declared.TheConstants.{MAX_FIELDS}
@@ -15,6 +17,12 @@ use Rattle.tree_restructure.proofs.WalkLemmas.{same_parts}
 pub no_bytes : (n : ℕ) → byte_count (replicate n []) ≡ 0
 no_bytes zero = refl
 no_bytes (suc n) = omega (arith, no_bytes n)
+
+pub blank_limits : (n : ℕ) → n ≤ MAX_FIELDS → IsWithinLimits (replicate n [])
+blank_limits n few = record {
+  few = omega (arith, length-replicate {A = List ℕ} n []);
+  short = omega (arith, no_bytes n);
+}
 
 blank_is_empty : (n : ℕ) → is_empty (replicate n []) ≡ true
 blank_is_empty zero = refl

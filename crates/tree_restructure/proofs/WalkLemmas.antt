@@ -92,3 +92,9 @@ half_at rows k place h at = go (slice_get rows k) refl at
       there = subst (λ n. find_row n rows ≡ Some row) (sym same) a.1;
       halves = subst (HalvesRows rows) (sym long) h;
     }
+
+-- there is a row of each number below their count
+pub no_end : (all rows : List Row) (i : ℕ) → i < length rows → IsAt all None (slice_get rows i) → ⊥
+no_end all [] i h a = omega arith
+no_end all (x ∷ rows) zero h a = absurd (cc a.0)
+no_end all (x ∷ rows) (suc i) h a = no_end all rows i (omega arith) a

@@ -1,6 +1,7 @@
-use Rattle.std.proofs.Common.{◌≡◌, ◌+◌, ◌∙◌, None, [], replicate, refl, add-one, arith}
-use Rattle.index_page.specs.Rows.{Child, placed_row}
-use Rattle.tree_restructure.proofs.RootLemmas.{only_row, blank_begins}
+use Rattle.std.proofs.Common.{◌≡◌, ◌+◌, ◌∙◌, None, [], replicate, refl, sym, subst, add-one, arith}
+use lib.ListN.{length-replicate}
+use Rattle.index_page.specs.Rows.{Child, LacksKey, placed_row}
+use Rattle.tree_restructure.proofs.RootLemmas.{only_row, blank_begins, blank_limits}
 use Rattle.tree_restructure.proofs.raise.one_pointer.Goals as goal
 
 pub returns-in-Ok-clause-one : goal.returns-in-Ok-clause-one
@@ -21,3 +22,20 @@ pub returns-in-Ok-clause-head : goal.returns-in-Ok-clause-head
 returns-in-Ok-clause-head c =
     let head = c.args.head.now in
     c.in-Ok.ensures.ok.head ∙ c.in_ok-top.ensures.head ∙ (λ i. record head { level = add-one head.level i; prev = None; next = None })
+
+pub insert-requires-clause-fields : goal.insert-requires-clause-fields
+insert-requires-clause-fields c = length-replicate c.args.head.now.fields []
+    ∙ sym (λ i. (c.in_ok-top.ensures.head i).fields)
+
+pub insert-requires-clause-limits : goal.insert-requires-clause-limits
+insert-requires-clause-limits c = blank_limits c.args.head.now.fields c.requires.fields
+
+pub returns-in-Err-clause-one : goal.returns-in-Err-clause-one
+returns-in-Err-clause-one c = tt
+
+pub returns-in-Err-clause-head : goal.returns-in-Err-clause-head
+returns-in-Err-clause-head c = tt
+
+pub insert-requires-clause-absent : goal.insert-requires-clause-absent
+insert-requires-clause-absent c =
+    subst (LacksKey (replicate c.args.head.now.fields [])) (sym c.in_ok-top.ensures.rows) tt
