@@ -1,12 +1,14 @@
 -- The lowest bit of a hash, and what a fold depends on.
-use Rattle.std.proofs.Common.{◌≡◌, ℕ, ◌+◌, ◌-◌, ◌*◌, ◌%◌, ◌^◌, ◌≤◌, ◌<◌, List, [], ◌∷◌, ◌++◌, fold, flat_map, map, bit_xor, refl, sym, ap, ◌∙◌, arith}
+use Rattle.std.proofs.Common.{◌≡◌, ◌≢◌, length, take, get_or, ℕ, ◌+◌, ◌-◌, ◌*◌, ◌%◌, ◌^◌, ◌≤◌, ◌<◌, List, [], ◌∷◌, ◌++◌, fold, flat_map, map, bit_xor, refl, sym, ap, ◌∙◌, arith}
 use Rattle.std.proofs.lemmas.List.Sums.{fold-append}
+use Rattle.std.proofs.lemmas.List.{take_more, flat_map_more}
+use Rattle.std.proofs.lemmas.Bool.Decides.{nat_tests}
 use Rattle.std.proofs.lemmas.Nat.{xor_mod, mod_below, pow_pos}
 use Rattle.std.proofs.Math.Pow.{mod-mod-pow}
 use Rattle.std.specs.Int.{bytes_high_first}
 use Rattle.key_tuple.specs.declared.mode.Params.{Params}
 use Rattle.key_tuple.specs.Order.{FieldList}
-use Rattle.key_tuple.specs.Fold.{hash_byte, hash_of, with_length, whole_fields, next_bytes, prefix_bytes, fold_of}
+use Rattle.key_tuple.specs.Fold.{hash_byte, hash_of, with_length, whole_fields, next_bytes, prefix_bytes, fold_of, asked_fields}
 use Rattle.key_tuple.specs.FoldLaws.{lowest_bits}
 
 -- the prime is odd, so the product keeps the lowest bit
@@ -47,3 +49,14 @@ prefix_hash index s p start whole hash first fields next =
     ∙ ap (λ (n : ℕ). fold hash_byte n (next_bytes s p)) (fields ∙ ap (λ (n : ℕ). fold hash_byte n all) first)
     ∙ sym (fold-append hash_byte (fold hash_byte 0xcbf29ce484222325 four) all (next_bytes s p))
     ∙ sym (fold-append hash_byte 0xcbf29ce484222325 four (all ++ next_bytes s p))
+
+-- where bytes of a field are asked for, there is a field more
+pub one_more_field : (p : Params) (count : ℕ) → p.bytes ≢ 0 → asked_fields p ≤ count → p.fields < count
+one_more_field p count some asked = grind (arith, nat_tests)
+
+-- the hash with one field more
+pub fold_flat_more : {S X A : Type 0} (f : S → A → S) (g : X → List A) (a : S) (xs : List X) (i : ℕ) (d : X) → i < length xs
+    → fold f a (flat_map g (take (i + 1) xs)) ≡ fold f (fold f a (flat_map g (take i xs))) (g (get_or xs i d))
+fold_flat_more f g a xs i d below =
+    ap (λ ys. fold f a (flat_map g ys)) (take_more xs i d below) ∙ ap (fold f a) (sym (flat_map_more g [] (take i xs) (get_or xs i d)))
+    ∙ fold-append f a (flat_map g (take i xs)) (g (get_or xs i d))

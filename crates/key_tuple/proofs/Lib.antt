@@ -6,3 +6,4 @@ pub mod FoldLemmas
 pub mod SizeLemmas
 pub mod PositionLemmas
 pub mod FlatLemmas
+pub mod CopyLemmas

@@ -107,3 +107,25 @@ equal_bytes-end x y =
     none [] ys h = refl
     none (a ∷ xs) [] h = refl
     none (a ∷ xs) (b ∷ ys) h = absurd (elim h [ inl e ↦ omega (arith, e) | inr e ↦ omega (arith, e) ])
+
+-- one more byte that is equal, and one that isn't
+equal_bytes-drop : (x y : List ℕ) (i : ℕ) → i < length x → i < length y → equal_bytes (drop i x) (drop i y) ≡ cond (get_or x i 0 == get_or y i 0) (equal_bytes (drop (i + 1) x) (drop (i + 1) y) + 1) 0
+equal_bytes-drop x y i below_x below_y = rw (add-one i, drop-cons x i 0, drop-cons y i 0)
+
+counts_same : (a b n : ℕ) → a ≡ b → cond (a == b) (n + 1) 0 ≡ n + 1
+counts_same a b n same = grind (arith, nat_tests)
+
+counts_none : (a b n : ℕ) → a ≢ b → cond (a == b) (n + 1) 0 ≡ 0
+counts_none a b n differ = grind (arith, nat_tests)
+
+pub bytes_agree : (x y : List ℕ) (i : ℕ) → i < length x → i < length y → equal_bytes x y ≡ i + equal_bytes (drop i x) (drop i y) → get_or x i 0 ≡ get_or y i 0 → equal_bytes x y ≡ i + 1 + equal_bytes (drop (i + 1) x) (drop (i + 1) y)
+bytes_agree x y i in_x in_y so_far same =
+    let rest : ℕ = equal_bytes (drop (i + 1) x) (drop (i + 1) y) in
+    let next : equal_bytes (drop i x) (drop i y) ≡ rest + 1 = equal_bytes-drop x y i in_x in_y ∙ counts_same (get_or x i 0) (get_or y i 0) rest same in
+    omega (arith, so_far, next)
+
+pub bytes_differ : (x y : List ℕ) (i : ℕ) → i < length x → i < length y → equal_bytes x y ≡ i + equal_bytes (drop i x) (drop i y) → get_or x i 0 ≢ get_or y i 0 → i ≡ equal_bytes x y
+bytes_differ x y i in_x in_y so_far differ =
+    let rest : ℕ = equal_bytes (drop (i + 1) x) (drop (i + 1) y) in
+    let next : equal_bytes (drop i x) (drop i y) ≡ 0 = equal_bytes-drop x y i in_x in_y ∙ counts_none (get_or x i 0) (get_or y i 0) rest differ in
+    omega (arith, so_far, next)

@@ -1,6 +1,6 @@
 -- Bounds of sizes, and what a size depends on.
-use Rattle.std.proofs.Common.{◌≡◌, ℕ, ◌+◌, ◌*◌, ◌≤◌, Bool, true, false, cond, List, [], ◌∷◌, length, map, sum_by, nat_lt, refl, sym, ap, ◌∙◌, arith}
-use Rattle.std.proofs.lemmas.List.Sums.{sum_by-cons}
+use Rattle.std.proofs.Common.{◌≡◌, ℕ, ◌+◌, ◌*◌, ◌≤◌, Bool, true, false, cond, List, [], ◌∷◌, length, map, take, get_or, ◌<◌, sum_by, nat_lt, refl, sym, ap, ◌∙◌, arith}
+use Rattle.std.proofs.lemmas.List.Sums.{sum_by-cons, sum_by_more}
 use Rattle.key_tuple.specs.Order.{FieldList, byte_count}
 use Rattle.key_tuple.specs.Sizes.{length_size, field_size, row_size_of, pointer_size_of, largest_row, largest_pointer}
 
@@ -36,3 +36,7 @@ pointer_by_lengths s t e = ap (λ (n : ℕ). 5 + n + 4) (same_sizes s t e)
 
 pub row_by_lengths : (s t : FieldList) (u v : List ℕ) → map length s ≡ map length t → length u ≡ length v → row_size_of s u ≡ row_size_of t v
 row_by_lengths s t u v e f = λ i. 5 + same_sizes s t e i + (length_size (f i) + f i)
+
+-- the size with one field more
+pub size_after : (fields : FieldList) (i size more : ℕ) → i < length fields → size ≡ sum_by field_size (take i fields) → more ≡ field_size (get_or fields i []) → size + more ≡ sum_by field_size (take (i + 1) fields)
+size_after fields i size more below so_far next = omega (arith, so_far, next, sum_by_more field_size fields i [] below)

@@ -1,6 +1,6 @@
 use Rattle.std.proofs.Common.{◌≡◌, ◌∙◌, ◌%◌, ◌^◌, ℕ, List, fold, take, ap}
 use Rattle.key_tuple.specs.Fold.{hash_byte, fold_of, next_bytes}
-use Rattle.key_tuple.proofs.FoldLemmas.{prefix_hash}
+use Rattle.key_tuple.proofs.FoldLemmas.{prefix_hash, one_more_field}
 use Rattle.key_tuple.proofs.folding.fold.Goals as goal
 use Rattle.key_tuple.proofs.folding.fold.Goals.{then-params-eq0, else-params-eq0}
 
@@ -19,3 +19,6 @@ returns g c =
     ] in
     let hash = prefix_hash c.args.index fields params _ _ _ (c.hash_bytes-start.ensures ∙ start) c.hash_fields-whole.ensures next in
     c.low_bits.ensures ∙ ap (λ (n : ℕ). n % 2 ^ c.args.bits) hash
+
+pub field-requires : goal.field-requires
+field-requires g c = one_more_field c.args.params.now _ c.if-params-eq0.false c.requires.asked
