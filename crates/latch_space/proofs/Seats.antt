@@ -14,7 +14,7 @@ use Rattle.latch_space.specs.declared.pass.PassOf.{PassOf}
 use Rattle.latch_space.specs.declared.space.SpaceOf.{SpaceOf}
 use Rattle.latch_space.specs.Hands.{slot_of, has, is_held, is_once, spread}
 use Rattle.latch_space.specs.Has.{SameHands}
-use Rattle.latch_space.specs.Passes.{view, IsWhole}
+use Rattle.latch_space.specs.Passes.{view, values, IsWhole}
 use Rattle.latch_space.specs.Spaces.{IsPassOf}
 use Rattle.latch_space.proofs.InHand.{held_learnt}
 use Rattle.latch_space.proofs.Pointwise.{whole_from}
@@ -102,6 +102,14 @@ module _ {Sh O C A : Type 0} where
   -- there is a value in hand for each object that is held
   pub values_from : (p p₀ : PassOf Sh O C A) → p ≡ p₀ → (hand : List (HeldObject O)) → hand ≡ p.hand.items → IsWhole p₀ → AreValuesOf (view p) (spread (length (view p).held) hand)
   values_from p p₀ is hand same whole = subst (λ (z : List (HeldObject O)). AreValuesOf (view p) (spread (length (view p).held) z)) (sym same) (whole_from p p₀ is whole)
+
+  -- and what is so of what it knows and has in hand stays so
+  pub rule_from : (p p₀ : PassOf Sh O C A) → p ≡ p₀ → (hand : List (HeldObject O)) → hand ≡ p.hand.items → (F : Knows Sh O C A → List (Option O) → Type 0) → F (view p₀) (values p₀) → F (view p) (spread (length (view p).held) hand)
+  rule_from p p₀ is hand same F so = subst (λ (z : List (HeldObject O)). F (view p) (spread (length (view p).held) z)) (sym same) (subst (λ (z : PassOf Sh O C A). F (view z) (values z)) (sym is) so)
+
+  -- what is so of what a pass knows is so of what the same pass knows
+  pub view_from : (p p₀ : PassOf Sh O C A) → p ≡ p₀ → (F : Knows Sh O C A → Type 0) → F (view p₀) → F (view p)
+  view_from p p₀ is F = subst (λ (z : PassOf Sh O C A). F (view z)) (sym is)
 
 -- a lawful state that fits what a pass knows fits what is the same
 pub fitted_from : {Sh O C A : Type 0} (lawful : StateLaw Sh O C) (answers : AnswerLaw Sh O C A) (refers : ReferenceLaw Sh O C) (v v' : Knows Sh O C A) → v' ≡ v → IsFitted lawful answers refers v → IsFitted lawful answers refers v'

@@ -50,3 +50,6 @@ returns g c =
     let empty : into_iter_items c.loop-object.object-iterator ≡ [] = nothing_left _ (sym so_far.count ∙ c.in-None.ensures.steps.0) in
     let all : c.loop-object.yielded ≡ c.args.objects.items = sym (append-nil c.loop-object.yielded) ∙ (ap (λ zs. c.loop-object.yielded ++ zs) (sym empty) ∙ so_far.rest) in
     so_far.boxed ∙ ap (map Some) all
+
+pub loop-object-preserved-derived : goal.loop-object-preserved-derived
+loop-object-preserved-derived g c = (tt, tt)

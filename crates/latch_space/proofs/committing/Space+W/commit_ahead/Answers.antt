@@ -1,9 +1,12 @@
-use Rattle.std.proofs.Common.{refl, ap, ◌∙◌, sym}
+use Rattle.latch_space.specs.Commits.{EndsCommit}
+use Rattle.latch_law.specs.Views.{without_seen}
+use Rattle.latch_law.specs.Fitting.{AreValuesOf}
+use Rattle.std.proofs.Common.{refl, ap, ◌∙◌, sym, Some}
 use Rattle.latch_space.specs.Hands.{spread}
 use Rattle.latch_space.specs.Passes.{values, count}
 use Rattle.latch_space.proofs.Ending.{ends_stay, ends_fitted, foretells_of}
 use Rattle.latch_space.proofs.Pointwise.{own_from}
-use Rattle.latch_space.proofs.Seats.{index_in, live_of, own_after}
+use Rattle.latch_space.proofs.Seats.{index_in, live_of, own_after, view_from}
 use Rattle.latch_space.proofs.committing.Space+W.commit_ahead.Goals as goal
 
 pub commit_in-requires-clause-own : goal.commit_in-requires-clause-own
@@ -44,3 +47,13 @@ pub returns-clause-own : goal.returns-clause-own
 returns-clause-own g c = let p = c.pass.inside.parts in
     let s = ends_stay g.W.World.lawful g.W.World.answers g.W.World.refers p.seat.me.0 c.commit_in.new.seat.me.0 c.args.index g.X.Values.values (g.N.Means.meaning c.args.change.now) c.commit_in.result c.commit_in.ensures.did in
     own_after p c.args.pass.now c.pass.view_is c.args.self.now c.commit_in.new.seat c.requires.own c.commit_in.ensures.own s.terms
+
+pub commit_in-requires-clause-whole : goal.commit_in-requires-clause-whole
+commit_in-requires-clause-whole g c = view_from c.pass.inside.parts c.args.pass.now c.pass.view_is (λ v. AreValuesOf v g.X.Values.values) c.requires.whole
+
+pub returns-clause-did : goal.returns-clause-did
+returns-clause-did g c = view_from c.args.pass.now c.pass.inside.parts (sym c.pass.view_is)
+    (λ v. EndsCommit g.W.World.lawful g.W.World.answers g.W.World.refers v c.args.index g.X.Values.values (g.N.Means.meaning c.args.change.now) c.commit_in.result c.commit_in.new.seat.me.0) c.commit_in.ensures.did
+
+pub commit_in-requires-clause-rule : goal.commit_in-requires-clause-rule
+commit_in-requires-clause-rule g c = view_from c.pass.inside.parts c.args.pass.now c.pass.view_is (λ v. g.W.World.follows (without_seen v) g.X.Values.values (Some (c.args.index, g.N.Means.meaning c.args.change.now))) c.requires.rule

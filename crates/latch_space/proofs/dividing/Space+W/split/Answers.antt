@@ -1,4 +1,4 @@
-use Rattle.std.proofs.Common.{arith, ◌<◌, ◌+◌, ◌-◌, ◌/◌, ℕ, ap, ◌∙◌, sym, length, map, subst, None}
+use Rattle.std.proofs.Common.{arith, ◌<◌, ◌+◌, ◌-◌, ◌/◌, ℕ, ap, ◌∙◌, sym, length, map, subst, None, refl}
 use lib.ListN.{length-replicate}
 use Rattle.latch_law.specs.declared.knows.Holding.{Holding}
 use Rattle.latch_law.specs.Views.{left_part, right_part}
@@ -66,3 +66,12 @@ returns-clause-given g c = let e = c.split_seat-seat.ensures in let own = own_fr
 
 pub returns-clause-fits : goal.returns-clause-fits
 returns-clause-fits g c = (c.see.ensures.fits, c.see-2.ensures.fits)
+
+pub returns-in_default-clause-own : goal.returns-in_default-clause-own
+returns-in_default-clause-own g c = ((refl, refl), c.requires.own)
+
+pub returns-in_default-clause-err : goal.returns-in_default-clause-err
+returns-in_default-clause-err g c = (refl, refl, refl)
+
+pub returns-in_default-clause-fits : goal.returns-in_default-clause-fits
+returns-in_default-clause-fits g c = (c.fits.ensures, tt)

@@ -1,6 +1,7 @@
-use Rattle.std.proofs.Common.{refl, ap}
+use Rattle.latch_law.specs.Fitting.{DidRead, MayAnswer}
+use Rattle.std.proofs.Common.{refl, ap, sym}
 use Rattle.latch_space.proofs.Pointwise.{own_from}
-use Rattle.latch_space.proofs.Seats.{live_of, index_in, fields_stay, own_after, hands_stay, reads_stay, read_fitted}
+use Rattle.latch_space.proofs.Seats.{live_of, index_in, fields_stay, own_after, hands_stay, reads_stay, read_fitted, view_from}
 use Rattle.latch_space.proofs.reading.Space+W.read_point.Goals as goal
 
 pub read_at-requires-clause-own : goal.read_at-requires-clause-own
@@ -29,3 +30,10 @@ returns-clause-kept g c = hands_stay c.pass.inside.parts c.args.pass.now c.pass.
 
 pub returns-clause-fits : goal.returns-clause-fits
 returns-clause-fits g c = read_fitted g.W.World.lawful g.W.World.answers g.W.World.refers c.pass.inside.parts.seat.me.0 c.read_at.new.seat.me.0 c.args.index c.read_at.result (g.N.Means.meaning c.args.answer.now) c.read_at.ensures.did
+
+pub returns-clause-did : goal.returns-clause-did
+returns-clause-did g c = view_from c.args.pass.now c.pass.inside.parts (sym c.pass.view_is)
+    (λ v. DidRead g.W.World.lawful g.W.World.answers g.W.World.refers v c.args.index (g.N.Means.meaning c.args.answer.now) c.read_at.result c.read_at.new.seat.me.0) c.read_at.ensures.did
+
+pub read_at-requires-clause-rule : goal.read_at-requires-clause-rule
+read_at-requires-clause-rule g c = view_from c.pass.inside.parts c.args.pass.now c.pass.view_is (λ v. MayAnswer g.W.World.lawful g.W.World.answers g.W.World.refers v c.args.index (g.N.Means.meaning c.args.answer.now)) c.requires.rule

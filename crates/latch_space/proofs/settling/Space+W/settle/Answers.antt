@@ -1,8 +1,8 @@
-use Rattle.std.proofs.Common.{refl, length, ◌≡◌, ap, ◌∙◌, arith}
+use Rattle.std.proofs.Common.{refl, length, ◌≡◌, ap, ◌∙◌, arith, None}
 use Rattle.latch_space.specs.Hands.{spread}
-use Rattle.latch_law.specs.Views.{settling}
+use Rattle.latch_law.specs.Views.{settling, without_seen}
 use Rattle.latch_space.proofs.Pointwise.{own_from, settled_all}
-use Rattle.latch_space.proofs.Seats.{live_of, fields_stay, own_after, settles_stay, values_from}
+use Rattle.latch_space.proofs.Seats.{live_of, fields_stay, own_after, settles_stay, values_from, rule_from}
 use Rattle.latch_space.proofs.settling.Space+W.settle.Goals as goal
 
 pub settle_at-requires-clause-own : goal.settle_at-requires-clause-own
@@ -26,3 +26,6 @@ returns-clause-own g c = own_after c.pass.inside.parts c.args.pass.now c.pass.vi
 pub returns-clause-did : goal.returns-clause-did
 returns-clause-did g c = let p = c.pass.inside.parts in
     settled_all c.args.pass.now p _ c.pass.view_is (ap (λ z. z.0) c.settle_at.ensures.did ∙ ap (λ z. settling p.seat.me.0 (spread (length p.seat.me.0.held) z)) c.as_slice.ensures.value) refl
+
+pub settle_at-requires-clause-rule : goal.settle_at-requires-clause-rule
+settle_at-requires-clause-rule g c = rule_from c.pass.inside.parts c.args.pass.now c.pass.view_is c.as_slice.result.now c.as_slice.ensures.value (λ v vs. g.W.World.follows (without_seen v) vs None) c.requires.rule

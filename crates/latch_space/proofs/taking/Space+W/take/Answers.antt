@@ -1,4 +1,4 @@
-use Rattle.std.proofs.Common.{refl, ap, ◌∙◌, arith}
+use Rattle.std.proofs.Common.{refl, ap, ◌∙◌, arith, true≢false, sym}
 use lib.ListN.{get_elem?}
 use Rattle.latch_space.proofs.Tries.{tried_none, tried_more, taken_after}
 use Rattle.latch_space.proofs.taking.Space+W.take.Goals as goal
@@ -24,3 +24,18 @@ returns-in-Taken-clause-did g c = taken_after g.W.World.lawful g.W.World.answers
 pub loop-preserved : goal.loop-preserved
 loop-preserved g c = let before = c.loop.invariant in let own = c.try_take.ensures.own in
     ((own.0.0 ∙ before.0.0, own.0.1 ∙ before.0.1), tried_more _ _ _ _ _ _ _ _ before.1 c.in_default.ensures.did)
+
+pub returns-in-Taken-clause-fits : goal.returns-in-Taken-clause-fits
+returns-in-Taken-clause-fits g c = c.try_take.ensures.fits
+
+pub loop-preserved-derived : goal.loop-preserved-derived
+loop-preserved-derived g c = (tt, tt)
+
+pub unreachable-requires : goal.unreachable-requires
+unreachable-requires g c = true≢false (sym c.in-None.ensures.steps)
+
+pub loop-init-derived : goal.loop-init-derived
+loop-init-derived g c = (tt, tt)
+
+pub unreachable-unreachable : goal.unreachable-unreachable
+unreachable-unreachable g c = c.unreachable.result
