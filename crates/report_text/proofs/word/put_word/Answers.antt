@@ -1,5 +1,5 @@
 use Rattle.std.proofs.Common.{append_assoc}
-use Rattle.report_text.proofs.LineLemmas.{Extends-at_last_step, Stays-at_exit, Stays-where_err, put_where_ok}
+use Rattle.report_text.proofs.LineLemmas.{Extends-at_last_step, Stays-at_exit, Stays-where_err}
 use Rattle.report_text.proofs.word.put_word.Goals as goal
 
 pub returns-in_ok-push-in-Point-clause-ok : goal.returns-in_ok-push-in-Point-clause-ok
@@ -15,9 +15,6 @@ returns-in_ok-push-in-Point-clause-err g c = Extends-at_last_step _ _ _ _ _ c.in
 
 pub returns-in-Text-clause-err : goal.returns-in-Text-clause-err
 returns-in-Text-clause-err g c = Stays-where_err _ _ _ _ c.extend_from_slice.ensures.items
-
-pub returns-in-Text-clause-ok : goal.returns-in-Text-clause-ok
-returns-in-Text-clause-ok g c = rw c.in-Text.is (put_where_ok _ _ _ _ _ c.as_bytes.ensures.value c.extend_from_slice.ensures.items)
 
 pub returns-in-Count-clause-ok : goal.returns-in-Count-clause-ok
 returns-in-Count-clause-ok g c = rw c.in-Count.is c.put_count.ensures.ok
