@@ -1,5 +1,5 @@
 -- The order of the blocks by their ages.
-use Rattle.std.proofs.Common.{◌≡◌, ◌↔◌, IsTrue, nat_lt, rules, tests, ℕ, ◌+◌, ◌<◌, ◌⊎◌, inl, inr, List, get_or, subst, arith, Option, Some, None}
+use Rattle.std.proofs.Common.{◌≡◌, ◌≢◌, ◌≤◌, ◌↔◌, IsTrue, nat_lt, nat_eq, rules, tests, ℕ, ◌+◌, ◌<◌, ◌⊎◌, inl, inr, List, get_or, subst, arith, Option, Some, None}
 use Rattle.std.proofs.lemmas.Bool.{cases_eq}
 use Rattle.block_ages.specs.Order.{ComesBefore, IsBehind, IsAhead}
 
@@ -107,5 +107,19 @@ lower_number ages a b same = (
   λ before. elim before [
     | inl lower ↦ absurd (omega (arith, lower, same))
     | inr less ↦ (let low = less.1 in search (rules, tests))
+  ],
+)
+
+-- a lower age comes before a higher one, as the test says
+pub lower_age : (ages : List ℕ) (a b : ℕ) → get_or ages a 0 < get_or ages b 0 → IsTrue (nat_lt (get_or ages a 0) (get_or ages b 0)) ↔ ComesBefore ages a b
+lower_age ages a b lower = (λ is. inl lower, λ before. search (rules, tests))
+
+-- a higher age does not come before a lower one, and they aren't equal
+pub higher_age : (ages : List ℕ) (a b : ℕ) → get_or ages b 0 ≤ get_or ages a 0 → get_or ages a 0 ≢ get_or ages b 0 → IsTrue (nat_eq (get_or ages a 0) (get_or ages b 0)) ↔ ComesBefore ages a b
+higher_age ages a b higher other = (
+  λ is. (let same : get_or ages a 0 ≡ get_or ages b 0 = search (rules, tests) in absurd (other same)),
+  λ before. elim before [
+    | inl lower ↦ absurd (omega (arith, lower, higher))
+    | inr same ↦ absurd (other same.0)
   ],
 )
