@@ -1,7 +1,8 @@
-use Rattle.std.proofs.Common.{◌≡◌, ◌+◌, ◌++◌, ◌∷◌, [], ◌∙◌, ap, sym, length, arith, length-append}
+use Rattle.std.proofs.Common.{◌≡◌, ◌+◌, ◌++◌, ◌∷◌, [], ◌∙◌, ap, sym, length, arith, length-append, ℕ, List, subst}
 use Rattle.key_tuple.specs.Order.{FieldList}
 use Rattle.key_tuple.proofs.PartsLemmas.{RiseTo-push, parts-push}
 use Rattle.list_facts.proofs.Outcomes.{as_ok}
+use Rattle.key_tuple.specs.Parts.{RiseTo}
 use Rattle.map_history.proofs.part_list.PartList.push.Goals as goal
 
 -- the offset of the new end stands behind the others
@@ -22,3 +23,12 @@ pub returns-clause-ok : goal.returns-clause-ok
 returns-clause-ok c =
     let after = parts-push c.self.inside.bytes.items c.args.part.now 0 c.self.inside.ends.items c.len.result c.self.invariant (end_is c) in
     rw (ends_after c, c.in_ok-extend_from_slice.ensures.items) (after ∙ ap (λ (p : FieldList). p ++ c.args.part.now ∷ []) c.self.view_is)
+
+pub invariant_of-self-in_err-extend_from_slice : goal.invariant_of-self-in_err-extend_from_slice
+invariant_of-self-in_err-extend_from_slice c =
+    subst (λ (ends : List ℕ). RiseTo 0 ends (length c.extend_from_slice.new.self.items)) (sym c.in_ok-reserve.ensures.items)
+    (subst (λ (bytes : List ℕ). RiseTo 0 c.self.inside.ends.items (length bytes)) (sym c.in_err-extend_from_slice.ensures.items) c.self.invariant)
+
+pub invariant_of-self : goal.invariant_of-self
+invariant_of-self c =
+    subst (λ (ends : List ℕ). RiseTo 0 ends (length c.self.inside.bytes.items)) (sym c.in_err-reserve.ensures.items) c.self.invariant
