@@ -23,3 +23,6 @@ returns-clause-err c =
 pub returns-in_err-extend_from_within-clause-err : goal.returns-in_err-extend_from_within-clause-err
 returns-in_err-extend_from_within-clause-err c =
     when_err c.from_residual.result (record { more = []; items = c.in_err-extend_from_within.ensures.items ∙ sym (append-nil c.args.bytes.now.items) })
+
+pub moved-requires-clause-key : goal.moved-requires-clause-key
+moved-requires-clause-key c = let added = c.in_ok-extend_from_within.ensures.len in omega (arith, c.len-start.ensures, c.len-middle.ensures, added)

@@ -1,4 +1,4 @@
-use Rattle.std.proofs.Common.{◌+◌, ◌-◌, refl, arith, [], sym, append-nil, ◌∙◌}
+use Rattle.std.proofs.Common.{◌+◌, ◌-◌, refl, arith, [], sym, append-nil, ◌∙◌, drop, length-take, length-drop}
 use Rattle.index_page.specs.Slots.{PutsRecord}
 use Rattle.list_facts.proofs.Outcomes.{when_err}
 use Rattle.index_page.proofs.SlotLemmas.{slot_made}
@@ -18,3 +18,10 @@ returns-clause-err c = when_err c.moved.result (record { more = _; items = c.in_
 pub returns-in_err-extend_from_slice-clause-err : goal.returns-in_err-extend_from_slice-clause-err
 returns-in_err-extend_from_slice-clause-err c =
     when_err c.from_residual.result (record { more = []; items = c.in_err-extend_from_slice.ensures.items ∙ sym (append-nil c.args.bytes.now.items) })
+
+pub moved-requires-clause-value : goal.moved-requires-clause-value
+moved-requires-clause-value c =
+    let from = c.args.from.now in
+    let slot = c.args.slot.now in
+    let added = c.in_ok-extend_from_slice.ensures.len in
+    omega (arith, c.requires.key, c.requires.value, c.requires.within, c.len-start.ensures, c.len.ensures, added, length-take (slot.stop - slot.start) (drop slot.start from), length-drop slot.start from)

@@ -1,10 +1,15 @@
-use Rattle.std.proofs.Common.{ap, ◌∙◌, List, arith, length}
+use Rattle.std.proofs.Common.{ap, ◌∙◌, List, arith, length, Result, Ok, Err, IsErr, OnOk, true≢false, sym}
 use Rattle.index_page.specs.Store.{Content, rows_in, beside_by, stored_row}
 use Rattle.list_facts.proofs.Outcomes.{when_err}
 use Rattle.index_page.proofs.StoreLemmas.{spare_below, stored_differ}
 use Rattle.index_page.proofs.ClaimLemmas.{filled_store, filled_rows, row_store, row_rows, row_vacant}
 use Rattle.std.proofs.lemmas.List.{length-map}
 use Rattle.index_page.proofs.heap.Heap.insert_at.Goals as goal
+
+-- nothing is asked of a success that wasn't one
+not_ok : {T E : Type 0} (r : Result T E) (P : Type 0) → IsErr r → OnOk r P
+not_ok (Ok x) P is = absurd (true≢false (sym is))
+not_ok (Err e) P is = tt
 
 pub fill-requires-clause-there : goal.fill-requires-clause-there
 fill-requires-clause-there g c =
@@ -48,3 +53,9 @@ invariant_of-self-in_err-fill g c = rw c.in_err-fill.ensures.err c.vacancy.ensur
 pub vacancy-requires-clause-room : goal.vacancy-requires-clause-room
 vacancy-requires-clause-room g c =
     omega (arith, c.requires.room, ap length c.self.view_is, length-map c.self.inside.places.live (stored_row c.self.inside.slots))
+
+pub returns-in_err-fill-clause-differ : goal.returns-in_err-fill-clause-differ
+returns-in_err-fill-clause-differ g c = not_ok c.from_residual-in_err-fill.result _ c.from_residual-in_err-fill.ensures.0
+
+pub returns-in_err-claim-clause-differ : goal.returns-in_err-claim-clause-differ
+returns-in_err-claim-clause-differ g c = not_ok c.from_residual-in_err-claim.result _ c.from_residual-in_err-claim.ensures.0

@@ -1,4 +1,6 @@
-use Rattle.std.proofs.Common.{suc, add-one, sym, ap, ◌∙◌, subst, arith, take, drop, List}
+use Rattle.index_page.proofs.AppendLemmas.{rows_within_load}
+use Rattle.std.proofs.lemmas.List.{drop_all}
+use Rattle.std.proofs.Common.{suc, add-one, sym, ap, ◌∙◌, subst, arith, take, drop, List, length}
 use Rattle.key_tuple.specs.KeyPlace.{At, cut_of}
 use Rattle.index_page.specs.Rows.{Row}
 use Rattle.index_page.specs.Page.{PageRows, IsRowOf}
@@ -36,3 +38,18 @@ loop-low-preserved g c =
 pub is_past-requires : goal.is_past-requires
 is_past-requires g c =
     omega (arith, c.requires, (each_get (IsRowOf c.self.inside.head) c.self.inside.rows c.next_look-middle.result _ c.self.invariant.each c.stored.ensures).fields, ap (λ (p : PageRows). p.head.fields) c.self.view_is)
+
+pub loop-low-init : goal.loop-low-init
+loop-low-init g c =
+    let rows = c.args.self.now.rows in
+    let all = ap (λ (p : PageRows). length p.rows) c.self.view_is in
+    record {
+      ordered = omega arith;
+      within = omega (arith, c.len-high.ensures, all);
+      out = tt;
+      past = subst (AllIn (cut_of c.args.mode (g.A.Fields.fields_of c.args.tuple.now))) (sym (drop_all c.len-high.result rows (omega (arith, c.len-high.ensures, all)))) tt;
+    }
+
+pub overflow_add-low : goal.overflow_add-low
+overflow_add-low g c =
+    omega (arith, c.next_look-middle.ensures.below, c.loop-low.invariant.within, ap (λ (p : PageRows). length p.rows) c.self.view_is, rows_within_load c.self.inside.rows, c.self.invariant.fits)

@@ -1,13 +1,19 @@
-use Rattle.std.proofs.Common.{◌+◌, ◌≤◌, ◌++◌, sym, ap, ◌∙◌, subst, arith}
+use Rattle.index_page.specs.declared.head.PageHead.{PageHead}
+use Rattle.std.proofs.Common.{◌+◌, ◌≤◌, ◌++◌, sym, ap, ◌∙◌, subst, arith, ◌≡◌, List, []}
 use Rattle.index_page.specs.declared.TheConstants.{PAGE_ROOM}
 use Rattle.key_tuple.specs.Limits.{IsWithinLimits}
 use Rattle.index_page.specs.Rows.{Row, SameRows}
-use Rattle.index_page.specs.Page.{PageRows, RowsAscend, IsRowOf}
+use Rattle.index_page.specs.Page.{PageRows, RowsAscend, IsRowOf, IsNeighbour, IsPageInOrder}
 use Rattle.index_page.specs.Loads.{load_of}
 use Rattle.list_facts.proofs.Each.{each_weaker}
 use Rattle.index_page.proofs.PartLemmas.{suits_too}
 use Rattle.index_page.proofs.AppendLemmas.{appended_order, appended_load, rows_within_load}
 use Rattle.index_page.proofs.page.Page.move_all.Goals as goal
+
+-- a page with no rows is in order
+empty_order : (head : PageHead) (rows : List Row) → rows ≡ [] → IsNeighbour head.prev → IsNeighbour head.next → IsPageInOrder (record { head = head; rows = rows })
+empty_order head rows none prev next =
+    subst (λ (xs : List Row). IsPageInOrder (record { head = head; rows = xs })) (sym none) (record { ascend = tt; places = tt; each = tt; fits = omega arith; prev = prev; next = next })
 
 pub append-requires-clause-room : goal.append-requires-clause-room
 append-requires-clause-room c =
@@ -44,3 +50,9 @@ invariant_of-to-inside-2 c = (omega (arith, appended_load c.to.inside.rows c.app
 
 pub invariant_of-to : goal.invariant_of-to
 invariant_of-to c = rw c.in_err-append.ensures.err c.to.invariant
+
+pub invariant_of-self : goal.invariant_of-self
+invariant_of-self c = empty_order c.self.inside.head c.clear.new.self c.clear.ensures c.self.invariant.prev c.self.invariant.next
+
+pub invariant_of-self-inside : goal.invariant_of-self-inside
+invariant_of-self-inside c = (sym (ap load_of c.clear.ensures), tt)

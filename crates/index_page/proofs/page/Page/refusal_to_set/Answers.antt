@@ -22,3 +22,6 @@ returns c =
     let rest = others_load c.args.self.now.rows c.args.place row c.self.inside.load c.charge_at.result c.is_in_order.ensures.places c.row-row.ensures.row load (c.charge_at.ensures row c.row-row.ensures.row) in
     let need = value_charge row.key (Bytes value) c.as_bytes-new.result.now c.record_charge.result c.size_with_length.result (ap Bytes (sym c.as_bytes-new.ensures.bytes)) c.size_with_length.ensures.size c.record_charge.ensures.charge in
     c.refusal_by.ensures ∙ set_refused c.args.self.now c.args.place row c.value-old.result.now value c.record_charge.result _ c.row-row.ensures.row c.value-old.ensures.bytes (λ e. c.if-new-old.false (ap length c.as_bytes-new.ensures.bytes ∙ e)) need (omega (arith, rest))
+
+pub size_with_length-requires : goal.size_with_length-requires
+size_with_length-requires c = omega (arith, ap length c.as_bytes-new.ensures.bytes, c.as_bytes-new.ensures.short)

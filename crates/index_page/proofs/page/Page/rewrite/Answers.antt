@@ -1,3 +1,4 @@
+use Rattle.index_page.specs.Loads.{load_of}
 use Rattle.std.proofs.Common.{◌≡◌, ℕ, true, false, Some, List, length, is_ok, sym, ap, ◌∙◌, subst, arith}
 use Rattle.index_page.specs.Rows.{find_row}
 use Rattle.index_page.specs.Page.{PageRows, IsPageInOrder}
@@ -45,3 +46,6 @@ returns-clause-ok c =
 
 pub invariant_of-self : goal.invariant_of-self
 invariant_of-self c = rw c.in_err-rewrite_at.ensures.err c.self.invariant
+
+pub invariant_of-self-inside : goal.invariant_of-self-inside
+invariant_of-self-inside c = (c.self.inside.charged ∙ ap load_of (sym c.in_err-rewrite_at.ensures.err), tt)

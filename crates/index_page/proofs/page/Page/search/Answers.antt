@@ -1,4 +1,4 @@
-use Rattle.std.proofs.Common.{◌≡◌, length, take, drop, sym, ap, ◌∙◌, subst, arith}
+use Rattle.std.proofs.Common.{◌≡◌, length, take, drop, sym, ap, ◌∙◌, subst, arith, ℕ, ◌<◌, Option, IfSome}
 use Rattle.std.proofs.lemmas.List.{take-append-drop, length-take-le}
 use Rattle.index_page.specs.Rows.{first_of_rows, IsAt}
 use Rattle.index_page.specs.Page.{PageRows}
@@ -34,3 +34,13 @@ returns g c =
       up = ◌∙◌ {b = agreement tuple (nth_row rows c.if-cut-len.after_cut)} c.agreement-after.ensures.figures (ap (agreement tuple) first);
       cut = sym (length-take-le c.cut-cut.result rows c.cut-cut.ensures.within);
     }
+
+pub agreement-after-requires-clause-within : goal.agreement-after-requires-clause-within
+agreement-after-requires-clause-within g c =
+    let rows = c.args.self.now.rows in
+    elim (c.if-cut-len.branch) [
+      | then-cut-len w ↦
+          let below : c.cut-cut.result < length rows = omega (arith, w.if-cut-len.true, c.len.ensures, ap (λ (p : PageRows). length p.rows) c.self.view_is) in
+          subst (λ (o : Option ℕ). IfSome o (λ i. i < length rows)) (sym w.after_cut-is) below
+      | else-cut-len w ↦ subst (λ (o : Option ℕ). IfSome o (λ i. i < length rows)) (sym w.after_cut-is) tt
+    ]

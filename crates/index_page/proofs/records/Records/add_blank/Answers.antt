@@ -1,9 +1,9 @@
-use Rattle.std.proofs.Common.{◌++◌, ◌∷◌, [], ap, ◌∙◌, List, ◌≡◌, ℕ, map}
+use Rattle.std.proofs.Common.{◌++◌, ◌∷◌, [], ap, ◌∙◌, List, ◌≡◌, ℕ, map, subst, sym}
 use Rattle.index_page.specs.declared.slot.Slot.{Slot}
 use Rattle.index_page.proofs.SlotLemmas.{blank_pushed}
 use Rattle.std.proofs.lemmas.List.{map-append}
 use Rattle.index_page.specs.Store.{Content}
-use Rattle.index_page.specs.Slots.{content_in, no_content}
+use Rattle.index_page.specs.Slots.{content_in, no_content, AreSlots}
 use Rattle.index_page.proofs.records.Records.add_blank.Goals as goal
 
 -- a record of nothing more
@@ -19,3 +19,6 @@ pub returns-clause-ok : goal.returns-clause-ok
 returns-clause-ok c =
     let after = c.push_reserved.ensures.items ∙ ap (λ (xs : List Slot). xs ++ c.blank.result ∷ []) c.in_ok-reserve.ensures.items in
     rw after (pushed c.self.inside.bytes.items c.self.inside.slots.items c.blank.result c.args.self.now c.self.view_is (c.blank.ensures.says c.self.inside.bytes.items))
+
+pub invariant_of-self : goal.invariant_of-self
+invariant_of-self c = subst (AreSlots c.self.inside.bytes.items) (sym c.in_err-reserve.ensures.items) c.self.invariant

@@ -1,7 +1,7 @@
-use Rattle.std.proofs.Common.{◌≡◌, ◌++◌, ◌∷◌, [], map, ap, ◌∙◌, List}
+use Rattle.std.proofs.Common.{◌≡◌, ◌++◌, ◌∷◌, [], map, ap, ◌∙◌, List, subst, sym}
 use Rattle.index_page.specs.declared.slot.Slot.{Slot}
 use Rattle.index_page.specs.Store.{Content}
-use Rattle.index_page.specs.Slots.{content_in}
+use Rattle.index_page.specs.Slots.{content_in, AreSlots}
 use Rattle.index_page.proofs.SlotLemmas.{same_slots, push_slots, push_contents}
 use Rattle.index_page.proofs.records.Records.add_copy.Goals as goal
 
@@ -19,3 +19,6 @@ pub returns : goal.returns
 returns c =
     let more = push_contents c.self.inside.bytes.items c.append_copy.new.bytes.items c.self.inside.slots.items c.in_ok-moved.moved _ c.self.invariant c.in_ok-moved.ensures.ok in
     ap (map (content_in c.append_copy.new.bytes.items)) (slots_after c) ∙ more ∙ ap (λ (xs : List Content). xs ++ content_in c.args.from.now c.args.slot.now ∷ []) c.self.view_is
+
+pub invariant_of-self : goal.invariant_of-self
+invariant_of-self c = subst (AreSlots c.self.inside.bytes.items) (sym c.in_err-reserve.ensures.items) c.self.invariant

@@ -29,3 +29,6 @@ add_copy-requires c =
 pub invariant_of-copy : goal.invariant_of-copy
 invariant_of-copy c =
     rw c.in_ok-with_capacity-2.ensures.items (record { each = tt; apart = tt })
+
+pub bounds-slot-items-slot-index : goal.bounds-slot-items-slot-index
+bounds-slot-items-slot-index c = c.loop-slot-test.true

@@ -48,3 +48,8 @@ slice_bounds-value-count c =
 pub slice_bounds-key-count : goal.slice_bounds-key-count
 slice_bounds-key-count c =
     (lies c.self.inside.bytes.items c.self.inside.slots.items c.args.self.now c.args.number c.index-slot.result.now c.self.invariant c.self.view_is c.requires c.index-slot.ensures).key
+
+pub shared_ref_as_front-new : goal.shared_ref_as_front-new
+shared_ref_as_front-new c =
+    let is = lies c.self.inside.bytes.items c.self.inside.slots.items c.args.self.now c.args.number c.index-slot.result.now c.self.invariant c.self.view_is c.requires c.index-slot.ensures in
+    omega (arith, is.few, c.from.ensures)

@@ -1,6 +1,7 @@
-use Rattle.std.proofs.Common.{sym, arith, ap, length}
+use Rattle.index_page.specs.Store.{Content}
+use Rattle.std.proofs.Common.{sym, arith, ap, length, ◌≡◌, List, OnErr, subst}
 use Rattle.index_page.proofs.SlotLemmas.{stands}
-use Rattle.index_page.specs.Slots.{content_in}
+use Rattle.index_page.specs.Slots.{content_in, CarriesAt}
 use Rattle.index_page.proofs.RowLemmas.{get_below}
 use Rattle.std.proofs.lemmas.List.{length-map}
 use Rattle.index_page.proofs.records.Records.rewrite.Goals as goal
@@ -26,3 +27,9 @@ overflow_sub-slot c =
 pub index-slot-requires : goal.index-slot-requires
 index-slot-requires c =
     omega (arith, get_below c.args.self.now c.args.number _ c.requires.there, ap length c.self.view_is, length-map c.self.inside.slots.items (content_in c.self.inside.bytes.items), c.self.inside.slots.ok.0)
+
+pub returns-clause-err : goal.returns-clause-err
+returns-clause-err c = subst (λ (records : List Content). OnErr c.write_behind.result (c.write_behind.new.self ≡ records)) c.put_anew.ensures c.write_behind.ensures.err
+
+pub write_behind-requires : goal.write_behind-requires
+write_behind-requires c = subst (λ (records : List Content). CarriesAt records c.args.number) (sym c.put_anew.ensures) c.requires
