@@ -26,6 +26,10 @@ use Rattle.buffer_pool.proofs.ClearLemmas.{unchanged_once, comes_before_too}
 use Rattle.buffer_pool.proofs.FitsLemmas.{live_still}
 use Rattle.buffer_pool.proofs.VictimLemmas.{in_right, tried_right}
 
+-- a wait without end doesn't end
+pub never_ends : false ≡ true → ⊥
+never_ends e = absurd cc
+
 -- it is the same pass over all of them
 pub passes_both : (p q r : TreePass) → IsSamePass p q → IsSamePass q r → IsSamePass p r
 passes_both p q r first second = (second.0 ∙ first.0, second.1 ∙ first.1)

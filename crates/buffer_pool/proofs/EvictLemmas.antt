@@ -1,8 +1,8 @@
 -- The page of a frame goes to its image.
-use Rattle.std.proofs.Common.{◌≡◌, ℕ, ◌<◌, List, length, sym, ap, subst, ◌∙◌, refl, false, Option, Some, None}
+use Rattle.std.proofs.Common.{◌≡◌, ℕ, ◌<◌, List, length, sym, ap, subst, ◌∙◌, refl, Option, Some, None}
 use Rattle.list_facts.proofs.Places.{same_some}
 use Rattle.index_page.specs.Page.{PageRows}
-use Rattle.tree_law.specs.Pages.{Page, is_own, IsOrderly}
+use Rattle.tree_law.specs.Pages.{Page, IsOrderly}
 use Rattle.forest_law.specs.declared.objects.Frame.{Frame}
 use Rattle.forest_law.specs.declared.objects.Stored.{Stored}
 use Rattle.forest_law.specs.declared.objects.Pool.{Pool}
@@ -21,7 +21,7 @@ use Rattle.buffer_pool.specs.Forests.{IsFittedTree}
 use Rattle.buffer_pool.specs.Frames.{TakesOut}
 use Rattle.buffer_pool.specs.Pools.{TakesPoolOut}
 use Rattle.buffer_pool.specs.Tries.{HoldsPoolAndFrame, TurnsBoth}
-use Rattle.buffer_pool.specs.Turning.{PutsPage, UnloadsFrame, MayTurn, TurnsBack, ClearsBlock}
+use Rattle.buffer_pool.specs.Turning.{PutsPage, UnloadsFrame, HasPlaces, MayTurn, TurnsBack, ClearsBlock}
 use Rattle.buffer_pool.proofs.HashRestLemmas.{unload_rests}
 use Rattle.buffer_pool.proofs.KnownLemmas.{frame_named, named_number, number_in, frame_order, image_room}
 use Rattle.buffer_pool.proofs.PutLemmas.{put_place, put_image, puts_keeps}
@@ -29,19 +29,53 @@ use Rattle.buffer_pool.proofs.TurnLemmas.{frame_is, pool_is, may_turn, turned}
 
 module _ (p p1 p2 : TreePass) (b : ℕ) (frame : Frame) (pool : Pool) (out : TakesOut p b frame p1)
     (outside : TakesPoolOut p1 pool p2) (t : Object) (x : Pool) (f : Frame)
-    (both : HoldsPoolAndFrame p b t x f) (fitted : IsFittedTree (view p)) (g : Frame) (s : Stored)
-    (unloaded : UnloadsFrame frame s g) (n : ℕ) (number : n ≡ s.page.head.number) where
-  unloads : UnloadsFrame f s g
-  unloads = subst (λ (z : Frame). UnloadsFrame z s g)
-      (frame_is p p1 p2 b frame pool out outside t x f both) unloaded
+    (both : HoldsPoolAndFrame p b t x f) (fitted : IsFittedTree (view p)) where
+  frame_same : frame ≡ f
+  frame_same = frame_is p p1 p2 b frame pool out outside t x f both
 
   pool_same : pool ≡ x
   pool_same = pool_is p p1 p2 b frame pool out outside t x f both
 
+  -- the number of the frame's page has a place and an image
+  pub place_of_page : (r : PageRows) → f.page ≡ Some r → r.head.number < length x.place.items
+  place_of_page r paged = number_in fitted.whole fitted.is_lawful (view p) fitted.fits t x both.pool
+      b f both.frame r paged
+
+  pub image_of_page : (r : PageRows) → f.page ≡ Some r → r.head.number < length x.images.items
+  image_of_page r paged = image_room fitted.whole fitted.is_lawful (view p) fitted.fits t x
+      both.pool r.head.number (place_of_page r paged)
+
+  pub has_places : (r : PageRows) → f.page ≡ Some r → HasPlaces frame pool
+  has_places r paged = record {
+    page = r;
+    paged = ap (λ (z : Frame). z.page) frame_same ∙ paged;
+    place = subst (λ (z : Pool). r.head.number < length z.place.items) (sym pool_same)
+        (place_of_page r paged);
+    image = subst (λ (z : Pool). r.head.number < length z.images.items) (sym pool_same)
+        (image_of_page r paged);
+  }
+
+module _ (p p1 p2 : TreePass) (b : ℕ) (frame : Frame) (pool : Pool) (out : TakesOut p b frame p1)
+    (outside : TakesPoolOut p1 pool p2) (t : Object) (x : Pool) (f : Frame)
+    (both : HoldsPoolAndFrame p b t x f) (fitted : IsFittedTree (view p)) (g : Frame) (s : Stored)
+    (unloaded : UnloadsFrame frame s g) where
+  abbrev n : ℕ
+  n = s.page.head.number
+
+  unloads : UnloadsFrame f s g
+  unloads = subst (λ (z : Frame). UnloadsFrame z s g)
+      (frame_same p p1 p2 b frame pool out outside t x f both fitted) unloaded
+
+  place_below : n < length x.place.items
+  place_below = place_of_page p p1 p2 b frame pool out outside t x f both fitted s.page unloads.page
+
+  image_below : n < length x.images.items
+  image_below = image_of_page p p1 p2 b frame pool out outside t x f both fitted s.page unloads.page
+
   -- the pool names the frame
   pub evicted_named : where_at x.place.items n ≡ InFrame b
-  evicted_named = ap (where_at x.place.items) number
-      ∙ frame_named fitted.whole fitted.is_lawful (view p) fitted.fits t x both.pool b f both.frame
+  evicted_named =
+      frame_named fitted.whole fitted.is_lawful (view p) fitted.fits t x both.pool b f both.frame
       s.page unloads.page
 
   -- for no other page
@@ -51,23 +85,7 @@ module _ (p p1 p2 : TreePass) (b : ℕ) (frame : Frame) (pool : Pool) (out : Tak
       both.frame m named in
       sym has.number
       ∙ (ap (λ (r : PageRows). r.head.number)
-      (same_some has.page s.page (sym has.paged ∙ unloads.page)) ∙ sym number)
-
-  place_below : n < length x.place.items
-  place_below = subst (λ m. m < length x.place.items) (sym number)
-      (number_in fitted.whole fitted.is_lawful (view p) fitted.fits t x both.pool b f both.frame
-      s.page unloads.page)
-
-  image_below : n < length x.images.items
-  image_below =
-      image_room fitted.whole fitted.is_lawful (view p) fitted.fits t x both.pool n place_below
-
-  -- the number has a place and an image
-  pub unloaded_place : n < length pool.place.items
-  unloaded_place = subst (λ (z : Pool). n < length z.place.items) (sym pool_same) place_below
-
-  pub unloaded_image : n < length pool.images.items
-  unloaded_image = subst (λ (z : Pool). n < length z.images.items) (sym pool_same) image_below
+      (same_some has.page s.page (sym has.paged ∙ unloads.page)))
 
   -- the page with its bounds
   abbrev page : Page
@@ -77,7 +95,7 @@ module _ (p p1 p2 : TreePass) (b : ℕ) (frame : Frame) (pool : Pool) (out : Tak
   unloaded_had = record {
     rows = s.page;
     paged = unloads.page;
-    number = sym number;
+    number = refl;
     is = λ k. page_if (unloads.page k) (unloads.low k) (unloads.high k);
   }
 
@@ -89,7 +107,8 @@ module _ (p p1 p2 : TreePass) (b : ℕ) (frame : Frame) (pool : Pool) (out : Tak
 
   module _ (y : Pool) (put : PutsPage pool n Image (Some s) y) where
     puts : PutsPage x n Image (Some s) y
-    puts = subst (λ (z : Pool). PutsPage z n Image (Some s) y) pool_same put
+    puts = subst (λ (z : Pool). PutsPage z n Image (Some s) y)
+        (pool_same p p1 p2 b frame pool out outside t x f both fitted) put
 
     evict_follows : HasNoOutside f → (news : List (Option Object))
         → PoolStep (shape_of_pass p) (known_values p) news n
@@ -110,9 +129,8 @@ module _ (p p1 p2 : TreePass) (b : ℕ) (frame : Frame) (pool : Pool) (out : Tak
           is = put_place x n Image (Some s) y puts place_below;
           stored = put_image x n Image (Some s) y puts image_below;
           had = unloaded_had;
-          tree = subst (λ m. is_own m s.page.head.prev ≡ false) (sym number)
-              (inside s.page unloads.page);
-          has = record { number = sym number; is = refl };
+          tree = inside s.page unloads.page;
+          has = record { number = refl; is = refl };
           empty = ap (λ (z : Frame). z.page) unloads.empty;
           order = unloaded_order;
           clock = unloads.clock;

@@ -1,11 +1,13 @@
 -- A page's place and image in the pool, and what changes of them leave.
-use Rattle.std.proofs.Common.{◌≡◌, ℕ, ◌<◌, List, length, get_or, set, length-set, sym, ap, ◌∙◌, refl, Option}
+use Rattle.std.proofs.Common.{◌≡◌, ℕ, ◌<◌, List, length, get_or, set, length-set, sym, ap, subst, ◌∙◌, refl, Option, Some}
 use mathlib.Core.Option.{some}
 use mathlib.Core.Option as maybe
 use lib.ListN.{get_elem?}
 use Rattle.atomic_table.proofs.Lists.{set_here, set_else}
-use Rattle.list_facts.proofs.Places.{inside, there, reads}
+use Rattle.list_facts.proofs.Places.{inside, there, reads, same_some}
 use Rattle.clock_law.specs.ModifyClock.{raised}
+use Rattle.index_page.specs.Page.{PageRows}
+use Rattle.forest_law.specs.declared.objects.Frame.{Frame}
 use Rattle.forest_law.specs.declared.objects.Pool.{Pool}
 use Rattle.forest_law.specs.declared.objects.Stored.{Stored}
 use Rattle.forest_law.specs.declared.objects.Where.{Where}
@@ -14,7 +16,7 @@ use Rattle.forest_law.specs.State.{where_of, where_at, image_of, image_at}
 use Rattle.forest_law.specs.Placed.{PoolRests}
 use Rattle.buffer_pool.specs.Ages.{IsAged, IsAgeless}
 use Rattle.buffer_pool.specs.Causes.{HasAged}
-use Rattle.buffer_pool.specs.Turning.{PutsPage, KeepsOthers}
+use Rattle.buffer_pool.specs.Turning.{PutsPage, HasPlaces, KeepsOthers}
 
 -- a place that is read is the number's, and so is an image
 pub read_place : (xs : List Where) (n : ℕ) (d : Where) → n < length xs
@@ -92,3 +94,17 @@ put_aged x b y z ages tick aged = record {
   tick = aged.tick ∙ ap raised tick;
   ages = aged.ages ∙ ap (λ xs. set xs b z.tick) ages;
 }
+
+-- the number of the page that a frame has, in other words
+module _ {f : Frame} {x : Pool} (has : HasPlaces f x) (page : PageRows) (paged : f.page ≡ Some page)
+    (n : ℕ) (number : n ≡ page.head.number) where
+  number_same : has.page.head.number ≡ n
+  number_same =
+      ap (λ (r : PageRows). r.head.number) (same_some has.page page (sym has.paged ∙ paged))
+      ∙ sym number
+
+  pub same_place : n < length x.place.items
+  same_place = subst (λ m. m < length x.place.items) number_same has.place
+
+  pub same_image : n < length x.images.items
+  same_image = subst (λ m. m < length x.images.items) number_same has.image

@@ -28,7 +28,7 @@ use Rattle.call_law.specs.Hands.{HoldsTheRest, HoldsNoOutside}
 use Rattle.buffer_pool.specs.Hands.{HasOut}
 use Rattle.buffer_pool.specs.Pools.{HasPoolOut}
 use Rattle.buffer_pool.specs.Pages.{HasNumber}
-use Rattle.buffer_pool.specs.Ages.{IsAged}
+use Rattle.buffer_pool.specs.Ages.{IsAged, IsAgeless}
 use Rattle.buffer_pool.specs.Causes.{HasAged, GoesToImage}
 use Rattle.buffer_pool.specs.Tries.{Tries, TriesGivingParts, KnowsPool, HoldsPoolAndFrame, TurnsBoth}
 
@@ -47,6 +47,27 @@ pub record UnloadsFrame (f : Frame) (s : Stored) (g : Frame) : Type 0 where
   pub high : f.high ≡ s.high
   pub empty : g ≡ record f { page = None; low = None; high = None; clock = raised f.clock }
   pub clock : ClockRises f.clock g.clock
+
+-- the frame has a page, and the pool a place and an image of its number
+pub record HasPlaces (f : Frame) (x : Pool) : Type 0 where
+  pub page : PageRows
+  pub paged : f.page ≡ Some page
+  pub place : page.head.number < length x.place.items
+  pub image : page.head.number < length x.images.items
+
+-- what was in the frame is an image now
+pub record SetsAside (f : Frame) (x : Pool) (g : Frame) (y : Pool) : Type 0 where
+  pub stored : Stored
+  pub unloads : UnloadsFrame f stored g
+  pub puts : PutsPage x stored.page.head.number Image (Some stored) y
+
+-- the number of the frame's page is free now, and the block has age 0
+pub record Clears (f : Frame) (x : Pool) (b : ℕ) (g : Frame) (y : Pool) : Type 0 where
+  pub stored : Stored
+  pub unloads : UnloadsFrame f stored g
+  pub between : Pool
+  pub puts : PutsPage x stored.page.head.number Free None between
+  pub ageless : IsAgeless between b y
 
 -- the frame with this page in these bounds, and the figures that a block begins with
 abbrev pub loaded_with : Frame → Stored → Frame

@@ -1,5 +1,5 @@
 //! A page comes to a frame in hand, or goes from it, while the pool is in hand.
-ghost use Rattle.std.specs.Prelude.{◌≡◌, ◌<◌, Some};
+ghost use Rattle.std.specs.Prelude.{◌≡◌, ◌<◌, Some, length};
 ghost use Rattle.latch_space.specs.Has.{IsKnown};
 ghost use Rattle.latch_space.specs.Passes.{view, IsSamePass};
 ghost use Rattle.latch_space.specs.Spaces.{IsPassOf};
@@ -12,13 +12,13 @@ ghost use Rattle.forest_world.specs.Held.{shape_of_pass};
 ghost use Rattle.buffer_pool.specs.Forests.{IsForest, IsFittedTree};
 ghost use Rattle.buffer_pool.specs.Tries.{KnowsPool, HoldsPoolAndFrame};
 ghost use Rattle.buffer_pool.specs.Turning.{SetsAge, MayRestore, RestoresTo, MayBring, BringsTo};
-ghost use Rattle.buffer_pool.specs.Turning.{MayFree, FreesFrom};
+ghost use Rattle.buffer_pool.specs.Turning.{MayFree, FreesFrom, HasPlaces, Clears};
 
 use crate::ages::{forget_age, touch};
 use crate::hands::frame_out;
 use crate::pools::{pool_back, pool_out};
-use crate::turning::{load, put_page, turn, unload};
-use forest_world::{ForestPass, ForestSpace, Stored, Where, hands_keep_the_hash};
+use crate::turning::{load, put_page, set_page, turn, unload};
+use forest_world::{ForestPass, ForestSpace, Frame, Pool, Stored, Where, hands_keep_the_hash};
 use index_page::Page;
 
 /// The block gets a new age.
@@ -50,13 +50,14 @@ pub(crate) fn restore(space: &ForestSpace, pass: &mut ForestPass, block: u32, pa
     ensures fits { IsFittedTree (view pass.new) }
 {
     pass.fits();
-    let frame = frame_out(space, pass, block);
+    let mut frame = frame_out(space, pass, block);
     let mut pool = pool_out(space, pass);
     let Some(stored) = put_page(&mut pool, page, Where::InFrame(block), None) else {
         unreachable!()
     };
     touch(&mut pool, block);
-    turn(space, pass, block, load(frame, stored), pool);
+    load(&mut frame, stored);
+    turn(space, pass, block, frame, pool);
 }
 
 /// A page outside the trees comes to the block's frame, under its number, which was free.
@@ -75,11 +76,12 @@ pub(crate) fn bring(space: &ForestSpace, pass: &mut ForestPass, block: u32, page
         low: None,
         high: None,
     };
-    let frame = frame_out(space, pass, block);
+    let mut frame = frame_out(space, pass, block);
     let mut pool = pool_out(space, pass);
-    put_page(&mut pool, number, Where::InFrame(block), None);
+    set_page(&mut pool, number, Where::InFrame(block), None);
     touch(&mut pool, block);
-    turn(space, pass, block, load(frame, stored), pool);
+    load(&mut frame, stored);
+    turn(space, pass, block, frame, pool);
 }
 
 /// The page of the block's frame, which is outside the trees, is gone, and its number is free.
@@ -93,11 +95,21 @@ pub(crate) fn drop_page(space: &ForestSpace, pass: &mut ForestPass, block: u32)
     ensures fits { IsFittedTree (view pass.new) }
 {
     pass.fits();
-    let frame = frame_out(space, pass, block);
+    let mut frame = frame_out(space, pass, block);
     let mut pool = pool_out(space, pass);
-    let (frame, stored) = unload(frame);
-    let number = stored.page.head().number;
-    put_page(&mut pool, number, Where::Free, None);
-    forget_age(&mut pool, block);
+    clear(&mut frame, &mut pool, block);
     turn(space, pass, block, frame, pool);
+}
+
+// The page of the block's frame is gone, its number is free, and the block's age is 0.
+fn clear(frame: &mut Frame, pool: &mut Pool, block: u32)
+    requires places { HasPlaces frame.old pool.old }
+    requires age { block < length pool.old.ages }
+    ensures { Clears frame.old pool.old block frame.new pool.new }
+{
+    let stored = unload(frame);
+    let number = stored.page.head().number;
+    drop(stored);
+    set_page(pool, number, Where::Free, None);
+    forget_age(pool, block);
 }

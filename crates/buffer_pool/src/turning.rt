@@ -4,6 +4,7 @@ ghost use Rattle.std.specs.Prelude.{◌≡◌, ◌<◌, Some, length};
 ghost use Rattle.latch_space.specs.Passes.{view, IsSamePass};
 ghost use Rattle.latch_space.specs.Spaces.{IsPassOf};
 ghost use Rattle.index_page.specs.Page.{PageRows};
+ghost use Rattle.clock_law.specs.ModifyClock.{raised, ClockRises};
 ghost use Rattle.forest_law.specs.State.{image_at};
 ghost use Rattle.buffer_pool.specs.Forests.{IsForest, IsFittedTree};
 ghost use Rattle.buffer_pool.specs.Turning.{PutsPage, UnloadsFrame, loaded_with, MayTurn, TurnsBack};
@@ -45,27 +46,44 @@ pub(crate) fn put_page(
     mem::replace(&mut pool.images[number as usize], image)
 }
 
-/// The frame without its page and its bounds, at a clock that rises, and these.
-pub(crate) fn unload(mut frame: Frame) -> (Frame, Stored)
-    requires { (page : PageRows) × (frame.page ≡ Some page) }
-    ensures { UnloadsFrame frame result.1 result.0 }
+/// The same where the image that it had isn't wanted.
+pub(crate) fn set_page(pool: &mut Pool, number: u32, to: Where, image: Option<Stored>)
+    requires place { number < length pool.old.place.items }
+    requires image { number < length pool.old.images.items }
+    ensures { PutsPage pool.old number to image pool.new }
+{
+    drop(put_page(pool, number, to, image));
+}
+
+/// The frame loses its page and its bounds, at a clock that rises; the answer is these.
+pub(crate) fn unload(frame: &mut Frame) -> Stored
+    requires { (page : PageRows) × (frame.old.page ≡ Some page) }
+    ensures { UnloadsFrame frame.old result frame.new }
 {
     let Some(page) = frame.page.take() else {
         unreachable!()
     };
     let low = frame.low.take();
     let high = frame.high.take();
-    frame.raise_clock();
-    (frame, Stored { page, low, high })
+    rise(frame);
+    Stored { page, low, high }
 }
 
-/// The frame with this page in these bounds, and the figures that a block begins with.
-pub(crate) fn load(mut frame: Frame, stored: Stored) -> Frame
-    ensures { result ≡ loaded_with frame stored }
+// Raises the clock of a frame that loses its page.
+fn rise(frame: &mut Frame)
+    ensures rises { ClockRises frame.old.clock frame.new.clock }
+    ensures raised { frame.new ≡ record frame.old { clock = raised frame.old.clock } }
+{
+    let _before = frame.clock;
+    frame.raise_clock();
+}
+
+/// The frame gets this page in these bounds, and the figures that a block begins with.
+pub(crate) fn load(frame: &mut Frame, stored: Stored)
+    ensures { frame.new ≡ loaded_with frame.old stored }
 {
     frame.page = Some(stored.page);
     frame.low = stored.low;
     frame.high = stored.high;
     frame.figures = BlockFigures::opening();
-    frame
 }

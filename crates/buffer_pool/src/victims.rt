@@ -14,15 +14,15 @@ ghost use Rattle.forest_world.specs.Held.{shape_of_pass};
 ghost use Rattle.call_law.specs.Hands.{HoldsNoPart};
 ghost use Rattle.buffer_pool.specs.Forests.{IsForest, IsFittedTree};
 ghost use Rattle.buffer_pool.specs.Tries.{KnowsPool, HoldsPoolAndFrame};
-ghost use Rattle.buffer_pool.specs.Turning.{EmptiesFrame};
+ghost use Rattle.buffer_pool.specs.Turning.{EmptiesFrame, HasPlaces, SetsAside};
 ghost use Rattle.buffer_pool.specs.Victims.{TellsOther, TellsVictim, TellsRoomFor};
 
 use crate::frames::{holds_frame, try_frame};
 use crate::hands::{frame, frame_out};
 use crate::parts::unhash_block;
 use crate::pools::{pool, pool_out};
-use crate::turning::{put_page, turn, unload};
-use forest_world::{ForestPass, ForestSpace, Frame, Where};
+use crate::turning::{set_page, turn, unload};
+use forest_world::{ForestPass, ForestSpace, Frame, Pool, Where};
 use latch_space::Take;
 use std::sync::Wait;
 
@@ -136,10 +136,18 @@ fn evict<R: Wait>(space: &ForestSpace, pass: &mut ForestPass, block: u32, wait: 
 {
     pass.fits();
     unhash_block(space, pass, block, wait);
-    let frame = frame_out(space, pass, block);
+    let mut frame = frame_out(space, pass, block);
     let mut pool = pool_out(space, pass);
-    let (frame, stored) = unload(frame);
-    let number = stored.page.head().number;
-    put_page(&mut pool, number, Where::Image, Some(stored));
+    set_aside(&mut frame, &mut pool);
     turn(space, pass, block, frame, pool);
+}
+
+// What is in the frame becomes an image.
+fn set_aside(frame: &mut Frame, pool: &mut Pool)
+    requires { HasPlaces frame.old pool.old }
+    ensures { SetsAside frame.old pool.old frame.new pool.new }
+{
+    let stored = unload(frame);
+    let number = stored.page.head().number;
+    set_page(pool, number, Where::Image, Some(stored));
 }

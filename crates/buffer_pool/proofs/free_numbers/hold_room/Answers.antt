@@ -1,5 +1,5 @@
 use Rattle.std.proofs.Common.{◌<◌, sym, subst, refl, arith}
-use Rattle.buffer_pool.proofs.AgainLemmas.{passes_both, gives_none, gives_shape, gives_no_table, gives_both}
+use Rattle.buffer_pool.proofs.AgainLemmas.{passes_both, gives_none, gives_shape, gives_no_table, gives_both, never_ends}
 use Rattle.buffer_pool.proofs.FreeLemmas.{gives_free, gives_full}
 use Rattle.buffer_pool.proofs.free_numbers.hold_room.Goals as goal
 
@@ -67,3 +67,15 @@ returns-in-NoneFree-clause-own g c = (
 
 pub returns-in-NoneFree-clause-fits : goal.returns-in-NoneFree-clause-fits
 returns-in-NoneFree-clause-fits g c = c.try_room.ensures.fits
+
+pub returns-in-Room-clause-full : goal.returns-in-Room-clause-full
+returns-in-Room-clause-full g c = tt
+
+pub returns-in-NoneFree-clause-ok : goal.returns-in-NoneFree-clause-ok
+returns-in-NoneFree-clause-ok g c = tt
+
+pub loop-preserved-derived : goal.loop-preserved-derived
+loop-preserved-derived g c = (tt, tt)
+
+pub unreachable-requires : goal.unreachable-requires
+unreachable-requires g c = never_ends c.in-None.ensures.steps

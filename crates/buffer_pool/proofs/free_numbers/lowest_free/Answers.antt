@@ -27,3 +27,7 @@ loop-n-preserved c = let xs = c.args.pool.now.place.items in
           ∙ (ap (where_at xs) (sym e) ∙ free))))
       | inr ne ↦ c.loop-n.invariant m (omega (arith, less, ne)) free
     ]
+
+pub returns-then-is_free-clause-named : goal.returns-then-is_free-clause-named
+returns-then-is_free-clause-named c = λ e. let below = c.loop-n-test.true in
+    let fits = c.ranges.pages.fits in omega (arith, e, below, fits)

@@ -4,6 +4,7 @@ use Rattle.latch_space.specs.Passes.{view}
 use Rattle.forest_law.specs.declared.objects.Object.TheVariants as object
 use Rattle.forest_law.specs.declared.objects.Pool.{Pool}
 use Rattle.forest_law.specs.Numbers.{pool_id}
+use Rattle.buffer_pool.specs.Forests.{IsFittedTree}
 use Rattle.buffer_pool.specs.NewPages.{HasNoneFree}
 use Rattle.buffer_pool.proofs.AgainLemmas.{passes_both}
 use Rattle.buffer_pool.proofs.FullLemmas.{may_tell, finds_full}
@@ -45,3 +46,7 @@ returns-clause-own c = (
 
 pub pool_out-pool-requires-clause-held : goal.pool_out-pool-requires-clause-held
 pool_out-pool-requires-clause-held c = let h = c.requires.pool in (h.0, h.0, h.1)
+
+pub returns-clause-fits : goal.returns-clause-fits
+returns-clause-fits c =
+    subst IsFittedTree (sym c.pool_back.ensures.back.view) c.read_point.ensures.fits

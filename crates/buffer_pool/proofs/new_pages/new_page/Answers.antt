@@ -1,4 +1,4 @@
-use Rattle.std.proofs.Common.{◌≡◌, sym, subst, ◌∙◌, refl}
+use Rattle.std.proofs.Common.{◌≡◌, ℕ, arith, Result, Ok, Err, sym, subst, ◌∙◌, refl}
 use Rattle.forest_law.specs.declared.objects.Object.TheVariants as object
 use Rattle.index_page.specs.Page.{IsNeighbour}
 use Rattle.buffer_pool.specs.declared.error.PoolError.{PoolError}
@@ -11,6 +11,14 @@ use Rattle.buffer_pool.proofs.new_pages.new_page.Goals as goal
 -- a space that is full is not a want of memory
 full_not_memory : (e : PoolError) → e ≡ refused.SpaceFull → e ≡ refused.NoMemory → ⊥
 full_not_memory e full memory = absurd cc
+
+-- nor the other way round
+memory_not_full : (r : Result ℕ PoolError) → r ≡ Err refused.NoMemory → r ≡ Err refused.SpaceFull → ⊥
+memory_not_full r memory full = absurd cc
+
+-- a block is no refusal
+ok_not_err : (b : ℕ) (e : PoolError) → Ok b ≡ Err e → ⊥
+ok_not_err b e is = absurd cc
 
 pub returns-in_default-clause-memory : goal.returns-in_default-clause-memory
 returns-in_default-clause-memory g c = λ e. (gives_none c.args.pass.now c.requires.known).got
@@ -74,3 +82,31 @@ returns-in_default-clause-own g c = ((refl, refl), c.requires.own.1)
 
 pub returns-in_default-clause-fits : goal.returns-in_default-clause-fits
 returns-in_default-clause-fits g c = c.fits.ensures
+
+pub returns-clause-memory : goal.returns-clause-memory
+returns-clause-memory g c = λ e. absurd (ok_not_err _ _ e)
+
+pub returns-clause-full : goal.returns-clause-full
+returns-clause-full g c = λ e. absurd (ok_not_err _ _ e)
+
+pub restart-requires-clause-next : goal.restart-requires-clause-next
+restart-requires-clause-next g c =
+    subst (λ h. IsNeighbour h.next) (sym c.own_head-2.ensures) c.requires.next
+
+pub returns-in_default-clause-full : goal.returns-in_default-clause-full
+returns-in_default-clause-full g c = λ e.
+    absurd (memory_not_full _ refl e)
+
+pub give_pool_back-requires-clause-own : goal.give_pool_back-requires-clause-own
+give_pool_back-requires-clause-own g c = c.bring.ensures.own.1
+
+pub bring-requires-clause-own : goal.bring-requires-clause-own
+bring-requires-clause-own g c = (c.requires.own.0, c.hold_room.ensures.own.1)
+
+pub empty-requires-clause-next : goal.empty-requires-clause-next
+empty-requires-clause-next g c =
+    subst (λ h. IsNeighbour h.next) (sym c.own_head.ensures) c.requires.next
+
+pub empty-requires-clause-prev : goal.empty-requires-clause-prev
+empty-requires-clause-prev g c =
+    subst (λ h. IsNeighbour h.prev) (sym c.own_head.ensures) (λ e. omega (arith, e))

@@ -1,5 +1,5 @@
 use Rattle.std.proofs.Common.{◌<◌, sym, subst, refl, arith}
-use Rattle.buffer_pool.proofs.AgainLemmas.{passes_both, gives_none, gives_shape, gives_others, gives_no_table, gives_both, gives_pages, gives_finds_none, refused_gives}
+use Rattle.buffer_pool.proofs.AgainLemmas.{passes_both, gives_none, gives_shape, gives_others, gives_no_table, gives_both, gives_pages, gives_finds_none, refused_gives, never_ends}
 use Rattle.buffer_pool.proofs.paging.hold_page.Goals as goal
 
 pub loop-init : goal.loop-init
@@ -76,3 +76,12 @@ returns-in-Free-clause-own g c = (
 
 pub returns-in-Free-clause-fits : goal.returns-in-Free-clause-fits
 returns-in-Free-clause-fits g c = c.look_for.ensures.fits
+
+pub unreachable-requires : goal.unreachable-requires
+unreachable-requires g c = never_ends c.in-None.ensures.steps
+
+pub loop-preserved-in-Busy-derived : goal.loop-preserved-in-Busy-derived
+loop-preserved-in-Busy-derived g c = (tt, tt)
+
+pub loop-preserved-derived : goal.loop-preserved-derived
+loop-preserved-derived g c = (tt, tt)

@@ -1,5 +1,5 @@
 use Rattle.std.proofs.Common.{◌<◌, sym, subst, refl, arith}
-use Rattle.buffer_pool.proofs.AgainLemmas.{passes_both, gives_none, gives_shape, gives_others, gives_no_table, gives_both, gives_pages, gives_refuses}
+use Rattle.buffer_pool.proofs.AgainLemmas.{passes_both, gives_none, gives_shape, gives_others, gives_no_table, gives_both, gives_pages, gives_refuses, never_ends}
 use Rattle.buffer_pool.proofs.FitsLemmas.{live_still}
 use Rattle.buffer_pool.proofs.PageLemmas.{live_below}
 use Rattle.buffer_pool.proofs.paging.try_page.Goals as goal
@@ -75,3 +75,9 @@ returns-in-Busy-clause-own g c = (
 
 pub returns-in-Busy-clause-fits : goal.returns-in-Busy-clause-fits
 returns-in-Busy-clause-fits g c = c.look_for.ensures.fits
+
+pub unreachable-requires-2 : goal.unreachable-requires-2
+unreachable-requires-2 g c = never_ends c.in-None.ensures.steps
+
+pub loop-preserved-derived : goal.loop-preserved-derived
+loop-preserved-derived g c = (tt, tt)

@@ -1,4 +1,5 @@
 use Rattle.std.proofs.Common.{rules}
+use Rattle.buffer_pool.proofs.AgainLemmas.{passes_both}
 use Rattle.buffer_pool.proofs.CallLemmas.{frame_has}
 use Rattle.buffer_pool.proofs.UnhashLemmas.{HeldFor, DroppedOut, held_for, frame_is, in_place, exact_here, room_here, dropped_out}
 use Rattle.buffer_pool.proofs.UnhashedLemmas.{UnhashedInHand, unhash_whole, unhash_follows, settled_known, settled_does, settled_frame, settled_count, settled_part}
@@ -94,3 +95,16 @@ returns-clause-did g c = let at = goal.at.returns-clause-did g c in
     let told = c.settle.ensures.did in
     unhashes_block c.requires.held.1 c.requires.parts held (settled_frame c.requires.known done told)
     (settled_does c.requires.known done told) (settled_count c.requires.known done told) c.give_part_if.ensures.gave
+
+pub returns-clause-own : goal.returns-clause-own
+returns-clause-own g c = let p = c.args.pass.now in let held = c.hold_part_for-part.new.pass in
+    let out = c.frame_out-frame.new.pass in let dropped = c.drop_frame.new.pass in
+    let back = c.frame_back.new.pass in let settled = c.settle.new.pass in
+    let q = c.give_part_if.new.pass in (
+      passes_both p held q c.hold_part_for-part.ensures.own.0
+          (passes_both held out q c.frame_out-frame.ensures.own.0
+          (passes_both out dropped q c.drop_frame.ensures.own.0
+          (passes_both dropped back q c.frame_back.ensures.own.0
+          (passes_both back settled q c.settle.ensures.own.0 c.give_part_if.ensures.own.0)))),
+      c.give_part_if.ensures.own.1,
+    )

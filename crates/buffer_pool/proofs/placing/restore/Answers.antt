@@ -1,7 +1,7 @@
 use Rattle.std.proofs.Common.{◌≡◌, sym, ◌∙◌, Some, None, Option}
 use Rattle.forest_law.specs.declared.objects.Stored.{Stored}
 use Rattle.buffer_pool.proofs.AgainLemmas.{passes_both}
-use Rattle.buffer_pool.proofs.CallLemmas.{pool_has}
+use Rattle.buffer_pool.proofs.CallLemmas.{frame_has, pool_has}
 use Rattle.buffer_pool.proofs.KnownLemmas.{age_still}
 use Rattle.buffer_pool.proofs.RestoreLemmas.{restored_place, restored_image, restored_there, may_restore, restores}
 use Rattle.buffer_pool.proofs.SpaceLemmas.{objects_of}
@@ -58,7 +58,7 @@ turn-requires-clause-may c = may_restore c.args.pass.now c.frame_out-frame.new.p
     c.pool_out-pool.ensures.out
     c.args.page c.requires.may c.fits.ensures c.in-Some.stored
     (sym c.in-Some.ensures.had) c.put_page.new.pool
-    c.put_page.ensures.puts c.touch.new.pool c.touch.ensures c.load.result c.load.ensures
+    c.put_page.ensures.puts c.touch.new.pool c.touch.ensures c.load.new.frame c.load.ensures
 
 pub returns-clause-restored : goal.returns-clause-restored
 returns-clause-restored c = λ t x f both. restores c.args.pass.now c.frame_out-frame.new.pass
@@ -67,7 +67,7 @@ returns-clause-restored c = λ t x f both. restores c.args.pass.now c.frame_out-
     c.pool_out-pool.ensures.out
     c.args.page c.requires.may c.fits.ensures c.in-Some.stored
     (sym c.in-Some.ensures.had) c.put_page.new.pool
-    c.put_page.ensures.puts c.touch.new.pool c.touch.ensures c.load.result c.load.ensures
+    c.put_page.ensures.puts c.touch.new.pool c.touch.ensures c.load.new.frame c.load.ensures
     t x f both c.turn.new.pass c.turn.ensures.turned
 
 pub returns-clause-own : goal.returns-clause-own
@@ -81,3 +81,10 @@ returns-clause-own c = (
 
 pub returns-clause-fits : goal.returns-clause-fits
 returns-clause-fits c = c.turn.ensures.fits
+
+pub frame_out-frame-requires-clause-held : goal.frame_out-frame-requires-clause-held
+frame_out-frame-requires-clause-held c = let m = c.requires.may in
+    (m.frame, m.frame, frame_has c.args.pass.now m.both.known c.args.block m.frame m.both.frame)
+
+pub turn-requires-clause-own : goal.turn-requires-clause-own
+turn-requires-clause-own c = (c.requires.own.0, c.pool_out-pool.ensures.own.1)

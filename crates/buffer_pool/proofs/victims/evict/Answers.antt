@@ -1,10 +1,9 @@
-use Rattle.std.proofs.Common.{ap, inl, ◌∙◌, refl}
+use Rattle.std.proofs.Common.{inl, refl}
 use Rattle.hash_maintain.specs.Leaves.{unhashed}
 use Rattle.buffer_pool.proofs.AgainLemmas.{passes_both}
 use Rattle.buffer_pool.proofs.CallLemmas.{frame_has, pool_has}
-use Rattle.buffer_pool.proofs.EvictLemmas.{unloaded_place, unloaded_image, may_evict, evict_turns, evict_empty, evict_clears}
+use Rattle.buffer_pool.proofs.EvictLemmas.{has_places, may_evict, evict_turns, evict_empty, evict_clears}
 use Rattle.buffer_pool.proofs.GivingLemmas.{unhashed_both, unhashed_empties}
-use Rattle.buffer_pool.proofs.TurnLemmas.{frame_is}
 use Rattle.buffer_pool.proofs.victims.evict.Goals as goal
 
 pub frame_out-frame-requires-clause-held : goal.frame_out-frame-requires-clause-held
@@ -27,39 +26,13 @@ pool_out-pool-requires-clause-held g c = let h = c.requires.both in
           (pool_has c.unhash_block.new.pass both.known h.0 h.1 both.pool),
     )
 
-pub unload-frame-requires : goal.unload-frame-requires
-unload-frame-requires g c = let h = c.requires.both in
-    let both = unhashed_both c.args.pass.now c.unhash_block.new.pass c.args.block
-    c.unhash_block.ensures.did h.0 h.1 h.2 h.4 in (
-      h.3,
-      ap (λ f. f.page)
-          (frame_is c.unhash_block.new.pass c.frame_out-frame.new.pass c.pool_out-pool.new.pass
-          c.args.block
-          c.frame_out-frame.result c.pool_out-pool.result c.frame_out-frame.ensures.out
-          c.pool_out-pool.ensures.out h.0 h.1 (unhashed h.2) both) ∙ h.5,
-    )
-
-pub put_page-requires-clause-place : goal.put_page-requires-clause-place
-put_page-requires-clause-place g c = let h = c.requires.both in
+pub set_aside-requires : goal.set_aside-requires
+set_aside-requires g c = let h = c.requires.both in
     let both = unhashed_both c.args.pass.now c.unhash_block.new.pass c.args.block
     c.unhash_block.ensures.did h.0 h.1 h.2 h.4 in
-    unloaded_place c.unhash_block.new.pass c.frame_out-frame.new.pass c.pool_out-pool.new.pass
+    has_places c.unhash_block.new.pass c.frame_out-frame.new.pass c.pool_out-pool.new.pass
     c.args.block c.frame_out-frame.result c.pool_out-pool.result c.frame_out-frame.ensures.out
-    c.pool_out-pool.ensures.out h.0 h.1 (unhashed h.2) both c.unhash_block.ensures.fits
-    c.unload-frame.result.0
-    c.unload-frame.result.1 c.unload-frame.ensures c.head.result.now.number
-    (ap (λ z. z.number) c.head.ensures)
-
-pub put_page-requires-clause-image : goal.put_page-requires-clause-image
-put_page-requires-clause-image g c = let h = c.requires.both in
-    let both = unhashed_both c.args.pass.now c.unhash_block.new.pass c.args.block
-    c.unhash_block.ensures.did h.0 h.1 h.2 h.4 in
-    unloaded_image c.unhash_block.new.pass c.frame_out-frame.new.pass c.pool_out-pool.new.pass
-    c.args.block c.frame_out-frame.result c.pool_out-pool.result c.frame_out-frame.ensures.out
-    c.pool_out-pool.ensures.out h.0 h.1 (unhashed h.2) both c.unhash_block.ensures.fits
-    c.unload-frame.result.0
-    c.unload-frame.result.1 c.unload-frame.ensures c.head.result.now.number
-    (ap (λ z. z.number) c.head.ensures)
+    c.pool_out-pool.ensures.out h.0 h.1 (unhashed h.2) both c.unhash_block.ensures.fits h.3 h.5
 
 pub turn-requires-clause-may : goal.turn-requires-clause-may
 turn-requires-clause-may g c = let h = c.requires.both in
@@ -68,9 +41,8 @@ turn-requires-clause-may g c = let h = c.requires.both in
     may_evict c.unhash_block.new.pass c.frame_out-frame.new.pass c.pool_out-pool.new.pass
     c.args.block c.frame_out-frame.result c.pool_out-pool.result c.frame_out-frame.ensures.out
     c.pool_out-pool.ensures.out h.0 h.1 (unhashed h.2) both c.unhash_block.ensures.fits
-    c.unload-frame.result.0
-    c.unload-frame.result.1 c.unload-frame.ensures c.head.result.now.number
-    (ap (λ z. z.number) c.head.ensures) c.put_page.new.pool c.put_page.ensures.puts h.6 refl
+    c.set_aside.new.frame c.set_aside.ensures.stored c.set_aside.ensures.unloads
+    c.set_aside.new.pool c.set_aside.ensures.puts h.6 refl
 
 pub unhash_block-requires-clause-held : goal.unhash_block-requires-clause-held
 unhash_block-requires-clause-held g c = let h = c.requires.both in (h.2, h.4.frame)
@@ -90,17 +62,15 @@ returns-clause-empty g c = λ t x f both.
     let out = c.frame_out-frame.ensures.out in let outside = c.pool_out-pool.ensures.out in
     let did = c.unhash_block.ensures.did in
     let then = unhashed_both c.args.pass.now u b did t x f both in
-    let fits = c.unhash_block.ensures.fits in let y = c.put_page.new.pool in
-    let puts = c.put_page.ensures.puts in let g' = c.unload-frame.result.0 in
-    let s = c.unload-frame.result.1 in let unloads = c.unload-frame.ensures in
-    let n = c.head.result.now.number in let number = ap (λ z. z.number) c.head.ensures in
+    let fits = c.unhash_block.ensures.fits in let y = c.set_aside.new.pool in
+    let g' = c.set_aside.new.frame in let aside = c.set_aside.ensures in
     unhashed_empties c.args.pass.now u b did t x c.turn.new.pass y g'
-    (evict_turns u p1 p2 b frame pool out outside t x (unhashed f) then fits g' s unloads n number
-    y puts c.turn.new.pass c.turn.ensures.turned)
-    (evict_empty u p1 p2 b frame pool out outside t x (unhashed f) then fits g' s unloads n number
-    y puts)
-    (evict_clears u p1 p2 b frame pool out outside t x (unhashed f) then fits g' s unloads n number
-    y puts)
+    (evict_turns u p1 p2 b frame pool out outside t x (unhashed f) then fits g' aside.stored
+    aside.unloads y aside.puts c.turn.new.pass c.turn.ensures.turned)
+    (evict_empty u p1 p2 b frame pool out outside t x (unhashed f) then fits g' aside.stored
+    aside.unloads y aside.puts)
+    (evict_clears u p1 p2 b frame pool out outside t x (unhashed f) then fits g' aside.stored
+    aside.unloads y aside.puts)
 
 pub returns-clause-own : goal.returns-clause-own
 returns-clause-own g c = (
