@@ -1,7 +1,8 @@
-use Rattle.std.proofs.Common.{[], ◌∷◌, decimal, refl, ap, ◌∙◌}
+use Rattle.std.proofs.Common.{◌≡◌, rules, [], ◌∷◌, decimal, refl, ap, ◌∙◌}
 use Rattle.map_history.specs.Text.{field_text, key_text, point_text}
+use Rattle.map_history.specs.declared.reply.Reply.TheVariants.{Found}
 use Rattle.report_text.specs.Printed.{reply_text}
-use Rattle.report_text.proofs.AnswerLemmas.{answer_put, log_full, row_found, space_full, value_found}
+use Rattle.report_text.proofs.AnswerLemmas.{answer_put, bare_put, log_full, row_found, space_full, value_found}
 use Rattle.report_text.proofs.answers.answer.Goals as goal
 
 pub returns-in-SpaceFull-default-clause-ok : goal.returns-in-SpaceFull-default-clause-ok
@@ -38,3 +39,9 @@ returns-in-LogFull-default-clause-err g c = c.put_line.ensures.err
 
 pub returns-in_default-clause-err : goal.returns-in_default-clause-err
 returns-in_default-clause-err g c = c.put_line-in_default.ensures.err
+
+pub returns-in_default-Some-clause-ok : goal.returns-in_default-Some-clause-ok
+returns-in_default-Some-clause-ok g c =
+    let not_found : c.args.told.now.reply ≡ Found → ⊥ = search rules in
+    bare_put c.put_line-in_default-Some.result c.args.told.now.reply c.args.op.now c.args.told.now (g.K.Fields.fields_of c.args.row.now) c.args.value.now c.in_default-Some.point c.args.line c.from.result c.reply_text.result.now c.text.result.now c.text-2.result.now c.args.out.now.items c.put_line-in_default-Some.new.out.items
+    refl c.in_default-Some.is-1 not_found c.in_default-Some.not-SpaceFull-0 c.in_default-Some.not-LogFull-0 c.from.ensures c.reply_text.ensures c.text.ensures c.text-2.ensures c.put_line-in_default-Some.ensures.ok
