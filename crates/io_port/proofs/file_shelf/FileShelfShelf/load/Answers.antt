@@ -1,5 +1,4 @@
 use Rattle.std.proofs.Common.{Some, ap, ◌∙◌, arith, refl, rules}
-use Rattle.io_port.specs.FileShelf.{LoadFaults}
 use Rattle.io_port.specs.Faults.{next_count}
 use Rattle.io_port.proofs.RealFiles.{OnFailed-always, UnlessFailed-always, no_memory}
 use Rattle.io_port.proofs.file_shelf.FileShelfShelf.load.Goals as goal
@@ -18,14 +17,6 @@ returns-clause-others g c = elim c.match-loaded.branch [
   | in-Err-Failed w ↦ search rules
   | in_default w ↦ UnlessFailed-always _ w.self-is
 ]
-
-pub returns-clause-kept : goal.returns-clause-kept
-returns-clause-kept g c =
-    let before = ap (λ (s : LoadFaults). s.faults) c.self.view_is in
-    elim c.match-loaded.branch [
-      | in-Err-Failed w ↦ omega (arith, before, ap (λ (s : LoadFaults). s.faults) w.self-is, w.saturating_add-self-inside.ensures)
-      | in_default w ↦ omega (arith, before, ap (λ (s : LoadFaults). s.faults) w.self-is)
-    ]
 
 pub returns-in_err-name_copy-clause-failed : goal.returns-in_err-name_copy-clause-failed
 returns-in_err-name_copy-clause-failed g c = rw (no_memory _ c.from_residual.ensures.1) tt
