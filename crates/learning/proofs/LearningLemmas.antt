@@ -190,6 +190,15 @@ block_advised info wait new d w n early helped =
     (λ k. cond (helped k) (record d.block { helps = one_more 4294967295 d.block.helps }) (record d.block { helps = 1; advice = new.params }))
     ∙ (λ k. cond (early k) d.block (advised (new_is k) d.block))
 
+-- and where it would have helped
+pub block_helped : (info wait new : Info) (d : Descent) (more : ℕ) → wait ≡ waiting info → new ≡ reviewed wait d → false ≡ is_early info → true ≡ has_helped new d.block
+    → more ≡ one_more 4294967295 d.block.helps → record d.block { helps = more } ≡ learn_block info d
+block_helped info wait new d more w n early helped m =
+    let new_is : new ≡ reviewed (waiting info) d = n ∙ (λ k. reviewed (w k) d) in
+    (λ k. record d.block { helps = m k })
+    ∙ (λ k. cond (helped k) (record d.block { helps = one_more 4294967295 d.block.helps }) (record d.block { helps = 1; advice = new.params }))
+    ∙ (λ k. cond (early k) d.block (advised (new_is k) d.block))
+
 -- whether a block is worth building, where it has helped often enough and the index promises enough
 pub worth_of_promise : (info : Info) (block : BlockFigures) (rows : ℕ) → rows / 16 < block.helps → 100 ≤ info.potential
     → (is_none block.built || nat_lt (2 * rows) block.helps || not (is_hashed_with block.advice block.built)) ≡ is_worth_building info block rows

@@ -1,5 +1,6 @@
 -- A word tells its fields.
-use Rattle.std.proofs.Common.{◌≡◌, ℕ, zero, suc, ◌<◌, ◌≤◌, Bool, true, false, ◌==◌, refl, arith}
+use Rattle.std.proofs.Common.{◌≡◌, ℕ, zero, suc, ◌+◌, ◌*◌, ◌<◌, ◌≤◌, Bool, true, false, ◌==◌, refl, arith}
+use mir.Val.{bool_byte}
 use Rattle.learning.specs.declared.info.Info.{Info}
 use Rattle.learning.specs.Word.{bit_of, word_of, FitsWord}
 
@@ -50,3 +51,21 @@ same_info i j t = let last : i.last ≡ j.last = bit_tells i.last j.last t.last 
 
 pub word_tells : (i j : Info) → FitsWord i → FitsWord j → word_of i ≡ word_of j → i ≡ j
 word_tells i j f g e = same_info i j (fields_told i j f g e)
+
+-- a test as a byte is its bit
+pub byte_is_bit : (b : Bool) → bool_byte b ≡ bit_of b
+byte_is_bit true = refl
+byte_is_bit false = refl
+
+-- the sums of the first fields at their places, each in 64 bits
+pub record SumsFit (a b p n f y e : ℕ) : Type 0 where
+  pub three : a * 1 + b * 2 + p * 4 < 18446744073709551616
+  pub four : a * 1 + b * 2 + p * 4 + n * 512 < 18446744073709551616
+  pub five : a * 1 + b * 2 + p * 4 + n * 512 + f * 16384 < 18446744073709551616
+  pub six : a * 1 + b * 2 + p * 4 + n * 512 + f * 16384 + y * 131072 < 18446744073709551616
+  pub all : a * 1 + b * 2 + p * 4 + n * 512 + f * 16384 + y * 131072 + e * 4294967296 < 18446744073709551616
+
+pub sums_fit : (a b p n f y e : ℕ) → a ≤ 1 → b ≤ 1 → p < 128 → n < 32 → f < 8 → y < 1024 → e < 4294967296 → SumsFit a b p n f y e
+sums_fit a b p n f y e ha hb hp hn hf hy he =
+    let all : a * 1 + b * 2 + p * 4 + n * 512 + f * 16384 + y * 131072 + e * 4294967296 < 18446744073709551616 = omega arith in
+    record { three = omega arith; four = omega arith; five = omega arith; six = omega arith; all = all }
