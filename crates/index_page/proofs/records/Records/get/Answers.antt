@@ -1,4 +1,4 @@
-use Rattle.std.proofs.Common.{◌≡◌, Some, List, length, ap, sym, ◌∙◌, arith, ◌<◌, ◌-◌, ℕ, map, take, drop, get_or, length-take, length-drop}
+use Rattle.std.proofs.Common.{◌≡◌, Some, List, length, ap, sym, ◌∙◌, arith, ◌<◌, ◌≤◌, ◌-◌, ℕ, map, take, drop, get_or, length-take, length-drop}
 use Rattle.std.proofs.lemmas.List.{length-map, length-take-le}
 use Rattle.std.specs.List.{slice_get}
 use Rattle.index_page.specs.Store.{Content}
@@ -53,3 +53,21 @@ pub shared_ref_as_front-new : goal.shared_ref_as_front-new
 shared_ref_as_front-new c =
     let is = lies c.self.inside.bytes.items c.self.inside.slots.items c.args.self.now c.args.number c.index-slot.result.now c.self.invariant c.self.view_is c.requires c.index-slot.ensures in
     omega (arith, is.few, c.from.ensures)
+
+pub slice_bounds-value-start : goal.slice_bounds-value-start
+slice_bounds-value-start c = (lies c.self.inside.bytes.items c.self.inside.slots.items c.args.self.now c.args.number c.index-slot.result.now c.self.invariant c.self.view_is c.requires c.index-slot.ensures).value
+
+pub slice_bounds-key-start : goal.slice_bounds-key-start
+slice_bounds-key-start c = (lies c.self.inside.bytes.items c.self.inside.slots.items c.args.self.now c.args.number c.index-slot.result.now c.self.invariant c.self.view_is c.requires c.index-slot.ensures).key
+
+pub slice_bounds-value-end : goal.slice_bounds-value-end
+slice_bounds-value-end c =
+    let is = lies c.self.inside.bytes.items c.self.inside.slots.items c.args.self.now c.args.number c.index-slot.result.now c.self.invariant c.self.view_is c.requires c.index-slot.ensures in
+    let fits : c.index-slot.result.now.stop ≤ length c.deref-2.result.now = omega (arith, is.within, ap length c.deref-2.ensures.value) in
+    fits
+
+pub slice_bounds-key-end : goal.slice_bounds-key-end
+slice_bounds-key-end c =
+    let is = lies c.self.inside.bytes.items c.self.inside.slots.items c.args.self.now c.args.number c.index-slot.result.now c.self.invariant c.self.view_is c.requires c.index-slot.ensures in
+    let fits : c.index-slot.result.now.middle ≤ length c.deref.result.now = omega (arith, is.value, is.within, ap length c.deref.ensures.value) in
+    fits
