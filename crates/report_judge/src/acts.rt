@@ -1,4 +1,5 @@
 //! What may be asked, and by which words.
+use crate::words::first_word;
 
 /// Which row a seek asks for, by its tuple.
 #[derive(Clone, Copy, PartialEq)]
@@ -39,23 +40,25 @@ impl Act {
     }
 }
 
-/// What a verb asks with the words behind it: the act, the key or tuple, and the value, if any.
+/// What a verb asks with the words behind it: the act, the key or tuple, and the value, if any. A
+/// word that lacks is empty, as none is that fits.
 pub(crate) fn asked_of<'a>(verb: &str, words: &'a str) -> Option<(Act, &'a str, &'a str)> {
+    let (first, second) = first_word(words);
     match verb {
         "get" => Some((Act::Get, words, "")),
         "del" => Some((Act::Del, words, "")),
-        _ => asked_with(verb, words),
+        "put" => Some((Act::Put, first, second)),
+        "set" => Some((Act::Set, first, second)),
+        "seek" => sought_of(first, second),
+        _ => None,
     }
 }
 
-/// The same of a verb that has two words behind it.
-fn asked_with<'a>(verb: &str, words: &'a str) -> Option<(Act, &'a str, &'a str)> {
-    let (first, second) = words.split_once(' ')?;
-    match verb {
-        "put" => Some((Act::Put, first, second)),
-        "set" => Some((Act::Set, first, second)),
-        "seek" => Some((Act::Seek(reach_of(first)?), second, "")),
-        _ => None,
+/// The same of a seek, by the words for its mode and its tuple.
+fn sought_of<'a>(mode: &str, tuple: &'a str) -> Option<(Act, &'a str, &'a str)> {
+    match reach_of(mode) {
+        Some(reach) => Some((Act::Seek(reach), tuple, "")),
+        None => None,
     }
 }
 

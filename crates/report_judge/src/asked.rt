@@ -2,7 +2,7 @@
 use crate::acts::{Act, asked_of};
 use crate::judging::Lie;
 use crate::keys::{count_fields, is_plain};
-use crate::words::number_of;
+use crate::words::{add, first_word, named_number};
 use std::alloc::Global;
 
 /// An index: its name, and how many fields its keys have.
@@ -26,16 +26,16 @@ pub struct Line<'a> {
 /// The indexes of a schema, in their order.
 pub fn read_schema<'a>(alloc: Global, text: &'a str) -> Result<Vec<Index<'a>>, Lie> {
     let mut indexes = Vec::new(alloc);
+    let mut judged = Ok(());
     let mut line: u64 = 0;
     for said in text.split('\n') {
         line = line.wrapping_add(1);
         if says_something(said) {
-            let Some(index) = index_of(said) else {
-                return Err(Lie::Asked { file: 0, line });
-            };
-            indexes.push(index)?;
+            let lie = Lie::Asked { file: 0, line };
+            add(&mut judged, &mut indexes, index_of(said), lie);
         }
     }
+    judged?;
     Ok(indexes)
 }
 
@@ -46,33 +46,35 @@ pub fn read_lanes<'a>(
     lanes: &[&'a str],
 ) -> Result<Vec<Vec<Line<'a>>>, Lie> {
     let mut asked = Vec::new(alloc);
+    let mut judged = Ok(());
     let mut file: usize = 0;
     for text in lanes {
         file = file.wrapping_add(1);
-        asked.push(read_lane(alloc, indexes, file, text)?)?;
+        let lines = read_lane(alloc, &mut judged, indexes, file, text);
+        add(&mut judged, &mut asked, Some(lines), Lie::NoMemory);
     }
+    judged?;
     Ok(asked)
 }
 
 /// Those of one lane, which has this file.
 fn read_lane<'a>(
     alloc: Global,
+    judged: &mut Result<(), Lie>,
     indexes: &[Index<'_>],
     file: usize,
     text: &'a str,
-) -> Result<Vec<Line<'a>>, Lie> {
+) -> Vec<Line<'a>> {
     let mut lines = Vec::new(alloc);
     let mut number: u64 = 0;
     for said in text.split('\n') {
         number = number.wrapping_add(1);
         if says_something(said) {
-            let Some(line) = line_of(indexes, number, said) else {
-                return Err(Lie::Asked { file, line: number });
-            };
-            lines.push(line)?;
+            let lie = Lie::Asked { file, line: number };
+            add(judged, &mut lines, line_of(indexes, number, said), lie);
         }
     }
-    Ok(lines)
+    lines
 }
 
 fn says_something(line: &str) -> bool {
@@ -80,16 +82,22 @@ fn says_something(line: &str) -> bool {
 }
 
 fn index_of<'a>(line: &'a str) -> Option<Index<'a>> {
-    let (name, count) = line.strip_prefix("index ")?.split_once(' ')?;
-    let fields = number_of(count)?;
-    Some(Index { name, fields })
+    match named_number("index", line) {
+        Some((name, fields)) => Some(Index { name, fields }),
+        None => None,
+    }
 }
 
+/// What a line asks that says something.
 fn line_of<'a>(indexes: &[Index<'_>], number: u64, said: &'a str) -> Option<Line<'a>> {
-    let (verb, rest) = said.split_once(' ')?;
-    let (name, words) = rest.split_once(' ')?;
-    let (act, key, value) = asked_of(verb, words)?;
-    let (index, fields) = index_named(indexes, name)?;
+    let (verb, rest) = first_word(said);
+    let (name, words) = first_word(rest);
+    let Some((act, key, value)) = asked_of(verb, words) else {
+        return None;
+    };
+    let Some((index, fields)) = index_named(indexes, name) else {
+        return None;
+    };
     let line = Line {
         number,
         index,

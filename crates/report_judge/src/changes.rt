@@ -1,8 +1,7 @@
 //! The lists of changes, one of each index.
-use crate::acts::{Act, asked_of};
+use crate::acts::Act;
 use crate::asked::Index;
-use crate::judging::Lie;
-use crate::words::{Reader, number_of};
+use crate::words::{Reader, count_words, first_word, named_number, number_of};
 use std::alloc::Global;
 
 /// A change: its number in the list, the lane and the line that it names, and what it does. Only a
@@ -17,68 +16,73 @@ pub(crate) struct Change<'a> {
     pub(crate) value: &'a str,
 }
 
+/// Adds the list of each index.
 pub(crate) fn read_lists<'a>(
     alloc: Global,
     reader: &mut Reader<'a>,
     indexes: &[Index<'_>],
-) -> Result<Vec<Vec<Change<'a>>>, Lie> {
-    let mut lists = Vec::new(alloc);
+    lists: &mut Vec<Vec<Change<'a>>>,
+) {
     for index in indexes {
-        let Some(count) = count_of(reader.take_line(), index.name) else {
-            return Err(reader.lie());
-        };
-        lists.push(read_changes(alloc, reader, count)?)?;
+        let changes = read_changes(alloc, reader, index.name);
+        reader.add(lists, Some(changes));
     }
-    Ok(lists)
 }
 
-/// How many changes a line says that the index of this name has.
-fn count_of(line: &str, name: &str) -> Option<u64> {
-    let (words, count) = line.rsplit_once(' ')?;
-    if words.strip_prefix("changes ")? != name {
-        return None;
-    }
-    number_of(count)
-}
-
-fn read_changes<'a>(
-    alloc: Global,
-    reader: &mut Reader<'a>,
-    count: u64,
-) -> Result<Vec<Change<'a>>, Lie> {
+/// The list of the index of this name, up to the first lie.
+fn read_changes<'a>(alloc: Global, reader: &mut Reader<'a>, name: &str) -> Vec<Change<'a>> {
     let mut changes = Vec::new(alloc);
-    for before in 0..count {
-        let Some(change) = change_of(before.wrapping_add(1), reader.take_line()) else {
-            return Err(reader.lie());
-        };
-        changes.push(change)?;
+    for before in 0..read_count(reader, name) {
+        let change = change_of(before.wrapping_add(1), reader.take_line());
+        reader.add(&mut changes, change);
+        if reader.judged().is_err() {
+            break;
+        }
     }
-    Ok(changes)
+    changes
 }
 
-fn change_of<'a>(point: u64, line: &'a str) -> Option<Change<'a>> {
-    let (first, rest) = line.split_once(' ')?;
-    let (lane, rest) = rest.split_once(' ')?;
-    let (line, rest) = rest.split_once(' ')?;
-    let (act, key, value) = done_of(rest)?;
-    if number_of(first)? != point {
+/// How many changes the next line says that the index of this name has. No name has a space.
+fn read_count(reader: &mut Reader<'_>, name: &str) -> u64 {
+    let (said, count) = named_number("changes", reader.take_line()).unwrap_or((" ", 0));
+    reader.expect(said == name);
+    count
+}
+
+/// The change of this number that a line says: its number, a lane and a line, the verb, the key, and
+/// the value of a put or a set.
+fn change_of<'a>(point: u64, said: &'a str) -> Option<Change<'a>> {
+    let (first, rest) = first_word(said);
+    let (lane, rest) = first_word(rest);
+    let (line, rest) = first_word(rest);
+    let (verb, rest) = first_word(rest);
+    let (key, value) = first_word(rest);
+    if number_of(first) != Some(point) {
         return None;
     }
-    Some(Change {
-        point,
-        lane: number_of(lane)?,
-        line: number_of(line)?,
-        act,
-        key,
-        value,
-    })
+    match (
+        number_of(lane),
+        number_of(line),
+        done_of(verb, count_words(said)),
+    ) {
+        (Some(lane), Some(line), Some(act)) => Some(Change {
+            point,
+            lane,
+            line,
+            act,
+            key,
+            value,
+        }),
+        _ => None,
+    }
 }
 
-/// What is done, to which key, and with which value, by the words behind a line's number.
-fn done_of<'a>(words: &'a str) -> Option<(Act, &'a str, &'a str)> {
-    let (verb, rest) = words.split_once(' ')?;
-    let (act, key, value) = asked_of(verb, rest)?;
-    let is_change = !matches!(act, Act::Get | Act::Seek(_));
-    let are_words = !key.contains(' ') && !value.contains(' ');
-    (is_change && are_words).then_some((act, key, value))
+/// What the verb does of a change that is told in so many words.
+fn done_of(verb: &str, words: usize) -> Option<Act> {
+    match (verb, words) {
+        ("put", 6) => Some(Act::Put),
+        ("set", 6) => Some(Act::Set),
+        ("del", 5) => Some(Act::Del),
+        _ => None,
+    }
 }

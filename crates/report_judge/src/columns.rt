@@ -1,7 +1,7 @@
 //! The two last words of answers, and the statistics that count them.
 use crate::answers::Answer;
 use crate::words::is_among;
-use std::alloc::{AllocError, Global};
+use std::alloc::AllocError;
 
 /// What a line of statistics says after the name, where all answers have two dashes.
 pub const COUNTS: &str =
@@ -53,32 +53,22 @@ pub(crate) fn may_stand(how: &str, note: &str) -> bool {
     }
 }
 
-/// The line of an index's statistics, by the answers of all lanes.
-pub(crate) fn statistics_of(
-    alloc: Global,
+/// Adds the line of an index's statistics, by the answers.
+pub(crate) fn add_statistics(
+    line: &mut String,
     name: &str,
     index: usize,
-    lanes: &[Vec<Answer<'_>>],
-) -> Result<String, AllocError> {
-    let mut line = String::new(alloc);
+    answers: &[Answer<'_>],
+) -> Result<(), AllocError> {
     write!(line, "stats {name}")?;
     for word in COUNTED.iter() {
-        write!(line, " {word} {}", times(word, index, lanes))?;
+        write!(line, " {word} {}", times(word, index, answers))?;
     }
-    Ok(line)
+    Ok(())
 }
 
 /// How many answers of an index have the word.
-fn times(word: &str, index: usize, lanes: &[Vec<Answer<'_>>]) -> u64 {
-    let mut times: u64 = 0;
-    for answers in lanes {
-        times = times.wrapping_add(times_in(word, index, answers));
-    }
-    times
-}
-
-/// How many of them in one lane.
-fn times_in(word: &str, index: usize, answers: &[Answer<'_>]) -> u64 {
+fn times(word: &str, index: usize, answers: &[Answer<'_>]) -> u64 {
     let mut times: u64 = 0;
     for answer in answers {
         if answer.line.index == index && (answer.how == word || answer.note == word) {

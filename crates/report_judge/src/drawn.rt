@@ -37,9 +37,15 @@ pub fn lane_text(
     let mut text = String::new(alloc);
     for before in 0..lines {
         let index = draw_below(&mut state, indexes);
-        let key = key_text(alloc, index, draw_below(&mut state, keys))?;
-        let line = before.wrapping_add(1);
-        add_line(&mut text, &mut state, lane, line, index, key.as_str())?;
+        let key = draw_below(&mut state, keys);
+        add_line(
+            &mut text,
+            &mut state,
+            lane,
+            before.wrapping_add(1),
+            index,
+            key,
+        )?;
     }
     Ok(text)
 }
@@ -51,16 +57,40 @@ fn add_line(
     lane: u64,
     line: u64,
     index: u64,
-    key: &str,
+    key: u64,
 ) -> Result<(), AllocError> {
     match draw_below(state, 40) {
         0 => text.push('\n'),
         1 => text.push_str("# says nothing\n"),
-        2..10 => write!(text, "get t{index} {key}\n"),
         10..16 => add_seek(text, state, index, key),
-        16..25 => write!(text, "put t{index} {key} v{lane}-{line}\n"),
-        25..30 => write!(text, "set t{index} {key} w{line}-{lane}-{line}\n"),
-        _ => write!(text, "del t{index} {key}\n"),
+        drawn => add_act(text, drawn, lane, line, index, key),
+    }
+}
+
+/// Adds a line of another act, which was drawn.
+fn add_act(
+    text: &mut String,
+    drawn: u64,
+    lane: u64,
+    line: u64,
+    index: u64,
+    key: u64,
+) -> Result<(), AllocError> {
+    add_start(text, verb_word(drawn), "", index, key, u64::MAX)?;
+    match drawn {
+        10..25 => write!(text, " v{lane}-{line}\n"),
+        25..30 => write!(text, " w{line}-{lane}-{line}\n"),
+        _ => text.push('\n'),
+    }
+}
+
+/// The verb that was drawn.
+fn verb_word(drawn: u64) -> &'static str {
+    match drawn {
+        0..10 => "get",
+        10..25 => "put",
+        25..30 => "set",
+        _ => "del",
     }
 }
 
@@ -77,8 +107,8 @@ pub fn seek_lane_text(
     let mut text = String::new(alloc);
     for _ in 0..lines {
         let index = draw_below(&mut state, 4);
-        let key = key_text(alloc, index, draw_below(&mut state, keys))?;
-        add_seek_or_change(&mut text, &mut state, index, key.as_str(), value)?;
+        let key = draw_below(&mut state, keys);
+        add_seek_or_change(&mut text, &mut state, index, key, value)?;
     }
     Ok(text)
 }
@@ -88,61 +118,60 @@ fn add_seek_or_change(
     text: &mut String,
     state: &mut u64,
     index: u64,
-    key: &str,
+    key: u64,
     value: &str,
 ) -> Result<(), AllocError> {
     match draw_below(state, 4) {
-        0 => write!(text, "put t{index} {key} {value}\n"),
-        1 => write!(text, "del t{index} {key}\n"),
+        0 => {
+            add_start(text, "put", "", index, key, u64::MAX)?;
+            write!(text, " {value}\n")
+        }
+        1 => {
+            add_start(text, "del", "", index, key, u64::MAX)?;
+            text.push('\n')
+        }
         _ => add_seek(text, state, index, key),
     }
 }
 
 /// Adds a seek by a key, or by its first fields.
-fn add_seek(text: &mut String, state: &mut u64, index: u64, key: &str) -> Result<(), AllocError> {
+fn add_seek(text: &mut String, state: &mut u64, index: u64, key: u64) -> Result<(), AllocError> {
     let mode = mode_word(draw_below(state, 4));
-    let fields = index % 4 + 1;
-    let kept = draw_below(state, fields);
-    let left_out = if kept == 0 {
-        0
-    } else {
-        fields.wrapping_sub(kept)
-    };
-    write!(
-        text,
-        "seek t{index} {mode} {}\n",
-        without_last(key, left_out)
-    )
+    let fields = draw_below(state, index % 4 + 1);
+    add_start(text, "seek", mode, index, key, fields.wrapping_sub(1))?;
+    text.push('\n')
 }
 
-/// A mode's word.
+/// A mode's word, and the space behind it.
 fn mode_word(number: u64) -> &'static str {
     match number {
-        0 => "ge",
-        1 => "g",
-        2 => "le",
-        _ => "l",
+        0 => "ge ",
+        1 => "g ",
+        2 => "le ",
+        _ => "l ",
     }
 }
 
-/// A key of the index by its number. Keys of two fields and more share their beginnings.
-fn key_text(alloc: Global, index: u64, key: u64) -> Result<String, AllocError> {
-    let mut text = String::new(alloc);
-    for _ in 0..index % 4 {
-        write!(text, "{},", key / 4)?;
+/// Adds a verb, the index, a mode, and the key of the index by its number, or no more of its fields
+/// than one and so many. Keys of two fields and more share their beginnings.
+fn add_start(
+    text: &mut String,
+    verb: &str,
+    mode: &str,
+    index: u64,
+    key: u64,
+    more: u64,
+) -> Result<(), AllocError> {
+    write!(text, "{verb} t{index} {mode}")?;
+    let group = key / 4;
+    for _ in 0..more.min(index % 4) {
+        write!(text, "{group},")?;
     }
-    write!(text, "k{key}")?;
-    Ok(text)
-}
-
-/// A key without so many of its last fields.
-fn without_last(key: &str, fields: u64) -> &str {
-    let mut left = key;
-    for _ in 0..fields {
-        let (before, _) = left.rsplit_once(',').unwrap_or((left, ""));
-        left = before;
+    if more < index % 4 {
+        write!(text, "{group}")
+    } else {
+        write!(text, "k{key}")
     }
-    left
 }
 
 /// Lanes 1 to this number.

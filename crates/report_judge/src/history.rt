@@ -42,15 +42,18 @@ fn count_before(list: &[Change<'_>], tuple: &str, point: u64) -> usize {
 
 /// The last change of the key among the first so many of the list.
 pub(crate) fn change_at<'a>(list: &[Change<'a>], key: &str, point: u64) -> Option<Change<'a>> {
-    let place = count_before(list, key, point).checked_sub(1)?;
-    let last = list.get(place)?;
-    (last.key == key).then_some(*last)
+    match list.get(count_before(list, key, point).wrapping_sub(1)) {
+        Some(last) if last.key == key => Some(*last),
+        _ => None,
+    }
 }
 
 /// The value of the key after so many changes of the list, if the key is there.
 pub(crate) fn value_at<'a>(list: &[Change<'a>], key: &str, point: u64) -> Option<&'a str> {
-    let change = change_at(list, key, point)?;
-    change.act.writes_row().then_some(change.value)
+    match change_at(list, key, point) {
+        Some(change) if change.act.writes_row() => Some(change.value),
+        _ => None,
+    }
 }
 
 /// The row that a seek finds after so many changes of the list, if it finds one.
@@ -91,7 +94,9 @@ fn last_row<'a>(list: &[Change<'a>], end: usize, point: u64) -> Option<(&'a str,
 /// The row of the key of the change at this place, if that is the last one of the key among the
 /// first so many of the list, and writes it.
 fn row_left<'a>(list: &[Change<'a>], place: usize, point: u64) -> Option<(&'a str, &'a str)> {
-    let change = list.get(place)?;
+    let Some(change) = list.get(place) else {
+        return None;
+    };
     let is_last = match list.get(place.wrapping_add(1)) {
         Some(next) => next.point > point || next.key != change.key,
         None => true,

@@ -1,10 +1,10 @@
 //! A naive reading of what a legal report is. It takes texts and knows nothing of the program: no
 //! parser, no map and no printing of its crates. Keys and values have to be plain, without escapes.
 
-use crate::asked::{read_lanes, read_schema};
+use crate::asked::{Index, Line, read_lanes, read_schema};
 use crate::changes::Change;
 use crate::history::replay;
-use crate::told::{Report, read_report};
+use crate::told::Report;
 use crate::verdict::{Evidence, check_changes};
 use std::alloc::{AllocError, AllocFailed, Global};
 use std::str;
@@ -72,46 +72,70 @@ pub fn judge_within<'a>(
     };
     let indexes = read_schema(alloc, schema)?;
     let asked = read_lanes(alloc, &indexes, lanes)?;
-    let mut report = read_report(alloc, &indexes, &asked, text)?;
-    check_report(alloc, limits, &mut report)
+    judge_asked(alloc, limits, &indexes, &asked, text)
 }
 
-fn check_report(alloc: Global, limits: Limits, report: &mut Report<'_>) -> Result<(), Lie> {
-    check_changes(&report.lanes, &report.lists)?;
+/// The same where this is asked.
+fn judge_asked<'a>(
+    alloc: Global,
+    limits: Limits,
+    indexes: &[Index<'_>],
+    asked: &[Vec<Line<'a>>],
+    text: &'a str,
+) -> Result<(), Lie> {
+    let mut report = Report {
+        answers: Vec::new(alloc),
+        lists: Vec::new(alloc),
+    };
+    report.read(alloc, indexes, asked, text)?;
+    check_report(alloc, limits, asked.len(), &mut report)
+}
+
+fn check_report(
+    alloc: Global,
+    limits: Limits,
+    lanes: usize,
+    report: &mut Report<'_>,
+) -> Result<(), Lie> {
+    check_changes(&report.answers, &report.lists)?;
     replay_all(&mut report.lists)?;
-    check_lanes(alloc, limits, report)
+    check_answers(alloc, limits, lanes, report)
 }
 
 /// Replays the list of each index.
 fn replay_all(lists: &mut Vec<Vec<Change<'_>>>) -> Result<(), Lie> {
-    for (index, list) in lists.iter_mut().enumerate() {
+    let mut index: usize = 0;
+    for list in lists.iter_mut() {
         replay(index, list)?;
+        index = index.wrapping_add(1);
     }
     Ok(())
 }
 
 /// Each answer is one that its lane may be told where the lists are replayed.
-fn check_lanes(alloc: Global, limits: Limits, report: &Report<'_>) -> Result<(), Lie> {
+fn check_answers(
+    alloc: Global,
+    limits: Limits,
+    lanes: usize,
+    report: &Report<'_>,
+) -> Result<(), Lie> {
     let evidence = Evidence {
-        pages_are_few: limits.pages <= pages_taken(report),
+        pages_are_few: limits.pages <= pages_taken(lanes, &report.lists),
         most_changes: limits.changes,
         lists: &report.lists,
     };
-    for (place, answers) in report.lanes.iter().enumerate() {
-        evidence.check_lane(alloc, place.wrapping_add(1), answers)?;
-    }
-    Ok(())
+    let mut points = vec![in alloc; (0usize, 0u64); report.lists.len()]?;
+    evidence.check_answers(&mut points, &report.answers)
 }
 
 /// The most pages that a run takes: two for each index and each row that it writes, and one for
 /// each lane.
-fn pages_taken(report: &Report<'_>) -> u64 {
-    let indexes = report.lists.len() as u64;
-    let lanes = report.lanes.len() as u64;
+fn pages_taken(lanes: usize, lists: &[Vec<Change<'_>>]) -> u64 {
+    let indexes = lists.len() as u64;
     indexes
-        .wrapping_add(rows_written(&report.lists))
+        .wrapping_add(rows_written(lists))
         .wrapping_mul(2)
-        .wrapping_add(lanes)
+        .wrapping_add(lanes as u64)
 }
 
 /// How many rows the lists write: their puts and sets.

@@ -5,26 +5,21 @@ use crate::asked::Line;
 use crate::changes::Change;
 use crate::history::{change_at, row_at, value_at};
 use crate::judging::Lie;
-use std::alloc::Global;
+use crate::words::first_word;
 
 /// Each change is what its line asks, and that line is told `ok` at the change's number.
-pub(crate) fn check_changes(
-    lanes: &[Vec<Answer<'_>>],
-    lists: &[Vec<Change<'_>>],
-) -> Result<(), Lie> {
-    for (index, list) in lists.iter().enumerate() {
-        check_list(lanes, index, list)?;
+pub(crate) fn check_changes(answers: &[Answer<'_>], lists: &[Vec<Change<'_>>]) -> Result<(), Lie> {
+    let mut index: usize = 0;
+    for list in lists {
+        check_list(answers, index, list)?;
+        index = index.wrapping_add(1);
     }
     Ok(())
 }
 
-fn check_list(lanes: &[Vec<Answer<'_>>], index: usize, list: &[Change<'_>]) -> Result<(), Lie> {
+fn check_list(answers: &[Answer<'_>], index: usize, list: &[Change<'_>]) -> Result<(), Lie> {
     for change in list {
-        let is_made = match answer_to(lanes, change.lane, change.line) {
-            Some(answer) => makes(&answer, index, change),
-            None => false,
-        };
-        if !is_made {
+        if !is_asked(answers, index, change) {
             return Err(Lie::Unasked {
                 index,
                 change: change.point,
@@ -34,17 +29,24 @@ fn check_list(lanes: &[Vec<Answer<'_>>], index: usize, list: &[Change<'_>]) -> R
     Ok(())
 }
 
-/// The answer of a lane to the line of this number.
-fn answer_to<'a>(lanes: &[Vec<Answer<'a>>], lane: u64, line: u64) -> Option<Answer<'a>> {
-    let place = lane.checked_sub(1)?;
-    let answers = lanes.get(usize::try_from(place).ok()?)?;
-    let found = answers.binary_search_by_key(&line, |answer| answer.line.number);
-    answers.get(found.ok()?).copied()
+/// Whether an answer, which stand by lane and line, is that to a change.
+fn is_asked(answers: &[Answer<'_>], index: usize, change: &Change<'_>) -> bool {
+    let lane = change.lane;
+    let place = answers.partition_point(|answer| {
+        let at = answer.lane as u64;
+        at < lane || (at == lane && answer.line.number < change.line)
+    });
+    match answers.get(place) {
+        Some(answer) => makes(answer, index, change),
+        None => false,
+    }
 }
 
 fn makes(answer: &Answer<'_>, index: usize, change: &Change<'_>) -> bool {
     let line = &answer.line;
-    answer.told == "ok"
+    answer.lane as u64 == change.lane
+        && line.number == change.line
+        && answer.told == "ok"
         && answer.point == Some(change.point)
         && line.index == index
         && line.act == change.act
@@ -52,7 +54,7 @@ fn makes(answer: &Answer<'_>, index: usize, change: &Change<'_>) -> bool {
         && line.value == change.value
 }
 
-/// What a lane's answers are judged by: the replayed lists, the most changes that one may have, and
+/// What answers are judged by: the replayed lists, the most changes that one may have, and
 /// whether the pages are few.
 #[derive(Clone, Copy)]
 pub(crate) struct Evidence<'r, 'a> {
@@ -62,20 +64,19 @@ pub(crate) struct Evidence<'r, 'a> {
 }
 
 impl<'r, 'a> Evidence<'r, 'a> {
-    /// Checks the answers of the lane of this number in their order.
-    pub(crate) fn check_lane(
+    /// Checks the answers in their order. Each index has the lane of its last answer, and the last
+    /// point.
+    pub(crate) fn check_answers(
         &self,
-        alloc: Global,
-        lane: usize,
+        points: &mut [(usize, u64)],
         answers: &[Answer<'_>],
     ) -> Result<(), Lie> {
-        let mut points = vec![in alloc; 0u64; self.lists.len()]?;
         for answer in answers {
-            let line = answer.line.number;
-            if !rises(&mut points, answer) {
+            let (lane, line) = (answer.lane, answer.line.number);
+            if !rises(points, answer) {
                 return Err(Lie::Back { lane, line });
             }
-            if !self.is_true(lane, answer) {
+            if !self.is_true(answer) {
                 return Err(Lie::Wrong { lane, line });
             }
         }
@@ -84,27 +85,21 @@ impl<'r, 'a> Evidence<'r, 'a> {
 
     /// Whether the answer is one to such a line, and that of the map at its point. One without a
     /// point may come of a put or a set alone, and only where the pages are few.
-    fn is_true(&self, lane: usize, answer: &Answer<'_>) -> bool {
+    fn is_true(&self, answer: &Answer<'_>) -> bool {
         match (answer.point, self.lists.get(answer.line.index)) {
-            (Some(point), Some(list)) => self.is_true_at(lane, answer, list, point),
+            (Some(point), Some(list)) => self.is_true_at(answer, list, point),
             (None, Some(_)) => self.pages_are_few && answer.line.act.writes_row(),
             (_, None) => false,
         }
     }
 
     /// The same of an answer with this point, by the list of its index.
-    fn is_true_at(
-        &self,
-        lane: usize,
-        answer: &Answer<'_>,
-        list: &[Change<'_>],
-        point: u64,
-    ) -> bool {
+    fn is_true_at(&self, answer: &Answer<'_>, list: &[Change<'_>], point: u64) -> bool {
         let changes = list.len() as u64;
         let line = &answer.line;
         match answer.told {
             _ if point > changes => false,
-            "ok" => is_listed(lane as u64, line, list, point),
+            "ok" => is_listed(answer.lane as u64, line, list, point),
             "log-full" => {
                 let is_there = value_at(list, line.key, point).is_some();
                 point == changes && point == self.most_changes && line.act.is_allowed(is_there)
@@ -128,7 +123,7 @@ fn is_listed(lane: u64, line: &Line<'_>, list: &[Change<'_>], point: u64) -> boo
 fn row_asked<'a>(line: &Line<'a>, list: &[Change<'a>], point: u64) -> Option<(&'a str, &'a str)> {
     match line.act {
         Act::Seek(reach) => row_at(list, reach, line.key, point),
-        _ => Some((line.key, value_at(list, line.key, point)?)),
+        _ => Some(line.key).zip(value_at(list, line.key, point)),
     }
 }
 
@@ -139,30 +134,36 @@ fn shows(told: &str, act: Act, row: Option<(&str, &str)>) -> bool {
     };
     match act {
         Act::Put => told == "duplicate",
-        Act::Get => told.strip_prefix("found ") == Some(value),
+        Act::Get => is_value(told, value),
         Act::Seek(_) => is_row(told, key, value),
         Act::Set | Act::Del => false,
     }
 }
 
+/// Whether a value is told that is found by a get.
+fn is_value(told: &str, value: &str) -> bool {
+    let (word, found) = first_word(told);
+    word == "found" && found == value
+}
+
 /// Whether a row is told that is found by a seek.
 fn is_row(told: &str, key: &str, value: &str) -> bool {
-    match told.strip_prefix("found ") {
-        Some(row) => row.split_once(' ') == Some((key, value)),
-        None => false,
-    }
+    let (word, row) = first_word(told);
+    let (first, second) = first_word(row);
+    word == "found" && first == key && second == value
 }
 
 /// Takes the point of an answer, and says whether it may stand after those of the lane before it.
 /// An answer without a point may stand anywhere.
-fn rises(points: &mut [u64], answer: &Answer<'_>) -> bool {
+fn rises(points: &mut [(usize, u64)], answer: &Answer<'_>) -> bool {
     let Some(last) = points.get_mut(answer.line.index) else {
         return false;
     };
     let Some(point) = answer.point else {
         return true;
     };
-    let before = *last;
-    *last = point;
+    let (lane, told) = *last;
+    let before = if lane == answer.lane { told } else { 0 };
+    *last = (answer.lane, point);
     before < point || (before == point && answer.told != "ok")
 }

@@ -1,6 +1,31 @@
 //! Texts taken apart: lines, words and numbers.
 use crate::judging::Lie;
 
+/// The first word of a text, and what stands behind the space after it, or nothing where there is none.
+pub(crate) fn first_word(text: &str) -> (&str, &str) {
+    text.split_once(' ').unwrap_or((text, ""))
+}
+
+/// What stands before the space in front of the last word, or nothing where there is none, and that word.
+pub(crate) fn last_word(text: &str) -> (&str, &str) {
+    text.rsplit_once(' ').unwrap_or(("", text))
+}
+
+/// How many words spaces make of a text.
+pub(crate) fn count_words(text: &str) -> usize {
+    text.split(' ').count()
+}
+
+/// The name and the number of a line that has this word, a name and a number.
+pub(crate) fn named_number<'a>(word: &str, line: &'a str) -> Option<(&'a str, u64)> {
+    let (first, rest) = first_word(line);
+    let (name, number) = first_word(rest);
+    if first != word {
+        return None;
+    }
+    Some(name).zip(number_of(number))
+}
+
 /// The number that a word spells in its one way.
 pub(crate) fn number_of(word: &str) -> Option<u64> {
     if word.starts_with('+') || (word.len() > 1 && word.starts_with('0')) {
@@ -19,11 +44,12 @@ pub(crate) fn is_among(word: &str, words: &[&str]) -> bool {
     false
 }
 
-/// What is left of a report, and how many of its lines were taken.
+/// What is left of a report, how many of its lines were taken, and the first lie that was found.
 #[derive(Drop)]
 pub(crate) struct Reader<'a> {
     rest: &'a str,
     line: u64,
+    judged: Result<(), Lie>,
 }
 
 impl<'a> Reader<'a> {
@@ -31,12 +57,13 @@ impl<'a> Reader<'a> {
         Reader {
             rest: text,
             line: 0,
+            judged: Ok(()),
         }
     }
 
-    /// That the line taken last isn't one that may stand there.
-    pub(crate) fn lie(&self) -> Lie {
-        Lie::Form { line: self.line }
+    /// The first lie, if there was one.
+    pub(crate) fn judged(&self) -> Result<(), Lie> {
+        self.judged
     }
 
     /// The next line. Where none is left that ends, it is empty, as none of a report is.
@@ -48,18 +75,53 @@ impl<'a> Reader<'a> {
     }
 
     /// Takes the next line, which is this one.
-    pub(crate) fn expect_line(&mut self, wanted: &str) -> Result<(), Lie> {
+    pub(crate) fn expect_line(&mut self, wanted: &str) {
         let line = self.take_line();
-        self.expect(line == wanted)
+        self.expect(line == wanted);
     }
 
     /// That nothing is left.
-    pub(crate) fn expect_end(&self) -> Result<(), Lie> {
-        self.expect(self.rest.is_empty())
+    pub(crate) fn expect_end(&mut self) {
+        self.expect(self.rest.is_empty());
     }
 
     /// That the line taken last may stand there.
-    pub(crate) fn expect(&self, may_stand: bool) -> Result<(), Lie> {
-        if may_stand { Ok(()) } else { Err(self.lie()) }
+    pub(crate) fn expect(&mut self, may_stand: bool) {
+        if !may_stand {
+            self.tell(Lie::Form { line: self.line });
+        }
     }
+
+    /// Tells a lie. Those behind the first don't count.
+    pub(crate) fn tell(&mut self, lie: Lie) {
+        if self.judged.is_ok() {
+            self.judged = Err(lie);
+        }
+    }
+
+    /// Adds what the line taken last says, which it does where it may stand there.
+    pub(crate) fn add<T: Drop>(&mut self, list: &mut Vec<T>, said: Option<T>) {
+        add(&mut self.judged, list, said, Lie::Form { line: self.line });
+    }
+}
+
+/// Adds what is said to a list, or tells that it isn't said, where no lie was told before.
+pub(crate) fn add<T: Drop>(
+    judged: &mut Result<(), Lie>,
+    list: &mut Vec<T>,
+    said: Option<T>,
+    lie: Lie,
+) {
+    let added = match said {
+        Some(item) => add_item(list, item),
+        None => Err(lie),
+    };
+    if judged.is_ok() {
+        *judged = added;
+    }
+}
+
+fn add_item<T: Drop>(list: &mut Vec<T>, item: T) -> Result<(), Lie> {
+    list.push(item)?;
+    Ok(())
 }
