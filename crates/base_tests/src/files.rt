@@ -34,50 +34,70 @@ fn end_by(flaw: Flaw) -> u8 {
     }
 }
 
-/// The lane over those two indexes ends so.
-pub(crate) fn lane_ends<R: AllocGlobal + Abort>(rt: &R, lane: &[u8], end: u8, at: u32) -> bool {
-    assert!(rt; lane.len() <= MAX_FILE_BYTES);
-    let schema = read_schema(rt.alloc(), SCHEMA).expect(rt, "a schema");
-    is(read_lane(rt.alloc(), lane, &schema).err(), end, at)
+/// The lines of a lane over this schema, or why it isn't read.
+fn read<R: AllocGlobal + Abort>(
+    rt: &R,
+    schema: &[u8],
+    lane: &[u8],
+) -> Result<Vec<Line>, ScriptError> {
+    assert!(rt; schema.len() <= MAX_FILE_BYTES && lane.len() <= MAX_FILE_BYTES);
+    let schema = read_schema(rt.alloc(), schema).expect(rt, "a schema");
+    read_lane(rt.alloc(), lane, &schema)
 }
 
-/// The schema ends so.
-pub(crate) fn schema_ends<R: AllocGlobal + Abort>(rt: &R, schema: &[u8], end: u8, at: u32) -> bool {
+/// Why a schema isn't read.
+fn schema_error<R: AllocGlobal + Abort>(rt: &R, schema: &[u8]) -> Option<ScriptError> {
     assert!(rt; schema.len() <= MAX_FILE_BYTES);
-    is(read_schema(rt.alloc(), schema).err(), end, at)
+    read_schema(rt.alloc(), schema).err()
+}
+
+/// The file, a lane over those two indexes or a schema, ends so.
+pub(crate) fn ends<R: AllocGlobal + Abort>(
+    rt: &R,
+    is_lane: bool,
+    file: &[u8],
+    end: u8,
+    at: u32,
+) -> bool {
+    let error = if is_lane {
+        read(rt, SCHEMA, file).err()
+    } else {
+        schema_error(rt, file)
+    };
+    is(error, end, at)
 }
 
 /// The lines of a lane over this schema.
 pub(crate) fn lines_of<R: AllocGlobal + Abort>(rt: &R, schema: &[u8], lane: &[u8]) -> Vec<Line> {
-    assert!(rt; schema.len() <= MAX_FILE_BYTES && lane.len() <= MAX_FILE_BYTES);
-    let schema = read_schema(rt.alloc(), schema).expect(rt, "a schema");
-    read_lane(rt.alloc(), lane, &schema).expect(rt, "a lane")
+    read(rt, schema, lane).expect(rt, "a lane")
 }
 
-/// The lane over those two indexes has one line, of this number, which asks the second of them: a
-/// set, or a seek in this mode, by these fields.
-pub(crate) fn asks<R: AllocGlobal + Abort>(
-    rt: &R,
-    lane: &[u8],
-    number: u32,
-    mode: Option<Mode>,
-    parts: &[&[u8]],
-    bytes: &[u8],
-) -> bool {
-    let lines = lines_of(rt, SCHEMA, lane);
-    match lines.as_slice() {
-        [only] => only.line == number && is_asked(&only.op, mode, parts, bytes),
+/// A lane over those two indexes that has one line, the line's number, the mode of a seek, the
+/// fields, and the value of a set.
+pub(crate) type Asking = (
+    &'static [u8],
+    u32,
+    Option<Mode>,
+    &'static [&'static [u8]],
+    &'static [u8],
+);
+
+/// The lane's line asks that of the second index.
+pub(crate) fn asks<R: AllocGlobal + Abort>(rt: &R, row: &Asking) -> bool {
+    let (lane, number, mode, parts, bytes) = row;
+    match lines_of(rt, SCHEMA, lane).as_slice() {
+        [only] => only.line == *number && is_asked(&only.op, *mode, parts, bytes),
         _ => false,
     }
 }
 
 fn is_asked(op: &Op, wanted: Option<Mode>, parts: &[&[u8]], bytes: &[u8]) -> bool {
-    match (op, wanted) {
-        (Op::Set { index, key, value }, None) => {
-            *index == 1 && has_fields(key, parts) && value.as_bytes() == bytes
+    match op {
+        Op::Set { index, key, value } => {
+            *index == 1 && wanted.is_none() && has_fields(key, parts) && value.as_bytes() == bytes
         }
-        (Op::Seek { index, mode, tuple }, Some(wanted)) => {
-            *index == 1 && *mode == wanted && has_fields(tuple, parts)
+        Op::Seek { index, mode, tuple } => {
+            *index == 1 && wanted == Some(*mode) && has_fields(tuple, parts)
         }
         _ => false,
     }

@@ -1,7 +1,7 @@
 //! A row's life in a map, seeks in all modes, and a scan that is lent.
-use crate::setup::{Ask, MEMORY, key_of, op_of, tuple_of, value_of};
+use crate::setup::{Ask, MEMORY, key_of, line_of, value_of};
 use key_tuple::{Key, Mode, Value};
-use map_history::{Change, Op, OpRef, Reply, RowBuf, answer, apply, make};
+use map_history::{Change, Line, Op, OpRef, Reply, RowBuf, answer, apply, make};
 use std::collections::BTreeMap;
 use std::process::Abort;
 
@@ -54,42 +54,51 @@ const ROWS: [(&[u8], &[u8], &[u8]); 4] = [
     (b"x", b"2", b"q"),
 ];
 
-fn put_row<R: AllocGlobal + Abort>(
-    rt: &R,
-    map: &mut BTreeMap<Key, Value>,
-    parts: &[&[u8]],
-    bytes: &[u8],
-) {
-    let key = key_of(rt, parts);
-    let value = value_of(rt, bytes);
-    apply(map, &Change::Put { key, value }).expect(rt, MEMORY);
+/// The change that puts a row of these fields and this value.
+fn put_of<R: AllocGlobal + Abort>(rt: &R, parts: &[&[u8]], bytes: &[u8]) -> Change {
+    Change::Put {
+        key: key_of(rt, parts),
+        value: value_of(rt, bytes),
+    }
 }
 
 /// A map of those rows.
 fn four_rows<R: AllocGlobal + Abort>(rt: &R) -> BTreeMap<Key, Value> {
     let mut map = BTreeMap::new(rt.alloc());
     for (second, third, bytes) in ROWS.iter() {
-        put_row(rt, &mut map, &[b"a", second, third], bytes);
+        let put = put_of(rt, &[b"a", second, third], bytes);
+        apply(&mut map, &put).expect(rt, MEMORY);
     }
     map
 }
 
-/// Asks a map, and makes the change that it allows.
-fn reply_of<R: AllocGlobal + Abort>(
+/// Asks a map, and makes the change that it allows: it replies so, and this value is left.
+fn replies_to<R: Abort>(
     rt: &R,
     map: &mut BTreeMap<Key, Value>,
     out: &mut RowBuf,
-    ask: Ask,
-    parts: &[&[u8]],
-    bytes: &[u8],
-) -> Reply {
-    let op = op_of(rt, ask, parts, bytes);
-    if let Op::Scan { .. } = &op {
+    op: &Op,
+    (want, left): (Reply, &[u8]),
+) -> bool {
+    if let Op::Scan { .. } = op {
         rt.panic("a scan")
     }
-    let reply = answer(map, &op, out);
-    make(map, &op).expect(rt, MEMORY);
-    reply
+    let reply = answer(map, op, out);
+    make(map, op).expect(rt, MEMORY);
+    reply == want && out.value() == left
+}
+
+/// The map replies as the row says.
+fn replies<R: AllocGlobal + Abort>(
+    rt: &R,
+    map: &mut BTreeMap<Key, Value>,
+    out: &mut RowBuf,
+    asked: &Asked,
+) -> bool {
+    let (ask, parts, bytes, want, left) = asked;
+    let lines = line_of(rt, (1, 0), *ask, parts, bytes);
+    let op = &lines.first().expect(rt, "a line").op;
+    replies_to(rt, map, out, op, (*want, left))
 }
 
 /// The map replies as the rows say, one after another.
@@ -99,9 +108,8 @@ fn replies_so<R: AllocGlobal + Abort>(
     asked: &[Asked],
 ) -> bool {
     let mut out = RowBuf::new(rt.alloc()).expect(rt, MEMORY);
-    for (ask, parts, bytes, want, left) in asked {
-        let reply = reply_of(rt, map, &mut out, *ask, parts, bytes);
-        if reply != *want || out.value() != *left {
+    for row in asked {
+        if !replies(rt, map, &mut out, row) {
             return false;
         }
     }
@@ -119,22 +127,16 @@ fn seeks_find_the_rows_at_their_cuts(rt: HostRuntime) {
     assert!(rt; replies_so(&rt, &mut four_rows(&rt), &SEEKS));
 }
 
-/// The index and the limit of a scan that is lent.
-fn lent_scan(op: &Op) -> (u32, u32) {
-    match op.borrow() {
-        OpRef::Scan { index, limit, .. } => (index, limit),
-        _ => (0, 0),
+/// The line is lent as a scan of this index with this limit.
+fn lends_scan(line: &Line, wanted: u32, most: u32) -> bool {
+    match line.op.borrow() {
+        OpRef::Scan { index, limit, .. } => index == wanted && limit == most,
+        _ => false,
     }
 }
 
 #[test]
 fn an_operation_is_lent(rt: HostRuntime) {
-    let scan = Op::Scan {
-        index: 3,
-        from: tuple_of(&rt, &[]),
-        to: None,
-        limit: 9,
-    };
-    let (index, limit) = lent_scan(&scan);
-    assert!(rt; index == 3 && limit == 9);
+    let lines = line_of(&rt, (1, 3), Ask::Scan(9), &[], b"");
+    assert!(rt; lends_scan(lines.first().expect(&rt, "a line"), 3, 9));
 }

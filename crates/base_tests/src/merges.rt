@@ -1,7 +1,7 @@
 //! Worked merges.
-use crate::setup::{MEMORY, key_of};
+use crate::setup::{Ask, MEMORY, add_line};
 use change_log::{LaneChange, LaneLog, merge};
-use map_history::{Line, Op};
+use map_history::Line;
 use std::process::Abort;
 
 /// What a lane did: the number of its line that takes a row out, the index, how far the changes that
@@ -12,9 +12,7 @@ type Made = (u32, u32, u64, u32);
 fn lines_of<R: AllocGlobal + Abort>(rt: &R, lanes: &[Made]) -> Vec<Line> {
     let mut lines = Vec::new(rt.alloc());
     for (line, index, _, _) in lanes {
-        let (line, index, key) = (*line, *index, key_of(rt, &[b"k"]));
-        let op = Op::Del { index, key };
-        lines.push(Line { line, op }).expect(rt, MEMORY);
+        add_line(rt, &mut lines, (*line, *index), Ask::Del, &[b"k"], b"");
     }
     lines
 }
@@ -68,58 +66,76 @@ fn is_at(changes: &[LaneChange<'_>], place: usize, (number, lane, line): (u64, u
 /// of index 1.
 const THREE: [Made; 3] = [(4, 0, 2, 2), (9, 0, 0, 1), (7, 1, 0, 1)];
 
-fn are_by_number(lists: &[Vec<LaneChange<'_>>]) -> bool {
-    let [first, second, third] = lists else {
-        return false;
-    };
+fn are_by_number(first: &[LaneChange<'_>], second: &[LaneChange<'_>]) -> bool {
     first.len() == 3
         && is_at(first, 0, (1, 1, 4))
         && is_at(first, 1, (2, 2, 9))
         && is_at(first, 2, (3, 1, 4))
         && second.len() == 1
         && is_at(second, 0, (3, 3, 7))
-        && third.is_empty()
-}
-
-#[test]
-fn each_index_has_its_changes_by_number(rt: HostRuntime) {
-    let lines = lines_of(&rt, &THREE);
-    let merged = merge(rt.alloc(), &logs_of(&rt, &THREE, &lines), 3).expect(&rt, MEMORY);
-    assert!(rt; are_by_number(&merged));
-}
-
-#[test]
-fn empty_logs_have_no_changes(rt: HostRuntime) {
-    let mut logs = Vec::new(rt.alloc());
-    for room in [0, 5].iter() {
-        let log = LaneLog::reserve(rt.alloc(), *room).expect(&rt, MEMORY);
-        logs.push(log).expect(&rt, MEMORY);
-    }
-    let merged = merge(rt.alloc(), &logs, 1).expect(&rt, MEMORY);
-    assert!(rt; merged.len() == 1 && merged[0].is_empty());
 }
 
 /// Each of 64 lanes made every 64th change.
 const MANY: [Made; 64] = [(1, 0, 64, 15_625); 64];
 
-/// One list has a million changes, which are numbered from 1.
-fn are_counted(lists: &[Vec<LaneChange<'_>>]) -> bool {
-    let [only] = lists else {
-        return false;
-    };
+/// The changes are so many, and are numbered from 1.
+fn are_counted(changes: &[LaneChange<'_>], count: u64) -> bool {
     let mut number: u64 = 0;
-    for change in only {
+    for change in changes {
         number = number.wrapping_add(1);
         if change.number != number {
             return false;
         }
     }
-    number == 1_000_000
+    number == count
+}
+
+/// One list is numbered from 1 to this count, and three lists are those of the three lanes.
+fn are_right(lists: &[Vec<LaneChange<'_>>], count: u64) -> bool {
+    match lists {
+        [only] => are_counted(only, count),
+        [first, second, third] => are_by_number(first, second) && third.is_empty(),
+        _ => false,
+    }
+}
+
+/// The logs' changes are right when they are merged for so many indexes.
+fn are_merged<R: AllocGlobal + Abort>(
+    rt: &R,
+    logs: &[LaneLog<'_>],
+    indexes: usize,
+    count: u64,
+) -> bool {
+    let merged = merge(rt.alloc(), logs, indexes).expect(rt, MEMORY);
+    merged.len() == indexes && are_right(&merged, count)
+}
+
+/// Those of these lanes are.
+fn lanes_are_merged<R: AllocGlobal + Abort>(
+    rt: &R,
+    lanes: &[Made],
+    indexes: usize,
+    count: u64,
+) -> bool {
+    let lines = lines_of(rt, lanes);
+    are_merged(rt, &logs_of(rt, lanes, &lines), indexes, count)
+}
+
+/// Logs without changes, of which one has room for five.
+fn empty_logs<R: AllocGlobal + Abort>(rt: &R) -> Vec<LaneLog<'static>> {
+    let mut logs = Vec::new(rt.alloc());
+    for room in [0, 5].iter() {
+        let log = LaneLog::reserve(rt.alloc(), *room).expect(rt, MEMORY);
+        logs.push(log).expect(rt, MEMORY);
+    }
+    logs
 }
 
 #[test]
-fn a_million_changes_are_merged(rt: HostRuntime) {
-    let lines = lines_of(&rt, &MANY);
-    let merged = merge(rt.alloc(), &logs_of(&rt, &MANY, &lines), 1).expect(&rt, MEMORY);
-    assert!(rt; are_counted(&merged));
+fn changes_are_merged(rt: HostRuntime) {
+    assert!(rt;
+        lanes_are_merged(&rt, &THREE, 3, 4)
+            && lanes_are_merged(&rt, &MANY, 1, 1_000_000)
+            && are_merged(&rt, &empty_logs(&rt), 1, 0)
+    );
 }

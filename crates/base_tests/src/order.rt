@@ -1,6 +1,6 @@
 //! How keys and tuples stand to one another.
 use crate::setup::{key_of, tuple_of};
-use key_tuple::{Blank, Fields, Key, compare, compare_whole, matches};
+use key_tuple::{Blank, Fields, Key, Tuple, compare, compare_whole, matches};
 use std::cmp::Ordering;
 use std::process::Abort;
 
@@ -15,7 +15,14 @@ const ASCENDING: [&[&[u8]]; 6] = [
 ];
 
 /// A tuple, a key, how the tuple stands to the key's first fields, and how far they agree.
-const AGREED: [(&[&[u8]], &[&[u8]], Ordering, (u8, u16)); 8] = [
+type Agreed = (
+    &'static [&'static [u8]],
+    &'static [&'static [u8]],
+    Ordering,
+    (u8, u16),
+);
+
+const AGREED: [Agreed; 8] = [
     (&[], &[b"a", b"b"], Ordering::Equal, (0, 0)),
     (&[b"a"], &[b"a", b"b"], Ordering::Equal, (1, 0)),
     (&[b"a", b"b"], &[b"a", b"b"], Ordering::Equal, (2, 0)),
@@ -36,24 +43,28 @@ fn a_shorter_field_comes_first(rt: HostRuntime) {
 
 #[test]
 fn tuples_and_keys_agree_so_far(rt: HostRuntime) {
-    for (tuple, key, order, agreed) in AGREED.iter() {
-        assert!(rt; agree(&rt, tuple, key, *order, *agreed));
+    for row in AGREED.iter() {
+        assert!(rt; agree(&rt, row));
     }
 }
 
 // A tuple stands to a key's first fields so, and they agree so far.
-fn agree<R: AllocGlobal + Abort>(
+fn agree<R: AllocGlobal + Abort>(rt: &R, row: &Agreed) -> bool {
+    let (tuple, key, order, agreed) = row;
+    let tuple = tuple_of(rt, tuple);
+    agree_so(rt, &tuple, &tuple_of(rt, key), *order, *agreed)
+}
+
+fn agree_so<R: Abort>(
     rt: &R,
-    tuple: &[&[u8]],
-    key: &[&[u8]],
+    tuple: &Tuple,
+    key: &Tuple,
     order: Ordering,
     (fields, bytes): (u8, u16),
 ) -> bool {
-    let tuple = tuple_of(rt, tuple);
-    let key = tuple_of(rt, key);
     assert!(rt; tuple.count() <= key.count());
-    let agreed = matches(&tuple, &key);
-    compare(&tuple, &key) == order && agreed.fields == fields && agreed.bytes == bytes
+    let agreed = matches(tuple, key);
+    compare(tuple, key) == order && agreed.fields == fields && agreed.bytes == bytes
 }
 
 // A key begins with no fields, and comes after one empty field.

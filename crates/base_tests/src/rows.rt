@@ -20,11 +20,14 @@ fn a_buffer_takes_the_largest_row_and_a_smaller_one(rt: HostRuntime) {
     );
 }
 
+fn add_row<R: AllocGlobal + Abort>(rt: &R, rows: &mut Rows, parts: &[&[u8]], value: &[u8]) {
+    rows.push(&key_of(rt, parts), value).expect(rt, MEMORY);
+}
+
 fn two_rows<R: AllocGlobal + Abort>(rt: &R) -> Rows {
     let mut rows = Rows::new(rt.alloc());
-    rows.push(&key_of(rt, &[b"a", b""]), b"one")
-        .expect(rt, MEMORY);
-    rows.push(&key_of(rt, &[b"b"]), b"").expect(rt, MEMORY);
+    add_row(rt, &mut rows, &[b"a", b""], b"one");
+    add_row(rt, &mut rows, &[b"b"], b"");
     rows
 }
 
@@ -47,13 +50,17 @@ fn ends_with(rows: &Rows, count: usize, parts: &[&[u8]], value: &[u8]) -> bool {
     has_fields(&row, parts) && row.value() == value
 }
 
+/// The two rows are there, then the first of them, and then none.
+fn are_cut(rows: &mut Rows) -> bool {
+    rows.cut(9);
+    let are_two = ends_with(rows, 2, &[b"b"], b"");
+    rows.cut(1);
+    let is_one = ends_with(rows, 1, &[b"a", b""], b"one");
+    rows.cut(0);
+    are_two && is_one && rows.count() == 0
+}
+
 #[test]
 fn rows_are_kept_read_and_cut(rt: HostRuntime) {
-    let mut rows = copy_of(&rt, &two_rows(&rt));
-    rows.cut(9);
-    assert!(rt; ends_with(&rows, 2, &[b"b"], b""));
-    rows.cut(1);
-    assert!(rt; ends_with(&rows, 1, &[b"a", b""], b"one"));
-    rows.cut(0);
-    assert!(rt; rows.count() == 0);
+    assert!(rt; are_cut(&mut copy_of(&rt, &two_rows(&rt))));
 }

@@ -1,5 +1,5 @@
 //! The most indexes, the longest keys and values, and escapes.
-use crate::files::{BAD, LONG, READ, asks, lane_ends, schema_ends};
+use crate::files::{Asking, BAD, LONG, READ, asks, ends};
 use crate::setup::MEMORY;
 use key_tuple::{MAX_KEY_BYTES, MAX_VALUE_BYTES, Mode};
 use std::process::Abort;
@@ -13,15 +13,21 @@ fn indexes<R: AllocGlobal + Abort>(rt: &R, count: u32) -> String {
     schema
 }
 
+/// A schema of so many indexes ends so.
+fn indexes_end<R: AllocGlobal + Abort>(rt: &R, count: u32, end: u8, at: u32) -> bool {
+    ends(rt, false, indexes(rt, count).as_bytes(), end, at)
+}
+
 #[test]
 fn a_schema_has_64_indexes_at_most(rt: HostRuntime) {
-    assert!(rt; schema_ends(&rt, indexes(&rt, 64).as_bytes(), READ, 0));
-    assert!(rt; schema_ends(&rt, indexes(&rt, 65).as_bytes(), BAD, 65));
+    assert!(rt; indexes_end(&rt, 64, READ, 0) && indexes_end(&rt, 65, BAD, 65));
 }
 
 /// What stands before a key or the last field of a tuple, how many bytes that has, what stands
 /// behind it, how many bytes follow, and how the lane ends.
-const LENGTHS: [(&[u8], usize, &[u8], usize, u8); 11] = [
+type Lengths = (&'static [u8], usize, &'static [u8], usize, u8);
+
+const LENGTHS: [Lengths; 11] = [
     (b"put t ", MAX_KEY_BYTES, b" ", MAX_VALUE_BYTES, READ),
     (b"set t ", MAX_KEY_BYTES, b" ", MAX_VALUE_BYTES, READ),
     (b"put t ", 768, b" ", 1, LONG),
@@ -42,18 +48,24 @@ fn add<R: Abort>(rt: &R, line: &mut Vec<u8>, bytes: &[u8], byte: u8, count: usiz
     line.resize(whole, byte).expect(rt, MEMORY);
 }
 
+/// The lane ends as the row says.
+fn ends_so<R: AllocGlobal + Abort>(rt: &R, row: &Lengths) -> bool {
+    let (before, key, between, value, end) = row;
+    let mut line = Vec::new(rt.alloc());
+    add(rt, &mut line, before, b'k', *key);
+    add(rt, &mut line, between, b'v', *value);
+    ends(rt, true, &line, *end, 1)
+}
+
 #[test]
 fn keys_values_and_tuples_have_their_limits(rt: HostRuntime) {
-    for (before, key, between, value, end) in LENGTHS.iter() {
-        let mut line = Vec::new(rt.alloc());
-        add(&rt, &mut line, before, b'k', *key);
-        add(&rt, &mut line, between, b'v', *value);
-        assert!(rt; lane_ends(&rt, &line, *end, 1));
+    for row in LENGTHS.iter() {
+        assert!(rt; ends_so(&rt, row));
     }
 }
 
 /// Lanes of one line, its number, the mode of a seek, the fields, and the value of a set.
-const LINES: [(&[u8], u32, Option<Mode>, &[&[u8]], &[u8]); 5] = [
+const LINES: [Asking; 5] = [
     (b"seek two ge a", 1, Some(Mode::Ge), &[b"a"], b""),
     (b"seek two g %2C", 1, Some(Mode::G), &[b","], b""),
     (b"seek two le ~", 1, Some(Mode::Le), &[b""], b""),
@@ -69,7 +81,7 @@ const LINES: [(&[u8], u32, Option<Mode>, &[&[u8]], &[u8]); 5] = [
 
 #[test]
 fn modes_and_escapes_are_read(rt: HostRuntime) {
-    for (lane, number, mode, parts, bytes) in LINES.iter() {
-        assert!(rt; asks(&rt, lane, *number, *mode, parts, bytes));
+    for row in LINES.iter() {
+        assert!(rt; asks(&rt, row));
     }
 }

@@ -1,6 +1,6 @@
 //! Keys, tuples, values, operations and bytes; where memory lacks or they are refused, a test ends.
 use key_tuple::{Fields, Key, Mode, Tuple, Value};
-use map_history::Op;
+use map_history::{Line, Op};
 use std::process::Abort;
 
 /// What a test says that ends for want of memory.
@@ -31,28 +31,75 @@ pub(crate) enum Ask {
     Set,
     Del,
     Seek(Mode),
+    Scan(u32),
 }
 
-/// The operation that asks this of the index 0, by a key or a tuple of these fields, with a value
-/// of these bytes where it has one.
-pub(crate) fn op_of<R: AllocGlobal + Abort>(rt: &R, ask: Ask, parts: &[&[u8]], bytes: &[u8]) -> Op {
-    if let Ask::Seek(mode) = ask {
-        let (index, tuple) = (0, tuple_of(rt, parts));
-        return Op::Seek { index, mode, tuple };
-    }
-    let (index, key) = (0, key_of(rt, parts));
+/// The operation that asks this of an index, by a key or a tuple of these fields, with a value of
+/// these bytes where it has one. A scan begins there and has no end.
+fn op_of<R: AllocGlobal + Abort>(
+    rt: &R,
+    index: u32,
+    ask: Ask,
+    parts: &[&[u8]],
+    bytes: &[u8],
+) -> Op {
     match ask {
-        Ask::Put => {
-            let value = value_of(rt, bytes);
-            Op::Put { index, key, value }
-        }
-        Ask::Set => {
-            let value = value_of(rt, bytes);
-            Op::Set { index, key, value }
-        }
-        Ask::Del => Op::Del { index, key },
-        _ => Op::Get { index, key },
+        Ask::Get => Op::Get {
+            index,
+            key: key_of(rt, parts),
+        },
+        Ask::Put => Op::Put {
+            index,
+            key: key_of(rt, parts),
+            value: value_of(rt, bytes),
+        },
+        Ask::Set => Op::Set {
+            index,
+            key: key_of(rt, parts),
+            value: value_of(rt, bytes),
+        },
+        Ask::Del => Op::Del {
+            index,
+            key: key_of(rt, parts),
+        },
+        Ask::Seek(mode) => Op::Seek {
+            index,
+            mode,
+            tuple: tuple_of(rt, parts),
+        },
+        Ask::Scan(limit) => Op::Scan {
+            index,
+            from: tuple_of(rt, parts),
+            to: None,
+            limit,
+        },
     }
+}
+
+/// Adds the line of this number that asks this.
+pub(crate) fn add_line<R: AllocGlobal + Abort>(
+    rt: &R,
+    lines: &mut Vec<Line>,
+    (line, index): (u32, u32),
+    ask: Ask,
+    parts: &[&[u8]],
+    bytes: &[u8],
+) {
+    let op = op_of(rt, index, ask, parts, bytes);
+    lines.push(Line { line, op }).expect(rt, MEMORY);
+}
+
+/// That line alone.
+pub(crate) fn line_of<R: AllocGlobal + Abort>(
+    rt: &R,
+    at: (u32, u32),
+    ask: Ask,
+    parts: &[&[u8]],
+    bytes: &[u8],
+) -> Vec<Line> {
+    let mut lines = Vec::new(rt.alloc());
+    add_line(rt, &mut lines, at, ask, parts, bytes);
+    lines
 }
 
 /// These are the fields.
