@@ -4,7 +4,6 @@ ghost use Rattle.std.specs.Prelude.{◌≡◌, ◌<◌, Some, length};
 ghost use Rattle.latch_space.specs.Passes.{view, IsSamePass};
 ghost use Rattle.latch_space.specs.Spaces.{IsPassOf};
 ghost use Rattle.index_page.specs.Page.{PageRows};
-ghost use Rattle.clock_law.specs.ModifyClock.{raised, ClockRises};
 ghost use Rattle.forest_law.specs.State.{image_at};
 ghost use Rattle.buffer_pool.specs.Forests.{IsForest, IsFittedTree};
 ghost use Rattle.buffer_pool.specs.Turning.{PutsPage, UnloadsFrame, loaded_with, MayTurn, TurnsBack};
@@ -60,22 +59,14 @@ pub(crate) fn unload(frame: &mut Frame) -> Stored
     requires { (page : PageRows) × (frame.old.page ≡ Some page) }
     ensures { UnloadsFrame frame.old result frame.new }
 {
+    let _before = frame.clock;
     let Some(page) = frame.page.take() else {
         unreachable!()
     };
     let low = frame.low.take();
     let high = frame.high.take();
-    rise(frame);
-    Stored { page, low, high }
-}
-
-// Raises the clock of a frame that loses its page.
-fn rise(frame: &mut Frame)
-    ensures rises { ClockRises frame.old.clock frame.new.clock }
-    ensures raised { frame.new ≡ record frame.old { clock = raised frame.old.clock } }
-{
-    let _before = frame.clock;
     frame.raise_clock();
+    Stored { page, low, high }
 }
 
 /// The frame gets this page in these bounds, and the figures that a block begins with.
