@@ -20,14 +20,14 @@ use Rattle.buffer_pool.specs.Forests.{IsFittedTree}
 use Rattle.buffer_pool.specs.Frames.{TakesOut}
 use Rattle.buffer_pool.specs.Pools.{TakesPoolOut}
 use Rattle.buffer_pool.specs.Tries.{HoldsPoolAndFrame}
-use Rattle.buffer_pool.specs.Turning.{PutsPage, UnloadsFrame, Clears, MayTurn, TurnsBack, MayFree, FreesFrom}
+use Rattle.buffer_pool.specs.Turning.{PutsPage, UnloadsFrame, ClearsFrame, MayTurn, TurnsBack, MayFree, FreesFrom}
 use Rattle.buffer_pool.proofs.EvictLemmas.{unloaded_had, evicted_named, place_of_page, image_of_page}
 use Rattle.buffer_pool.proofs.HashRestLemmas.{unload_rests}
 use Rattle.buffer_pool.proofs.PutLemmas.{put_place, put_image, puts_keeps, ageless_rests, keeps_then}
 use Rattle.buffer_pool.proofs.TurnLemmas.{frame_is, pool_is, may_turn, turned}
 
 module _ (p p1 p2 : TreePass) (b : ℕ) (frame : Frame) (pool : Pool) (out : TakesOut p b frame p1)
-    (outside : TakesPoolOut p1 pool p2) (g : Frame) (z : Pool) (clears : Clears frame pool b g z)
+    (outside : TakesPoolOut p1 pool p2) (g : Frame) (z : Pool) (clears : ClearsFrame frame pool b g z)
     (fitted : IsFittedTree (view p)) where
   abbrev s : Stored
   s = clears.stored

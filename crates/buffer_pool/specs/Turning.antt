@@ -62,7 +62,7 @@ pub record SetsAside (f : Frame) (x : Pool) (g : Frame) (y : Pool) : Type 0 wher
   pub puts : PutsPage x stored.page.head.number Image (Some stored) y
 
 -- the number of the frame's page is free now, and the block has age 0
-pub record Clears (f : Frame) (x : Pool) (b : ℕ) (g : Frame) (y : Pool) : Type 0 where
+pub record ClearsFrame (f : Frame) (x : Pool) (b : ℕ) (g : Frame) (y : Pool) : Type 0 where
   pub stored : Stored
   pub unloads : UnloadsFrame f stored g
   pub between : Pool

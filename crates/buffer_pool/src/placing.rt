@@ -12,7 +12,7 @@ ghost use Rattle.forest_world.specs.Held.{shape_of_pass};
 ghost use Rattle.buffer_pool.specs.Forests.{IsForest, IsFittedTree};
 ghost use Rattle.buffer_pool.specs.Tries.{KnowsPool, HoldsPoolAndFrame};
 ghost use Rattle.buffer_pool.specs.Turning.{SetsAge, MayRestore, RestoresTo, MayBring, BringsTo};
-ghost use Rattle.buffer_pool.specs.Turning.{MayFree, FreesFrom, HasPlaces, Clears};
+ghost use Rattle.buffer_pool.specs.Turning.{MayFree, FreesFrom, HasPlaces, ClearsFrame};
 
 use crate::ages::{forget_age, touch};
 use crate::hands::frame_out;
@@ -105,7 +105,7 @@ pub(crate) fn drop_page(space: &ForestSpace, pass: &mut ForestPass, block: u32)
 fn clear(frame: &mut Frame, pool: &mut Pool, block: u32)
     requires places { HasPlaces frame.old pool.old }
     requires age { block < length pool.old.ages }
-    ensures { Clears frame.old pool.old block frame.new pool.new }
+    ensures { ClearsFrame frame.old pool.old block frame.new pool.new }
 {
     let stored = unload(frame);
     let number = stored.page.head().number;
