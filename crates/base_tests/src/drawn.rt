@@ -89,37 +89,26 @@ fn answer_lines<R: AllocGlobal + Abort>(
     }
 }
 
-/// What a report begins with.
-fn head<R: AllocGlobal + Abort>(rt: &R) -> Vec<u8> {
+/// The report of a lane.
+fn report_of<R: AllocGlobal + Abort>(rt: &R, lines: &[Line]) -> Vec<u8> {
+    let mut tables = two_tables(rt);
     let mut out = Vec::new(rt.alloc());
     report_head(&mut out).expect(rt, MEMORY);
     lane_head(&mut out, 1).expect(rt, MEMORY);
+    answer_lines(rt, &mut tables, &mut out, lines);
+    add_lists(rt, &mut out, &tables);
     out
 }
 
-/// Appends the changes of each index.
+/// Appends the changes of each index, the statistics of both, and the end.
 fn add_lists<R: Abort>(rt: &R, out: &mut Vec<u8>, tables: &[Table]) {
     for table in tables {
         changes_head(out, table.name, table.count).expect(rt, MEMORY);
         out.extend_from_slice(&table.list).expect(rt, MEMORY);
     }
-}
-
-/// Appends the statistics of both indexes, and the end.
-fn add_end<R: Abort>(rt: &R, out: &mut Vec<u8>) {
     stats(out, "t", &Counts::none()).expect(rt, MEMORY);
     stats(out, "two", &Counts::none()).expect(rt, MEMORY);
     report_end(out).expect(rt, MEMORY);
-}
-
-/// The report of a lane.
-fn report_of<R: AllocGlobal + Abort>(rt: &R, lines: &[Line]) -> Vec<u8> {
-    let mut tables = two_tables(rt);
-    let mut out = head(rt);
-    answer_lines(rt, &mut tables, &mut out, lines);
-    add_lists(rt, &mut out, &tables);
-    add_end(rt, &mut out);
-    out
 }
 
 /// Whether the report of a drawn lane is legal.

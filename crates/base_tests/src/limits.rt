@@ -5,9 +5,7 @@ use std::process::Abort;
 
 /// The lengths of fields, and why there is no such key and no such tuple. No fields are a tuple, and
 /// no key is asked for.
-type Refused = (&'static [usize], Option<KeyError>);
-
-const FIELDS: [Refused; 8] = [
+const FIELDS: [(&[usize], Option<KeyError>); 8] = [
     (&[], None),
     (&[1, 1, 1, 1], None),
     (&[1, 1, 1, 1, 1], Some(KeyError::TooManyFields(5))),
@@ -27,8 +25,9 @@ const VALUES: [(usize, Option<KeyError>); 3] = [
 
 #[test]
 fn too_many_fields_and_bytes_are_refused(rt: HostRuntime) {
-    for row in FIELDS.iter() {
-        assert!(rt; are_refused_so(&rt, row));
+    for (lengths, refusal) in FIELDS.iter() {
+        assert!(rt; is_tuple_refused_so(&rt, lengths, *refusal));
+        assert!(rt; lengths.is_empty() || is_key_refused_so(&rt, lengths, *refusal));
     }
 }
 
@@ -37,12 +36,6 @@ fn too_long_a_value_is_refused(rt: HostRuntime) {
     for (length, refusal) in VALUES.iter() {
         assert!(rt; Value::try_new(zeros(&rt, *length)).err() == *refusal);
     }
-}
-
-fn are_refused_so<R: AllocGlobal + Abort>(rt: &R, row: &Refused) -> bool {
-    let (lengths, refusal) = row;
-    is_tuple_refused_so(rt, lengths, *refusal)
-        && (lengths.is_empty() || is_key_refused_so(rt, lengths, *refusal))
 }
 
 fn is_key_refused_so<R: AllocGlobal + Abort>(

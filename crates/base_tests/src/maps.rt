@@ -62,12 +62,20 @@ fn put_of<R: AllocGlobal + Abort>(rt: &R, parts: &[&[u8]], bytes: &[u8]) -> Chan
     }
 }
 
+fn put_row<R: AllocGlobal + Abort>(
+    rt: &R,
+    map: &mut BTreeMap<Key, Value>,
+    parts: &[&[u8]],
+    bytes: &[u8],
+) {
+    apply(map, &put_of(rt, parts, bytes)).expect(rt, MEMORY);
+}
+
 /// A map of those rows.
 fn four_rows<R: AllocGlobal + Abort>(rt: &R) -> BTreeMap<Key, Value> {
     let mut map = BTreeMap::new(rt.alloc());
     for (second, third, bytes) in ROWS.iter() {
-        let put = put_of(rt, &[b"a", second, third], bytes);
-        apply(&mut map, &put).expect(rt, MEMORY);
+        put_row(rt, &mut map, &[b"a", second, third], bytes);
     }
     map
 }

@@ -4,9 +4,7 @@ use key_tuple::{Key, MAX_POINTER_SIZE, MAX_ROW_SIZE, Value, pointer_size, row_si
 use std::process::Abort;
 
 /// The lengths of a row's fields and of its value, and the sizes of the row and of a pointer.
-type SizesOf = (&'static [usize], usize, u16, u16);
-
-const ROWS: [SizesOf; 7] = [
+const ROWS: [(&[usize], usize, u16, u16); 7] = [
     (&[1], 1, 9, 11),
     (&[1], 127, 135, 11),
     (&[1], 128, 137, 11),
@@ -18,17 +16,16 @@ const ROWS: [SizesOf; 7] = [
 
 #[test]
 fn lengths_past_127_take_two_bytes(rt: HostRuntime) {
-    for row in ROWS.iter() {
-        assert!(rt; has_sizes(&rt, row));
+    for (lengths, length, row, pointer) in ROWS.iter() {
+        assert!(rt; sizes_of(&rt, lengths, *length) == (*row, *pointer));
     }
 }
 
-/// A row with fields and a value of these lengths, and a pointer, have these sizes.
-fn has_sizes<R: AllocGlobal + Abort>(rt: &R, row: &SizesOf) -> bool {
-    let (lengths, length, size, pointer) = row;
+// The sizes of a row with fields and a value of these lengths, and of a pointer.
+fn sizes_of<R: AllocGlobal + Abort>(rt: &R, lengths: &[usize], length: usize) -> (u16, u16) {
     let fields = of_lengths(rt, lengths);
     assert!(rt; !fields.is_empty());
     let key = Key::try_new(rt.alloc(), fields).expect(rt, "a key");
-    let value = Value::try_new(zeros(rt, *length)).expect(rt, "a value");
-    row_size(&key, &value) == *size && pointer_size(&key) == *pointer
+    let value = Value::try_new(zeros(rt, length)).expect(rt, "a value");
+    (row_size(&key, &value), pointer_size(&key))
 }
