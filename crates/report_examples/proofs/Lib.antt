@@ -1,2 +1,3 @@
 pub mod EachPlace
 pub mod OneLane
+pub mod Unequal

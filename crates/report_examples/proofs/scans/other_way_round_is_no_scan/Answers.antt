@@ -1,6 +1,8 @@
+use Rattle.std.proofs.Common.{refl}
 use Rattle.key_tuple.specs.KeyPlace.{before, not_below}
+use Rattle.report_examples.proofs.Unequal.{unequal}
 use Rattle.report_examples.proofs.scans.other_way_round_is_no_scan.Goals as goal
 
 pub returns : goal.returns
 unfolding before not_below
-returns c = λ scan. cc (scan.1)
+returns c = λ scan. unequal _ _ (scan.1) refl
