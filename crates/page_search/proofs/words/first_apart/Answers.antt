@@ -1,9 +1,12 @@
-use Rattle.std.proofs.Common.{ℕ, ◌+◌, ◌-◌, ◌<◌, ◌≤◌, ◌∙◌, sym, arith}
+use Rattle.std.proofs.Common.{ℕ, ◌+◌, ◌-◌, ◌<◌, ◌≤◌, ◌∙◌, length, sym, arith}
 use Rattle.page_search.proofs.WordLemmas.{told_at, same_at}
 use Rattle.page_search.proofs.words.first_apart.Goals as goal
 
 not_below_itself : (n : ℕ) → n < n → ⊥
 not_below_itself n less = omega arith
+
+inside : (at last long : ℕ) → at < last → last + 8 ≤ long → at + 8 ≤ long
+inside at last long less here = omega arith
 
 within : (at last : ℕ) → at < last → at ≤ last
 within at last less = omega arith
@@ -14,7 +17,8 @@ nearer at last less = omega arith
 pub loop-at-preserved : goal.loop-at-preserved
 loop-at-preserved c =
     let at = c.loop-at.at in
-    let told = told_at c.args.left.now c.args.right.now at c.word.ensures.bytes c.word-in-loop-at.ensures.bytes (omega arith) (omega arith) in
+    let told = told_at c.args.left.now c.args.right.now at c.word.ensures.bytes c.word-in-loop-at.ensures.bytes
+        (inside at c.args.last (length c.args.left.now) c.loop-at-test.true c.requires.left) (inside at c.args.last (length c.args.right.now) c.loop-at-test.true c.requires.right) in
     same_at c.args.left.now c.args.right.now at c.loop-at.invariant told (sym c.word.ensures.number ∙ c.if-word.false ∙ c.word-in-loop-at.ensures.number)
 
 pub returns-then-word-clause-apart : goal.returns-then-word-clause-apart
