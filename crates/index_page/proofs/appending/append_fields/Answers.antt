@@ -1,6 +1,7 @@
-use Rattle.std.proofs.Common.{◌≡◌, ◌+◌, ◌-◌, ◌<◌, ◌++◌, ◌∷◌, [], ℕ, List, length, take, set, refl, sym, ap, ◌∙◌, subst, arith, append-nil, length-append, length-take}
+use Rattle.std.proofs.Common.{◌≡◌, ◌+◌, ◌-◌, ◌<◌, ◌≤◌, ◌++◌, ◌∷◌, [], ℕ, List, length, take, get_or, set, refl, sym, ap, ◌∙◌, subst, arith, append-nil, length-append, length-take}
 use Rattle.std.proofs.lemmas.List.{take_more}
 use Rattle.std.proofs.Math.Seq.{take-length}
+use Rattle.key_tuple.specs.declared.TheConstants.{MAX_FIELDS}
 use Rattle.key_tuple.specs.Order.{FieldList}
 use Rattle.index_page.specs.Slots.{PutsFields}
 use Rattle.list_facts.proofs.Outcomes.{when_err}
@@ -15,11 +16,26 @@ returns-in_err-extend_from_slice-clause-err g c =
     let put = c.loop-i.invariant in
     when_err c.from_residual.result (record { more = put.added; items = c.in_err-extend_from_slice.ensures.items ∙ put.items })
 
+came_to : (old now new added field : List ℕ) (start end : ℕ) → start ≡ length old → end ≡ length new → now ≡ old ++ added → new ≡ now ++ field → end ≡ start + (length added + length field)
+came_to old now new added field start end starts ends before more = omega (arith, starts, ends, ap length before, ap length more, length-append old added, length-append now field)
+
+-- one more field came
+one_more : (old now new : List ℕ) (fields : FieldList) (i count from start end : ℕ) (ends field : List ℕ) → i < count → count ≡ length fields → length fields ≤ MAX_FIELDS
+    → start ≡ length old → end ≡ length new → PutsFields old now (take i fields) ends → new ≡ now ++ field → field ≡ get_or fields i [] → from ≡ i → PutsFields old new (take (i + 1) fields) (set ends from (end - start))
+one_more old now new fields i count from start end ends field test counted room starts ends_at put more is at =
+    let below : i < length fields = omega (arith, test, counted) in
+    let few : length (take i fields) ≡ i = length-take i fields ∙ omega (arith, below) in
+    let came = came_to old now new put.added field start end starts ends_at put.items more in
+    let next = puts_more old now new (take i fields) ends field (end - start) put (omega (arith, few, below, room)) more (omega (arith, came)) in
+    let here : take i fields ++ field ∷ [] ≡ take (i + 1) fields = ap (λ (x : List ℕ). take i fields ++ x ∷ []) is ∙ sym (take_more fields i [] below) in
+    let place : length (take i fields) ≡ from = few ∙ sym at in
+    subst (λ (n : ℕ). PutsFields old new (take (i + 1) fields) (set ends n (end - start))) place (subst (λ (xs : FieldList). PutsFields old new xs (set ends (length (take i fields)) (end - start))) here next)
+
 -- how many bytes came
 came : (g : _) (c : goal.After-len g) → c.len.result ≡ c.len-start.result + (length c.loop-i.invariant.added + length c.field.result.now)
 came g c =
-    let put = c.loop-i.invariant in
-    omega (arith, c.len.ensures, c.len-start.ensures, c.in_ok-extend_from_slice.ensures.len, c.args.bytes.now.ok.0, c.loop-i.bytes.ok.0, ap length put.items, length-append c.args.bytes.now.items put.added)
+    came_to c.args.bytes.now.items c.loop-i.bytes.items c.extend_from_slice.new.self.items c.loop-i.invariant.added c.field.result.now c.len-start.result c.len.result
+    (c.len-start.ensures ∙ c.args.bytes.now.ok.0) (c.len.ensures ∙ c.extend_from_slice.new.self.ok.0) c.loop-i.invariant.items c.in_ok-extend_from_slice.ensures.items
 
 pub overflow_sub-ends : goal.overflow_sub-ends
 overflow_sub-ends g c = omega (arith, came g c)
@@ -34,13 +50,9 @@ overflow_cast-ends g c =
 pub loop-i-preserved : goal.loop-i-preserved
 loop-i-preserved g c =
     let fields = g.A.Fields.fields_of c.args.fields.now in
-    let below : c.loop-i.i < length fields = omega (arith, c.loop-i-test.true, c.count-i-end.ensures) in
-    let few : length (take c.loop-i.i fields) ≡ c.loop-i.i = length-take c.loop-i.i fields ∙ omega (arith, below) in
-    let sum : c.len.result - c.len-start.result ≡ length c.loop-i.invariant.added + length c.field.result.now = omega (arith, c.len.ensures, c.len-start.ensures, c.in_ok-extend_from_slice.ensures.len, c.args.bytes.now.ok.0, c.loop-i.bytes.ok.0, ap length c.loop-i.invariant.items, length-append c.args.bytes.now.items c.loop-i.invariant.added) in
-    let put = puts_more c.args.bytes.now.items c.loop-i.bytes.items c.extend_from_slice.new.self.items (take c.loop-i.i fields) c.loop-i.ends c.field.result.now (c.len.result - c.len-start.result) c.loop-i.invariant (omega (arith, few, below, c.requires.few)) c.in_ok-extend_from_slice.ensures.items sum in
-    let here : take c.loop-i.i fields ++ c.field.result.now ∷ [] ≡ take (c.loop-i.i + 1) fields = ap (λ (x : List ℕ). take c.loop-i.i fields ++ x ∷ []) c.field.ensures.bytes ∙ sym (take_more fields c.loop-i.i [] below) in
-    let at : set c.loop-i.ends (length (take c.loop-i.i fields)) (c.len.result - c.len-start.result) ≡ set c.loop-i.ends c.from.result (c.len.result - c.len-start.result) = ap (λ (n : ℕ). set c.loop-i.ends n (c.len.result - c.len-start.result)) (few ∙ sym c.from.ensures) in
-    subst (λ (ends : List ℕ). PutsFields c.args.bytes.now.items c.extend_from_slice.new.self.items (take (c.loop-i.i + 1) fields) ends) at (subst (λ (xs : FieldList). PutsFields c.args.bytes.now.items c.extend_from_slice.new.self.items xs (set c.loop-i.ends (length (take c.loop-i.i fields)) (c.len.result - c.len-start.result))) here put)
+    one_more c.args.bytes.now.items c.loop-i.bytes.items c.extend_from_slice.new.self.items fields c.loop-i.i c.count-i-end.result c.from.result c.len-start.result c.len.result
+    c.loop-i.ends c.field.result.now c.loop-i-test.true c.count-i-end.ensures c.requires.few (c.len-start.ensures ∙ c.args.bytes.now.ok.0) (c.len.ensures ∙ c.extend_from_slice.new.self.ok.0)
+    c.loop-i.invariant c.in_ok-extend_from_slice.ensures.items c.field.ensures.bytes c.from.ensures
 
 pub returns-clause-ok : goal.returns-clause-ok
 returns-clause-ok g c =

@@ -1,14 +1,25 @@
-use Rattle.std.proofs.Common.{◌∙◌, arith, ap, length, length-append}
+use Rattle.std.proofs.Common.{◌≡◌, ◌<◌, ◌≤◌, ◌++◌, ℕ, List, ◌∙◌, arith, ap, length, length-append}
+use Rattle.key_tuple.specs.declared.TheConstants.{MAX_FIELDS, MAX_KEY_BYTES, FIELD_ROOM}
+use Rattle.key_tuple.specs.Order.{byte_count}
 use Rattle.index_page.specs.Slots.{PutsRecord}
 use Rattle.list_facts.proofs.Outcomes.{when_err}
 use Rattle.index_page.proofs.SlotLemmas.{puts_row, slot_made}
 use Rattle.index_page.proofs.AgainLemmas.{grew_twice}
 use Rattle.index_page.proofs.appending.append_row.Goals as goal
 
+few_enough : (n : ℕ) → n ≤ MAX_FIELDS → n ≤ FIELD_ROOM
+few_enough n within = omega arith
+
+short_enough : (n : ℕ) → n ≤ MAX_KEY_BYTES → n < 65536
+short_enough n within = omega arith
+
+no_shorter : (old new added : List ℕ) (start end : ℕ) → start ≡ length old → end ≡ length new → new ≡ old ++ added → start ≤ end
+no_shorter old new added start end starts ends more = omega (arith, starts, ends, ap length more, length-append old added)
+
 pub returns-clause-ok : goal.returns-clause-ok
 returns-clause-ok g c =
     let old = c.args.bytes.now.items in
-    slot_made c.moved.result _ (λ slot. PutsRecord old c.append_beside.new.bytes.items slot _) (puts_row old c.append_fields.new.bytes.items c.append_beside.new.bytes.items _ (g.A.Fields.fields_of c.args.key.now) _ c.in_ok-ends.ensures.ok c.in_ok-child.ensures.ok (omega (arith, c.len-start.ensures, c.args.bytes.now.ok.0)) (omega (arith, c.len-middle.ensures, c.append_fields.new.bytes.ok.0)) (omega (arith, c.len.ensures, c.append_beside.new.bytes.ok.0)) c.count.ensures (omega (arith, c.requires.few)) (omega (arith, c.requires.short))) c.moved.ensures
+    slot_made c.moved.result _ (λ slot. PutsRecord old c.append_beside.new.bytes.items slot _) (puts_row old c.append_fields.new.bytes.items c.append_beside.new.bytes.items _ (g.A.Fields.fields_of c.args.key.now) _ c.in_ok-ends.ensures.ok c.in_ok-child.ensures.ok (c.len-start.ensures ∙ c.args.bytes.now.ok.0) (c.len-middle.ensures ∙ c.append_fields.new.bytes.ok.0) (c.len.ensures ∙ c.append_beside.new.bytes.ok.0) c.count.ensures (few_enough (length (g.A.Fields.fields_of c.args.key.now)) c.requires.few) (short_enough (byte_count (g.A.Fields.fields_of c.args.key.now)) c.requires.short)) c.moved.ensures
 
 pub returns-in_err-child-clause-err : goal.returns-in_err-child-clause-err
 returns-in_err-child-clause-err g c =
@@ -22,9 +33,9 @@ returns-clause-err g c =
 pub moved-requires-clause-key : goal.moved-requires-clause-key
 moved-requires-clause-key g c =
     let put = c.in_ok-ends.ensures.ok in
-    omega (arith, c.len-start.ensures, c.args.bytes.now.ok.0, c.len-middle.ensures, c.append_fields.new.bytes.ok.0, ap length put.items, length-append c.args.bytes.now.items put.added)
+    no_shorter c.args.bytes.now.items c.append_fields.new.bytes.items put.added c.len-start.result c.len-middle.result (c.len-start.ensures ∙ c.args.bytes.now.ok.0) (c.len-middle.ensures ∙ c.append_fields.new.bytes.ok.0) put.items
 
 pub moved-requires-clause-value : goal.moved-requires-clause-value
 moved-requires-clause-value g c =
     let put = c.in_ok-child.ensures.ok in
-    omega (arith, c.len-middle.ensures, c.append_fields.new.bytes.ok.0, c.len.ensures, c.append_beside.new.bytes.ok.0, ap length put.items, length-append c.append_fields.new.bytes.items put.added)
+    no_shorter c.append_fields.new.bytes.items c.append_beside.new.bytes.items put.added c.len-middle.result c.len.result (c.len-middle.ensures ∙ c.append_fields.new.bytes.ok.0) (c.len.ensures ∙ c.append_beside.new.bytes.ok.0) put.items

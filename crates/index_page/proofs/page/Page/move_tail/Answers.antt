@@ -1,4 +1,4 @@
-use Rattle.std.proofs.Common.{◌≡◌, List, [], take, drop, sym, ap, ◌∙◌, subst, arith, ℕ, refl, ◌≤◌, length}
+use Rattle.std.proofs.Common.{◌≡◌, List, [], take, drop, sym, ap, ◌∙◌, subst, arith, ℕ, refl, ◌≤◌, ◌-◌, length}
 use Rattle.key_tuple.specs.Limits.{IsWithinLimits}
 use Rattle.list_facts.proofs.Each.{each_weaker}
 use Rattle.index_page.specs.Rows.{Row, SameRows}
@@ -8,6 +8,7 @@ use Rattle.index_page.proofs.HalvesLemmas.{load_of-parts}
 use Rattle.index_page.proofs.AppendLemmas.{appended_order, appended_load, rows_within_load}
 use Rattle.index_page.proofs.PartLemmas.{first_rows, other_rows, moves_tail}
 use Rattle.std.proofs.lemmas.List.Sums.{sum_by-take-le}
+use Rattle.index_page.specs.Store.{Appends}
 use Rattle.index_page.specs.Search.{IsPosition}
 use Rattle.index_page.proofs.RowLemmas.{get_below}
 use Rattle.index_page.proofs.LoadLemmas.{row_charge}
@@ -22,6 +23,10 @@ part_within : (stored now : PageRows) (at part whole : ℕ) → stored ≡ now �
 part_within stored now at part whole same counted charged =
     let less : load_of (take at now.rows) ≤ load_of now.rows = sum_by-take-le row_charge now.rows at in
     omega (arith, less, ap (λ (p : PageRows). load_of p.rows) same)
+
+-- what is left of the load is that of the rows that moved
+rest_load : (rows tail : List Row) (at first whole : ℕ) → Appends [] tail (drop at rows) → first ≡ load_of (take at rows) → whole ≡ load_of rows → whole - first ≡ load_of tail
+rest_load rows tail at first whole appends counted charged = omega (arith, appended_load [] tail (drop at rows) appends, counted, charged, load_of-parts rows at)
 
 pub tail-requires-clause-keys : goal.tail-requires-clause-keys
 tail-requires-clause-keys c =
@@ -44,10 +49,8 @@ invariant_of-to c =
 
 pub invariant_of-to-inside : goal.invariant_of-to-inside
 invariant_of-to-inside c =
-    let rest = drop c.position-at.result c.self.inside.rows in
-    let behind = appended_load [] c.in_ok-tail.tail rest c.in_ok-tail.ensures in
     let first = c.load_of_first-load.ensures ∙ ap (λ (p : PageRows). load_of (take c.position-at.result p.rows)) (sym c.self.view_is) in
-    (omega (arith, behind, first, load_of-parts c.self.inside.rows c.position-at.result, c.self.inside.charged), tt)
+    (rest_load c.self.inside.rows c.in_ok-tail.tail c.position-at.result c.load_of_first-load.result c.self.inside.load c.in_ok-tail.ensures first c.self.inside.charged, tt)
 
 pub returns-clause-ok : goal.returns-clause-ok
 returns-clause-ok c =

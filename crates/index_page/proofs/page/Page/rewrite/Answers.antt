@@ -1,5 +1,5 @@
 use Rattle.index_page.specs.Loads.{load_of}
-use Rattle.std.proofs.Common.{◌≡◌, ℕ, true, false, Some, List, length, is_ok, sym, ap, ◌∙◌, subst, arith}
+use Rattle.std.proofs.Common.{◌≡◌, ◌≤◌, ℕ, true, false, Some, List, length, is_ok, sym, ap, ◌∙◌, subst, arith}
 use Rattle.index_page.specs.Rows.{find_row}
 use Rattle.index_page.specs.Page.{PageRows, IsPageInOrder}
 use Rattle.index_page.specs.Search.{IsPosition}
@@ -7,6 +7,12 @@ use Rattle.index_page.specs.Store.{Rewrites}
 use Rattle.index_page.proofs.SetLemmas.{value_at, value_of, rewritten_order, sets}
 use Rattle.index_page.proofs.RewriteLemmas.{new_load-is, new_load-fits}
 use Rattle.index_page.proofs.page.Page.rewrite.Goals as goal
+
+no_longer : (bytes value old before : List ℕ) → bytes ≡ value → old ≡ before → length value ≤ length before → length bytes ≤ length old
+no_longer bytes value old before same was long = omega (arith, ap length same, ap length was, long)
+
+never : true ≡ false → ⊥
+never e = absurd cc
 
 pub rewrite_at-requires : goal.rewrite_at-requires
 rewrite_at-requires c =
@@ -19,9 +25,8 @@ returns-in_err-rewrite_at-clause-no_longer c =
     λ row before found is long.
     let here = subst (λ (p : PageRows). find_row c.args.place p.rows ≡ Some row) (sym c.self.view_is) found in
     let has = value_of c.self.inside.rows c.args.place c.position-at.result row before c.self.invariant.places position here is in
-    let ok = c.rewrite_at.ensures.in_place has.0 (omega (arith, ap length has.1, ap length c.as_bytes.ensures.bytes, long)) in
-    let never : true ≡ false = sym ok ∙ ap is_ok c.in_err-rewrite_at.was in
-    absurd cc
+    let ok = c.rewrite_at.ensures.in_place has.0 (no_longer c.as_bytes.result.now c.args.value.now has.0.value before c.as_bytes.ensures.bytes has.1 long) in
+    absurd (never (sym ok ∙ ap is_ok c.in_err-rewrite_at.was))
 
 pub invariant_of-self-2 : goal.invariant_of-self-2
 invariant_of-self-2 c =

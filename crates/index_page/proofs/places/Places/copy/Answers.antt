@@ -16,6 +16,10 @@ lists_of live free = record { live = live; free = free }
 same_lists : {live free live' free' : List ℕ} {now : PlaceLists} → live' ≡ live → free' ≡ free → lists_of live free ≡ now → lists_of live' free' ≡ now
 same_lists same_live same_free is = (λ i. lists_of (same_live i) (same_free i)) ∙ is
 
+-- as many numbers fit in no less room
+fits_in : (live free live' free' cap asked got kept : ℕ) → live' ≡ live → free' ≡ free → asked ≡ cap → asked ≤ got → got ≤ kept → live + free ≤ cap → live' + free' ≤ kept
+fits_in live free live' free' cap asked got kept same_live same_free is room more fits = omega arith
+
 pub returns : goal.returns
 returns c =
     let live = same_items c.self.inside.live.items c.in_ok-clone.field-0.items c.in_ok-clone.ensures.cases.0 in
@@ -28,8 +32,5 @@ invariant_of-result c =
     let empty = c.in_ok-free.ensures.items in
     let whole : c.extend_from_slice.new.self.items ≡ c.self.inside.free.items = c.in_ok-extend_from_slice.ensures.items ∙ (λ i. empty i ++ c.deref.ensures.value i) in
     let free = ap length whole in
-    let room = c.in_ok-free.ensures.capacity in
-    let kept = c.in_ok-extend_from_slice.ensures.capacity in
-    let before : length c.self.inside.live.items + length c.self.inside.free.items ≤ vec_capacity c.self.inside.free = c.self.invariant in
-    let fits : length c.in_ok-clone.field-0.items + length c.extend_from_slice.new.self.items ≤ vec_capacity c.extend_from_slice.new.self = omega (arith, live, free, room, kept, c.capacity.ensures, before) in
-    fits
+    fits_in (length c.self.inside.live.items) (length c.self.inside.free.items) (length c.in_ok-clone.field-0.items) (length c.extend_from_slice.new.self.items) (vec_capacity c.self.inside.free) c.capacity.result
+    (vec_capacity c.in_ok-free.free) (vec_capacity c.extend_from_slice.new.self) live free c.capacity.ensures c.in_ok-free.ensures.capacity c.in_ok-extend_from_slice.ensures.capacity c.self.invariant

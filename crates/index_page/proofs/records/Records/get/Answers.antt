@@ -1,7 +1,10 @@
-use Rattle.std.proofs.Common.{◌≡◌, Some, List, length, ap, sym, ◌∙◌, arith, ◌<◌, ◌≤◌, ◌-◌, ℕ, map, take, drop, get_or, length-take, length-drop}
+use Rattle.std.proofs.Common.{◌≡◌, Some, List, length, ap, ap₂, sym, ◌∙◌, arith, ◌<◌, ◌≤◌, ◌-◌, ℕ, map, take, drop, get_or, length-take, length-drop}
 use Rattle.std.proofs.lemmas.List.{length-map, length-take-le}
 use Rattle.std.specs.List.{slice_get}
-use Rattle.index_page.specs.Store.{Content}
+use Rattle.key_tuple.specs.Order.{FieldList}
+use Rattle.key_tuple.specs.Parts.{parts}
+use Rattle.index_page.specs.Rows.{RowBody}
+use Rattle.index_page.specs.Store.{Content, body_from}
 use Rattle.index_page.specs.Slots.{content_in, IsSlotIn, AreSlots}
 use Rattle.list_facts.proofs.Elements.{map_get}
 use Rattle.index_page.proofs.SlotLemmas.{got}
@@ -18,13 +21,30 @@ lies bytes slots contents number slot are view below read =
 key_long : (bytes : List ℕ) (slot : Slot) → IsSlotIn bytes slot → length (take (slot.middle - slot.start) (drop slot.start bytes)) ≡ slot.middle - slot.start
 key_long bytes slot is = length-take (slot.middle - slot.start) (drop slot.start bytes) ∙ omega (arith, is.key, is.value, is.within, length-drop slot.start bytes)
 
+abbrev content_of : FieldList → RowBody → Content
+content_of key body = record { key = key; body = body }
+
+-- what was read of a slot's key and value is what the slot says
+content_read : (bytes key_bytes value_bytes : List ℕ) (slot : Slot) (count : ℕ) (key : FieldList) (made : Content) → key_bytes ≡ bytes → value_bytes ≡ bytes → count ≡ slot.count
+    → key ≡ parts (take (slot.middle - slot.start) (drop slot.start key_bytes)) 0 (take count slot.ends)
+    → made ≡ content_of key (body_from (take (slot.stop - slot.middle) (drop slot.middle value_bytes)) slot.child) → content_in bytes slot ≡ made
+content_read bytes key_bytes value_bytes slot count key made key_from value_from counted key_is made_is =
+    let keys = key_is ∙ ap₂ (λ (xs : List ℕ) (n : ℕ). parts (take (slot.middle - slot.start) (drop slot.start xs)) 0 (take n slot.ends)) key_from counted in
+    let bodies = ap (λ (xs : List ℕ). body_from (take (slot.stop - slot.middle) (drop slot.middle xs)) slot.child) value_from in
+    sym (made_is ∙ ap₂ content_of keys bodies)
+
+-- and it stands at the slot's number
+content_at : (bytes : List ℕ) (slots : List Slot) (contents : List Content) (number : ℕ) (slot : Slot) (made : Content) → map (content_in bytes) slots ≡ contents → number < length contents
+    → slot ≡ get_or slots number slot → content_in bytes slot ≡ made → slice_get contents number ≡ Some made
+content_at bytes slots contents number slot made view below read is =
+    let there = got slots number slot (omega (arith, below, ap length view, length-map slots (content_in bytes))) read in
+    ap (λ (xs : List Content). slice_get xs number) (sym view) ∙ map_get (content_in bytes) slots number slot there ∙ ap Some is
+
 pub returns : goal.returns
 returns c =
     let bytes = c.self.inside.bytes.items in
-    let slots = c.self.inside.slots.items in
-    let there = got slots c.args.number c.index-slot.result.now (omega (arith, c.requires, ap length c.self.view_is, length-map slots (content_in bytes))) c.index-slot.ensures in
-    let made : content_in bytes c.index-slot.result.now ≡ c.new.result = cc in
-    ap (λ (xs : List Content). slice_get xs c.args.number) (sym c.self.view_is) ∙ map_get (content_in bytes) slots c.args.number _ there ∙ ap Some made
+    content_at bytes c.self.inside.slots.items c.args.self.now c.args.number c.index-slot.result.now c.new.result c.self.view_is c.requires c.index-slot.ensures
+    (content_read bytes c.deref.result.now c.deref-2.result.now c.index-slot.result.now c.from.result c.new-fields.result c.new.result c.deref.ensures.value c.deref-2.ensures.value c.from.ensures c.new-fields.ensures c.new.ensures)
 
 pub new-fields-requires-clause-short : goal.new-fields-requires-clause-short
 new-fields-requires-clause-short c =
