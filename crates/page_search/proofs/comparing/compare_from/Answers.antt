@@ -45,3 +45,6 @@ returns-clause-order g c =
 
 pub returns-clause-figures : goal.returns-clause-figures
 returns-clause-figures g c = figures_end c.count.result (upto_end c.loop-i.invariant.0 (omega (arith, c.count-i-end.ensures, c.loop-i-test.false))) c.count.ensures
+
+pub order_from-found-requires-clause-short : goal.order_from-found-requires-clause-short
+order_from-found-requires-clause-short g c = c.field-left.ensures.fits

@@ -28,6 +28,16 @@ row_some tuple first row r fields is long within count read =
 word_within : (place first other : ℕ) → place ≤ first - 8 → 8 ≤ first → first ≤ other → place + 8 ≤ other
 word_within place first other low long less = omega arith
 
+word_ends : (first other : ℕ) → 8 ≤ first → first ≤ other → first - 8 + 8 ≤ other
+word_ends first other long less = omega arith
+
+-- the equal bytes of two words, and those before them, are no more than the field's
+place_short : (first place left right equal : ℕ) → equal ≡ leading_zeros w64 (bit_xor left right) / 8 → place ≤ first - 8 → first < 65536 → place + equal < 65536
+place_short first place left right equal is within short = omega (arith, is, leading_le 64 (bit_xor left right), within, short)
+
+itself : (n : ℕ) → n ≤ n
+itself n = omega arith
+
 -- the row's first field is that of the record that was read
 other_first : (row r : PlacedRecord) (other : List ℕ) → other ≡ get_or row.key 0 [] → row ≡ r → other ≡ get_or r.key 0 []
 other_first row r other is read = is ∙ ap (λ (x : PlacedRecord). get_or x.key 0 []) read
@@ -38,7 +48,7 @@ words_judged : (mode : Mode) (t k : FieldList) (first other : List ℕ) (place f
     → AreBytes first → AreBytes other → place ≤ equal_bytes first other → left ≡ big_number 8 (drop place first) → right ≡ big_number 8 (drop place other) → (left ≡ right → ⊥)
     → equal ≡ leading_zeros w64 (bit_xor left right) / 8 → (agreed f).fields ≡ 0 → (agreed f).bytes ≡ place + equal → Judges mode t k (record { admitted = nat_lt left right; figures = f })
 words_judged mode t k first other place fields left right equal f is other_is long longer within short count first_bytes other_bytes so_far left_is right_is other_words equal_is no_fields bytes =
-    let told = told_at first other place first_bytes other_bytes (word_within place (length first) (length first) within long (omega arith)) (word_within place (length first) (length other) within long longer) in
+    let told = told_at first other place first_bytes other_bytes (word_within place (length first) (length first) within long (itself (length first))) (word_within place (length first) (length other) within long longer) in
     let apart = apart_at first other place so_far told (λ e. other_words (left_is ∙ e ∙ sym right_is)) in
     let zeros = equal_is ∙ ap₂ (λ (a b : ℕ). leading_zeros w64 (bit_xor a b) / 8) left_is right_is in
     let order = ap₂ (λ (a b : List ℕ). slice_cmp nat_cmp a b) is other_is in
@@ -54,7 +64,7 @@ fields_judged : (mode : Mode) (t k : FieldList) (first other : List ℕ) (place 
     → admitted ≡ admits_at mode Equal → (agreed f).fields ≡ 1 → (agreed f).bytes ≡ 0 → Judges mode t k (record { admitted = admitted; figures = f })
 fields_judged mode t k first other place fields left right count admitted f is other_is long longer no_longer within short key_count counted one first_bytes other_bytes so_far apart left_is right_is same_words admitted_is one_field bytes =
     let some = first_some t first is (omega (arith, long)) in
-    let told = told_at first other place first_bytes other_bytes (word_within place (length first) (length first) within long (omega arith)) (word_within place (length first) (length other) within long longer) in
+    let told = told_at first other place first_bytes other_bytes (word_within place (length first) (length first) within long (itself (length first))) (word_within place (length first) (length other) within long longer) in
     let equal = sym left_is ∙ same_words ∙ right_is in
     let more = same_at first other place so_far told equal in
     let all : length first ≤ equal_bytes first other = elim (cases_lt place (length first - 8)) [
@@ -73,7 +83,7 @@ first_apart-place-requires-clause-start g c =
 
 pub overflow_cast-place : goal.overflow_cast-place
 overflow_cast-place g c =
-    omega (arith, c.equal_in.ensures, leading_le 64 (bit_xor c.word-left.result c.word-right.result), c.first_apart-place.ensures.within, c.requires.first.short)
+    omega (arith, place_short (length c.args.first.now) c.first_apart-place.result c.word-left.result c.word-right.result c.equal_in.result c.equal_in.ensures c.first_apart-place.ensures.within c.requires.first.short)
 
 pub returns-then-left-right : goal.returns-then-left-right
 returns-then-left-right g c =
@@ -103,7 +113,7 @@ field-other-requires g c =
 
 pub overflow_add-place : goal.overflow_add-place
 overflow_add-place g c =
-    omega (arith, c.equal_in.ensures, leading_le 64 (bit_xor c.word-left.result c.word-right.result), c.first_apart-place.ensures.within, c.requires.first.short)
+    omega (arith, place_short (length c.args.first.now) c.first_apart-place.result c.word-left.result c.word-right.result c.equal_in.result c.equal_in.ensures c.first_apart-place.ensures.within c.requires.first.short)
 
 pub judge_all-requires-then-count-gt1-clause-tuple : goal.judge_all-requires-then-count-gt1-clause-tuple
 judge_all-requires-then-count-gt1-clause-tuple g c = c.requires.tuple
@@ -124,3 +134,28 @@ pub word-right-requires : goal.word-right-requires
 word-right-requires g c =
     word_within c.first_apart-place.result (length c.args.first.now) (length c.field-other.result.now) c.first_apart-place.ensures.within
     c.if-first-lt-WORD.false c.if-other-first.false
+
+pub first_apart-place-requires-clause-left : goal.first_apart-place-requires-clause-left
+first_apart-place-requires-clause-left g c = word_ends (length c.args.first.now) (length c.args.first.now) c.if-first-lt-WORD.false (itself (length c.args.first.now))
+
+pub first_apart-place-requires-clause-right : goal.first_apart-place-requires-clause-right
+first_apart-place-requires-clause-right g c = word_ends (length c.args.first.now) (length c.field-other.result.now) c.if-first-lt-WORD.false c.if-other-first.false
+
+pub word-left-requires : goal.word-left-requires
+word-left-requires g c =
+    word_within c.first_apart-place.result (length c.args.first.now) (length c.args.first.now) c.first_apart-place.ensures.within c.if-first-lt-WORD.false (itself (length c.args.first.now))
+
+pub overflow_sub-first : goal.overflow_sub-first
+overflow_sub-first g c = c.if-first-lt-WORD.false
+
+pub judge_all-requires-then-other-first-clause-tuple : goal.judge_all-requires-then-other-first-clause-tuple
+judge_all-requires-then-other-first-clause-tuple g c = c.requires.tuple
+
+pub judge_all-requires-then-other-first-clause-agrees : goal.judge_all-requires-then-other-first-clause-agrees
+judge_all-requires-then-other-first-clause-agrees g c = c.requires.agrees
+
+pub returns-then-count-gt1 : goal.returns-then-count-gt1
+returns-then-count-gt1 g c = c.judge_all-then-count-gt1.ensures
+
+pub returns-then-other-first : goal.returns-then-other-first
+returns-then-other-first g c = c.judge_all-then-other-first.ensures

@@ -35,3 +35,6 @@ returns-then-word-clause-equal c = c.loop-at.invariant
 
 pub loop-at-smaller : goal.loop-at-smaller
 loop-at-smaller c = nearer c.loop-at.at c.args.last c.loop-at-test.true
+
+pub word-requires-in-loop-at : goal.word-requires-in-loop-at
+word-requires-in-loop-at c = inside c.loop-at.at c.args.last (length c.args.right.now) c.loop-at-test.true c.requires.right

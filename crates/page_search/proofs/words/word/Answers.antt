@@ -8,3 +8,6 @@ rest_whole xs at = take_all (length xs - at) (drop at xs) (omega (arith, length-
 
 pub returns-clause-number : goal.returns-clause-number
 returns-clause-number c = c.read_u64.ensures ∙ ap (big_number 8) (rest_whole c.args.bytes.now c.args.at)
+
+pub returns-clause-bytes : goal.returns-clause-bytes
+returns-clause-bytes c = λ i. omega (arith, c.type_inv.bytes i)
