@@ -1,6 +1,6 @@
-use Rattle.std.proofs.Common.{◌++◌, ◌∷◌, [], length, ap, sym, subst, arith}
+use Rattle.std.proofs.Common.{◌≡◌, ◌+◌, ◌≤◌, ℕ, List, ◌++◌, ◌∷◌, [], length, ap, sym, subst, arith}
 use Rattle.page_directory.proofs.ListLemmas.{none_left}
-use Rattle.index_page.specs.Rows.{first_of_rows, last_of_rows}
+use Rattle.index_page.specs.Rows.{Row, first_of_rows, last_of_rows}
 use Rattle.page_rows.specs.Reading.{rows_in_bytes}
 use Rattle.page_search.specs.Agreeing.{agreed}
 use Rattle.page_search.specs.Cuts.{FindsCut}
@@ -8,6 +8,10 @@ use Rattle.page_search.specs.declared.cut.CutPlace.{CutPlace}
 use Rattle.page_search.proofs.FigureLemmas.{figures_few}
 use Rattle.page_search.proofs.WayLemmas.{found_at}
 use Rattle.page_search.proofs.walk.find_cut.Goals as goal
+
+-- a row less in the middle, and one more that was passed
+passed_one : (row : Row) (rest middle : List Row) (counter : ℕ) → middle ≡ row ∷ rest → length middle + counter ≤ 7 → length rest + (counter + 1) ≤ 7
+passed_one row rest middle counter is few = omega (arith, ap length is, few)
 
 pub loop-init : goal.loop-init
 loop-init g c =
@@ -45,7 +49,7 @@ pub loop-preserved : goal.loop-preserved
 loop-preserved g c =
     let inv = c.loop.invariant in
     let n = c.in-On.ensures inv.0 inv.1 inv.2 inv.3 in
-    (inv.0 ++ n.0 ∷ [], n.1, inv.2, n.3, omega (arith, ap length n.2, inv.4))
+    (inv.0 ++ n.0 ∷ [], n.1, inv.2, n.3, passed_one n.0 n.1 inv.1 c.loop.counter n.2 inv.4)
 
 pub place-requires-2-clause-low : goal.place-requires-2-clause-low
 place-requires-2-clause-low g c =
