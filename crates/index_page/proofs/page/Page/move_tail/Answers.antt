@@ -25,8 +25,13 @@ part_within stored now at part whole same counted charged =
     omega (arith, less, ap (λ (p : PageRows). load_of p.rows) same)
 
 -- what is left of the load is that of the rows that moved
-rest_load : (rows tail : List Row) (at first whole : ℕ) → Appends [] tail (drop at rows) → first ≡ load_of (take at rows) → whole ≡ load_of rows → whole - first ≡ load_of tail
-rest_load rows tail at first whole appends counted charged = omega (arith, appended_load [] tail (drop at rows) appends, counted, charged, load_of-parts rows at)
+rest_load : (stored now : PageRows) (tail : List Row) (at first whole : ℕ) → stored ≡ now → Appends [] tail (drop at stored.rows) → first ≡ load_of (take at now.rows) → whole ≡ load_of stored.rows → whole - first ≡ load_of tail
+rest_load stored now tail at first whole same appends counted charged =
+    omega (arith, appended_load [] tail (drop at stored.rows) appends, counted, ap (λ (p : PageRows). load_of (take at p.rows)) same, charged, load_of-parts stored.rows at)
+
+-- what was counted is the load of the rows that were kept
+kept_load : (stored now : PageRows) (kept : List Row) (at first : ℕ) → stored ≡ now → kept ≡ take at stored.rows → first ≡ load_of (take at now.rows) → first ≡ load_of kept
+kept_load stored now kept at first same is counted = counted ∙ ap (λ (p : PageRows). load_of (take at p.rows)) (sym same) ∙ ap load_of (sym is)
 
 pub tail-requires-clause-keys : goal.tail-requires-clause-keys
 tail-requires-clause-keys c =
@@ -48,9 +53,11 @@ invariant_of-to c =
     appended_order c.to.inside.head [] c.in_ok-tail.tail (drop c.position-at.result c.self.inside.rows) c.in_ok-tail.ensures tt others.each others.ascend (omega (arith, others.fits)) c.to.invariant.prev c.to.invariant.next
 
 pub invariant_of-to-inside : goal.invariant_of-to-inside
-invariant_of-to-inside c =
-    let first = c.load_of_first-load.ensures ∙ ap (λ (p : PageRows). load_of (take c.position-at.result p.rows)) (sym c.self.view_is) in
-    (rest_load c.self.inside.rows c.in_ok-tail.tail c.position-at.result c.load_of_first-load.result c.self.inside.load c.in_ok-tail.ensures first c.self.inside.charged, tt)
+invariant_of-to-inside c = (
+  rest_load (record { head = c.self.inside.head; rows = c.self.inside.rows }) c.args.self.now c.in_ok-tail.tail c.position-at.result c.load_of_first-load.result c.self.inside.load c.self.view_is c.in_ok-tail.ensures
+      c.load_of_first-load.ensures c.self.inside.charged,
+  tt,
+)
 
 pub returns-clause-ok : goal.returns-clause-ok
 returns-clause-ok c =
@@ -77,7 +84,7 @@ load_of_first-load-requires c =
 
 pub invariant_of-self-inside : goal.invariant_of-self-inside
 invariant_of-self-inside c =
-    (c.load_of_first-load.ensures ∙ ap (λ (p : PageRows). load_of (take c.position-at.result p.rows)) (sym c.self.view_is) ∙ ap load_of (sym c.keep_first.ensures), tt)
+    (kept_load (record { head = c.self.inside.head; rows = c.self.inside.rows }) c.args.self.now c.keep_first.new.self c.position-at.result c.load_of_first-load.result c.self.view_is c.keep_first.ensures c.load_of_first-load.ensures, tt)
 
 pub tail-requires-clause-first : goal.tail-requires-clause-first
 tail-requires-clause-first c =
