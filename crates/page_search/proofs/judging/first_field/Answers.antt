@@ -1,4 +1,4 @@
-use Rattle.std.proofs.Common.{◌≡◌, ℕ, suc, [], ◌∷◌, length, refl, arith}
+use Rattle.std.proofs.Common.{◌≡◌, ℕ, [], ◌∷◌, length, refl, arith}
 use Rattle.key_tuple.specs.Order.{FieldList}
 use Rattle.page_search.specs.Judging.{IsFirstField}
 use Rattle.page_search.proofs.judging.first_field.Goals as goal

@@ -18,7 +18,7 @@ pub loop-at-preserved : goal.loop-at-preserved
 loop-at-preserved c =
     let at = c.loop-at.at in
     let told = told_at c.args.left.now c.args.right.now at c.word.ensures.bytes c.word-in-loop-at.ensures.bytes
-        (inside at c.args.last (length c.args.left.now) c.loop-at-test.true c.requires.left) (inside at c.args.last (length c.args.right.now) c.loop-at-test.true c.requires.right) in
+    (inside at c.args.last (length c.args.left.now) c.loop-at-test.true c.requires.left) (inside at c.args.last (length c.args.right.now) c.loop-at-test.true c.requires.right) in
     same_at c.args.left.now c.args.right.now at c.loop-at.invariant told (sym c.word.ensures.number ∙ c.if-word.false ∙ c.word-in-loop-at.ensures.number)
 
 pub returns-then-word-clause-apart : goal.returns-then-word-clause-apart
