@@ -1,5 +1,5 @@
 -- A pass whose seat has stepped: what stays of its facts, and what is so of it by what was so before.
-use Rattle.std.proofs.Common.{◌≡◌, ℕ, ◌+◌, ◌<◌, ◌≤◌, List, length, map, true, refl, ap, sym, subst, ◌∙◌, arith, Option, length-set}
+use Rattle.std.proofs.Common.{◌≡◌, ℕ, ◌+◌, ◌<◌, ◌≤◌, List, length, map, true, refl, ap, sym, subst, ◌∙◌, arith, Option, length-set, vec_capacity}
 use Rattle.atomic_table.specs.declared.shared.Seat.{Seat}
 use Rattle.latch_law.specs.declared.knows.Entry.{Entry}
 use Rattle.latch_law.specs.declared.knows.Knows.{Knows}
@@ -10,6 +10,7 @@ use Rattle.latch_law.specs.Views.{left_part, right_part, reading, refusing, sett
 use Rattle.latch_law.proofs.Lists.{length-learnt}
 use Rattle.list_facts.proofs.Parts.{middle_inside}
 use Rattle.latch_space.specs.declared.pass.HeldObject.{HeldObject}
+use Rattle.latch_space.specs.declared.TheConstants.{MAX_HELD}
 use Rattle.latch_space.specs.declared.pass.PassOf.{PassOf}
 use Rattle.latch_space.specs.declared.space.SpaceOf.{SpaceOf}
 use Rattle.latch_space.specs.Hands.{slot_of, has, is_held, is_once, spread}
@@ -56,6 +57,18 @@ module _ {Sh O C A : Type 0} where
 
   pub right_live : (v v' : Knows Sh O C A) → v.low + 2 ≤ v.end → v' ≡ right_part v → v'.low < v'.end
   right_live v v' two is = subst (λ (z : Knows Sh O C A). z.low < z.end) (sym is) (middle_inside v.low v.end two).1
+
+  -- the word of an object is one of the space's
+  pub word_of : {Q : Type 0} (p : PassOf Sh O C A) (s : SpaceOf Sh O C A Q) → (view p).terms ≡ s.terms → (k : ℕ) → k < length (view p).held → k < s.table.shared.table_id.words
+  word_of p s own k within = let all = p.all in let same : (view p).terms.objects ≡ s.terms.objects = ap (λ (t : Terms Sh). t.objects) own in let words = s.counts in omega (arith, all.0, same, words.0, within)
+
+  -- a space has a word
+  pub some_words : {Q : Type 0} (s : SpaceOf Sh O C A Q) → 0 < s.table.shared.table_id.words
+  some_words s = let words = s.counts in omega (arith, words.0)
+
+  -- a hand of as much room has enough
+  pub room_stays : (p : PassOf Sh O C A) (n : ℕ) → n ≡ vec_capacity p.hand → MAX_HELD ≤ n
+  room_stays p n same = subst (λ (z : ℕ). MAX_HELD ≤ z) (sym same) p.room
 
   -- an index of its space is one of those that it has seen
   pub index_in : {Q : Type 0} (s : SpaceOf Sh O C A Q) (p : PassOf Sh O C A) (i : ℕ) → IsPassOf s p → i < s.terms.indexes → (i < length (view p).seen) × (i < s.terms.indexes)

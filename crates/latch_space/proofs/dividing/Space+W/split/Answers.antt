@@ -1,50 +1,96 @@
-use Rattle.std.proofs.Common.{arith, ◌<◌, ◌+◌, ◌-◌, ◌/◌, ℕ, ap, ◌∙◌, sym, length, map, subst, None, refl}
+use Rattle.std.proofs.Common.{◌≡◌, ℕ, ◌+◌, ◌-◌, ◌/◌, ◌<◌, ◌≤◌, List, [], ap, ◌∙◌, sym, length, map, subst, Option, None, refl}
 use lib.ListN.{length-replicate}
+use Rattle.atomic_table.specs.Seated.{TableId}
+use Rattle.atomic_table.specs.declared.shared.Seat.{Seat}
 use Rattle.latch_law.specs.declared.knows.Holding.{Holding}
+use Rattle.latch_law.specs.declared.knows.Knows.{Knows}
+use Rattle.latch_law.specs.declared.knows.Terms.{Terms}
 use Rattle.latch_law.specs.Views.{left_part, right_part}
+use Rattle.latch_space.specs.declared.pass.HeldObject.{HeldObject}
+use Rattle.latch_space.specs.declared.pass.PassOf.{PassOf}
 use Rattle.latch_space.specs.Hands.{has, is_held, is_once, slot_of, spread}
 use Rattle.latch_space.specs.Passes.{view, values, count}
 use Rattle.list_facts.proofs.Parts.{middle_inside}
 use Rattle.latch_law.proofs.PartKeeps.{splits}
 use Rattle.latch_space.proofs.InHand.{none_held}
 use Rattle.latch_space.proofs.Pointwise.{own_from, two_from}
-use Rattle.latch_space.proofs.Seats.{own_after, left_live, right_live}
+use Rattle.latch_space.proofs.Seats.{AreFields, own_after, left_live, right_live, some_words}
 use Rattle.latch_space.proofs.dividing.Space+W.split.Goals as goal
 
+-- a pass p that is p₀ is cut; s is one of its parts, and t the same one after a step that kept it
+module _ {Sh O C A : Type 0} (p p₀ : PassOf Sh O C A) (is : p ≡ p₀) (s t : Seat (Option O) (Knows Sh O C A)) (kept : t.me ≡ s.me) where
+  module _ (cut : s.me ≡ (left_part (view p), p.seat.me.1)) where
+    left_is : t.me.0 ≡ left_part (view p)
+    left_is = ap (λ z. z.0) (kept ∙ cut)
+
+    left_terms : t.me.0.terms ≡ (view p).terms
+    left_terms = ap (λ (z : Knows Sh O C A). z.terms) left_is
+
+    left_fields : (view p₀).low + 2 ≤ (view p₀).end → AreFields t p.low (p.low + (p.end - p.low) / 2) p.hand.items
+    left_fields two = let n = p.numbers in let w = left_is in let m = middle_inside (view p).low (view p).end (two_from p p₀ is two) in record {
+      numbers = (
+        n.0 ∙ sym (ap (λ (z : Knows Sh O C A). z.low) w),
+        (λ k. n.0 k + (n.1 k - n.0 k) / 2) ∙ sym (ap (λ (z : Knows Sh O C A). z.end) w),
+        subst (λ (z : ℕ × ℕ). z.0 < z.0 + (z.1 - z.0) / 2) (λ k. (sym n.0 k, sym n.1 k)) m.0,
+      );
+      out = ap (λ z. z.1) (kept ∙ cut) ∙ p.out;
+      holding = λ k. p.holding k ∙ ap (λ (z : Knows Sh O C A). is_held z.held k) (sym w);
+      once = p.once;
+      all = (ap (λ (z : Knows Sh O C A). length z.held) w ∙ (p.all.0 ∙ ap (λ (z : Knows Sh O C A). z.terms.objects) (sym w)), ap (λ (z : Knows Sh O C A). length z.seen) w ∙ (p.all.1 ∙ ap (λ (z : Knows Sh O C A). z.terms.indexes) (sym w)));
+    }
+
+    left_keeps : (t.me.0 ≡ left_part (view p₀)) × (spread (length t.me.0.held) p.hand.items ≡ values p₀) × (count p ≡ count p₀)
+    left_keeps = (left_is ∙ ap (λ (z : PassOf Sh O C A). left_part (view z)) is, ap (λ (z : Knows Sh O C A). spread (length z.held) p.hand.items) left_is ∙ ap values is, ap count is)
+
+  module _ (cut : s.me ≡ (right_part (view p), [])) (hand : List (HeldObject O)) (none : hand ≡ []) where
+    right_is : t.me.0 ≡ right_part (view p)
+    right_is = ap (λ z. z.0) (kept ∙ cut)
+
+    right_fields : (view p₀).low + 2 ≤ (view p₀).end → AreFields t (p.low + (p.end - p.low) / 2) p.end hand
+    right_fields two = let n = p.numbers in let w = right_is in let hs = (view p).held in let m = middle_inside (view p).low (view p).end (two_from p p₀ is two) in record {
+      numbers = (
+        (λ k. n.0 k + (n.1 k - n.0 k) / 2) ∙ sym (ap (λ (z : Knows Sh O C A). z.low) w),
+        n.1 ∙ sym (ap (λ (z : Knows Sh O C A). z.end) w),
+        subst (λ (z : ℕ × ℕ). z.0 + (z.1 - z.0) / 2 < z.1) (λ k. (sym n.0 k, sym n.1 k)) m.1,
+      );
+      out = ap (λ z. z.1) (kept ∙ cut) ∙ ap (map slot_of) (sym none);
+      holding = λ k. ap (has k) none ∙ (none_held (Holding O) (length hs) k ∙ ap (λ (z : Knows Sh O C A). is_held z.held k) (sym w));
+      once = ap is_once none;
+      all = (ap (λ (z : Knows Sh O C A). length z.held) w ∙ (length-replicate (length hs) None ∙ (p.all.0 ∙ ap (λ (z : Knows Sh O C A). z.terms.objects) (sym w))), ap (λ (z : Knows Sh O C A). length z.seen) w ∙ (p.all.1 ∙ ap (λ (z : Knows Sh O C A). z.terms.indexes) (sym w)));
+    }
+
+    right_given : (table : TableId) (terms : Terms Sh) → t.table_id ≡ s.table_id → s.table_id ≡ p.seat.table_id → (p.seat.table_id ≡ table) × ((view p).terms ≡ terms)
+        → ((t.table_id ≡ table) × (t.me.0.terms ≡ terms)) × (t.me.0 ≡ right_part (view p₀)) × (length hand ≡ 0)
+    right_given table terms same same' own = ((same ∙ (same' ∙ own.0), ap (λ (z : Knows Sh O C A). z.terms) right_is ∙ own.1), right_is ∙ ap (λ (z : PassOf Sh O C A). right_part (view z)) is, ap length none)
+
+module _ {Sh O C A : Type 0} where
+  same_seat : (s t u : Seat (Option O) (Knows Sh O C A)) → (t.table_id ≡ s.table_id) × (t.id ≡ s.id) → (u.table_id ≡ t.table_id) × (u.id ≡ t.id) → (u.table_id ≡ s.table_id) × (u.id ≡ s.id)
+  same_seat s t u a b = (b.0 ∙ a.0, b.1 ∙ a.1)
+
 pub split_seat-seat-requires : goal.split_seat-seat-requires
-split_seat-seat-requires g c = let words = c.args.self.now.counts in let small = c.args.self.now.small in let p = c.pass.inside.parts in ((own_from p _ c.pass.view_is c.args.self.now c.requires.own).0, omega (arith, words.0, small.1), splits _ _ _ _ _ _ _ _ _ _ (two_from p _ c.pass.view_is c.requires.two))
+split_seat-seat-requires g c = ((own_from c.pass.inside.parts c.args.pass.now c.pass.view_is c.args.self.now c.requires.own).0, some_words c.args.self.now, splits _ _ _ _ _ _ _ _ _ _ (two_from c.pass.inside.parts c.args.pass.now c.pass.view_is c.requires.two))
 
 pub invariant_of-upper : goal.invariant_of-upper
-invariant_of-upper g c = let p = c.pass.inside.parts in let n = p.numbers in let v = p.seat.me.0 in let me = c.see-2.ensures.kept ∙ c.split_seat-seat.ensures.4 in let w = ap (λ z. z.0) me in let none = c.in-Ok.ensures.items in let m = middle_inside v.low v.end (two_from p _ c.pass.view_is c.requires.two) in record {
-  numbers = ((λ k. n.0 k + (n.1 k - n.0 k) / 2) ∙ sym (ap (λ z. z.low) w), n.1 ∙ sym (ap (λ z. z.end) w), subst (λ (z : ℕ × ℕ). z.0 + (z.1 - z.0) / 2 < z.1) (λ k. (sym n.0 k, sym n.1 k)) m.1);
-  out = ap (λ z. z.1) me ∙ ap (map slot_of) (sym none);
-  holding = λ k. ap (has k) none ∙ (none_held (Holding g.row.W-Object.Denot) (length v.held) k ∙ ap (λ z. is_held z.held k) (sym w));
-  once = ap is_once none;
-  all = (ap (λ z. length z.held) w ∙ (length-replicate (length v.held) None ∙ (p.all.0 ∙ ap (λ z. z.terms.objects) (sym w))), ap (λ z. length z.seen) w ∙ (p.all.1 ∙ ap (λ z. z.terms.indexes) (sym w)));
-  room = let x = c.in-Ok.ensures.capacity in omega (arith, x);
-}
+invariant_of-upper g c = 
+    let f = right_fields c.pass.inside.parts c.args.pass.now c.pass.view_is c.split_seat-seat.result c.see-2.new.seat c.see-2.ensures.kept c.split_seat-seat.ensures.4 c.in-Ok.hand.items c.in-Ok.ensures.items c.requires.two in
+    record { numbers = f.numbers; out = f.out; holding = f.holding; once = f.once; all = f.all; room = c.in-Ok.ensures.capacity }
 
 pub invariant_of-parts : goal.invariant_of-parts
-invariant_of-parts g c = let p = c.pass.inside.parts in let n = p.numbers in let v = p.seat.me.0 in let me = c.see.ensures.kept ∙ c.split_seat-seat.ensures.2 in let w = ap (λ z. z.0) me in let m = middle_inside v.low v.end (two_from p _ c.pass.view_is c.requires.two) in record {
-  numbers = (n.0 ∙ sym (ap (λ z. z.low) w), (λ k. n.0 k + (n.1 k - n.0 k) / 2) ∙ sym (ap (λ z. z.end) w), subst (λ (z : ℕ × ℕ). z.0 < z.0 + (z.1 - z.0) / 2) (λ k. (sym n.0 k, sym n.1 k)) m.0);
-  out = ap (λ z. z.1) me ∙ p.out;
-  holding = λ k. p.holding k ∙ ap (λ z. is_held z.held k) (sym w);
-  once = p.once;
-  all = (ap (λ z. length z.held) w ∙ (p.all.0 ∙ ap (λ z. z.terms.objects) (sym w)), ap (λ z. length z.seen) w ∙ (p.all.1 ∙ ap (λ z. z.terms.indexes) (sym w)));
-  room = p.room;
-}
+invariant_of-parts g c = 
+    let f = left_fields c.pass.inside.parts c.args.pass.now c.pass.view_is c.split_seat-seat.new.seat c.see.new.seat c.see.ensures.kept c.split_seat-seat.ensures.2 c.requires.two in
+    record { numbers = f.numbers; out = f.out; holding = f.holding; once = f.once; all = f.all; room = c.pass.inside.parts.room }
 
 pub see-requires-clause-own : goal.see-requires-clause-own
 see-requires-clause-own g c = c.split_seat-seat.ensures.0 ∙ (own_from c.pass.inside.parts c.args.pass.now c.pass.view_is c.args.self.now c.requires.own).0
 
 pub see-requires-clause-live : goal.see-requires-clause-live
-see-requires-clause-live g c = let p = c.pass.inside.parts in left_live p.seat.me.0 c.split_seat-seat.new.seat.me.0 (two_from p c.args.pass.now c.pass.view_is c.requires.two) (ap (λ z. z.0) c.split_seat-seat.ensures.2)
+see-requires-clause-live g c = left_live c.pass.inside.parts.seat.me.0 c.split_seat-seat.new.seat.me.0 (two_from c.pass.inside.parts c.args.pass.now c.pass.view_is c.requires.two) (ap (λ z. z.0) c.split_seat-seat.ensures.2)
 
 pub see-requires-2-clause-own : goal.see-requires-2-clause-own
 see-requires-2-clause-own g c = c.split_seat-seat.ensures.3 ∙ (own_from c.pass.inside.parts c.args.pass.now c.pass.view_is c.args.self.now c.requires.own).0
 
 pub see-requires-2-clause-live : goal.see-requires-2-clause-live
-see-requires-2-clause-live g c = let p = c.pass.inside.parts in right_live p.seat.me.0 c.split_seat-seat.result.me.0 (two_from p c.args.pass.now c.pass.view_is c.requires.two) (ap (λ z. z.0) c.split_seat-seat.ensures.4)
+see-requires-2-clause-live g c = right_live c.pass.inside.parts.seat.me.0 c.split_seat-seat.result.me.0 (two_from c.pass.inside.parts c.args.pass.now c.pass.view_is c.requires.two) (ap (λ z. z.0) c.split_seat-seat.ensures.4)
 
 pub invariant_of-result : goal.invariant_of-result
 invariant_of-result g c = c.see-2.ensures.fits
@@ -53,16 +99,15 @@ pub invariant_of-pass : goal.invariant_of-pass
 invariant_of-pass g c = c.see.ensures.fits
 
 pub returns-clause-own : goal.returns-clause-own
-returns-clause-own g c = let e = c.split_seat-seat.ensures in let o = c.see.ensures.own in
-    own_after c.pass.inside.parts c.args.pass.now c.pass.view_is c.args.self.now c.see.new.seat c.requires.own (o.0 ∙ e.0, o.1 ∙ e.1) (ap (λ z. z.0.terms) c.see.ensures.kept ∙ ap (λ z. z.0.terms) e.2)
+returns-clause-own g c = own_after c.pass.inside.parts c.args.pass.now c.pass.view_is c.args.self.now c.see.new.seat c.requires.own
+    (same_seat c.pass.inside.parts.seat c.split_seat-seat.new.seat c.see.new.seat (c.split_seat-seat.ensures.0, c.split_seat-seat.ensures.1) c.see.ensures.own) (left_terms c.pass.inside.parts c.args.pass.now c.pass.view_is c.split_seat-seat.new.seat c.see.new.seat c.see.ensures.kept c.split_seat-seat.ensures.2)
 
 pub returns-clause-kept : goal.returns-clause-kept
-returns-clause-kept g c = let p = c.pass.inside.parts in let w = ap (λ z. z.0) (c.see.ensures.kept ∙ c.split_seat-seat.ensures.2) in
-    (w ∙ ap (λ z. left_part (view z)) c.pass.view_is, ap (λ z. spread (length z.held) p.hand.items) w ∙ ap values c.pass.view_is, ap count c.pass.view_is)
+returns-clause-kept g c = left_keeps c.pass.inside.parts c.args.pass.now c.pass.view_is c.split_seat-seat.new.seat c.see.new.seat c.see.ensures.kept c.split_seat-seat.ensures.2
 
 pub returns-clause-given : goal.returns-clause-given
-returns-clause-given g c = let e = c.split_seat-seat.ensures in let own = own_from c.pass.inside.parts c.args.pass.now c.pass.view_is c.args.self.now c.requires.own in let w = ap (λ z. z.0) (c.see-2.ensures.kept ∙ e.4) in
-    ((c.see-2.ensures.own.0 ∙ (e.3 ∙ own.0), ap (λ z. z.terms) w ∙ own.1), w ∙ ap (λ z. right_part (view z)) c.pass.view_is, ap length c.in-Ok.ensures.items)
+returns-clause-given g c = right_given c.pass.inside.parts c.args.pass.now c.pass.view_is c.split_seat-seat.result c.see-2.new.seat c.see-2.ensures.kept c.split_seat-seat.ensures.4 c.in-Ok.hand.items c.in-Ok.ensures.items
+    c.args.self.now.table.shared.table_id c.args.self.now.terms c.see-2.ensures.own.0 c.split_seat-seat.ensures.3 (own_from c.pass.inside.parts c.args.pass.now c.pass.view_is c.args.self.now c.requires.own)
 
 pub returns-clause-fits : goal.returns-clause-fits
 returns-clause-fits g c = (c.see.ensures.fits, c.see-2.ensures.fits)

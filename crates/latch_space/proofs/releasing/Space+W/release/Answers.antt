@@ -1,7 +1,13 @@
-use Rattle.std.proofs.Common.{arith, ◌≡◌, ℕ, ◌+◌, ◌-◌, ◌<◌, ◌++◌, ◌∷◌, ap, ◌∙◌, sym, subst, length, map, set, drop, take, remove, Some, None, length-set}
+use Rattle.std.proofs.Common.{arith, ◌≡◌, ℕ, ◌+◌, ◌-◌, ◌<◌, ◌≤◌, ◌++◌, ◌∷◌, ap, ◌∙◌, sym, subst, length, List, map, set, drop, take, get_or, remove, Option, Some, None, length-set, vec_len, true, refl}
+use mathlib.Core.Option.{some}
 use lib.ListN.{get_elem?, length-map}
 use Rattle.atomic_table.specs.Table.{rest}
+use Rattle.atomic_table.specs.declared.shared.Seat.{Seat}
+use Rattle.latch_law.specs.declared.knows.Holding.{Holding}
 use Rattle.latch_law.specs.declared.knows.Knows.{Knows}
+use Rattle.latch_law.specs.Whole.{StateLaw, AnswerLaw, ReferenceLaw}
+use Rattle.latch_space.specs.declared.pass.HeldObject.{HeldObject}
+use Rattle.latch_space.specs.declared.pass.PassOf.{PassOf}
 use Rattle.latch_space.specs.Hands.{has, is_held, is_once, slot_of, spread}
 use Rattle.latch_law.specs.Rule.{Holds}
 use Rattle.latch_law.proofs.Keeps.{releases}
@@ -9,76 +15,199 @@ use Rattle.list_facts.proofs.Places.{inside, one_value}
 use Rattle.latch_space.proofs.InHand.{front, same_front, has_shown, place_shows, others, front_slots, back_slots, length_others, holding_removed, once_remove, spread_remove}
 use Rattle.latch_law.specs.Fitting.{MayRelease}
 use Rattle.latch_law.specs.Views.{releasing}
-use Rattle.latch_space.specs.Passes.{view, values}
-use Rattle.latch_space.proofs.Pointwise.{own_from, known_from, released_of}
-use Rattle.latch_space.proofs.Seats.{fitted_from}
+use Rattle.latch_space.specs.Has.{DidRelease}
+use Rattle.latch_space.specs.Passes.{view, values, Shows}
+use Rattle.latch_space.proofs.Pointwise.{own_from, released_of}
+use Rattle.latch_space.proofs.Seats.{AreFields, fitted_from, live_of, own_after, room_stays, view_from, word_of}
 use Rattle.latch_space.proofs.releasing.Space+W.release.Goals as goal
 
+-- gone is what was taken from the place i of a hand, where the object k stood
+record IsTaken {Sh O C A : Type 0} (p : PassOf Sh O C A) (i k : ℕ) (gone : HeldObject O) : Type 0 where
+  at : get_elem? p.hand.items i ≡ some gone
+  object : gone.object ≡ k
+  within : gone.object < length (view p).held
+  shows : get_elem? (values p) k ≡ some gone.value
+
+-- what its slot needs at the step that frees it
+record IsReady {Sh O C A : Type 0} (lawful : StateLaw Sh O C) (answers : AnswerLaw Sh O C A) (refers : ReferenceLaw Sh O C) (s t : Seat (Option O) (Knows Sh O C A)) (k : ℕ) (h : Holding O) : Type 0 where
+  live : t.me.0.low < t.me.0.end
+  slots : t.me.1 ≡ (k, Some h.known) ∷ rest s.me.1
+  holds : Holds t.me.0 k h
+  rule : MayRelease lawful answers refers t.me.0 k
+
+module _ {Sh O C A : Type 0} where
+  shown_still : (p p₀ : PassOf Sh O C A) → p ≡ p₀ → (k : ℕ) (h : Holding O) → Shows p₀ k h.known → Shows p k h.known
+  shown_still p p₀ is k h shows = subst (λ (z : PassOf Sh O C A). Shows z k h.known) (sym is) shows
+
+  -- an object that a pass has in hand with its known value stands there
+  has_known : (p p₀ : PassOf Sh O C A) → p ≡ p₀ → (k : ℕ) (h : Holding O) → Shows p₀ k h.known → has k p.hand.items ≡ true
+  has_known p p₀ is k h shows = has_shown (length (view p).held) p.hand.items k h.known (shown_still p p₀ is k h shows)
+
+  held_still : (p p₀ : PassOf Sh O C A) → p ≡ p₀ → (k : ℕ) (h : Holding O) → Holds (view p₀) k h → Holds (view p) k h
+  held_still p p₀ is k h held = subst (λ (z : PassOf Sh O C A). Holds (view z) k h) (sym is) held
+
+  module _ (p : PassOf Sh O C A) (i k : ℕ) (hand : List (HeldObject O)) (is : hand ≡ p.hand.items) (found : (w : HeldObject O) × (get_elem? hand i ≡ some w) × (w.object ≡ k)) where
+    place_within : i < length p.hand.items
+    place_within = inside p.hand.items i found.0 (ap (λ (z : List (HeldObject O)). get_elem? z i) (sym is) ∙ found.1)
+
+    may_turn : i ≤ length p.seat.me.1
+    may_turn = let within = place_within in let same = ap length p.out in let slots = length-map p.hand.items slot_of in omega (arith, within, same, slots)
+
+    may_remove : i < vec_len p.hand
+    may_remove = let within = place_within in let ok = p.hand.ok.0 in omega (arith, within, ok)
+
+    taken_at : (gone : HeldObject O) → gone ≡ get_or p.hand.items i gone → IsTaken p i k gone
+    taken_at gone removed = let s = place_shows (view p).held p.hand.items p.holding p.once i k (found.0, ap (λ (z : List (HeldObject O)). get_elem? z i) (sym is) ∙ found.1, found.2) gone removed in
+        record { at = s.0; object = s.1; within = subst (λ (z : ℕ). z < length (view p).held) (sym s.1) s.2; shows = s.3 }
+
+  module _ (p : PassOf Sh O C A) (i k : ℕ) (gone : HeldObject O) (taken : IsTaken p i k gone) where
+    -- the number of places behind it
+    behind_is : (n m : ℕ) → n ≡ m → m + 1 ≡ vec_len p.hand → (n - i) + (i + 1) ≡ length p.hand.items
+    behind_is n m same few = let ok = p.hand.ok.0 in let within = inside p.hand.items i gone taken.at in omega (arith, same, few, ok, within)
+
+    no_less : (n m : ℕ) → n ≡ m → m + 1 ≡ vec_len p.hand → i ≤ n
+    no_less n m same few = let ok = p.hand.ok.0 in let within = inside p.hand.items i gone taken.at in omega (arith, same, few, ok, within)
+
+    -- its slot is at the front of the seat s
+    module _ (s : Seat (Option O) (Knows Sh O C A)) (turned : s.me.1 ≡ drop i p.seat.me.1 ++ take i p.seat.me.1) where
+      front_is : s.me.1 ≡ (gone.object, None) ∷ others p.hand.items i
+      front_is = turned ∙ (ap (λ (z : List (ℕ × Option O)). drop i z ++ take i z) p.out ∙ front_slots p.hand.items i gone taken.at)
+
+      front_there : (old : Option O) × (s.me.1 ≡ (gone.object, old) ∷ rest s.me.1)
+      front_there = (None, front s.me.1 (gone.object, None) (others p.hand.items i) front_is)
+
+      was_empty : (empty : Option O) → s.me.1 ≡ (gone.object, empty) ∷ rest s.me.1 → empty ≡ None
+      was_empty empty is = same_front s.me.1 (rest s.me.1) (others p.hand.items i) gone.object empty None is front_is
+
+      -- and the object is at home in the seat t
+      module _ (t : Seat (Option O) (Knows Sh O C A)) (boxed : Option O) (same : s.me.0 ≡ view p) (put : t.me ≡ (s.me.0, (gone.object, boxed) ∷ rest s.me.1)) (h : Holding O) (held : Holds (view p) k h) where
+        view_still : t.me.0 ≡ view p
+        view_still = ap (λ z. z.0) put ∙ same
+
+        holds_still : Holds t.me.0 gone.object h
+        holds_still = ap (λ (z : Knows Sh O C A). get_elem? z.held gone.object) view_still ∙ (ap (get_elem? (view p).held) taken.object ∙ held)
+
+        ready : (lawful : StateLaw Sh O C) (answers : AnswerLaw Sh O C A) (refers : ReferenceLaw Sh O C) → boxed ≡ gone.value → Shows p k h.known → MayRelease lawful answers refers (view p) k
+            → IsReady lawful answers refers s t gone.object h
+        ready lawful answers refers boxes shown may = let known : boxed ≡ Some h.known = boxes ∙ one_value (values p) k gone.value (Some h.known) taken.shows shown in record {
+          live = subst (λ (z : Knows Sh O C A). z.low < z.end) (sym view_still) (live_of p);
+          slots = ap (λ z. z.1) put ∙ ap (λ (z : Option O). (gone.object, z) ∷ rest s.me.1) known;
+          holds = holds_still;
+          rule = subst (λ (z : Knows Sh O C A × ℕ). MayRelease lawful answers refers z.0 z.1) (λ j. (sym view_still j, sym taken.object j)) may;
+        }
+
+        -- what is left once it went out from the seat u
+        gone_from : (u : Seat (Option O) (Knows Sh O C A)) → ((g : Holding O) → Holds t.me.0 gone.object g → u.me ≡ (releasing t.me.0 gone.object g, rest t.me.1))
+            → (u.me.0 ≡ releasing (view p) gone.object h) × (u.me.1 ≡ others p.hand.items i)
+        gone_from u freed = let e = freed h holds_still in
+            (ap (λ z. z.0) e ∙ ap (λ (z : Knows Sh O C A). releasing z gone.object h) view_still, ap (λ z. z.1) e ∙ (ap (λ z. rest z.1) put ∙ ap rest front_is))
+
+    -- u is the seat that it went out from, and w the one whose slots are in order again
+    module _ (h : Holding O) (u w : Seat (Option O) (Knows Sh O C A)) (out : (u.me.0 ≡ releasing (view p) gone.object h) × (u.me.1 ≡ others p.hand.items i)) (same : w.me.0 ≡ u.me.0) where
+      may_turn_behind : (r : ℕ) → r + (i + 1) ≡ length p.hand.items → r ≤ length u.me.1
+      may_turn_behind r behind = let l = length_others p.hand.items i r behind in let e = ap length out.1 in omega (arith, l, e)
+
+      terms_after : w.me.0.terms ≡ (view p).terms
+      terms_after = ap (λ (z : Knows Sh O C A). z.terms) (same ∙ out.0)
+
+      fields_after : (r : ℕ) (hand : List (HeldObject O)) → r + (i + 1) ≡ length p.hand.items → w.me.1 ≡ drop r u.me.1 ++ take r u.me.1 → hand ≡ remove p.hand.items i → AreFields w p.low p.end hand
+      fields_after r hand behind turned is = let n = p.numbers in let hs = (view p).held in let v : w.me.0 ≡ releasing (view p) gone.object h = same ∙ out.0 in record {
+        numbers = (n.0 ∙ sym (ap (λ (z : Knows Sh O C A). z.low) v), n.1 ∙ sym (ap (λ (z : Knows Sh O C A). z.end) v), n.2);
+        out = turned ∙ (ap (λ (z : List (ℕ × Option O)). drop r z ++ take r z) out.1 ∙ (back_slots p.hand.items i r behind ∙ ap (map slot_of) (sym is)));
+        holding = λ j. ap (has j) is ∙ (holding_removed hs p.hand.items gone i p.once taken.at taken.within p.holding j ∙ ap (λ (z : Knows Sh O C A). is_held z.held j) (sym v));
+        once = ap is_once is ∙ once_remove p.hand.items i p.once;
+        all = (ap (λ (z : Knows Sh O C A). length z.held) v ∙ (length-set hs gone.object None ∙ (p.all.0 ∙ sym (ap (λ (z : Knows Sh O C A). z.terms.objects) v))), ap (λ (z : Knows Sh O C A). length z.seen) v ∙ (p.all.1 ∙ sym (ap (λ (z : Knows Sh O C A). z.terms.indexes) v)));
+      }
+
+      did_release : (p₀ q : PassOf Sh O C A) → p ≡ p₀ → Holds (view p) k h → view q ≡ w.me.0 → q.hand.items ≡ remove p.hand.items i → vec_len q.hand + 1 ≡ vec_len p.hand → DidRelease p₀ k q
+      did_release p₀ q is held now hand few = let hs = (view p).held in let ps = p.hand.items in let v : view q ≡ releasing (view p) gone.object h = now ∙ (same ∙ out.0) in
+          let vals : values q ≡ set (values p) k None = (λ j. spread (length (v j).held) (hand j)) ∙ (ap (λ (z : ℕ). spread z (remove ps i)) (length-set hs gone.object None) ∙ (spread_remove (length hs) ps i gone p.once taken.at taken.within ∙ ap (λ (z : ℕ). set (values p) z None) taken.object)) in
+          let ok = p.hand.ok.0 in let ok' = q.hand.ok.0 in
+          released_of p p₀ is q k h held (v ∙ ap (λ (z : ℕ). releasing (view p) z h) taken.object) vals (omega (arith, few, ok, ok'))
+
+  -- a seat stays the same one
+  same_seat : (s t u w x : Seat (Option O) (Knows Sh O C A)) → (t.table_id ≡ s.table_id) × (t.id ≡ s.id) → (u.table_id ≡ t.table_id) × (u.id ≡ t.id) → (w.table_id ≡ u.table_id) × (w.id ≡ u.id) → (x.table_id ≡ w.table_id) × (x.id ≡ w.id)
+      → (x.table_id ≡ s.table_id) × (x.id ≡ s.id)
+  same_seat s t u w x a b c d = (d.0 ∙ (c.0 ∙ (b.0 ∙ a.0)), d.1 ∙ (c.1 ∙ (b.1 ∙ a.1)))
+
 pub place_of-i-requires : goal.place_of-i-requires
-place_of-i-requires g c = let p = c.pass.inside.parts in let h = known_from p _ c.pass.view_is c.args.object c.requires.known in ap (has c.args.object) c.as_slice.ensures.value ∙ has_shown (length p.seat.me.0.held) p.hand.items c.args.object h.0.known h.2
+place_of-i-requires g c = ap (has c.args.object) c.as_slice.ensures.value ∙ has_known c.pass.inside.parts c.args.pass.now c.pass.view_is c.args.object c.requires.known.0 c.requires.known.2
 
 pub turn_by-requires : goal.turn_by-requires
-turn_by-requires g c = let p = c.pass.inside.parts in let hs = p.seat.me.0.held in let ps = p.hand.items in let i = c.place_of-i.result in let q = c.place_of-i.ensures in let found = ap (λ z. get_elem? z i) (sym c.as_slice.ensures.value) ∙ q.1 in let l = inside ps i q.0 found in let m = ap length p.out in let n = length-map ps slot_of in omega (arith, l, m, n)
+turn_by-requires g c = may_turn c.pass.inside.parts c.place_of-i.result c.args.object c.as_slice.result.now c.as_slice.ensures.value c.place_of-i.ensures
 
 pub remove-slot-requires : goal.remove-slot-requires
-remove-slot-requires g c = let p = c.pass.inside.parts in let hs = p.seat.me.0.held in let ps = p.hand.items in let i = c.place_of-i.result in let q = c.place_of-i.ensures in let found = ap (λ z. get_elem? z i) (sym c.as_slice.ensures.value) ∙ q.1 in let l = inside ps i q.0 found in let ok = p.hand.ok.0 in omega (arith, l, ok)
+remove-slot-requires g c = may_remove c.pass.inside.parts c.place_of-i.result c.args.object c.as_slice.result.now c.as_slice.ensures.value c.place_of-i.ensures
 
 pub exchange-empty-requires : goal.exchange-empty-requires
-exchange-empty-requires g c = let p = c.pass.inside.parts in let hs = p.seat.me.0.held in let ps = p.hand.items in let i = c.place_of-i.result in let q = c.place_of-i.ensures in let found = ap (λ z. get_elem? z i) (sym c.as_slice.ensures.value) ∙ q.1 in let gone = c.remove-slot.result in let s = place_shows hs ps p.holding p.once i c.args.object (q.0, found, q.2) gone c.remove-slot.ensures.value in
-    let front_is : c.turn_by.new.seat.me.1 ≡ (gone.object, None) ∷ others ps i = c.turn_by.ensures.turned ∙ (ap (λ z. drop i z ++ take i z) p.out ∙ front_slots ps i gone s.0) in (c.turn_by.ensures.own.0 ∙ (own_from p _ c.pass.view_is c.args.self.now c.requires.own).0, (None, front _ _ _ front_is))
+exchange-empty-requires g c = (c.turn_by.ensures.own.0 ∙ (own_from c.pass.inside.parts c.args.pass.now c.pass.view_is c.args.self.now c.requires.own).0, front_there c.pass.inside.parts c.place_of-i.result c.args.object c.remove-slot.result
+    (taken_at c.pass.inside.parts c.place_of-i.result c.args.object c.as_slice.result.now c.as_slice.ensures.value c.place_of-i.ensures c.remove-slot.result c.remove-slot.ensures.value)
+    c.turn_by.new.seat c.turn_by.ensures.turned)
 
 pub end-requires : goal.end-requires
-end-requires g c = let p = c.pass.inside.parts in let hs = p.seat.me.0.held in let ps = p.hand.items in let i = c.place_of-i.result in let q = c.place_of-i.ensures in let found = ap (λ z. get_elem? z i) (sym c.as_slice.ensures.value) ∙ q.1 in let gone = c.remove-slot.result in let s = place_shows hs ps p.holding p.once i c.args.object (q.0, found, q.2) gone c.remove-slot.ensures.value in
-    let front_is : c.turn_by.new.seat.me.1 ≡ (gone.object, None) ∷ others ps i = c.turn_by.ensures.turned ∙ (ap (λ z. drop i z ++ take i z) p.out ∙ front_slots ps i gone s.0) in same_front _ _ _ _ _ _ c.exchange-empty.ensures.2 front_is
+end-requires g c = was_empty c.pass.inside.parts c.place_of-i.result c.args.object c.remove-slot.result
+    (taken_at c.pass.inside.parts c.place_of-i.result c.args.object c.as_slice.result.now c.as_slice.ensures.value c.place_of-i.ensures c.remove-slot.result c.remove-slot.ensures.value)
+    c.turn_by.new.seat c.turn_by.ensures.turned c.exchange-empty.result c.exchange-empty.ensures.2
 
 pub store-requires : goal.store-requires
-store-requires g c = let p = c.pass.inside.parts in let hs = p.seat.me.0.held in let ps = p.hand.items in let i = c.place_of-i.result in let q = c.place_of-i.ensures in let found = ap (λ z. get_elem? z i) (sym c.as_slice.ensures.value) ∙ q.1 in let gone = c.remove-slot.result in let s = place_shows hs ps p.holding p.once i c.args.object (q.0, found, q.2) gone c.remove-slot.ensures.value in
-    let front_is : c.turn_by.new.seat.me.1 ≡ (gone.object, None) ∷ others ps i = c.turn_by.ensures.turned ∙ (ap (λ z. drop i z ++ take i z) p.out ∙ front_slots ps i gone s.0) in let e = c.exchange-empty.ensures in let same : c.exchange-empty.new.seat.me.0 ≡ p.seat.me.0 = ap (λ z. z.0) e.3 ∙ c.turn_by.ensures.own.2 in let h = known_from p _ c.pass.view_is c.args.object c.requires.known in
-    let holds : Holds c.exchange-empty.new.seat.me.0 gone.object h.0 = ap (λ z. get_elem? z.held gone.object) same ∙ (ap (get_elem? hs) s.1 ∙ h.1) in let shown : gone.value ≡ Some h.0.known = one_value (spread (length hs) ps) c.args.object gone.value (Some h.0.known) s.3 h.2 in
-    let rule_path = ap view (sym c.pass.view_is) ∙ sym same in let terms : p.seat.me.0.terms.objects ≡ c.args.self.now.terms.objects = ap (λ z. z.objects) (own_from p _ c.pass.view_is c.args.self.now c.requires.own).1 in let all = p.all in let words = c.args.self.now.counts in let within = s.2 in let object = s.1 in (
-      e.0 ∙ (c.turn_by.ensures.own.0 ∙ (own_from p _ c.pass.view_is c.args.self.now c.requires.own).0),
-      omega (arith, all.0, words.0, terms, within, object),
-      releases _ _ _ _ _ _ _ _ record { taken = g.W.World.taken; answers_stay = g.W.World.answers_stay; follows_keeps = g.W.World.follows_keeps; refers_stay = g.W.World.refers_stay; refers_new = g.W.World.refers_new; refers_held = g.W.World.refers_held } _ _ _ c.exchange-empty.new.seat.me gone.object h.0 (rest c.turn_by.new.seat.me.1)
-          (subst (λ (z : Knows g.row.W-Shape.Denot g.row.W-Object.Denot g.row.W-Change.Denot g.row.W-Answer.Denot). z.low < z.end) (sym same) (let n = p.numbers in omega (arith, n.0, n.1, n.2)))
-          (ap (λ z. z.1) e.3 ∙ ap (λ z. (gone.object, z) ∷ rest c.turn_by.new.seat.me.1) (c.new-boxed.ensures ∙ shown)) holds
-          (subst (λ (z : Knows g.row.W-Shape.Denot g.row.W-Object.Denot g.row.W-Change.Denot g.row.W-Answer.Denot × ℕ). MayRelease g.W.World.lawful g.W.World.answers g.W.World.refers z.0 z.1) (λ j. (rule_path j, sym s.1 j)) c.requires.rule),
+store-requires g c = 
+    let own = own_from c.pass.inside.parts c.args.pass.now c.pass.view_is c.args.self.now c.requires.own in
+    let taken = taken_at c.pass.inside.parts c.place_of-i.result c.args.object c.as_slice.result.now c.as_slice.ensures.value c.place_of-i.ensures c.remove-slot.result c.remove-slot.ensures.value in
+    let may = view_from c.pass.inside.parts c.args.pass.now c.pass.view_is (λ v. MayRelease g.W.World.lawful g.W.World.answers g.W.World.refers v c.args.object) c.requires.rule in
+    let r = ready c.pass.inside.parts c.place_of-i.result c.args.object c.remove-slot.result taken c.turn_by.new.seat c.turn_by.ensures.turned c.exchange-empty.new.seat c.new-boxed.result c.turn_by.ensures.own.2 c.exchange-empty.ensures.3 c.requires.known.0 (held_still c.pass.inside.parts c.args.pass.now c.pass.view_is c.args.object c.requires.known.0 c.requires.known.1)
+      g.W.World.lawful g.W.World.answers g.W.World.refers c.new-boxed.ensures (shown_still c.pass.inside.parts c.args.pass.now c.pass.view_is c.args.object c.requires.known.0 c.requires.known.2) may in (
+      c.exchange-empty.ensures.0 ∙ (c.turn_by.ensures.own.0 ∙ own.0),
+      word_of c.pass.inside.parts c.args.self.now own.1 c.remove-slot.result.object taken.within,
+      releases _ _ _ _ _ _ _ _ record { taken = g.W.World.taken; answers_stay = g.W.World.answers_stay; follows_keeps = g.W.World.follows_keeps; refers_stay = g.W.World.refers_stay; refers_new = g.W.World.refers_new; refers_held = g.W.World.refers_held } _ _ _ c.exchange-empty.new.seat.me c.remove-slot.result.object c.requires.known.0 (rest c.turn_by.new.seat.me.1) r.live r.slots r.holds r.rule,
     )
 
 pub turn_by-requires-2 : goal.turn_by-requires-2
-turn_by-requires-2 g c = let p = c.pass.inside.parts in let hs = p.seat.me.0.held in let ps = p.hand.items in let i = c.place_of-i.result in let q = c.place_of-i.ensures in let found = ap (λ z. get_elem? z i) (sym c.as_slice.ensures.value) ∙ q.1 in let gone = c.remove-slot.result in let s = place_shows hs ps p.holding p.once i c.args.object (q.0, found, q.2) gone c.remove-slot.ensures.value in
-    let front_is : c.turn_by.new.seat.me.1 ≡ (gone.object, None) ∷ others ps i = c.turn_by.ensures.turned ∙ (ap (λ z. drop i z ++ take i z) p.out ∙ front_slots ps i gone s.0) in let e = c.exchange-empty.ensures in let same : c.exchange-empty.new.seat.me.0 ≡ p.seat.me.0 = ap (λ z. z.0) e.3 ∙ c.turn_by.ensures.own.2 in let h = known_from p _ c.pass.view_is c.args.object c.requires.known in
-    let holds : Holds c.exchange-empty.new.seat.me.0 gone.object h.0 = ap (λ z. get_elem? z.held gone.object) same ∙ (ap (get_elem? hs) s.1 ∙ h.1) in let t = c.store.ensures.2.0 h.0 holds in let left : c.store.new.seat.me.1 ≡ others ps i = ap (λ z. z.1) t ∙ (ap (λ z. rest z.1) e.3 ∙ ap rest front_is) in let len = c.len.ensures in let few = c.remove-slot.ensures.len in let ok = p.hand.ok.0 in let inside_it = inside ps i gone s.0 in let r : (c.len.result - i) + (i + 1) ≡ length ps = omega (arith, len, few, ok, inside_it) in let l = length_others ps i (c.len.result - i) r in let m = ap length left in omega (arith, l, m)
+turn_by-requires-2 g c = may_turn_behind c.pass.inside.parts c.place_of-i.result c.args.object c.remove-slot.result
+    (taken_at c.pass.inside.parts c.place_of-i.result c.args.object c.as_slice.result.now c.as_slice.ensures.value c.place_of-i.ensures c.remove-slot.result c.remove-slot.ensures.value) c.requires.known.0 c.store.new.seat c.store.new.seat
+    (gone_from c.pass.inside.parts c.place_of-i.result c.args.object c.remove-slot.result
+    (taken_at c.pass.inside.parts c.place_of-i.result c.args.object c.as_slice.result.now c.as_slice.ensures.value c.place_of-i.ensures c.remove-slot.result c.remove-slot.ensures.value)
+    c.turn_by.new.seat c.turn_by.ensures.turned c.exchange-empty.new.seat c.new-boxed.result c.turn_by.ensures.own.2 c.exchange-empty.ensures.3 c.requires.known.0 (held_still c.pass.inside.parts c.args.pass.now c.pass.view_is c.args.object c.requires.known.0 c.requires.known.1) c.store.new.seat c.store.ensures.2.0) refl
+    (c.len.result - c.place_of-i.result)
+    (behind_is c.pass.inside.parts c.place_of-i.result c.args.object c.remove-slot.result
+    (taken_at c.pass.inside.parts c.place_of-i.result c.args.object c.as_slice.result.now c.as_slice.ensures.value c.place_of-i.ensures c.remove-slot.result c.remove-slot.ensures.value)
+    c.len.result (vec_len c.remove-slot.new.self) c.len.ensures c.remove-slot.ensures.len)
 
 pub invariant_of-parts : goal.invariant_of-parts
-invariant_of-parts g c = let p = c.pass.inside.parts in let hs = p.seat.me.0.held in let ps = p.hand.items in let i = c.place_of-i.result in let q = c.place_of-i.ensures in let found = ap (λ z. get_elem? z i) (sym c.as_slice.ensures.value) ∙ q.1 in let gone = c.remove-slot.result in let s = place_shows hs ps p.holding p.once i c.args.object (q.0, found, q.2) gone c.remove-slot.ensures.value in
-    let front_is : c.turn_by.new.seat.me.1 ≡ (gone.object, None) ∷ others ps i = c.turn_by.ensures.turned ∙ (ap (λ z. drop i z ++ take i z) p.out ∙ front_slots ps i gone s.0) in let e = c.exchange-empty.ensures in let same : c.exchange-empty.new.seat.me.0 ≡ p.seat.me.0 = ap (λ z. z.0) e.3 ∙ c.turn_by.ensures.own.2 in let h = known_from p _ c.pass.view_is c.args.object c.requires.known in
-    let holds : Holds c.exchange-empty.new.seat.me.0 gone.object h.0 = ap (λ z. get_elem? z.held gone.object) same ∙ (ap (get_elem? hs) s.1 ∙ h.1) in let t = c.store.ensures.2.0 h.0 holds in let left : c.store.new.seat.me.1 ≡ others ps i = ap (λ z. z.1) t ∙ (ap (λ z. rest z.1) e.3 ∙ ap rest front_is) in let v : c.turn_by-2.new.seat.me.0 ≡ releasing p.seat.me.0 gone.object h.0 = c.turn_by-2.ensures.own.2 ∙ (ap (λ z. z.0) t ∙ ap (λ z. releasing z gone.object h.0) same) in let len = c.len.ensures in let few = c.remove-slot.ensures.len in let ok = p.hand.ok.0 in let inside_it = inside ps i gone s.0 in let r : (c.len.result - i) + (i + 1) ≡ length ps = omega (arith, len, few, ok, inside_it) in let hand = c.remove-slot.ensures.items in let n = p.numbers in let within = subst (λ (z : ℕ). z < length hs) (sym s.1) s.2 in record {
-      numbers = (n.0 ∙ sym (ap (λ z. z.low) v), n.1 ∙ sym (ap (λ z. z.end) v), n.2);
-      out = c.turn_by-2.ensures.turned ∙ (ap (λ z. drop (c.len.result - i) z ++ take (c.len.result - i) z) left ∙ (back_slots ps i (c.len.result - i) r ∙ ap (map slot_of) (sym hand)));
-      holding = λ k. ap (has k) hand ∙ (holding_removed hs ps gone i p.once s.0 within p.holding k ∙ ap (λ z. is_held z.held k) (sym v));
-      once = ap is_once hand ∙ once_remove ps i p.once;
-      all = (ap (λ z. length z.held) v ∙ (length-set hs gone.object None ∙ (p.all.0 ∙ sym (ap (λ z. z.terms.objects) v))), ap (λ z. length z.seen) v ∙ (p.all.1 ∙ sym (ap (λ z. z.terms.indexes) v)));
-      room = let x = p.room in let y = c.remove-slot.ensures.capacity in omega (arith, x, y);
-    }
+invariant_of-parts g c = 
+    let f = fields_after c.pass.inside.parts c.place_of-i.result c.args.object c.remove-slot.result
+    (taken_at c.pass.inside.parts c.place_of-i.result c.args.object c.as_slice.result.now c.as_slice.ensures.value c.place_of-i.ensures c.remove-slot.result c.remove-slot.ensures.value) c.requires.known.0 c.store.new.seat c.turn_by-2.new.seat
+    (gone_from c.pass.inside.parts c.place_of-i.result c.args.object c.remove-slot.result
+    (taken_at c.pass.inside.parts c.place_of-i.result c.args.object c.as_slice.result.now c.as_slice.ensures.value c.place_of-i.ensures c.remove-slot.result c.remove-slot.ensures.value)
+    c.turn_by.new.seat c.turn_by.ensures.turned c.exchange-empty.new.seat c.new-boxed.result c.turn_by.ensures.own.2 c.exchange-empty.ensures.3 c.requires.known.0 (held_still c.pass.inside.parts c.args.pass.now c.pass.view_is c.args.object c.requires.known.0 c.requires.known.1) c.store.new.seat c.store.ensures.2.0)
+    c.turn_by-2.ensures.own.2
+      (c.len.result - c.place_of-i.result) c.remove-slot.new.self.items (behind_is c.pass.inside.parts c.place_of-i.result c.args.object c.remove-slot.result
+    (taken_at c.pass.inside.parts c.place_of-i.result c.args.object c.as_slice.result.now c.as_slice.ensures.value c.place_of-i.ensures c.remove-slot.result c.remove-slot.ensures.value)
+    c.len.result (vec_len c.remove-slot.new.self) c.len.ensures c.remove-slot.ensures.len) c.turn_by-2.ensures.turned c.remove-slot.ensures.items in
+    record { numbers = f.numbers; out = f.out; holding = f.holding; once = f.once; all = f.all; room = room_stays c.pass.inside.parts c.remove-slot.new.self.cap c.remove-slot.ensures.capacity }
 
 pub returns-clause-did : goal.returns-clause-did
-returns-clause-did g c = let p = c.pass.inside.parts in let hs = p.seat.me.0.held in let ps = p.hand.items in let i = c.place_of-i.result in let q = c.place_of-i.ensures in let found = ap (λ z. get_elem? z i) (sym c.as_slice.ensures.value) ∙ q.1 in let gone = c.remove-slot.result in let s = place_shows hs ps p.holding p.once i c.args.object (q.0, found, q.2) gone c.remove-slot.ensures.value in
-    let front_is : c.turn_by.new.seat.me.1 ≡ (gone.object, None) ∷ others ps i = c.turn_by.ensures.turned ∙ (ap (λ z. drop i z ++ take i z) p.out ∙ front_slots ps i gone s.0) in let e = c.exchange-empty.ensures in let same : c.exchange-empty.new.seat.me.0 ≡ p.seat.me.0 = ap (λ z. z.0) e.3 ∙ c.turn_by.ensures.own.2 in let h = known_from p _ c.pass.view_is c.args.object c.requires.known in
-    let holds : Holds c.exchange-empty.new.seat.me.0 gone.object h.0 = ap (λ z. get_elem? z.held gone.object) same ∙ (ap (get_elem? hs) s.1 ∙ h.1) in let t = c.store.ensures.2.0 h.0 holds in let left : c.store.new.seat.me.1 ≡ others ps i = ap (λ z. z.1) t ∙ (ap (λ z. rest z.1) e.3 ∙ ap rest front_is) in let v : c.turn_by-2.new.seat.me.0 ≡ releasing p.seat.me.0 gone.object h.0 = c.turn_by-2.ensures.own.2 ∙ (ap (λ z. z.0) t ∙ ap (λ z. releasing z gone.object h.0) same) in let hand = c.remove-slot.ensures.items in let within = subst (λ (z : ℕ). z < length hs) (sym s.1) s.2 in
-    let vals : spread (length c.turn_by-2.new.seat.me.0.held) c.remove-slot.new.self.items ≡ set (values p) c.args.object None = (λ j. spread (length (v j).held) (hand j)) ∙ (ap (λ (z : ℕ). spread z (remove ps i)) (length-set hs gone.object None) ∙ (spread_remove (length hs) ps i gone p.once s.0 within ∙ ap (λ (z : ℕ). set (spread (length hs) ps) z None) s.1)) in
-    let is : c.turn_by-2.new.seat.me.0 ≡ releasing p.seat.me.0 c.args.object h.0 = v ∙ ap (λ z. releasing p.seat.me.0 z h.0) s.1 in
-    let len = c.remove-slot.ensures.len in let ok = p.hand.ok.0 in let ok_after = c.remove-slot.new.self.ok.0 in let less : length c.remove-slot.new.self.items + 1 ≡ length ps = omega (arith, len, ok, ok_after) in
-    released_of p _ c.pass.view_is _ c.args.object h.0 h.1 is vals less
+returns-clause-did g c = did_release c.pass.inside.parts c.place_of-i.result c.args.object c.remove-slot.result
+    (taken_at c.pass.inside.parts c.place_of-i.result c.args.object c.as_slice.result.now c.as_slice.ensures.value c.place_of-i.ensures c.remove-slot.result c.remove-slot.ensures.value) c.requires.known.0 c.store.new.seat c.turn_by-2.new.seat
+    (gone_from c.pass.inside.parts c.place_of-i.result c.args.object c.remove-slot.result
+    (taken_at c.pass.inside.parts c.place_of-i.result c.args.object c.as_slice.result.now c.as_slice.ensures.value c.place_of-i.ensures c.remove-slot.result c.remove-slot.ensures.value)
+    c.turn_by.new.seat c.turn_by.ensures.turned c.exchange-empty.new.seat c.new-boxed.result c.turn_by.ensures.own.2 c.exchange-empty.ensures.3 c.requires.known.0 (held_still c.pass.inside.parts c.args.pass.now c.pass.view_is c.args.object c.requires.known.0 c.requires.known.1) c.store.new.seat c.store.ensures.2.0)
+    c.turn_by-2.ensures.own.2
+    c.args.pass.now _ c.pass.view_is (held_still c.pass.inside.parts c.args.pass.now c.pass.view_is c.args.object c.requires.known.0 c.requires.known.1) refl c.remove-slot.ensures.items c.remove-slot.ensures.len
 
 pub returns-clause-own : goal.returns-clause-own
-returns-clause-own g c = let p = c.pass.inside.parts in let hs = p.seat.me.0.held in let ps = p.hand.items in let i = c.place_of-i.result in let q = c.place_of-i.ensures in let found = ap (λ z. get_elem? z i) (sym c.as_slice.ensures.value) ∙ q.1 in let gone = c.remove-slot.result in let s = place_shows hs ps p.holding p.once i c.args.object (q.0, found, q.2) gone c.remove-slot.ensures.value in
-    let front_is : c.turn_by.new.seat.me.1 ≡ (gone.object, None) ∷ others ps i = c.turn_by.ensures.turned ∙ (ap (λ z. drop i z ++ take i z) p.out ∙ front_slots ps i gone s.0) in let e = c.exchange-empty.ensures in let same : c.exchange-empty.new.seat.me.0 ≡ p.seat.me.0 = ap (λ z. z.0) e.3 ∙ c.turn_by.ensures.own.2 in let h = known_from p _ c.pass.view_is c.args.object c.requires.known in
-    let holds : Holds c.exchange-empty.new.seat.me.0 gone.object h.0 = ap (λ z. get_elem? z.held gone.object) same ∙ (ap (get_elem? hs) s.1 ∙ h.1) in let t = c.store.ensures.2.0 h.0 holds in let left : c.store.new.seat.me.1 ≡ others ps i = ap (λ z. z.1) t ∙ (ap (λ z. rest z.1) e.3 ∙ ap rest front_is) in let v : c.turn_by-2.new.seat.me.0 ≡ releasing p.seat.me.0 gone.object h.0 = c.turn_by-2.ensures.own.2 ∙ (ap (λ z. z.0) t ∙ ap (λ z. releasing z gone.object h.0) same) in let table = c.turn_by-2.ensures.own.0 ∙ (c.store.ensures.0 ∙ (e.0 ∙ c.turn_by.ensures.own.0)) in
-    ((table ∙ ap (λ z. z.seat.table_id) c.pass.view_is, c.turn_by-2.ensures.own.1 ∙ (c.store.ensures.1 ∙ (e.1 ∙ (c.turn_by.ensures.own.1 ∙ ap (λ z. z.seat.id) c.pass.view_is)))), (table ∙ (own_from p _ c.pass.view_is c.args.self.now c.requires.own).0, ap (λ z. z.terms) v ∙ (own_from p _ c.pass.view_is c.args.self.now c.requires.own).1))
+returns-clause-own g c = own_after c.pass.inside.parts c.args.pass.now c.pass.view_is c.args.self.now c.turn_by-2.new.seat c.requires.own
+    (same_seat c.pass.inside.parts.seat c.turn_by.new.seat c.exchange-empty.new.seat c.store.new.seat c.turn_by-2.new.seat (c.turn_by.ensures.own.0, c.turn_by.ensures.own.1) (c.exchange-empty.ensures.0, c.exchange-empty.ensures.1) (c.store.ensures.0, c.store.ensures.1) (c.turn_by-2.ensures.own.0, c.turn_by-2.ensures.own.1))
+    (terms_after c.pass.inside.parts c.place_of-i.result c.args.object c.remove-slot.result
+    (taken_at c.pass.inside.parts c.place_of-i.result c.args.object c.as_slice.result.now c.as_slice.ensures.value c.place_of-i.ensures c.remove-slot.result c.remove-slot.ensures.value) c.requires.known.0 c.store.new.seat c.turn_by-2.new.seat
+    (gone_from c.pass.inside.parts c.place_of-i.result c.args.object c.remove-slot.result
+    (taken_at c.pass.inside.parts c.place_of-i.result c.args.object c.as_slice.result.now c.as_slice.ensures.value c.place_of-i.ensures c.remove-slot.result c.remove-slot.ensures.value)
+    c.turn_by.new.seat c.turn_by.ensures.turned c.exchange-empty.new.seat c.new-boxed.result c.turn_by.ensures.own.2 c.exchange-empty.ensures.3 c.requires.known.0 (held_still c.pass.inside.parts c.args.pass.now c.pass.view_is c.args.object c.requires.known.0 c.requires.known.1) c.store.new.seat c.store.ensures.2.0)
+    c.turn_by-2.ensures.own.2)
 
 pub overflow_sub-rest : goal.overflow_sub-rest
-overflow_sub-rest g c = let p = c.pass.inside.parts in let q = c.place_of-i.ensures in let gone = c.remove-slot.result in let s = place_shows p.seat.me.0.held p.hand.items p.holding p.once c.place_of-i.result c.args.object (q.0, ap (λ z. get_elem? z c.place_of-i.result) (sym c.as_slice.ensures.value) ∙ q.1, q.2) gone c.remove-slot.ensures.value in
-    let len = c.len.ensures in let few = c.remove-slot.ensures.len in let ok = p.hand.ok.0 in let inside_it = inside p.hand.items c.place_of-i.result gone s.0 in omega (arith, len, few, ok, inside_it)
+overflow_sub-rest g c = no_less c.pass.inside.parts c.place_of-i.result c.args.object c.remove-slot.result
+    (taken_at c.pass.inside.parts c.place_of-i.result c.args.object c.as_slice.result.now c.as_slice.ensures.value c.place_of-i.ensures c.remove-slot.result c.remove-slot.ensures.value)
+    c.len.result (vec_len c.remove-slot.new.self) c.len.ensures c.remove-slot.ensures.len
 
 pub invariant_of-pass : goal.invariant_of-pass
 invariant_of-pass g c = fitted_from g.W.World.lawful g.W.World.answers g.W.World.refers c.store.new.seat.me.0 c.turn_by-2.new.seat.me.0 c.turn_by-2.ensures.own.2 c.store.ensures.2.1
