@@ -1,5 +1,5 @@
 -- A pass whose seat has stepped: what stays of its facts, and what is so of it by what was so before.
-use Rattle.std.proofs.Common.{◌≡◌, ℕ, ◌+◌, ◌<◌, ◌≤◌, List, length, map, true, refl, ap, sym, subst, ◌∙◌, arith, Option, length-set, vec_capacity}
+use Rattle.std.proofs.Common.{◌≡◌, ℕ, ◌+◌, ◌-◌, ◌<◌, ◌≤◌, List, length, map, true, refl, ap, sym, subst, ◌∙◌, arith, Option, length-set, vec_capacity}
 use Rattle.atomic_table.specs.declared.shared.Seat.{Seat}
 use Rattle.latch_law.specs.declared.knows.Entry.{Entry}
 use Rattle.latch_law.specs.declared.knows.Knows.{Knows}
@@ -14,8 +14,8 @@ use Rattle.latch_space.specs.declared.TheConstants.{MAX_HELD}
 use Rattle.latch_space.specs.declared.pass.PassOf.{PassOf}
 use Rattle.latch_space.specs.declared.space.SpaceOf.{SpaceOf}
 use Rattle.latch_space.specs.Hands.{slot_of, has, is_held, is_once, spread}
-use Rattle.latch_space.specs.Has.{SameHands}
-use Rattle.latch_space.specs.Passes.{view, values, IsWhole}
+use Rattle.latch_law.specs.declared.knows.Holding.{Holding}
+use Rattle.latch_space.specs.Passes.{view, values, count, IsWhole}
 use Rattle.latch_space.specs.Spaces.{IsPassOf}
 use Rattle.latch_space.proofs.InHand.{held_learnt}
 use Rattle.latch_space.proofs.Pointwise.{whole_from}
@@ -62,9 +62,30 @@ module _ {Sh O C A : Type 0} where
   pub word_of : {Q : Type 0} (p : PassOf Sh O C A) (s : SpaceOf Sh O C A Q) → (view p).terms ≡ s.terms → (k : ℕ) → k < length (view p).held → k < s.table.shared.table_id.words
   word_of p s own k within = let all = p.all in let same : (view p).terms.objects ≡ s.terms.objects = ap (λ (t : Terms Sh). t.objects) own in let words = s.counts in omega (arith, all.0, same, words.0, within)
 
+  -- the count of an index i, for a pass that knows v
+  module _ {Q : Type 0} (s : SpaceOf Sh O C A Q) (v : Knows Sh O C A) (own : v.terms ≡ s.terms) (i : ℕ) where
+    pub count_inside : i < s.terms.indexes → s.terms.objects + i < s.table.shared.table_id.words
+    count_inside below = let words = s.counts in omega (arith, words.0, below)
+
+    pub count_above : v.terms.objects ≤ s.terms.objects + i
+    count_above = let same : v.terms.objects ≡ s.terms.objects = ap (λ (t : Terms Sh). t.objects) own in omega (arith, same)
+
+    pub count_is : (s.terms.objects + i) - v.terms.objects ≡ i
+    count_is = let same : v.terms.objects ≡ s.terms.objects = ap (λ (t : Terms Sh). t.objects) own in omega (arith, same)
+
+    pub count_seen : i < length v.seen → (s.terms.objects + i) - v.terms.objects < length v.seen
+    count_seen below = let is = count_is in omega (arith, is, below)
+
+    pub below_most : (n : ℕ) → n < s.terms.max_changes → n < v.terms.max_changes
+    below_most n below = let same : v.terms.max_changes ≡ s.terms.max_changes = ap (λ (t : Terms Sh). t.max_changes) own in omega (arith, same, below)
+
   -- a space has a word
   pub some_words : {Q : Type 0} (s : SpaceOf Sh O C A Q) → 0 < s.table.shared.table_id.words
   some_words s = let words = s.counts in omega (arith, words.0)
+
+  -- and so is the one that is past the words of all objects, or before
+  pub own_word_of : {Q : Type 0} (p : PassOf Sh O C A) (s : SpaceOf Sh O C A Q) → (view p).terms ≡ s.terms → (k : ℕ) → k ≤ (view p).terms.objects → k < s.table.shared.table_id.words
+  own_word_of p s own k most = let same : (view p).terms.objects ≡ s.terms.objects = ap (λ (t : Terms Sh). t.objects) own in let words = s.counts in omega (arith, same, words.0, most)
 
   -- a hand of as much room has enough
   pub room_stays : (p : PassOf Sh O C A) (n : ℕ) → n ≡ vec_capacity p.hand → MAX_HELD ≤ n
@@ -83,10 +104,9 @@ module _ {Sh O C A : Type 0} (p p₀ : PassOf Sh O C A) (is : p ≡ p₀) where
     (same.0 ∙ (ap (λ (z : PassOf Sh O C A). z.seat.table_id) is ∙ own.0), terms ∙ (ap (λ (z : PassOf Sh O C A). (view z).terms) is ∙ own.1)),
   )
 
-  -- it has in hand what it had
-  pub hands_stay : (q : PassOf Sh O C A) → (view q).held ≡ (view p).held → q.hand ≡ p.hand → SameHands p₀ q
-  hands_stay q held hand = subst (λ (z : PassOf Sh O C A). SameHands z q) is
-      record { held = held; values = λ i. spread (length (held i)) (hand i).items; count = ap (λ z. length z.items) hand }
+  -- it has in hand what it had, once it knows v
+  pub hands_stay : (v : Knows Sh O C A) → v.held ≡ (view p).held → (v.held ≡ (view p₀).held) × (spread (length v.held) p.hand.items ≡ values p₀) × (count p ≡ count p₀)
+  hands_stay v held = (held ∙ ap (λ (z : PassOf Sh O C A). (view z).held) is, ap (λ (z : List (Option (Holding O))). spread (length z) p.hand.items) held ∙ ap values is, ap count is)
 
 module _ {Sh O C A : Type 0} (lawful : StateLaw Sh O C) (answers : AnswerLaw Sh O C A) (refers : ReferenceLaw Sh O C) where
   pub reads_stay : (v v' : Knows Sh O C A) (i n : ℕ) (a : A) → DidRead lawful answers refers v i a n v' → Stays v v'
@@ -108,6 +128,9 @@ module _ {Sh O C A : Type 0} where
     seen = refl;
     holding = held_learnt vs v.held;
   }
+
+  pub settled_fields : (p : PassOf Sh O C A) (s : Seat (Option O) (Knows Sh O C A)) (vs : List (Option O)) → s.me ≡ (settling (view p) vs, p.seat.me.1) → AreFields s p.low p.end p.hand.items
+  settled_fields p s vs did = fields_stay p s (settles_stay (view p) s.me.0 vs (ap (λ z. z.0) did)) (ap (λ z. z.1) did)
 
   pub refuses_stay : (v v' : Knows Sh O C A) (k n : ℕ) → v' ≡ refusing v k n → Stays v v'
   refuses_stay v v' k n is = subst (Stays v) (sym is) record { low = refl; end = refl; terms = refl; held = refl; seen = refl; holding = λ _. refl }

@@ -1,5 +1,5 @@
 -- Some refused tries of one object.
-use Rattle.std.proofs.Common.{◌≡◌, ℕ, ◌+◌, set, Option, Some, List, [], ◌∷◌, ◌++◌, sym, refl, ap, ◌∙◌, subst, ⊎_elim, append-nil, append_assoc}
+use Rattle.std.proofs.Common.{◌≡◌, ℕ, ◌+◌, ◌<◌, set, Option, Some, List, [], ◌∷◌, ◌++◌, sym, refl, ap, ◌∙◌, subst, ⊎_elim, append-nil, append_assoc}
 use mathlib.Core.Option.{some-ne-none}
 use lib.ListN.{get_elem?}
 use Rattle.atomic_table.proofs.Lists.{at_snoc}
@@ -10,11 +10,16 @@ use Rattle.latch_law.specs.Whole.{StateLaw, AnswerLaw, ReferenceLaw}
 use Rattle.latch_law.specs.Views.{holding, with_held, with_refused, refusing}
 use Rattle.latch_law.specs.Fitting.{AreTriesOf, IsAnother, WasFree}
 use Rattle.latch_space.specs.declared.pass.PassOf.{PassOf}
-use Rattle.latch_space.specs.Passes.{view}
+use Rattle.latch_space.specs.Passes.{view, count, Lacks, IsSamePass}
+use Rattle.latch_space.specs.declared.space.SpaceOf.{SpaceOf}
+use Rattle.latch_space.specs.Spaces.{IsPassOf}
 use Rattle.latch_space.specs.Has.{SameHands}
 use Rattle.latch_space.specs.Takes.{DidTake, DidTakeAfter, WasBusy}
 
 module _ {Sh O C A : Type 0} where
+  pub same_pass : (p q r : PassOf Sh O C A) → IsSamePass p q → IsSamePass q r → IsSamePass p r
+  same_pass p q r same more = (more.0 ∙ same.0, more.1 ∙ same.1)
+
   -- some refused tries of the object k, and nothing else
   pub record Tried (p : PassOf Sh O C A) (k : ℕ) (q : PassOf Sh O C A) : Type 0 where
     pub refused : List (Refusal O)
@@ -29,6 +34,17 @@ module _ {Sh O C A : Type 0} where
     view = λ i. record (view p) { refused = sym (append-nil (view p).refused) i };
     same = record { held = refl; values = refl; count = refl };
   }
+
+  -- it is a pass of the same space, lacks what it lacked, and holds no more
+  module _ (p q : PassOf Sh O C A) (k : ℕ) (t : Tried p k q) where
+    pub own_tried : {Q : Type 0} (s : SpaceOf Sh O C A Q) → q.seat.table_id ≡ p.seat.table_id → IsPassOf s p → IsPassOf s q
+    own_tried s same own = (same ∙ own.0, ap (λ (z : Knows Sh O C A). z.terms) t.view ∙ own.1)
+
+    pub lacks_tried : Lacks p k → Lacks q k
+    lacks_tried lacks = ap (λ (z : List (Option (Holding O))). get_elem? z k) t.same.held ∙ lacks
+
+    pub few_tried : (n : ℕ) → count p < n → count q < n
+    few_tried n few = subst (λ (m : ℕ). m < n) (sym t.same.count) few
 
   tries_more : (v : Knows Sh O C A) (k : ℕ) (fs : List (Refusal O)) (f : Refusal O) → AreTriesOf v k fs → (f.object ≡ k) × (f.held ≡ v.held) × IsAnother v f.holder → AreTriesOf v k (fs ++ f ∷ [])
   tries_more v k fs f tries new j g e = let P : Refusal O → Type 0 = λ z. (z.object ≡ k) × (z.held ≡ v.held) × IsAnother v z.holder in ⊎_elim (tries j g) (λ (is : f ≡ g). subst P is new) (at_snoc fs f g j e)

@@ -26,7 +26,8 @@ returns-clause-own g c = let p = c.pass.inside.parts in
     own_after p c.args.pass.now c.pass.view_is c.args.self.now c.read_at.new.seat c.requires.own c.read_at.ensures.own (reads_stay g.W.World.lawful g.W.World.answers g.W.World.refers p.seat.me.0 c.read_at.new.seat.me.0 c.args.index c.read_at.result (g.N.Means.meaning c.args.answer.now) c.read_at.ensures.did).terms
 
 pub returns-clause-kept : goal.returns-clause-kept
-returns-clause-kept g c = hands_stay c.pass.inside.parts c.args.pass.now c.pass.view_is _ (ap (λ z. z.held) c.read_at.ensures.did.view) refl
+returns-clause-kept g c = let same = hands_stay c.pass.inside.parts c.args.pass.now c.pass.view_is c.read_at.new.seat.me.0 (ap (λ z. z.held) c.read_at.ensures.did.view) in
+    record { held = same.0; values = same.1; count = same.2 }
 
 pub returns-clause-fits : goal.returns-clause-fits
 returns-clause-fits g c = read_fitted g.W.World.lawful g.W.World.answers g.W.World.refers c.pass.inside.parts.seat.me.0 c.read_at.new.seat.me.0 c.args.index c.read_at.result (g.N.Means.meaning c.args.answer.now) c.read_at.ensures.did

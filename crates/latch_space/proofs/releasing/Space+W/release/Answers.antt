@@ -15,9 +15,8 @@ use Rattle.list_facts.proofs.Places.{inside, one_value}
 use Rattle.latch_space.proofs.InHand.{front, same_front, has_shown, place_shows, others, front_slots, back_slots, length_others, holding_removed, once_remove, spread_remove}
 use Rattle.latch_law.specs.Fitting.{MayRelease}
 use Rattle.latch_law.specs.Views.{releasing}
-use Rattle.latch_space.specs.Has.{DidRelease}
 use Rattle.latch_space.specs.Passes.{view, values, Shows}
-use Rattle.latch_space.proofs.Pointwise.{own_from, released_of}
+use Rattle.latch_space.proofs.Pointwise.{Releases, own_from, released_of}
 use Rattle.latch_space.proofs.Seats.{AreFields, fitted_from, live_of, own_after, room_stays, view_from, word_of}
 use Rattle.latch_space.proofs.releasing.Space+W.release.Goals as goal
 
@@ -119,11 +118,11 @@ module _ {Sh O C A : Type 0} where
         all = (ap (λ (z : Knows Sh O C A). length z.held) v ∙ (length-set hs gone.object None ∙ (p.all.0 ∙ sym (ap (λ (z : Knows Sh O C A). z.terms.objects) v))), ap (λ (z : Knows Sh O C A). length z.seen) v ∙ (p.all.1 ∙ sym (ap (λ (z : Knows Sh O C A). z.terms.indexes) v)));
       }
 
-      did_release : (p₀ q : PassOf Sh O C A) → p ≡ p₀ → Holds (view p) k h → view q ≡ w.me.0 → q.hand.items ≡ remove p.hand.items i → vec_len q.hand + 1 ≡ vec_len p.hand → DidRelease p₀ k q
-      did_release p₀ q is held now hand few = let hs = (view p).held in let ps = p.hand.items in let v : view q ≡ releasing (view p) gone.object h = now ∙ (same ∙ out.0) in
-          let vals : values q ≡ set (values p) k None = (λ j. spread (length (v j).held) (hand j)) ∙ (ap (λ (z : ℕ). spread z (remove ps i)) (length-set hs gone.object None) ∙ (spread_remove (length hs) ps i gone p.once taken.at taken.within ∙ ap (λ (z : ℕ). set (values p) z None) taken.object)) in
-          let ok = p.hand.ok.0 in let ok' = q.hand.ok.0 in
-          released_of p p₀ is q k h held (v ∙ ap (λ (z : ℕ). releasing (view p) z h) taken.object) vals (omega (arith, few, ok, ok'))
+      did_release : (p₀ : PassOf Sh O C A) (hand : List (HeldObject O)) (len : ℕ) → p ≡ p₀ → Holds (view p) k h → hand ≡ remove p.hand.items i → len ≡ length hand → len + 1 ≡ vec_len p.hand → Releases p₀ k w.me.0 (spread (length w.me.0.held) hand) (length hand)
+      did_release p₀ hand len is held now count few = let hs = (view p).held in let ps = p.hand.items in let v : w.me.0 ≡ releasing (view p) gone.object h = same ∙ out.0 in
+          let vals : spread (length w.me.0.held) hand ≡ set (values p) k None = (λ j. spread (length (v j).held) (now j)) ∙ (ap (λ (z : ℕ). spread z (remove ps i)) (length-set hs gone.object None) ∙ (spread_remove (length hs) ps i gone p.once taken.at taken.within ∙ ap (λ (z : ℕ). set (values p) z None) taken.object)) in
+          let ok = p.hand.ok.0 in
+          released_of p p₀ is w.me.0 (spread (length w.me.0.held) hand) (length hand) k h held (v ∙ ap (λ (z : ℕ). releasing (view p) z h) taken.object) vals (omega (arith, few, ok, count))
 
   -- a seat stays the same one
   same_seat : (s t u w x : Seat (Option O) (Knows Sh O C A)) → (t.table_id ≡ s.table_id) × (t.id ≡ s.id) → (u.table_id ≡ t.table_id) × (u.id ≡ t.id) → (w.table_id ≡ u.table_id) × (w.id ≡ u.id) → (x.table_id ≡ w.table_id) × (x.id ≡ w.id)
@@ -174,25 +173,19 @@ turn_by-requires-2 g c = may_turn_behind c.pass.inside.parts c.place_of-i.result
 
 pub invariant_of-parts : goal.invariant_of-parts
 invariant_of-parts g c = 
-    let f = fields_after c.pass.inside.parts c.place_of-i.result c.args.object c.remove-slot.result
-    (taken_at c.pass.inside.parts c.place_of-i.result c.args.object c.as_slice.result.now c.as_slice.ensures.value c.place_of-i.ensures c.remove-slot.result c.remove-slot.ensures.value) c.requires.known.0 c.store.new.seat c.turn_by-2.new.seat
-    (gone_from c.pass.inside.parts c.place_of-i.result c.args.object c.remove-slot.result
-    (taken_at c.pass.inside.parts c.place_of-i.result c.args.object c.as_slice.result.now c.as_slice.ensures.value c.place_of-i.ensures c.remove-slot.result c.remove-slot.ensures.value)
-    c.turn_by.new.seat c.turn_by.ensures.turned c.exchange-empty.new.seat c.new-boxed.result c.turn_by.ensures.own.2 c.exchange-empty.ensures.3 c.requires.known.0 (held_still c.pass.inside.parts c.args.pass.now c.pass.view_is c.args.object c.requires.known.0 c.requires.known.1) c.store.new.seat c.store.ensures.2.0)
-    c.turn_by-2.ensures.own.2
-      (c.len.result - c.place_of-i.result) c.remove-slot.new.self.items (behind_is c.pass.inside.parts c.place_of-i.result c.args.object c.remove-slot.result
-    (taken_at c.pass.inside.parts c.place_of-i.result c.args.object c.as_slice.result.now c.as_slice.ensures.value c.place_of-i.ensures c.remove-slot.result c.remove-slot.ensures.value)
-    c.len.result (vec_len c.remove-slot.new.self) c.len.ensures c.remove-slot.ensures.len) c.turn_by-2.ensures.turned c.remove-slot.ensures.items in
+    let taken = (taken_at c.pass.inside.parts c.place_of-i.result c.args.object c.as_slice.result.now c.as_slice.ensures.value c.place_of-i.ensures c.remove-slot.result c.remove-slot.ensures.value) in
+    let f = fields_after c.pass.inside.parts c.place_of-i.result c.args.object c.remove-slot.result taken c.requires.known.0 c.store.new.seat c.turn_by-2.new.seat
+      (gone_from c.pass.inside.parts c.place_of-i.result c.args.object c.remove-slot.result taken c.turn_by.new.seat c.turn_by.ensures.turned c.exchange-empty.new.seat c.new-boxed.result c.turn_by.ensures.own.2 c.exchange-empty.ensures.3 c.requires.known.0 (held_still c.pass.inside.parts c.args.pass.now c.pass.view_is c.args.object c.requires.known.0 c.requires.known.1) c.store.new.seat c.store.ensures.2.0) c.turn_by-2.ensures.own.2
+      (c.len.result - c.place_of-i.result) c.remove-slot.new.self.items (behind_is c.pass.inside.parts c.place_of-i.result c.args.object c.remove-slot.result taken c.len.result (vec_len c.remove-slot.new.self) c.len.ensures c.remove-slot.ensures.len) c.turn_by-2.ensures.turned c.remove-slot.ensures.items in
     record { numbers = f.numbers; out = f.out; holding = f.holding; once = f.once; all = f.all; room = room_stays c.pass.inside.parts c.remove-slot.new.self.cap c.remove-slot.ensures.capacity }
 
 pub returns-clause-did : goal.returns-clause-did
-returns-clause-did g c = did_release c.pass.inside.parts c.place_of-i.result c.args.object c.remove-slot.result
-    (taken_at c.pass.inside.parts c.place_of-i.result c.args.object c.as_slice.result.now c.as_slice.ensures.value c.place_of-i.ensures c.remove-slot.result c.remove-slot.ensures.value) c.requires.known.0 c.store.new.seat c.turn_by-2.new.seat
-    (gone_from c.pass.inside.parts c.place_of-i.result c.args.object c.remove-slot.result
-    (taken_at c.pass.inside.parts c.place_of-i.result c.args.object c.as_slice.result.now c.as_slice.ensures.value c.place_of-i.ensures c.remove-slot.result c.remove-slot.ensures.value)
-    c.turn_by.new.seat c.turn_by.ensures.turned c.exchange-empty.new.seat c.new-boxed.result c.turn_by.ensures.own.2 c.exchange-empty.ensures.3 c.requires.known.0 (held_still c.pass.inside.parts c.args.pass.now c.pass.view_is c.args.object c.requires.known.0 c.requires.known.1) c.store.new.seat c.store.ensures.2.0)
-    c.turn_by-2.ensures.own.2
-    c.args.pass.now _ c.pass.view_is (held_still c.pass.inside.parts c.args.pass.now c.pass.view_is c.args.object c.requires.known.0 c.requires.known.1) refl c.remove-slot.ensures.items c.remove-slot.ensures.len
+returns-clause-did g c = 
+    let taken = (taken_at c.pass.inside.parts c.place_of-i.result c.args.object c.as_slice.result.now c.as_slice.ensures.value c.place_of-i.ensures c.remove-slot.result c.remove-slot.ensures.value) in
+    let d = did_release c.pass.inside.parts c.place_of-i.result c.args.object c.remove-slot.result taken c.requires.known.0 c.store.new.seat c.turn_by-2.new.seat
+      (gone_from c.pass.inside.parts c.place_of-i.result c.args.object c.remove-slot.result taken c.turn_by.new.seat c.turn_by.ensures.turned c.exchange-empty.new.seat c.new-boxed.result c.turn_by.ensures.own.2 c.exchange-empty.ensures.3 c.requires.known.0 (held_still c.pass.inside.parts c.args.pass.now c.pass.view_is c.args.object c.requires.known.0 c.requires.known.1) c.store.new.seat c.store.ensures.2.0) c.turn_by-2.ensures.own.2
+      c.args.pass.now c.remove-slot.new.self.items (vec_len c.remove-slot.new.self) c.pass.view_is (held_still c.pass.inside.parts c.args.pass.now c.pass.view_is c.args.object c.requires.known.0 c.requires.known.1) c.remove-slot.ensures.items c.remove-slot.new.self.ok.0 c.remove-slot.ensures.len in
+    record { holding = d.at; held = d.held; view = d.now; values = d.vals; gave = record { lacks = d.lacks; others = d.others; count = d.less } }
 
 pub returns-clause-own : goal.returns-clause-own
 returns-clause-own g c = own_after c.pass.inside.parts c.args.pass.now c.pass.view_is c.args.self.now c.turn_by-2.new.seat c.requires.own

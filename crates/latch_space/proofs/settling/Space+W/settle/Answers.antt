@@ -2,12 +2,11 @@ use Rattle.std.proofs.Common.{refl, length, ◌≡◌, ap, ◌∙◌, arith, Non
 use Rattle.latch_space.specs.Hands.{spread}
 use Rattle.latch_law.specs.Views.{settling, without_seen}
 use Rattle.latch_space.proofs.Pointwise.{own_from, settled_all}
-use Rattle.latch_space.proofs.Seats.{live_of, fields_stay, own_after, settles_stay, values_from, rule_from}
+use Rattle.latch_space.proofs.Seats.{live_of, own_word_of, settled_fields, own_after, values_from, rule_from}
 use Rattle.latch_space.proofs.settling.Space+W.settle.Goals as goal
 
 pub settle_at-requires-clause-own : goal.settle_at-requires-clause-own
-settle_at-requires-clause-own g c = let p = c.pass.inside.parts in let own = own_from p c.args.pass.now c.pass.view_is c.args.self.now c.requires.own in let words = c.args.self.now.counts in
-    let same : p.seat.me.0.terms.objects ≡ c.args.self.now.terms.objects = ap (λ z. z.objects) own.1 in (own.0, omega (arith, words.0, same, c.own_word-word.ensures))
+settle_at-requires-clause-own g c = let own = own_from c.pass.inside.parts c.args.pass.now c.pass.view_is c.args.self.now c.requires.own in (own.0, own_word_of c.pass.inside.parts c.args.self.now own.1 c.own_word-word.result c.own_word-word.ensures)
 
 pub settle_at-requires-clause-live : goal.settle_at-requires-clause-live
 settle_at-requires-clause-live g c = live_of c.pass.inside.parts
@@ -16,8 +15,8 @@ pub settle_at-requires-clause-whole : goal.settle_at-requires-clause-whole
 settle_at-requires-clause-whole g c = values_from c.pass.inside.parts c.args.pass.now c.pass.view_is c.as_slice.result.now c.as_slice.ensures.value c.requires.whole
 
 pub invariant_of-pass-inside : goal.invariant_of-pass-inside
-invariant_of-pass-inside g c = let p = c.pass.inside.parts in let did = c.settle_at.ensures.did in
-    let f = fields_stay p c.settle_at.new.seat (settles_stay p.seat.me.0 c.settle_at.new.seat.me.0 (spread (length p.seat.me.0.held) c.as_slice.result.now) (ap (λ z. z.0) did)) (ap (λ z. z.1) did) in
+invariant_of-pass-inside g c = let p = c.pass.inside.parts in
+    let f = settled_fields p c.settle_at.new.seat (spread (length p.seat.me.0.held) c.as_slice.result.now) c.settle_at.ensures.did in
     record { numbers = f.numbers; out = f.out; holding = f.holding; once = f.once; all = f.all; room = p.room }
 
 pub returns-clause-own : goal.returns-clause-own
