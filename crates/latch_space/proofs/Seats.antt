@@ -96,6 +96,9 @@ module _ {Sh O C A : Type 0} where
   index_in s p i own below = let all = p.all in let same : (view p).terms.indexes ≡ s.terms.indexes = ap (λ (t : Terms Sh). t.indexes) own.1 in (omega (arith, all.1, same, below), below)
 
 module _ {Sh O C A : Type 0} (p p₀ : PassOf Sh O C A) (is : p ≡ p₀) where
+  pub table_after : {Q : Type 0} (s : SpaceOf Sh O C A Q) (seat : Seat (Option O) (Knows Sh O C A)) → IsPassOf s p₀ → seat.table_id ≡ p.seat.table_id → seat.table_id ≡ s.table.shared.table_id
+  table_after s seat own same = same ∙ (ap (λ (z : PassOf Sh O C A). z.seat.table_id) is ∙ own.0)
+
   -- it is the same pass of the same space
   pub own_after : {Q : Type 0} (s : SpaceOf Sh O C A Q) (seat : Seat (Option O) (Knows Sh O C A)) → IsPassOf s p₀ → (seat.table_id ≡ p.seat.table_id) × (seat.id ≡ p.seat.id) → seat.me.0.terms ≡ (view p).terms
       → ((seat.table_id ≡ p₀.seat.table_id) × (seat.id ≡ p₀.seat.id)) × ((seat.table_id ≡ s.table.shared.table_id) × (seat.me.0.terms ≡ s.terms))

@@ -22,17 +22,19 @@ module _ {X : Type 0} (all ys zs before : List X) (x : X) (steps : before ≡ x 
 boxed_more : {X : Type 0} (ys : List X) (x : X) (slots slots' : List (Option X)) (slot boxed : Option X) → slots ≡ map Some ys → slot ≡ boxed → boxed ≡ Some x → slots' ≡ slots ++ slot ∷ [] → slots' ≡ map Some (ys ++ x ∷ [])
 boxed_more ys x slots slots' slot boxed so_far is object now = now ∙ ((λ k. so_far k ++ (is ∙ object) k ∷ []) ∙ sym (map-append Some ys (x ∷ [])))
 
+room_first : (n l len cap : ℕ) → n ≤ cap → len ≡ l → n ≡ len → l ≤ cap
+room_first n l len cap room is same = omega (arith, room, is, same)
+
 room_still : (n cap cap' : ℕ) → n ≤ cap → cap' ≡ cap → n ≤ cap'
 room_still n cap cap' room same = omega (arith, room, same)
 
 pub loop-object-init : goal.loop-object-init
-loop-object-init g c =
-    let items = c.into_iter-object-iterator.ensures.into_iter_gives.0 in
-    let len = c.into_iter-object-iterator.ensures.into_iter_gives.1 in
-    let same = ap length items in
-    let all = c.args.objects.ok.0 in
-    let room = c.in-Ok.ensures.capacity in
-    record { rest = items; count = omega (arith, len, same); boxed = c.in-Ok.ensures.items; room = omega (arith, room, all, c.len.ensures) }
+loop-object-init g c = let gives = c.into_iter-object-iterator.ensures.into_iter_gives in let xs = c.args.objects.items in record {
+  rest = gives.0;
+  count = gives.1 ∙ (c.args.objects.ok.0 ∙ ap length (sym gives.0));
+  boxed = c.in-Ok.ensures.items;
+  room = room_first c.len.result (length xs) (vec_len c.args.objects) (vec_capacity c.in-Ok.slots) c.in-Ok.ensures.capacity c.args.objects.ok.0 c.len.ensures;
+}
 
 pub push_reserved-requires : goal.push_reserved-requires
 push_reserved-requires g c = let so_far = c.loop-object.invariant in

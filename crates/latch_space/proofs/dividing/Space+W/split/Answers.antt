@@ -14,7 +14,7 @@ use Rattle.list_facts.proofs.Parts.{middle_inside}
 use Rattle.latch_law.proofs.PartKeeps.{splits}
 use Rattle.latch_space.proofs.InHand.{none_held}
 use Rattle.latch_space.proofs.Pointwise.{own_from, two_from}
-use Rattle.latch_space.proofs.Seats.{AreFields, own_after, left_live, right_live, some_words}
+use Rattle.latch_space.proofs.Seats.{AreFields, own_after, table_after, left_live, right_live, some_words}
 use Rattle.latch_space.proofs.dividing.Space+W.split.Goals as goal
 
 -- a pass p that is p₀ is cut; s is one of its parts, and t the same one after a step that kept it
@@ -81,13 +81,13 @@ invariant_of-parts g c =
     record { numbers = f.numbers; out = f.out; holding = f.holding; once = f.once; all = f.all; room = c.pass.inside.parts.room }
 
 pub see-requires-clause-own : goal.see-requires-clause-own
-see-requires-clause-own g c = c.split_seat-seat.ensures.0 ∙ (own_from c.pass.inside.parts c.args.pass.now c.pass.view_is c.args.self.now c.requires.own).0
+see-requires-clause-own g c = table_after c.pass.inside.parts c.args.pass.now c.pass.view_is c.args.self.now c.split_seat-seat.new.seat c.requires.own c.split_seat-seat.ensures.0
 
 pub see-requires-clause-live : goal.see-requires-clause-live
 see-requires-clause-live g c = left_live c.pass.inside.parts.seat.me.0 c.split_seat-seat.new.seat.me.0 (two_from c.pass.inside.parts c.args.pass.now c.pass.view_is c.requires.two) (ap (λ z. z.0) c.split_seat-seat.ensures.2)
 
 pub see-requires-2-clause-own : goal.see-requires-2-clause-own
-see-requires-2-clause-own g c = c.split_seat-seat.ensures.3 ∙ (own_from c.pass.inside.parts c.args.pass.now c.pass.view_is c.args.self.now c.requires.own).0
+see-requires-2-clause-own g c = table_after c.pass.inside.parts c.args.pass.now c.pass.view_is c.args.self.now c.split_seat-seat.result c.requires.own c.split_seat-seat.ensures.3
 
 pub see-requires-2-clause-live : goal.see-requires-2-clause-live
 see-requires-2-clause-live g c = right_live c.pass.inside.parts.seat.me.0 c.split_seat-seat.result.me.0 (two_from c.pass.inside.parts c.args.pass.now c.pass.view_is c.requires.two) (ap (λ z. z.0) c.split_seat-seat.ensures.4)

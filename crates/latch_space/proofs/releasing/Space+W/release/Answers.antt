@@ -17,7 +17,7 @@ use Rattle.latch_law.specs.Fitting.{MayRelease}
 use Rattle.latch_law.specs.Views.{releasing}
 use Rattle.latch_space.specs.Passes.{view, values, Shows}
 use Rattle.latch_space.proofs.Pointwise.{Releases, own_from, released_of}
-use Rattle.latch_space.proofs.Seats.{AreFields, fitted_from, live_of, own_after, room_stays, view_from, word_of}
+use Rattle.latch_space.proofs.Seats.{AreFields, fitted_from, live_of, own_after, room_stays, view_from, word_of, table_after}
 use Rattle.latch_space.proofs.releasing.Space+W.release.Goals as goal
 
 -- gone is what was taken from the place i of a hand, where the object k stood
@@ -139,7 +139,7 @@ pub remove-slot-requires : goal.remove-slot-requires
 remove-slot-requires g c = may_remove c.pass.inside.parts c.place_of-i.result c.args.object c.as_slice.result.now c.as_slice.ensures.value c.place_of-i.ensures
 
 pub exchange-empty-requires : goal.exchange-empty-requires
-exchange-empty-requires g c = (c.turn_by.ensures.own.0 ∙ (own_from c.pass.inside.parts c.args.pass.now c.pass.view_is c.args.self.now c.requires.own).0, front_there c.pass.inside.parts c.place_of-i.result c.args.object c.remove-slot.result
+exchange-empty-requires g c = (table_after c.pass.inside.parts c.args.pass.now c.pass.view_is c.args.self.now c.turn_by.new.seat c.requires.own c.turn_by.ensures.own.0, front_there c.pass.inside.parts c.place_of-i.result c.args.object c.remove-slot.result
     (taken_at c.pass.inside.parts c.place_of-i.result c.args.object c.as_slice.result.now c.as_slice.ensures.value c.place_of-i.ensures c.remove-slot.result c.remove-slot.ensures.value)
     c.turn_by.new.seat c.turn_by.ensures.turned)
 
