@@ -29,6 +29,10 @@ pub record Stays {Sh O C A : Type 0} (v v' : Knows Sh O C A) : Type 0 where
   pub seen : length v'.seen ≡ length v.seen
   pub holding : (k : ℕ) → is_held v'.held k ≡ is_held v.held k
 
+-- a seat stays the same one at a step and the next
+pub same_seat : {Sh O C A : Type 0} (s t u : Seat (Option O) (Knows Sh O C A)) → (t.table_id ≡ s.table_id) × (t.id ≡ s.id) → (u.table_id ≡ t.table_id) × (u.id ≡ t.id) → (u.table_id ≡ s.table_id) × (u.id ≡ s.id)
+same_seat s t u same more = (more.0 ∙ same.0, more.1 ∙ same.1)
+
 -- what the fields of a pass keep
 pub record AreFields {Sh O C A : Type 0} (seat : Seat (Option O) (Knows Sh O C A)) (low end : ℕ) (hand : List (HeldObject O)) : Type 0 where
   pub numbers : (low ≡ seat.me.0.low) × (end ≡ seat.me.0.end) × (low < end)
@@ -83,7 +87,7 @@ module _ {Sh O C A : Type 0} where
   pub some_words : {Q : Type 0} (s : SpaceOf Sh O C A Q) → 0 < s.table.shared.table_id.words
   some_words s = let words = s.counts in omega (arith, words.0)
 
-  -- and so is the one that is past the words of all objects, or before
+  -- and so is the one that comes behind them all
   pub own_word_of : {Q : Type 0} (p : PassOf Sh O C A) (s : SpaceOf Sh O C A Q) → (view p).terms ≡ s.terms → (k : ℕ) → k ≤ (view p).terms.objects → k < s.table.shared.table_id.words
   own_word_of p s own k most = let same : (view p).terms.objects ≡ s.terms.objects = ap (λ (t : Terms Sh). t.objects) own in let words = s.counts in omega (arith, same, words.0, most)
 
@@ -96,6 +100,7 @@ module _ {Sh O C A : Type 0} where
   index_in s p i own below = let all = p.all in let same : (view p).terms.indexes ≡ s.terms.indexes = ap (λ (t : Terms Sh). t.indexes) own.1 in (omega (arith, all.1, same, below), below)
 
 module _ {Sh O C A : Type 0} (p p₀ : PassOf Sh O C A) (is : p ≡ p₀) where
+  -- its seat is one of its space still
   pub table_after : {Q : Type 0} (s : SpaceOf Sh O C A Q) (seat : Seat (Option O) (Knows Sh O C A)) → IsPassOf s p₀ → seat.table_id ≡ p.seat.table_id → seat.table_id ≡ s.table.shared.table_id
   table_after s seat own same = same ∙ (ap (λ (z : PassOf Sh O C A). z.seat.table_id) is ∙ own.0)
 

@@ -17,6 +17,7 @@ use Rattle.latch_space.specs.Has.{SameHands}
 use Rattle.latch_space.specs.Takes.{DidTake, DidTakeAfter, WasBusy}
 
 module _ {Sh O C A : Type 0} where
+  -- a pass stays the same one at a try and the next
   pub same_pass : (p q r : PassOf Sh O C A) → IsSamePass p q → IsSamePass q r → IsSamePass p r
   same_pass p q r same more = (more.0 ∙ same.0, more.1 ∙ same.1)
 

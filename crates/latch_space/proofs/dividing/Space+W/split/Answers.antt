@@ -14,7 +14,7 @@ use Rattle.list_facts.proofs.Parts.{middle_inside}
 use Rattle.latch_law.proofs.PartKeeps.{splits}
 use Rattle.latch_space.proofs.InHand.{none_held}
 use Rattle.latch_space.proofs.Pointwise.{own_from, two_from}
-use Rattle.latch_space.proofs.Seats.{AreFields, own_after, table_after, left_live, right_live, some_words}
+use Rattle.latch_space.proofs.Seats.{same_seat, AreFields, own_after, table_after, left_live, right_live, some_words}
 use Rattle.latch_space.proofs.dividing.Space+W.split.Goals as goal
 
 -- a pass p that is p₀ is cut; s is one of its parts, and t the same one after a step that kept it
@@ -63,20 +63,16 @@ module _ {Sh O C A : Type 0} (p p₀ : PassOf Sh O C A) (is : p ≡ p₀) (s t :
         → ((t.table_id ≡ table) × (t.me.0.terms ≡ terms)) × (t.me.0 ≡ right_part (view p₀)) × (length hand ≡ 0)
     right_given table terms same same' own = ((same ∙ (same' ∙ own.0), ap (λ (z : Knows Sh O C A). z.terms) right_is ∙ own.1), right_is ∙ ap (λ (z : PassOf Sh O C A). right_part (view z)) is, ap length none)
 
-module _ {Sh O C A : Type 0} where
-  same_seat : (s t u : Seat (Option O) (Knows Sh O C A)) → (t.table_id ≡ s.table_id) × (t.id ≡ s.id) → (u.table_id ≡ t.table_id) × (u.id ≡ t.id) → (u.table_id ≡ s.table_id) × (u.id ≡ s.id)
-  same_seat s t u a b = (b.0 ∙ a.0, b.1 ∙ a.1)
-
 pub split_seat-seat-requires : goal.split_seat-seat-requires
 split_seat-seat-requires g c = ((own_from c.pass.inside.parts c.args.pass.now c.pass.view_is c.args.self.now c.requires.own).0, some_words c.args.self.now, splits _ _ _ _ _ _ _ _ _ _ (two_from c.pass.inside.parts c.args.pass.now c.pass.view_is c.requires.two))
 
 pub invariant_of-upper : goal.invariant_of-upper
-invariant_of-upper g c = 
+invariant_of-upper g c =
     let f = right_fields c.pass.inside.parts c.args.pass.now c.pass.view_is c.split_seat-seat.result c.see-2.new.seat c.see-2.ensures.kept c.split_seat-seat.ensures.4 c.in-Ok.hand.items c.in-Ok.ensures.items c.requires.two in
     record { numbers = f.numbers; out = f.out; holding = f.holding; once = f.once; all = f.all; room = c.in-Ok.ensures.capacity }
 
 pub invariant_of-parts : goal.invariant_of-parts
-invariant_of-parts g c = 
+invariant_of-parts g c =
     let f = left_fields c.pass.inside.parts c.args.pass.now c.pass.view_is c.split_seat-seat.new.seat c.see.new.seat c.see.ensures.kept c.split_seat-seat.ensures.2 c.requires.two in
     record { numbers = f.numbers; out = f.out; holding = f.holding; once = f.once; all = f.all; room = c.pass.inside.parts.room }
 

@@ -1,5 +1,5 @@
 use Rattle.latch_law.specs.Fitting.{DidRead, MayAnswer}
-use Rattle.std.proofs.Common.{refl, ap, sym}
+use Rattle.std.proofs.Common.{ap, sym}
 use Rattle.latch_space.proofs.Pointwise.{own_from}
 use Rattle.latch_space.proofs.Seats.{live_of, index_in, fields_stay, own_after, hands_stay, reads_stay, read_fitted, view_from}
 use Rattle.latch_space.proofs.reading.Space+W.read_point.Goals as goal

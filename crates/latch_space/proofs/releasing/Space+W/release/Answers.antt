@@ -17,7 +17,7 @@ use Rattle.latch_law.specs.Fitting.{MayRelease}
 use Rattle.latch_law.specs.Views.{releasing}
 use Rattle.latch_space.specs.Passes.{view, values, Shows}
 use Rattle.latch_space.proofs.Pointwise.{Releases, own_from, released_of}
-use Rattle.latch_space.proofs.Seats.{AreFields, fitted_from, live_of, own_after, room_stays, view_from, word_of, table_after}
+use Rattle.latch_space.proofs.Seats.{same_seat, AreFields, fitted_from, live_of, own_after, room_stays, view_from, word_of, table_after}
 use Rattle.latch_space.proofs.releasing.Space+W.release.Goals as goal
 
 -- gone is what was taken from the place i of a hand, where the object k stood
@@ -124,11 +124,6 @@ module _ {Sh O C A : Type 0} where
           let ok = p.hand.ok.0 in
           released_of p p₀ is w.me.0 (spread (length w.me.0.held) hand) (length hand) k h held (v ∙ ap (λ (z : ℕ). releasing (view p) z h) taken.object) vals (omega (arith, few, ok, count))
 
-  -- a seat stays the same one
-  same_seat : (s t u w x : Seat (Option O) (Knows Sh O C A)) → (t.table_id ≡ s.table_id) × (t.id ≡ s.id) → (u.table_id ≡ t.table_id) × (u.id ≡ t.id) → (w.table_id ≡ u.table_id) × (w.id ≡ u.id) → (x.table_id ≡ w.table_id) × (x.id ≡ w.id)
-      → (x.table_id ≡ s.table_id) × (x.id ≡ s.id)
-  same_seat s t u w x a b c d = (d.0 ∙ (c.0 ∙ (b.0 ∙ a.0)), d.1 ∙ (c.1 ∙ (b.1 ∙ a.1)))
-
 pub place_of-i-requires : goal.place_of-i-requires
 place_of-i-requires g c = ap (has c.args.object) c.as_slice.ensures.value ∙ has_known c.pass.inside.parts c.args.pass.now c.pass.view_is c.args.object c.requires.known.0 c.requires.known.2
 
@@ -139,9 +134,12 @@ pub remove-slot-requires : goal.remove-slot-requires
 remove-slot-requires g c = may_remove c.pass.inside.parts c.place_of-i.result c.args.object c.as_slice.result.now c.as_slice.ensures.value c.place_of-i.ensures
 
 pub exchange-empty-requires : goal.exchange-empty-requires
-exchange-empty-requires g c = (table_after c.pass.inside.parts c.args.pass.now c.pass.view_is c.args.self.now c.turn_by.new.seat c.requires.own c.turn_by.ensures.own.0, front_there c.pass.inside.parts c.place_of-i.result c.args.object c.remove-slot.result
-    (taken_at c.pass.inside.parts c.place_of-i.result c.args.object c.as_slice.result.now c.as_slice.ensures.value c.place_of-i.ensures c.remove-slot.result c.remove-slot.ensures.value)
-    c.turn_by.new.seat c.turn_by.ensures.turned)
+exchange-empty-requires g c = (
+  table_after c.pass.inside.parts c.args.pass.now c.pass.view_is c.args.self.now c.turn_by.new.seat c.requires.own c.turn_by.ensures.own.0,
+  front_there c.pass.inside.parts c.place_of-i.result c.args.object c.remove-slot.result
+      (taken_at c.pass.inside.parts c.place_of-i.result c.args.object c.as_slice.result.now c.as_slice.ensures.value c.place_of-i.ensures c.remove-slot.result c.remove-slot.ensures.value)
+      c.turn_by.new.seat c.turn_by.ensures.turned,
+)
 
 pub end-requires : goal.end-requires
 end-requires g c = was_empty c.pass.inside.parts c.place_of-i.result c.args.object c.remove-slot.result
@@ -149,12 +147,12 @@ end-requires g c = was_empty c.pass.inside.parts c.place_of-i.result c.args.obje
     c.turn_by.new.seat c.turn_by.ensures.turned c.exchange-empty.result c.exchange-empty.ensures.2
 
 pub store-requires : goal.store-requires
-store-requires g c = 
+store-requires g c =
     let own = own_from c.pass.inside.parts c.args.pass.now c.pass.view_is c.args.self.now c.requires.own in
     let taken = taken_at c.pass.inside.parts c.place_of-i.result c.args.object c.as_slice.result.now c.as_slice.ensures.value c.place_of-i.ensures c.remove-slot.result c.remove-slot.ensures.value in
     let may = view_from c.pass.inside.parts c.args.pass.now c.pass.view_is (λ v. MayRelease g.W.World.lawful g.W.World.answers g.W.World.refers v c.args.object) c.requires.rule in
     let r = ready c.pass.inside.parts c.place_of-i.result c.args.object c.remove-slot.result taken c.turn_by.new.seat c.turn_by.ensures.turned c.exchange-empty.new.seat c.new-boxed.result c.turn_by.ensures.own.2 c.exchange-empty.ensures.3 c.requires.known.0 (held_still c.pass.inside.parts c.args.pass.now c.pass.view_is c.args.object c.requires.known.0 c.requires.known.1)
-      g.W.World.lawful g.W.World.answers g.W.World.refers c.new-boxed.ensures (shown_still c.pass.inside.parts c.args.pass.now c.pass.view_is c.args.object c.requires.known.0 c.requires.known.2) may in (
+    g.W.World.lawful g.W.World.answers g.W.World.refers c.new-boxed.ensures (shown_still c.pass.inside.parts c.args.pass.now c.pass.view_is c.args.object c.requires.known.0 c.requires.known.2) may in (
       c.exchange-empty.ensures.0 ∙ (c.turn_by.ensures.own.0 ∙ own.0),
       word_of c.pass.inside.parts c.args.self.now own.1 c.remove-slot.result.object taken.within,
       releases _ _ _ _ _ _ _ _ record { taken = g.W.World.taken; answers_stay = g.W.World.answers_stay; follows_keeps = g.W.World.follows_keeps; refers_stay = g.W.World.refers_stay; refers_new = g.W.World.refers_new; refers_held = g.W.World.refers_held } _ _ _ c.exchange-empty.new.seat.me c.remove-slot.result.object c.requires.known.0 (rest c.turn_by.new.seat.me.1) r.live r.slots r.holds r.rule,
@@ -172,24 +170,28 @@ turn_by-requires-2 g c = may_turn_behind c.pass.inside.parts c.place_of-i.result
     c.len.result (vec_len c.remove-slot.new.self) c.len.ensures c.remove-slot.ensures.len)
 
 pub invariant_of-parts : goal.invariant_of-parts
-invariant_of-parts g c = 
+invariant_of-parts g c =
     let taken = (taken_at c.pass.inside.parts c.place_of-i.result c.args.object c.as_slice.result.now c.as_slice.ensures.value c.place_of-i.ensures c.remove-slot.result c.remove-slot.ensures.value) in
     let f = fields_after c.pass.inside.parts c.place_of-i.result c.args.object c.remove-slot.result taken c.requires.known.0 c.store.new.seat c.turn_by-2.new.seat
-      (gone_from c.pass.inside.parts c.place_of-i.result c.args.object c.remove-slot.result taken c.turn_by.new.seat c.turn_by.ensures.turned c.exchange-empty.new.seat c.new-boxed.result c.turn_by.ensures.own.2 c.exchange-empty.ensures.3 c.requires.known.0 (held_still c.pass.inside.parts c.args.pass.now c.pass.view_is c.args.object c.requires.known.0 c.requires.known.1) c.store.new.seat c.store.ensures.2.0) c.turn_by-2.ensures.own.2
-      (c.len.result - c.place_of-i.result) c.remove-slot.new.self.items (behind_is c.pass.inside.parts c.place_of-i.result c.args.object c.remove-slot.result taken c.len.result (vec_len c.remove-slot.new.self) c.len.ensures c.remove-slot.ensures.len) c.turn_by-2.ensures.turned c.remove-slot.ensures.items in
+    (gone_from c.pass.inside.parts c.place_of-i.result c.args.object c.remove-slot.result taken c.turn_by.new.seat c.turn_by.ensures.turned c.exchange-empty.new.seat c.new-boxed.result c.turn_by.ensures.own.2 c.exchange-empty.ensures.3 c.requires.known.0 (held_still c.pass.inside.parts c.args.pass.now c.pass.view_is c.args.object c.requires.known.0 c.requires.known.1) c.store.new.seat c.store.ensures.2.0) c.turn_by-2.ensures.own.2
+    (c.len.result - c.place_of-i.result) c.remove-slot.new.self.items (behind_is c.pass.inside.parts c.place_of-i.result c.args.object c.remove-slot.result taken c.len.result (vec_len c.remove-slot.new.self) c.len.ensures c.remove-slot.ensures.len) c.turn_by-2.ensures.turned c.remove-slot.ensures.items in
     record { numbers = f.numbers; out = f.out; holding = f.holding; once = f.once; all = f.all; room = room_stays c.pass.inside.parts c.remove-slot.new.self.cap c.remove-slot.ensures.capacity }
 
 pub returns-clause-did : goal.returns-clause-did
-returns-clause-did g c = 
+returns-clause-did g c =
     let taken = (taken_at c.pass.inside.parts c.place_of-i.result c.args.object c.as_slice.result.now c.as_slice.ensures.value c.place_of-i.ensures c.remove-slot.result c.remove-slot.ensures.value) in
     let d = did_release c.pass.inside.parts c.place_of-i.result c.args.object c.remove-slot.result taken c.requires.known.0 c.store.new.seat c.turn_by-2.new.seat
-      (gone_from c.pass.inside.parts c.place_of-i.result c.args.object c.remove-slot.result taken c.turn_by.new.seat c.turn_by.ensures.turned c.exchange-empty.new.seat c.new-boxed.result c.turn_by.ensures.own.2 c.exchange-empty.ensures.3 c.requires.known.0 (held_still c.pass.inside.parts c.args.pass.now c.pass.view_is c.args.object c.requires.known.0 c.requires.known.1) c.store.new.seat c.store.ensures.2.0) c.turn_by-2.ensures.own.2
-      c.args.pass.now c.remove-slot.new.self.items (vec_len c.remove-slot.new.self) c.pass.view_is (held_still c.pass.inside.parts c.args.pass.now c.pass.view_is c.args.object c.requires.known.0 c.requires.known.1) c.remove-slot.ensures.items c.remove-slot.new.self.ok.0 c.remove-slot.ensures.len in
+    (gone_from c.pass.inside.parts c.place_of-i.result c.args.object c.remove-slot.result taken c.turn_by.new.seat c.turn_by.ensures.turned c.exchange-empty.new.seat c.new-boxed.result c.turn_by.ensures.own.2 c.exchange-empty.ensures.3 c.requires.known.0 (held_still c.pass.inside.parts c.args.pass.now c.pass.view_is c.args.object c.requires.known.0 c.requires.known.1) c.store.new.seat c.store.ensures.2.0) c.turn_by-2.ensures.own.2
+    c.args.pass.now c.remove-slot.new.self.items (vec_len c.remove-slot.new.self) c.pass.view_is (held_still c.pass.inside.parts c.args.pass.now c.pass.view_is c.args.object c.requires.known.0 c.requires.known.1) c.remove-slot.ensures.items c.remove-slot.new.self.ok.0 c.remove-slot.ensures.len in
     record { holding = d.at; held = d.held; view = d.now; values = d.vals; gave = record { lacks = d.lacks; others = d.others; count = d.less } }
 
 pub returns-clause-own : goal.returns-clause-own
 returns-clause-own g c = own_after c.pass.inside.parts c.args.pass.now c.pass.view_is c.args.self.now c.turn_by-2.new.seat c.requires.own
-    (same_seat c.pass.inside.parts.seat c.turn_by.new.seat c.exchange-empty.new.seat c.store.new.seat c.turn_by-2.new.seat (c.turn_by.ensures.own.0, c.turn_by.ensures.own.1) (c.exchange-empty.ensures.0, c.exchange-empty.ensures.1) (c.store.ensures.0, c.store.ensures.1) (c.turn_by-2.ensures.own.0, c.turn_by-2.ensures.own.1))
+    (same_seat c.pass.inside.parts.seat c.store.new.seat c.turn_by-2.new.seat
+      (same_seat c.pass.inside.parts.seat c.exchange-empty.new.seat c.store.new.seat
+        (same_seat c.pass.inside.parts.seat c.turn_by.new.seat c.exchange-empty.new.seat (c.turn_by.ensures.own.0, c.turn_by.ensures.own.1) (c.exchange-empty.ensures.0, c.exchange-empty.ensures.1))
+        (c.store.ensures.0, c.store.ensures.1))
+      (c.turn_by-2.ensures.own.0, c.turn_by-2.ensures.own.1))
     (terms_after c.pass.inside.parts c.place_of-i.result c.args.object c.remove-slot.result
     (taken_at c.pass.inside.parts c.place_of-i.result c.args.object c.as_slice.result.now c.as_slice.ensures.value c.place_of-i.ensures c.remove-slot.result c.remove-slot.ensures.value) c.requires.known.0 c.store.new.seat c.turn_by-2.new.seat
     (gone_from c.pass.inside.parts c.place_of-i.result c.args.object c.remove-slot.result

@@ -1,6 +1,6 @@
-use Rattle.std.proofs.Common.{refl, length, ◌≡◌, ap, ◌∙◌, arith, None}
+use Rattle.std.proofs.Common.{length, ap, None}
 use Rattle.latch_space.specs.Hands.{spread}
-use Rattle.latch_law.specs.Views.{settling, without_seen}
+use Rattle.latch_law.specs.Views.{without_seen}
 use Rattle.latch_space.proofs.Pointwise.{own_from, settled_all, has_learnt, lacks_learnt}
 use Rattle.latch_space.proofs.Seats.{live_of, own_word_of, settled_fields, own_after, values_from, rule_from}
 use Rattle.latch_space.proofs.settling.Space+W.settle.Goals as goal

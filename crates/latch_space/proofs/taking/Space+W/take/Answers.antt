@@ -1,6 +1,5 @@
-use Rattle.std.proofs.Common.{refl, ap, ◌∙◌, arith, true≢false, sym}
+use Rattle.std.proofs.Common.{refl, true≢false, sym}
 use Rattle.latch_space.specs.declared.TheConstants.{MAX_HELD}
-use lib.ListN.{get_elem?}
 use Rattle.latch_space.proofs.Tries.{same_pass, own_tried, lacks_tried, few_tried, tried_none, tried_more, taken_after}
 use Rattle.latch_space.proofs.taking.Space+W.take.Goals as goal
 
