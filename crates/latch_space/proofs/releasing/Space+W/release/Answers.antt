@@ -188,10 +188,10 @@ returns-clause-did g c =
 pub returns-clause-own : goal.returns-clause-own
 returns-clause-own g c = own_after c.pass.inside.parts c.args.pass.now c.pass.view_is c.args.self.now c.turn_by-2.new.seat c.requires.own
     (same_seat c.pass.inside.parts.seat c.store.new.seat c.turn_by-2.new.seat
-      (same_seat c.pass.inside.parts.seat c.exchange-empty.new.seat c.store.new.seat
-        (same_seat c.pass.inside.parts.seat c.turn_by.new.seat c.exchange-empty.new.seat (c.turn_by.ensures.own.0, c.turn_by.ensures.own.1) (c.exchange-empty.ensures.0, c.exchange-empty.ensures.1))
-        (c.store.ensures.0, c.store.ensures.1))
-      (c.turn_by-2.ensures.own.0, c.turn_by-2.ensures.own.1))
+    (same_seat c.pass.inside.parts.seat c.exchange-empty.new.seat c.store.new.seat
+    (same_seat c.pass.inside.parts.seat c.turn_by.new.seat c.exchange-empty.new.seat (c.turn_by.ensures.own.0, c.turn_by.ensures.own.1) (c.exchange-empty.ensures.0, c.exchange-empty.ensures.1))
+    (c.store.ensures.0, c.store.ensures.1))
+    (c.turn_by-2.ensures.own.0, c.turn_by-2.ensures.own.1))
     (terms_after c.pass.inside.parts c.place_of-i.result c.args.object c.remove-slot.result
     (taken_at c.pass.inside.parts c.place_of-i.result c.args.object c.as_slice.result.now c.as_slice.ensures.value c.place_of-i.ensures c.remove-slot.result c.remove-slot.ensures.value) c.requires.known.0 c.store.new.seat c.turn_by-2.new.seat
     (gone_from c.pass.inside.parts c.place_of-i.result c.args.object c.remove-slot.result
