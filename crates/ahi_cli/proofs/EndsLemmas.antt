@@ -1,5 +1,6 @@
 -- How a call ends, from what its parts did.
-use Rattle.std.proofs.Common.{◌≡◌, ◌≢◌, ℕ, ◌≤◌, Option, Some, None, Result, Ok, Err, List, refl, ap, ◌∙◌, sym, subst, ◌⊎◌, inl, inr}
+use Rattle.std.proofs.Common.{◌≡◌, ◌≢◌, ℕ, ◌≤◌, Option, Some, None, Result, Ok, Err, List, [], ◌++◌, append-nil, arith, refl, ap, ◌∙◌, sym, subst, ◌⊎◌, inl, inr}
+use Rattle.std.specs.Prelude.{OnOk}
 use Rattle.io_port.specs.Faults.{ShowsFault}
 use Rattle.io_port.specs.Sink.{Puts}
 use Rattle.report_print.specs.declared.halt.Halt.{Halt}
@@ -172,3 +173,15 @@ lacked_ends Writes Refuses out same = by_status Writes Refuses out NoMemory (inl
 -- and leaves no pass
 pub lacked_leaves : (DidBy : EnginePass → List ℕ → Type 0) (out : Output) (trail : Option EnginePass) → trail ≡ None → LeavesTrail DidBy out trail NoMemory
 lacked_leaves DidBy out trail none = leaves_none DidBy out trail NoMemory none (λ e. cc)
+
+-- a text that was put is any that is the same
+pub put_as : {E : Type 0} (r : Result (Unit {0}) E) (old new text text' : List ℕ) → text ≡ text' → OnOk r (new ≡ old ++ text) → OnOk r (new ≡ old ++ text')
+put_as r old new text text' same put = subst (λ t. OnOk r (new ≡ old ++ t)) same put
+
+-- nothing was put where memory lacked before
+pub lacked_prints : (written : Option (List ℕ)) (faults : ℕ) (text : List ℕ) (r : Result (Unit {0}) Halt) (h : Halt) → r ≡ Err h → h ≡ halt.NoMemory → Prints written written faults faults text r
+lacked_prints written faults text r h is lacked = subst (Prints written written faults faults text) (sym (is ∙ ap Err lacked)) ((0, unwritten written), omega arith)
+  where
+    unwritten : (w : Option (List ℕ)) → Puts w w []
+    unwritten None = refl
+    unwritten (Some bytes) = ap Some (sym (append-nil bytes))

@@ -1,5 +1,5 @@
 -- Why files aren't read.
-use Rattle.std.proofs.Common.{◌≡◌, ℕ, zero, suc, ◌+◌, ◌-◌, ◌<◌, ◌≤◌, Option, Some, None, true, ltb, List, [], ◌∷◌, ◌++◌, length, get_or, take, drop, drop-cons, refl, ap, ◌∙◌, sym, subst, arith, cond, inl, inr}
+use Rattle.std.proofs.Common.{◌≡◌, ℕ, zero, suc, ◌+◌, ◌-◌, ◌<◌, ◌≤◌, Option, Some, None, Err, Vec, true, false, ltb, List, [], ◌∷◌, ◌++◌, length, get_or, take, drop, drop-cons, refl, ap, ◌∙◌, sym, subst, arith, cond, ◌⊎◌, inl, inr}
 use Rattle.std.proofs.lemmas.Bool.Decides.{nat_tests}
 use Rattle.std.proofs.lemmas.List.{take-append-drop, length-take-le}
 use Rattle.std.proofs.lemmas.Option.{slice_get-get_or}
@@ -8,20 +8,26 @@ use Rattle.std.specs.Prelude.{slice_index}
 use mathlib.Core.Option.{some}
 use lib.ListN.{get_elem?}
 use Rattle.io_port.specs.Faults.{ShowsFault}
-use Rattle.io_port.specs.Shelf.{Files}
+use Rattle.std.specs.declared.alloc.Global.{Global}
+use Rattle.io_port.specs.Shelf.{Files, IsFileOf, OnFailed}
+use Rattle.io_port.specs.declared.shelf.ShelfError.{ShelfError}
+use Rattle.io_port.specs.declared.shelf.ShelfError.TheVariants.{Failed}
 use Rattle.map_history.specs.declared.op.Op.{Op}
 use Rattle.map_history.specs.declared.op.Op.TheVariants as op
 use Rattle.map_history.specs.Operation.{operation_of}
 use Rattle.map_history.specs.LegalReport.{Line}
 use Rattle.script.specs.declared.TheConstants.{MAX_FILE_BYTES}
 use Rattle.map_history.specs.declared.line.Line as script
+use Rattle.script.specs.declared.error.Flaw.{Flaw}
+use Rattle.script.specs.declared.error.ScriptError.{ScriptError}
+use Rattle.script.specs.declared.error.ScriptError.TheVariants as error
 use Rattle.script.specs.Schema.{SchemaText, schema_of}
 use Rattle.script.specs.Lane.{lane_of, AreLaneLines, FitsFields}
 use Rattle.map_history.specs.Lines.{line_texts}
 use Rattle.lane_law.specs.Lines.{IsOpOf, AreLinesOf}
 use Rattle.ahi_cli.specs.declared.stop.Stop.{Stop}
 use Rattle.ahi_cli.specs.declared.stop.Stop.TheVariants.{Usage, Script, Shelf, TooLarge, Sizes, NoMemory}
-use Rattle.ahi_cli.specs.Stops.{schema_stop, lane_stop, stop_in}
+use Rattle.ahi_cli.specs.Stops.{schema_stop, lane_stop, stop_in, refused}
 use Rattle.ahi_cli.specs.FirstRefusal.{file_stop, lanes_stop, reading_stop, files_stop}
 use Rattle.ahi_cli.specs.Files.{Failures, FailsAt, StopsLoading, StopsFile, StopsReading, SpellsSchema}
 use Rattle.ahi_cli.specs.Words.{file_names}
@@ -31,6 +37,10 @@ use Rattle.ahi_cli.proofs.FirstLemmas.{SpellsUpTo, spells_lanes, schema_passes, 
 faults-le : (a b c : ℕ) → a ≤ b → ShowsFault b c → ShowsFault a c
 faults-le a b c le (inl rose) = inl (omega arith)
 faults-le a b c le (inr last) = inr last
+
+-- a flaw isn't want of memory
+error_clash : (line : ℕ) (kind : Flaw) → error.Flawed line kind ≡ error.NoMemory → ⊥
+error_clash line kind e = cc
 
 -- a file that is longer is refused for that
 longer_file : (o : Option (List ℕ)) (file limit : ℕ) (refusal : List ℕ → Option Stop) → ((bytes : List ℕ) → limit < length bytes → refusal bytes ≡ Some (TooLarge file)) → IsSomeAnd o (λ bytes. limit < length bytes) → file_stop file o refusal ≡ Some (TooLarge file)
@@ -45,6 +55,36 @@ unloaded told failures file name limit refusal (Shelf n) longer h = h
 unloaded told failures file name limit refusal (TooLarge n) longer h = λ files e. longer_file (files name) file limit refusal longer (h.1 files e) ∙ ap (λ m. Some (TooLarge m)) (sym h.0)
 unloaded told failures file name limit refusal (Sizes setting) longer h = absurd h
 unloaded told failures file name limit refusal NoMemory longer h = h
+
+-- a load that failed tells so of this name
+pub of_failed : (faults faults' : ℕ) (failed : Option (List ℕ)) (name : List ℕ) (e : ShelfError) → e ≡ Failed → OnFailed {T = Vec ℕ Global} (Err e) (ShowsFault faults faults' × (failed ≡ Some name)) → ShowsFault faults faults' × (failed ≡ Some name)
+of_failed faults faults' failed name e is told = subst (λ (x : ShelfError). OnFailed {T = Vec ℕ Global} (Err x) (ShowsFault faults faults' × (failed ≡ Some name))) is told
+
+-- what is wrong with a file's bytes is its refusal
+pub unread : (told : Option Files) (failures : Failures) (file : ℕ) (name bytes : List ℕ) (refusal : List ℕ → Option Stop) (e : ScriptError) (stop : Stop) → IsFileOf told name bytes → stop ≡ refused file e → (e ≡ error.NoMemory) ⊎ (refusal bytes ≡ Some (refused file e)) → StopsFile told failures file name refusal stop
+unread told failures file name bytes refusal e stop there is cause = subst (StopsFile told failures file name refusal) (sym is) (by_error e cause)
+  where
+    by_error : (e : ScriptError) → (e ≡ error.NoMemory) ⊎ (refusal bytes ≡ Some (refused file e)) → StopsFile told failures file name refusal (refused file e)
+    by_error error.NoMemory cause = tt
+    by_error (error.Flawed line kind) (inl lacked) = absurd (error_clash line kind lacked)
+    by_error (error.Flawed line kind) (inr refuses) = λ files e. ap (λ o. file_stop file o refusal) (there files e) ∙ refuses
+
+-- the cause of an error is the refusal of bytes that aren't too long
+pub schema_cause : (bytes : List ℕ) (e : ScriptError) → length bytes ≤ MAX_FILE_BYTES → (e ≡ error.NoMemory) ⊎ (schema_of bytes ≡ Err e) → (e ≡ error.NoMemory) ⊎ (schema_stop bytes ≡ Some (refused 0 e))
+schema_cause bytes e fits (inl lacked) = inl lacked
+schema_cause bytes e fits (inr read) =
+    let short : ltb MAX_FILE_BYTES (length bytes) ≡ false = grind (arith, nat_tests) in
+    inr (ap (λ b. cond b (Some (TooLarge 0)) (stop_in 0 (schema_of bytes))) short ∙ ap (stop_in 0) read)
+
+pub lane_cause : (file before : ℕ) (schema : SchemaText) (bytes : List ℕ) (e : ScriptError) → before + length bytes ≤ MAX_FILE_BYTES → (e ≡ error.NoMemory) ⊎ (lane_of schema bytes ≡ Err e) → (e ≡ error.NoMemory) ⊎ (lane_stop file before schema bytes ≡ Some (refused file e))
+lane_cause file before schema bytes e fits (inl lacked) = inl lacked
+lane_cause file before schema bytes e fits (inr read) =
+    let short : ltb MAX_FILE_BYTES (before + length bytes) ≡ false = grind (arith, nat_tests) in
+    inr (ap (λ b. cond b (Some (TooLarge file)) (stop_in file (lane_of schema bytes))) short ∙ ap (stop_in file) read)
+
+-- bytes within what is left fit
+pub fits_left : (before bytes : ℕ) → before ≤ MAX_FILE_BYTES → bytes ≤ MAX_FILE_BYTES - before → before + bytes ≤ MAX_FILE_BYTES
+fits_left before bytes fits within = omega arith
 
 -- files that are too long are refused for that
 pub long_schema : (bytes : List ℕ) → MAX_FILE_BYTES < length bytes → schema_stop bytes ≡ Some (TooLarge 0)

@@ -1,15 +1,16 @@
 -- Lanes that a loop reads one after another.
-use Rattle.std.proofs.Common.{◌≡◌, ℕ, ◌+◌, ◌<◌, List, [], ◌∷◌, ◌++◌, length, get_or, map, take, ap, ◌∙◌, sym, subst, String, Vec}
-use Rattle.std.proofs.lemmas.List.{get_or-map, map-append, take_more}
+use Rattle.std.proofs.Common.{◌≡◌, ℕ, ◌+◌, ◌<◌, List, [], ◌∷◌, ◌++◌, length, get_or, map, take, ap, ◌∙◌, sym, subst, arith, String, Vec}
+use Rattle.std.proofs.lemmas.List.{get_or-map, length-map, map-append, take_more}
 use Rattle.std.specs.List.{AllByRecursion}
 use Rattle.std.specs.String.{string_bytes}
 use Rattle.std.specs.declared.alloc.Global.{Global}
 use Rattle.io_port.specs.Shelf.{Files}
+use Rattle.io_port.specs.declared.shelf.Shelf.{Ghosts}
 use Rattle.map_history.specs.declared.line.Line as script
 use Rattle.script.specs.Schema.{SchemaText}
 use Rattle.map_history.specs.Lines.{line_texts}
 use Rattle.lane_threads.specs.Together.{lane_texts}
-use Rattle.ahi_cli.specs.Files.{SpellsLane}
+use Rattle.ahi_cli.specs.Files.{KeepsFiles, SpellsLane}
 use Rattle.ahi_cli.proofs.FirstLemmas.{SpellsUpTo, one_lane_more}
 
 -- one more element that is as the others
@@ -35,3 +36,11 @@ spelled_more files schema before names i name lanes lanes' lines size bytes belo
     let named : take (i + 1) names ≡ take i names ++ name ∷ [] = take_more names i [] below ∙ ap (λ n. take i names ++ n ∷ []) (sym is) in
     subst (λ ns. SpellsUpTo files schema before ns (lane_texts lanes') (size + bytes)) (sym named)
     (subst (λ ls. SpellsUpTo files schema before (take i names ++ name ∷ []) ls (size + bytes)) (sym (texts_more lanes lanes' lines e)) more)
+
+-- a place among lanes is one among their names
+pub lane_is_named : (names : List (String Global)) (i : ℕ) → i < length names → i < length (map string_bytes names)
+lane_is_named names i below = subst (λ n. i < n) (sym (length-map names string_bytes)) below
+
+-- what is kept by two calls, one behind the other, is kept by both
+pub keeps_files_on : {F : Type 0} (shelf : Ghosts F) (old between new : F) → KeepsFiles shelf old between → KeepsFiles shelf between new → KeepsFiles shelf old new
+keeps_files_on shelf old between new first second = (second.0 ∙ first.0, omega (arith, first.1, second.1))

@@ -1,20 +1,22 @@
 -- What the run of a script tells of the files that spell it.
-use Rattle.std.proofs.Common.{◌≡◌, ◌⊎◌, ℕ, Option, Some, None, IfSome, Ok, Err, List, length, refl, ap, ◌∙◌, sym, subst, inl, inr}
+use Rattle.std.proofs.Common.{◌≡◌, ◌⊎◌, ℕ, ◌≤◌, Option, Some, None, IfSome, Ok, Err, List, length, refl, ap, ◌∙◌, sym, subst, arith, inl, inr}
+use Rattle.std.specs.Prelude.{vec_len}
 use Rattle.std.specs.Option.{ForSome, IsSomeAnd, option_map}
+use Rattle.map_history.specs.declared.TheConstants.{MAX_INDEXES, MAX_LANES}
 use Rattle.map_history.specs.LegalReport.{Line}
 use Rattle.script.specs.Schema.{SchemaText}
 use Rattle.script.specs.Views.{schema_text}
 use Rattle.lane_threads.specs.Passes.{EngineError}
 use Rattle.settings.specs.declared.setting.Setting.{Setting}
 use Rattle.settings.specs.Limits.{first_broken}
-use Rattle.lane_threads.specs.Together.{lane_texts}
+use Rattle.lane_threads.specs.Together.{lane_texts, AllAreLinesOf}
 use Rattle.ahi_cli.specs.declared.files.Script.{Script}
 use Rattle.ahi_cli.specs.declared.stop.Stop.{Stop}
 use Rattle.ahi_cli.specs.declared.stop.Stop.TheVariants as stop
 use Rattle.ahi_cli.specs.Files.{Spells}
 use Rattle.ahi_cli.specs.FirstRefusal.{named_stop, sizes_stop}
 use Rattle.ahi_cli.specs.Run.{Asked, HasFirst, Tells, Stops}
-use Rattle.ahi_cli.specs.Scripts.{TellsScript, RefusesSizes}
+use Rattle.ahi_cli.specs.Scripts.{IsScript, TellsScript, RefusesSizes}
 use Rattle.ahi_cli.specs.Words.{accepted}
 use Rattle.ahi_cli.proofs.FirstLemmas.{unrefused}
 
@@ -59,3 +61,13 @@ refuses_sizes asked names script refusal accepts spelled count r =
     let is = of_setting (first_broken script.schema.sizes (length (schema_text script.schema).names) (length script.lanes.items)) refusal r in
     let first : HasFirst asked (Some (stop.Sizes is.0)) = λ files e. sizes_first asked names (schema_text script.schema) (lane_texts script.lanes.items) accepts spelled files e ∙ (ap (sizes_stop (schema_text script.schema)) (sym count) ∙ (r ∙ ap Some is.1)) in
     subst (Stops asked) (sym is.1) (record { names = names; accepts = accepts; first = first })
+
+-- a script that was read is one that can be run
+pub is_script : (script : Script) (lanes : ℕ) → (1 ≤ vec_len script.schema.names) × (vec_len script.schema.names ≤ MAX_INDEXES) × (vec_len script.schema.fields ≡ vec_len script.schema.names) → vec_len script.lanes ≡ lanes → (1 ≤ lanes) × (lanes ≤ MAX_LANES) → AllAreLinesOf script.schema.fields.items script.lanes.items → IsScript script
+is_script script lanes indexes read few lines =
+    let names = script.schema.names.ok.0 in let fields = script.schema.fields.ok.0 in let held = script.lanes.ok.0 in record {
+      names = (omega (arith, indexes.0, names), omega (arith, indexes.1, names));
+      fields = omega (arith, indexes.2, names, fields);
+      lanes = (omega (arith, few.0, read, held), omega (arith, few.1, read, held));
+      lines = lines;
+    }

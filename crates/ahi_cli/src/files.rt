@@ -60,12 +60,13 @@ fn load_schema<F: Shelf>(alloc: Global, shelf: &mut F, name: &str) -> Result<(Sc
         (failures_of F.Shelf shelf.old shelf.new) 0 name.now schema_stop) }
     ensures kept { KeepsFiles F.Shelf shelf.old shelf.new }
 {
-    let bytes = load(alloc, shelf, name, 0, MAX_FILE_BYTES as u64)?;
-    let schema = match read_schema(alloc, &bytes) {
-        Ok(schema) => schema,
-        Err(error) => return Err(refuse(0, error)),
-    };
-    Ok((schema, bytes.len() as u64))
+    match load(alloc, shelf, name, 0, MAX_FILE_BYTES as u64) {
+        Ok(bytes) => match read_schema(alloc, &bytes) {
+            Ok(schema) => Ok((schema, bytes.len() as u64)),
+            Err(error) => Err(refuse(0, error)),
+        },
+        Err(stop) => Err(stop),
+    }
 }
 
 /// The lanes of a command, behind its schema's file of so many bytes.
@@ -120,10 +121,12 @@ fn load_lane<F: Shelf>(
         (lane_stop file before (schema_text schema.now))) }
     ensures kept { KeepsFiles F.Shelf shelf.old shelf.new }
 {
-    let bytes = load(alloc, shelf, name, file, MAX_FILE_BYTES as u64 - before)?;
-    match read_lane(alloc, &bytes, schema) {
-        Ok(lines) => Ok((lines, bytes.len() as u64)),
-        Err(error) => Err(refuse(file, error)),
+    match load(alloc, shelf, name, file, MAX_FILE_BYTES as u64 - before) {
+        Ok(bytes) => match read_lane(alloc, &bytes, schema) {
+            Ok(lines) => Ok((lines, bytes.len() as u64)),
+            Err(error) => Err(refuse(file, error)),
+        },
+        Err(stop) => Err(stop),
     }
 }
 

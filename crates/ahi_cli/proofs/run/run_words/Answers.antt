@@ -1,4 +1,4 @@
-use Rattle.std.proofs.Common.{◌≡◌, ◌∙◌, sym, ap, map, length, arith, Some, None}
+use Rattle.std.proofs.Common.{◌≡◌, ◌∙◌, refl, sym, ap, map, length, arith, Some, None}
 use Rattle.std.proofs.lemmas.List.{length-map}
 use Rattle.std.specs.Option.{option_map}
 use Rattle.std.specs.String.{string_bytes}
@@ -7,8 +7,8 @@ use Rattle.ahi_cli.specs.Ends.{output_of}
 use Rattle.ahi_cli.specs.Run.{Asked, asked_of, IsReportOf, IsReportBy, Reports, ReportsBy, Stops}
 use Rattle.ahi_cli.specs.Scripts.{TellsScript, RefusesSizes}
 use Rattle.ahi_cli.specs.Words.{accepted, names_of}
-use Rattle.ahi_cli.proofs.ScriptLemmas.{tells, refuses_sizes}
-use Rattle.ahi_cli.proofs.EndsLemmas.{refused_ends, reading_stops, ends_as, leaves_as}
+use Rattle.ahi_cli.proofs.ScriptLemmas.{is_script, tells, refuses_sizes}
+use Rattle.ahi_cli.proofs.EndsLemmas.{refused_ends, reading_stops, ends_as, leaves_as, leaves_none}
 use Rattle.ahi_cli.proofs.run.run_words.Goals as goal
 
 pub returns-in-Ok-clause-ends : goal.returns-in-Ok-clause-ends
@@ -49,13 +49,14 @@ returns-in_default-clause-ends g c =
 
 pub run_script-requires-clause-script : goal.run_script-requires-clause-script
 run_script-requires-clause-script g c κs lives =
-    let script = c.in-Ok.script in
-    let names = c.in-Ok.ensures.indexes in
-    let lanes = c.in-Some.ensures.lanes in
-    let read = c.in-Ok.ensures.lanes in
-    record {
-      names = (omega (arith, names.0, script.schema.names.ok.0), omega (arith, names.1, script.schema.names.ok.0));
-      fields = omega (arith, names.2, script.schema.names.ok.0, script.schema.fields.ok.0);
-      lanes = (omega (arith, lanes.0, read, script.lanes.ok.0), omega (arith, lanes.1, read, script.lanes.ok.0));
-      lines = c.in-Ok.ensures.lines;
-    }
+    is_script c.in-Ok.script (length c.in-Some.command.lanes.now) c.in-Ok.ensures.indexes c.in-Ok.ensures.lanes c.in-Some.ensures.lanes c.in-Ok.ensures.lines
+
+pub returns-in-Err-clause-trail : goal.returns-in-Err-clause-trail
+returns-in-Err-clause-trail g c =
+    let asked : Asked = asked_of (map string_bytes c.args.words.now) g.F.Shelf c.args.shelf.now c.read_script.new.shelf in
+    leaves_none (λ pass. ReportsBy pass asked) (output_of g.K.Sink c.args.sink.now c.refuse-in-Err.new.sink) None c.refuse-in-Err.result refl c.refuse-in-Err.ensures.other
+
+pub returns-in_default-clause-trail : goal.returns-in_default-clause-trail
+returns-in_default-clause-trail g c =
+    let asked : Asked = asked_of (map string_bytes c.args.words.now) g.F.Shelf c.args.shelf.now c.args.shelf.now in
+    leaves_none (λ pass. ReportsBy pass asked) (output_of g.K.Sink c.args.sink.now c.refuse.new.sink) None c.refuse.result refl c.refuse.ensures.other
