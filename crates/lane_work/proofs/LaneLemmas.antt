@@ -1,5 +1,5 @@
 -- A lane's work, one line more.
-use Rattle.std.proofs.Common.{◌≡◌, ℕ, zero, suc, ◌+◌, ◌<◌, ◌≤◌, Option, None, false, cond, eqb, IfSome, List, [], ◌∷◌, ◌++◌, length, get_or, set, take, replicate, refl, ap, ◌∙◌, sym, subst, arith, Some}
+use Rattle.std.proofs.Common.{◌≡◌, ℕ, zero, suc, ◌+◌, ◌<◌, ◌≤◌, Option, None, false, cond, eqb, IfSome, IfOk, Result, Err, List, [], ◌∷◌, ◌++◌, length, length-append, get_or, set, take, replicate, refl, ap, ◌∙◌, sym, subst, arith, Some}
 use Rattle.std.proofs.lemmas.List.{take_more, map-append, append-nil}
 use Rattle.std.proofs.lemmas.List.Concat.{flat_map-append}
 use Rattle.std.specs.List.{AllZip, slice_get, flat_map, zip}
@@ -159,3 +159,19 @@ note_fits lane line told = pick told.reply told.point
     pick word.Duplicate point = omega arith
     pick word.SpaceFull point = omega arith
     pick (word.LogFull n) point = omega arith
+
+-- where nothing is noted there are no notes
+pub none_noted : (log : Log) → log.noted ≡ [] → length log.noted ≤ 0
+none_noted log none = let e = ap length none in omega (arith, e)
+
+-- with a line's notes there are no more than one for each line
+pub few_noted : (log log' : Log) (lane : ℕ) (line : legal.Line) (told : Told) (i : ℕ) → log'.noted ≡ log.noted ++ told_notes lane line told → length log.noted ≤ i → length log'.noted ≤ i + 1
+few_noted log log' lane line told i noted few = let e = ap length noted in omega (arith, few, note_fits lane line told, e, length-append log.noted (told_notes lane line told))
+
+-- so there is room for a line's notes
+pub room_for_notes : (log : Log) (i lines : ℕ) → log.room ≡ lines → length log.noted ≤ i → i < lines → length log.noted < log.room
+room_for_notes log i lines room few below = omega (arith, room, few, below)
+
+-- an error promises nothing of what was to be made
+pub nothing_promised : {T E : Type 0} (r : Result T E) (e : E) (P : T → Type 0) → r ≡ Err e → IfOk r P
+nothing_promised r e P is = subst (λ x. IfOk x P) (sym is) tt
