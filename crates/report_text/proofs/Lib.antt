@@ -1,4 +1,5 @@
 pub mod AnswerLemmas
+pub mod ChangeLemmas
 pub mod LineLemmas
 pub mod RunLemmas
 pub mod TextLemmas
