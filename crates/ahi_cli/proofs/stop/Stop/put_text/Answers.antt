@@ -1,8 +1,7 @@
 use Rattle.std.proofs.Common.{[], ◌∷◌, ap, sym, ◌∙◌}
 use Rattle.std.specs.Prelude.{codes}
 use Rattle.map_history.specs.Text.{line_of}
-use Rattle.settings.specs.Words.{setting_word}
-use Rattle.ahi_cli.specs.declared.stop.Stop.TheVariants.{Usage, Script, Shelf, TooLarge, Sizes}
+use Rattle.ahi_cli.specs.declared.stop.Stop.TheVariants.{Usage, Script, Shelf, TooLarge}
 use Rattle.ahi_cli.specs.Stops.{stop_text}
 use Rattle.ahi_cli.proofs.EndsLemmas.{put_as}
 use Rattle.ahi_cli.proofs.stop.Stop.put_text.Goals as goal
