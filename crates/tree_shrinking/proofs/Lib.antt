@@ -29,3 +29,4 @@ pub mod LevelLemmas
 pub mod GivenLemmas
 pub mod LeaveLemmas
 pub mod ShrinkLemmas
+pub mod ThereLemmas

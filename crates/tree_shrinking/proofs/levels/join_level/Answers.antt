@@ -1,5 +1,7 @@
 use Rattle.std.proofs.Common.{◌<◌, Ok, refl, ap, arith}
 use Rattle.latch_space.specs.Passes.{view}
+use Rattle.tree_descent.proofs.PageLemmas.{may_give_back}
+use Rattle.buffer_pool.proofs.CallLemmas.{frame_has}
 use Rattle.tree_growth.proofs.ChildLemmas.{holds_inner, level_above}
 use Rattle.buffer_pool.proofs.AgainLemmas.{passes_both}
 use Rattle.tree_shrinking.proofs.LeaveLemmas.{rests_below, rests_under, frees_one}
@@ -9,6 +11,20 @@ use Rattle.tree_shrinking.proofs.levels.join_level.Goals as goal
 pub returns-then-at-level-clause-to : goal.returns-then-at-level-clause-to
 returns-then-at-level-clause-to g c =
     given_at_once c.walk_above-at.ensures.reaches c.give_back.ensures.gave
+
+pub give_back-requires-clause-held : goal.give_back-requires-clause-held
+give_back-requires-clause-held g c = let at = c.walk_above-at.result in
+    let reaches = c.walk_above-at.ensures.reaches in
+    may_give_back c.walk_above-at.new.pass reaches.way.known at.block c.args.index at.level
+    reaches.is.frame reaches.is.knows reaches.is.page.is
+
+pub give_back-requires-2-clause-held : goal.give_back-requires-2-clause-held
+give_back-requires-2-clause-held g c = let back = c.join_child-merged.ensures.back in (
+  back.up,
+  frame_has c.join_child-merged.new.pass back.to.way.known c.walk_above-at.result.block back.up
+      back.knows,
+  back.inside,
+)
 
 pub join_child-merged-requires-clause-held : goal.join_child-merged-requires-clause-held
 join_child-merged-requires-clause-held g c = let high = c.if-at-level.false in

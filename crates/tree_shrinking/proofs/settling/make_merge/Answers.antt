@@ -1,4 +1,4 @@
-use Rattle.std.proofs.Common.{◌≡◌, ◌≢◌, None, ap, sym, subst, arith, rules}
+use Rattle.std.proofs.Common.{◌≡◌, ◌≢◌, None, ap, sym, subst, arith}
 use Rattle.latch_space.specs.Passes.{view}
 use Rattle.index_page.specs.declared.TheConstants.{NO_PAGE}
 use Rattle.buffer_pool.specs.Forests.{IsFittedTree}
@@ -58,7 +58,7 @@ keep_up_between-requires g c =
     let moves = rows_moved (call g (goal.at.keep_up_between-requires g c).After-laws_of_moves)
     c.join_halves.new.pass c.in_ok-join_halves.ensures.ok in
     record {
-      own = search rules;
+      own = (c.requires.own.0, c.join_halves.ensures.own.1);
       moved = moved_rows moves;
       place = in_place moves;
       room = (let same = moves.remakes.same_count in let room = c.requires.room in
@@ -77,7 +77,7 @@ pub relink_behind-requires : goal.relink_behind-requires
 relink_behind-requires g c = let can = c.requires.held.can in let f = c.fits.ensures in
     let at = goal.at.relink_behind-requires g c in
     record {
-      own = search rules;
+      own = (c.requires.own.0, c.keep_up_between.ensures.own.1);
       held = next_in_hand (merged g at.After-keep_up_between (call g at.After-laws_of_moves));
       right = subst (λ n. n ≢ NO_PAGE) (sym (left_number g at.After-head_of-left can))
           (page_number f.whole f.is_lawful (view c.args.pass.now) f.fits c.args.at.child can.lower
@@ -100,7 +100,7 @@ settle-requires g c = let at = goal.at.settle-requires g c in
     let made = merged g at.After-keep_up_between (call g at.After-laws_of_moves) in
     let all = linked g at.After-relink_behind made
     (left_number g at.After-head_of-left made.call.held.can) in
-    record { own = search rules; whole = whole all; rule = follows all }
+    record { own = c.relink_behind.ensures.own.1; whole = whole all; rule = follows all }
 
 pub returns-clause-own : goal.returns-clause-own
 returns-clause-own g c = let p = c.args.pass.now in let joined = c.join_halves.new.pass in

@@ -1,4 +1,4 @@
-use Rattle.std.proofs.Common.{◌<◌, ◌^◌, sym, subst, arith, rules}
+use Rattle.std.proofs.Common.{◌<◌, ◌^◌, sym, subst, arith}
 use Rattle.std.proofs.lemmas.Result.{on_ok_weaker, on_err_weaker}
 use Rattle.index_law.specs.Shape.{Shape}
 use Rattle.tree_smo.proofs.HashedLemmas.{either_way}
@@ -28,7 +28,7 @@ pub make_merge-made-requires : goal.make_merge-made-requires
 make_merge-made-requires g c =
     let h = beside g (goal.at.make_merge-made-requires g c).After-hold_part_for-part in
     record {
-      own = search rules;
+      own = (c.requires.own.0, c.hold_part_for-part.ensures.own.1);
       held = merge_held c.args.at c.args.index c.args.next h c.requires.held;
       inside = inside_held h c.requires.inside;
       hash = their_part h;
@@ -42,7 +42,7 @@ give_part_if-requires g c =
     let h = beside g (goal.at.give_part_if-requires g c).After-hold_part_for-part in
     let made = c.make_merge-made in
     record {
-      own = search rules;
+      own = (c.requires.own.0, made.ensures.own.1);
       known = either_way made.result made.ensures.ok made.ensures.err
           (λ merges. merges.silently.does.known) (λ same. same.known);
       held = either_way made.result made.ensures.ok made.ensures.err

@@ -51,3 +51,9 @@ returns-in-None-2-clause-own g c = (
       c.join_level.ensures.own.0,
   c.join_level.ensures.own.1,
 )
+
+pub returns-in_err-above-clause-fits : goal.returns-in_err-above-clause-fits
+returns-in_err-above-clause-fits g c = c.join_level.ensures.fits
+
+pub returns-in-None-2-clause-fits : goal.returns-in-None-2-clause-fits
+returns-in-None-2-clause-fits g c = c.join_level.ensures.fits

@@ -1,4 +1,4 @@
-use Rattle.std.proofs.Common.{◌<◌, ◌^◌, sym, subst, arith, rules}
+use Rattle.std.proofs.Common.{◌<◌, ◌^◌, sym, subst, arith}
 use Rattle.std.proofs.lemmas.Result.{on_ok_weaker, on_err_weaker}
 use Rattle.index_law.specs.Shape.{Shape}
 use Rattle.tree_smo.proofs.HashedLemmas.{either_way}
@@ -28,7 +28,7 @@ pub sink_root-made-requires : goal.sink_root-made-requires
 sink_root-made-requires g c =
     let h = beside g (goal.at.sink_root-made-requires g c).After-hold_part_for-part in
     record {
-      own = search rules;
+      own = (c.requires.own.0, c.hold_part_for-part.ensures.own.1);
       index = subst (λ (s : Shape). c.args.index < s.indexes) (sym (held_shape h))
           c.requires.index;
       held = lift_held c.args.index c.requires.index h c.requires.held;
@@ -44,7 +44,7 @@ give_part_if-requires g c =
     let h = beside g (goal.at.give_part_if-requires g c).After-hold_part_for-part in
     let made = c.sink_root-made in
     record {
-      own = search rules;
+      own = (c.requires.own.0, made.ensures.own.1);
       known = either_way made.result made.ensures.ok made.ensures.err
           (λ sinks. sinks.silently.does.known) (λ same. same.known);
       held = either_way made.result made.ensures.ok made.ensures.err

@@ -1,6 +1,8 @@
-use Rattle.std.proofs.Common.{◌-◌, ap, sym, subst, arith, rules}
+use Rattle.std.proofs.Common.{◌-◌, ◌<◌, ◌∙◌, ap, sym, subst, arith}
 use Rattle.buffer_pool.specs.Forests.{IsFittedTree}
 use Rattle.buffer_pool.proofs.AgainLemmas.{passes_both}
+use Rattle.latch_law.specs.declared.knows.Terms.{Terms}
+use Rattle.index_law.specs.Shape.{Shape}
 use Rattle.forest_law.specs.declared.objects.Tree.{Tree}
 use Rattle.tree_shrinking.proofs.KeptPairLemmas.{in_place, moved_rows}
 use Rattle.tree_shrinking.proofs.SinkLemmas.{one_lower, SinkCall, some_height, suits_sinking, rows_moved, SinkInHand, sink_kept}
@@ -36,7 +38,7 @@ keep_up_between-requires g c =
     let moves = rows_moved (call g (goal.at.keep_up_between-requires g c).After-laws_of_moves)
     c.sink_storeys.new.pass c.in_ok-sink_storeys.ensures.ok in
     record {
-      own = search rules;
+      own = (c.requires.own.0, c.sink_storeys.ensures.own.1);
       moved = moved_rows moves;
       place = in_place moves;
       room = (let same = moves.remakes.same_count in let room = c.requires.room in
@@ -83,7 +85,7 @@ pub settle-requires : goal.settle-requires
 settle-requires g c = let at = goal.at.settle-requires g c in
     let all = lowered g at.After-change_tree (sunk g at.After-keep_up_between
     (call g at.After-laws_of_moves)) in
-    record { own = search rules; whole = whole all; rule = follows all }
+    record { own = c.change_tree.ensures.own.1; whole = whole all; rule = follows all }
 
 pub returns-clause-own : goal.returns-clause-own
 returns-clause-own g c = let p = c.args.pass.now in let sunk = c.sink_storeys.new.pass in
@@ -100,3 +102,13 @@ returns-clause-ok g c = let at = goal.at.returns-clause-ok g c in
     sinks_root (lowered g at.After-change_tree (sunk g at.After-keep_up_between
     (call g at.After-laws_of_moves)))
     c.settle.new.pass c.settle.ensures.did
+
+pub tree-old-requires-clause-there : goal.tree-old-requires-clause-there
+tree-old-requires-clause-there g c =
+    subst (λ (t : Terms Shape). c.args.index < t.shape.indexes)
+    (c.requires.own.1.1 ∙ sym c.keep_up_between.ensures.own.1.1) c.requires.index
+
+pub change_tree-requires-clause-there : goal.change_tree-requires-clause-there
+change_tree-requires-clause-there g c =
+    subst (λ (t : Terms Shape). c.args.index < t.shape.indexes)
+    (c.requires.own.1.1 ∙ sym c.keep_up_between.ensures.own.1.1) c.requires.index
