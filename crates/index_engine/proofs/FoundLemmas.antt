@@ -1,54 +1,36 @@
 -- What a whole call leaves behind: a leaf was found, something was said, and it was given back.
-use Rattle.std.proofs.Common.{◌≡◌, ◌≢◌, ℕ, List, [], ◌∷◌, ◌++◌, append-nil, Option, Some, None, sym, ap, subst, ◌∙◌, refl}
-use Rattle.std.specs.List.{AllByRecursion}
+use Rattle.std.proofs.Common.{◌≡◌, ◌≢◌, ℕ, List, [], ◌∷◌, ◌++◌, append-nil, ap, subst, ◌∙◌, refl}
 use Rattle.key_tuple.specs.Order.{FieldList}
 use Rattle.latch_law.specs.declared.knows.Reference.{Reference}
-use Rattle.latch_law.specs.declared.knows.Refusal.{Refusal}
 use Rattle.latch_law.specs.declared.knows.Terms.{Terms}
 use Rattle.latch_law.specs.Views.{holding}
 use Rattle.latch_law.specs.Whole.{reference}
-use Rattle.latch_space.specs.Has.{SameHands, IsKnown}
 use Rattle.latch_space.specs.Passes.{view}
 use Rattle.map_history.specs.declared.reply.Reply.TheVariants as words
 use Rattle.map_history.specs.declared.reply.Told.{Told}
-use Rattle.map_history.specs.Map.{Pair, MapChange}
-use Rattle.map_history.specs.Operation.{Ask, Make}
-use Rattle.map_history.specs.Reply.{Done}
-use Rattle.map_history.specs.Report.{Replied}
+use Rattle.map_history.specs.Map.{Pair}
+use Rattle.map_history.specs.Operation.{Ask}
 use Rattle.index_law.specs.Shape.{Shape}
 use Rattle.forest_law.specs.declared.objects.Frame.{Frame}
 use Rattle.forest_law.specs.declared.objects.Object.{Object}
 use Rattle.forest_law.specs.declared.objects.Object.TheVariants as object
-use Rattle.forest_law.specs.Numbers.{frame_id, part_id}
+use Rattle.forest_law.specs.Numbers.{frame_id}
 use Rattle.forest_world.specs.Held.{TreePass, shape_of_pass}
-use Rattle.hash_maintain.specs.Parting.{GivesPart}
-use Rattle.call_law.specs.Hands.{KnowsFrame}
-use Rattle.call_law.specs.Once.{IsQuiet}
 use Rattle.call_law.specs.Spoken.{View}
-use Rattle.call_law.specs.Trace.{Added, Adds, IsOnlySaid, IsNoTree, SparesTrees, frame_references}
-use Rattle.call_law.proofs.TraceLemmas.{both_added, quiet_of, quiet_both, quiet_then_once, once_then_silent, only_both}
+use Rattle.call_law.specs.Trace.{Added, Adds, SparesTrees, frame_references}
+use Rattle.call_law.proofs.TraceLemmas.{both_added, quiet_of, quiet_then_once, once_then_silent}
 use Rattle.buffer_pool.specs.Frames.{GivesFrame}
 use Rattle.buffer_pool.specs.Pages.{HasNumber}
-use Rattle.buffer_pool.specs.Parts.{HoldsPartIf, HoldsPartToo}
-use Rattle.buffer_pool.specs.Tries.{tries_alone}
-use Rattle.buffer_pool.proofs.PartLemmas.{part_no_tree}
 use Rattle.buffer_pool.proofs.AddedLemmas.{only_given, gave_adds, frame_no_tree, given_spares, spares_both}
 use Rattle.tree_descent.specs.declared.descending.Leaf.{Leaf}
-use Rattle.engine_law.specs.declared.found.Found.{Found}
-use Rattle.leaf_changes.specs.Commits.{IsCommitted}
-use Rattle.leaf_changes.specs.Holds.{HoldsLeaf, KeepsNumber}
-use Rattle.leaf_changes.specs.Hashed.{GivesPartOf}
+use Rattle.leaf_changes.specs.Holds.{KeepsNumber}
 use Rattle.leaf_changes.specs.Says.{AnswersAndLeaves}
 use Rattle.index_engine.specs.Leaving.{ComesToLeaf}
-use Rattle.engine_law.specs.Says.{SaysOnce, OnlyLooks, columns_by}
-use Rattle.leaf_changes.specs.Says.{SaysBeside, LooksBeside, SparesPages, AnswersHolding, told_made}
+use Rattle.leaf_changes.specs.Says.{SparesPages}
 use Rattle.engine_law.specs.Tells.{TellsOnce}
 use Rattle.index_engine.specs.Traces.{Finding, EndsOnLeaf}
-use Rattle.engine_law.proofs.FrameTraceLemmas.{frames_both, said_frames, said_spares}
-use Rattle.leaf_changes.proofs.HoldLemmas.{frame_again}
-use Rattle.leaf_changes.proofs.SettleLemmas.{stays_same}
-use Rattle.engine_law.proofs.KnownLemmas.{gave_known, knows_same, page_number}
-use Rattle.leaf_changes.proofs.NumberLemmas.{number_stays, leaf_inside}
+use Rattle.engine_law.proofs.FrameTraceLemmas.{frames_both}
+use Rattle.engine_law.proofs.KnownLemmas.{page_number}
 
 module _ (found : Finding) (p p0 p1 p2 : TreePass) (i : ℕ) (key : FieldList) (leaf : Leaf)
     (went : ComesToLeaf found p i key leaf p0) (gave : GivesFrame p1 leaf.block p2) where

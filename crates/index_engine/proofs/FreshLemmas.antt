@@ -1,26 +1,19 @@
 -- A leaf to which a way led, held alone.
-use Rattle.std.proofs.Common.{◌≡◌, ℕ, ◌+◌, ◌<◌, true, length, sym, ap, subst, ◌∙◌, arith, Option, Some, None}
+use Rattle.std.proofs.Common.{◌≡◌, ℕ, ◌+◌, ◌<◌, length, sym, ap, subst, ◌∙◌, arith}
 use lib.ListN.{get_elem?}
 use Rattle.key_tuple.specs.Order.{FieldList}
 use Rattle.key_tuple.specs.declared.mode.Mode.TheVariants as mode
-use Rattle.latch_law.specs.declared.knows.Holding.{Holding}
 use Rattle.latch_law.specs.declared.knows.Terms.{Terms}
-use Rattle.latch_law.specs.Views.{holding}
-use Rattle.latch_space.specs.Has.{Has, SameHands}
 use Rattle.latch_space.specs.Passes.{view, count}
 use Rattle.index_law.specs.Shape.{Shape}
-use Rattle.forest_law.specs.declared.objects.Frame.{Frame}
-use Rattle.forest_law.specs.declared.objects.Object.{Object}
-use Rattle.forest_law.specs.declared.objects.Object.TheVariants as object
-use Rattle.forest_law.specs.Numbers.{frame_id, part_id}
-use Rattle.forest_law.specs.State.{ForestState, fields_for}
-use Rattle.forest_world.specs.Held.{TreePass, shape_of_pass, HasFrame}
-use Rattle.call_law.specs.Hands.{KnowsFrame, LacksObject}
-use Rattle.call_law.specs.Spoken.{View}
+use Rattle.forest_law.specs.Numbers.{part_id}
+use Rattle.forest_law.specs.State.{fields_for}
+use Rattle.forest_world.specs.Held.{TreePass, shape_of_pass}
+use Rattle.call_law.specs.Hands.{LacksObject}
 use Rattle.buffer_pool.proofs.CallLemmas.{frame_has}
 use Rattle.tree_descent.specs.declared.descending.Leaf.{Leaf}
-use Rattle.tree_descent.specs.Leaves.{cut_in, IsPageFor, IsLeafFor}
-use Rattle.leaf_changes.specs.Holds.{IsLeafOf, HoldsLeaf, HoldsFreshAlone}
+use Rattle.tree_descent.specs.Leaves.{IsLeafFor}
+use Rattle.leaf_changes.specs.Holds.{HoldsFreshAlone}
 use Rattle.index_engine.specs.Leaving.{ComesToLeaf}
 use Rattle.index_engine.specs.Traces.{Finding}
 use Rattle.leaf_changes.proofs.HoldLemmas.{key_inside, page_fields}

@@ -9,3 +9,4 @@ pub mod NumberLemmas
 pub mod LearnerLemmas
 pub mod ReadLemmas
 pub mod ClosingLemmas
+pub mod LimitedLemmas

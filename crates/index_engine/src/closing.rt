@@ -24,7 +24,6 @@ impl Engine {
     /// What lay in the engine: the pool, the tree of each index, the partitions of the hash, and
     /// the frames of all blocks. The pass has to be the only one, as its `numbers` and `lanes` tell.
     /// After `NoMemory` the engine and the pass are gone.
-    #[tactic(auto, using(crate::proofs::ClosingLemmas::closed_hashed))]
     pub fn close(self, alloc: Global, pass: EnginePass) -> Result<Vec<Object>, NoMemory>
         requires own { IsOf self pass }
         requires all { IsOnlyPass (known pass) }
@@ -35,6 +34,9 @@ impl Engine {
     {
         let EnginePass { world, .. } = pass;
         let Engine { space, .. } = self;
-        space.close(alloc, world).map_err(|_| NoMemory)
+        let Ok(objects) = space.close(alloc, world) else {
+            return Err(NoMemory);
+        };
+        Ok(objects)
     }
 }

@@ -28,10 +28,9 @@ impl Engine {
         ensures err { OnErr result ((known pass.new ≡ known pass.old)
             × (lessons_of pass.new ≡ lessons_of pass.old)) }
     {
-        let world = self
-            .space
-            .split(alloc, &mut pass.world)
-            .map_err(|_| NoMemory)?;
+        let Ok(world) = self.space.split(alloc, &mut pass.world) else {
+            return Err(NoMemory);
+        };
         let Ok(learn) = self.learner.split(&mut pass.learn) else {
             unreachable!()
         };
