@@ -1,4 +1,5 @@
-use Rattle.std.proofs.Common.{arith}
+use Rattle.std.proofs.Common.{arith, sym, ◌∙◌}
+use Rattle.std.proofs.lemmas.Option.{none-some}
 use Rattle.tree_merging.proofs.RowLemmas.{key_fields, key_after, loses_key}
 use Rattle.tree_merging.proofs.pointer.delete_key.Goals as goal
 
@@ -13,7 +14,7 @@ unreachable-requires c = let page = c.args.page.now in let key = c.args.key.now.
     let tells = c.spots_tell_keys.ensures page key spot c.is_in_order.ensures
     (key_fields page key c.is_in_order.ensures c.requires) c.tuple.ensures.some c.search.ensures in
     let after = key_after page key spot c.requires tells in
-    absurd (cc (after.after_at.0, c.in-None.is))
+    none-some _ (sym c.in-None.is ∙ after.after_at.0)
 
 pub returns : goal.returns
 returns c = let page = c.args.page.now in let key = c.args.key.now.tuple in
