@@ -29,4 +29,3 @@ pub mod LevelLemmas
 pub mod GivenLemmas
 pub mod LeaveLemmas
 pub mod ShrinkLemmas
-pub mod ThereLemmas

@@ -1,10 +1,10 @@
 use Rattle.std.proofs.Common.{sym, subst, ◌∙◌}
+use Rattle.std.proofs.lemmas.Option.{none-some}
 use Rattle.list_facts.proofs.Places.{same_some}
 use Rattle.forest_world.specs.Held.{shape_of_pass}
 use Rattle.tree_shrinking.specs.declared.pairs.Siblings.{Siblings}
 use Rattle.tree_shrinking.specs.Shrinking.{StayApart}
 use Rattle.tree_shrinking.proofs.JoinLemmas.{back_at_once}
-use Rattle.tree_shrinking.proofs.ThereLemmas.{none_isnt_some}
 use Rattle.tree_shrinking.proofs.joining.join_beside.Goals as goal
 
 pub returns-in-None-clause-back : goal.returns-in-None-clause-back
@@ -14,7 +14,7 @@ pub returns-in-None-clause-apart : goal.returns-in-None-clause-apart
 returns-in-None-clause-apart g c e = record {
   back = back_at_once c.requires.way c.requires.held;
   still = λ f knows. knows;
-  apart = λ s is. absurd (none_isnt_some _ s c.in-None.is is);
+  apart = λ s is. absurd (none-some s (sym c.in-None.is ∙ is));
 }
 
 pub join_pair-requires-clause-held : goal.join_pair-requires-clause-held

@@ -1,12 +1,12 @@
 use Rattle.std.proofs.Common.{ap, sym, ◌∙◌}
+use Rattle.std.proofs.lemmas.Option.{none-some}
 use Rattle.list_facts.proofs.Places.{same_some}
 use Rattle.forest_law.specs.declared.objects.Frame.{Frame}
-use Rattle.tree_shrinking.proofs.ThereLemmas.{none_isnt_some}
 use Rattle.tree_shrinking.proofs.reading.held_page.Goals as goal
 
 pub unreachable-requires : goal.unreachable-requires
-unreachable-requires c = let h = c.requires.held in none_isnt_some c.frame.result.now.page h.1
-    c.in-None.is (ap (λ (f : Frame). f.page) (c.frame.ensures h.0 h.0 h.2) ∙ h.3)
+unreachable-requires c = let h = c.requires.held in none-some h.1 (sym c.in-None.is
+    ∙ (ap (λ (f : Frame). f.page) (c.frame.ensures h.0 h.0 h.2) ∙ h.3))
 
 pub returns : goal.returns
 returns c = λ f page has paged. same_some c.in-Some.page page
