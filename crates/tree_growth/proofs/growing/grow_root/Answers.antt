@@ -1,4 +1,5 @@
-use Rattle.std.proofs.Common.{◌≡◌, [], ◌∷◌, true, false, ap, Err, arith}
+use Rattle.std.proofs.Common.{[], ◌∷◌, ap, Err}
+use Rattle.std.proofs.lemmas.Bool.{not-true, not-false}
 use Rattle.latch_space.specs.Passes.{view}
 use Rattle.tree_descent.proofs.PageLemmas.{may_give_back}
 use Rattle.buffer_pool.proofs.AgainLemmas.{passes_both}
@@ -13,17 +14,16 @@ use Rattle.tree_growth.proofs.growing.grow_root.Goals as goal
 
 pub returns-then-not-root-clause-ok : goal.returns-then-not-root-clause-ok
 returns-then-not-root-clause-ok g c =
-    let not_full : c.args.root.is_full ≡ false = let so = c.if-not-root.true in grind arith in
     record {
       reaches = assumption (goes_nowhere c.args.pass.now);
-      fits = not_full;
+      fits = not-true c.args.root.is_full c.if-not-root.true;
     }
 
 pub raise_root-requires-clause-held : goal.raise_root-requires-clause-held
 raise_root-requires-clause-held g c =
-    let full : c.args.root.is_full ≡ true = let no = c.if-not-root.false in grind arith in
     can_raise (view c.args.pass.now) c.args.index c.args.key.now.tuple c.args.need c.args.root
-    c.requires.held c.requires.root c.requires.way.tree c.requires.way.knows full
+    c.requires.held c.requires.root c.requires.way.tree c.requires.way.knows
+    (not-false c.args.root.is_full c.if-not-root.false)
 
 pub raise_root-requires-clause-frames : goal.raise_root-requires-clause-frames
 raise_root-requires-clause-frames g c =

@@ -1,4 +1,5 @@
 use Rattle.std.proofs.Common.{ap, sym, ◌∙◌, ◌≡◌, is_lt, length, arith}
+use Rattle.std.proofs.lemmas.Option.{none-some}
 use Rattle.list_facts.proofs.Places.{same_some}
 use Rattle.key_tuple.specs.Order.{FieldList, tuple_cmp}
 use Rattle.key_tuple.specs.KeyPlace.{above}
@@ -14,10 +15,9 @@ compare-requires c = let h = c.requires.held in
     omega (arith, same, h.fields)
 
 pub unreachable-requires : goal.unreachable-requires
-unreachable-requires c = let h = c.requires.held in
-    let is = ap bound
+unreachable-requires c = let h = c.requires.held in none-some h.at (ap bound
     (sym c.in-None.is ∙ ap (λ (f : Frame). f.low) (c.frame.ensures h.frame h.frame h.has))
-    ∙ h.begins in absurd cc
+    ∙ h.begins)
 
 pub returns : goal.returns
 unfolding above

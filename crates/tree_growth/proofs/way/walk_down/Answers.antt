@@ -1,4 +1,4 @@
-use Rattle.std.proofs.Common.{rules, arith}
+use Rattle.std.proofs.Common.{ℕ, ◌≡◌, ◌+◌, ◌<◌, rules, arith}
 use Rattle.tree_descent.proofs.PageLemmas.{may_give_back}
 use Rattle.tree_growth.specs.Ways.{StopsOnWay}
 use Rattle.tree_growth.proofs.AddLemmas.{reaches_after, stops_after}
@@ -36,6 +36,14 @@ returns-in_err-at-2-clause-err g c =
     let i = c.args.index in let key = c.args.key.now.tuple in
     err_more (λ e. StopsOnWay q i key e r) (λ e. StopsOnWay p i key e r) c.from_residual-in_err-at-2.result
     (λ e. stops_after p q r i key e c.loop-at.invariant.reaches.goes) (search rules)
+
+-- a level that is one lower is lower
+one_lower_level : (m n : ℕ) → m ≡ n + 1 → n < m
+one_lower_level m n is = omega (arith, is)
+
+pub loop-at-smaller : goal.loop-at-smaller
+loop-at-smaller g c =
+    one_lower_level c.loop-at.at.level c.in_ok-at-2.at.level c.in_ok-at-2.ensures.lower
 
 pub loop-at-preserved : goal.loop-at-preserved
 loop-at-preserved g c =
