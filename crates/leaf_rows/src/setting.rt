@@ -142,11 +142,19 @@ fn rewrite_kept(
     if let Some(refusal) = page.refusal_to_set(place, value) {
         return Err(refusal);
     }
-    let mut copy = PageCopy::new(alloc)?;
-    page.save(&mut copy)?;
-    let other = page.set(place, value)?;
-    page.is_in_order();
-    Ok((other, copy))
+    let Ok(mut copy) = PageCopy::new(alloc) else {
+        return Err(PageError::NoMemory);
+    };
+    let Ok(()) = page.save(&mut copy) else {
+        return Err(PageError::NoMemory);
+    };
+    match page.set(place, value) {
+        Ok(other) => {
+            page.is_in_order();
+            Ok((other, copy))
+        }
+        Err(refusal) => Err(refusal),
+    }
 }
 
 /// Makes the leaf what it was before, with its clock. It takes no memory.

@@ -4,6 +4,7 @@ use Rattle.list_facts.proofs.Places.{same_some}
 use Rattle.map_history.specs.Map.{value_at}
 use Rattle.index_page.specs.Page.{PageRows}
 use Rattle.tree_law.specs.Pages.{row_pairs}
+use Rattle.leaf_rows.specs.Finding.{HasSpot}
 use Rattle.leaf_rows.proofs.ChangeLemmas.{puts_row}
 use Rattle.leaf_rows.proofs.changing.put_row.Goals as goal
 
@@ -16,3 +17,9 @@ returns-clause-ok c =
     c.requires.absent in
     IfOk-weaker c.insert.result _ _ (λ place put. puts_row c.args.frame.now page c.insert.new.page
     place key c.args.value.now c.in-Some.is absent c.insert.ensures.order put) c.insert.ensures.ok
+
+pub insert-requires-clause-spot : goal.insert-requires-clause-spot
+insert-requires-clause-spot c =
+    subst (λ (p : PageRows). HasSpot p c.args.key.now.tuple c.args.spot.now)
+    (same_some c.requires.page c.in-Some.page (sym c.requires.paged ∙ c.in-Some.is))
+    c.requires.spot_is
