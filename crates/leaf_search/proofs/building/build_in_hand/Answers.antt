@@ -1,4 +1,5 @@
 use Rattle.buffer_pool.proofs.AgainLemmas.{passes_both}
+use Rattle.buffer_pool.proofs.CallLemmas.{frame_has}
 use Rattle.leaf_search.proofs.BuildLemmas.{out_tidy, out_leaf, out_few, out_counted, out_in_place, out_room, out_has_leaf, built_goes_back, built_in_hand}
 use Rattle.leaf_search.proofs.building.build_in_hand.Goals as goal
 
@@ -60,4 +61,11 @@ returns-clause-own g c = (
       (passes_both c.frame_out-frame.new.pass c.build_frame-answer.new.pass c.frame_back.new.pass c.build_frame-answer.ensures.own.0
       c.frame_back.ensures.own.0),
   c.frame_back.ensures.own.1,
+)
+
+pub frame_out-frame-requires-clause-held : goal.frame_out-frame-requires-clause-held
+frame_out-frame-requires-clause-held g c = let leaf = c.requires.build.teach.leaf in (
+  leaf.frame,
+  leaf.frame,
+  frame_has c.args.pass.now c.requires.known c.args.block leaf.frame leaf.knows,
 )

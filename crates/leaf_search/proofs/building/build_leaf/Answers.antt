@@ -1,4 +1,4 @@
-use Rattle.std.proofs.Common.{◌≡◌, sym, ap, subst, ◌∙◌, rules}
+use Rattle.std.proofs.Common.{◌≡◌, ◌<◌, sym, ap, subst, ◌∙◌}
 use Rattle.latch_law.specs.declared.knows.Terms.{Terms}
 use Rattle.latch_space.specs.Passes.{view}
 use Rattle.forest_law.specs.declared.objects.Frame.{Frame}
@@ -7,6 +7,7 @@ use Rattle.index_law.specs.Shape.{Shape}
 use Rattle.forest_world.specs.Held.{shape_of_pass}
 use Rattle.buffer_pool.proofs.AgainLemmas.{passes_both}
 use Rattle.buffer_pool.proofs.PartLemmas.{part_below, took_free}
+use Rattle.buffer_pool.proofs.CallLemmas.{frame_has}
 use Rattle.leaf_search.specs.Builds.{HoldsToTeach}
 use Rattle.leaf_search.proofs.BuiltLemmas.{ReadyToBuild, taken_known, taken_room, taken_counted, to_build, built_whole, built_follows, built_part, ends_build}
 use Rattle.leaf_search.proofs.LessonLemmas.{leaf_is, leaf_paged}
@@ -54,7 +55,7 @@ build_in_hand-answer-requires g c =
     let at = goal.at.build_in_hand-answer-requires g c in
     let ready = ready g at.After-hold_part c.requires.teach in
     record {
-      own = search rules;
+      own = (c.requires.own.0, c.hold_part.ensures.own.1);
       build = to_build ready;
       counted = taken_counted ready c.frame-leaf.result.now (leaf_is c.args.pass.now c.args.block
           c.args.index c.requires.known c.frame-leaf.result.now c.frame-leaf.ensures
@@ -68,7 +69,7 @@ settle-requires g c =
     let ready = ready g (goal.at.settle-requires g c).After-hold_part c.requires.teach in
     let built = c.build_in_hand-answer.ensures.built (to_build ready) in
     record {
-      own = search rules;
+      own = c.build_in_hand-answer.ensures.own.1;
       whole = built_whole ready built;
       rule = built_follows ready built c.upkeep_keeps_the_hash.ensures;
     }
@@ -96,3 +97,22 @@ returns-clause-own g c = (
       c.give_part_back.ensures.own.0)),
   c.give_part_back.ensures.own.1,
 )
+
+pub frame-leaf-requires-clause-held : goal.frame-leaf-requires-clause-held
+frame-leaf-requires-clause-held g c = let leaf = c.requires.teach.leaf in (
+  leaf.frame,
+  leaf.frame,
+  frame_has c.args.pass.now c.requires.known c.args.block leaf.frame leaf.knows,
+)
+
+pub hold_part-requires-clause-there : goal.hold_part-requires-clause-there
+hold_part-requires-clause-there g c = part_below c.args.pass.now c.shape.result.now c.args.space.now.terms.shape
+    c.part_for-part.result c.args.index c.fits.ensures c.shape.ensures
+    (ap (λ (t : Terms Shape). t.shape) c.requires.own.1.1) c.part_for-part.ensures
+
+pub give_part_back-requires-clause-there : goal.give_part_back-requires-clause-there
+give_part_back-requires-clause-there g c =
+    subst (λ (t : Terms Shape). c.part_for-part.result < t.shape.parts)
+    (c.requires.own.1.1 ∙ sym c.settle.ensures.own.1.1) (part_below c.args.pass.now c.shape.result.now c.args.space.now.terms.shape
+    c.part_for-part.result c.args.index c.fits.ensures c.shape.ensures
+    (ap (λ (t : Terms Shape). t.shape) c.requires.own.1.1) c.part_for-part.ensures)

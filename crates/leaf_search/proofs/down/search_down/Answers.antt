@@ -1,4 +1,4 @@
-use Rattle.std.proofs.Common.{◌≤◌, sym, ap, subst, ◌∙◌, refl, rules}
+use Rattle.std.proofs.Common.{◌≤◌, sym, ap, subst, ◌∙◌, refl}
 use Rattle.key_tuple.specs.Order.{byte_count}
 use Rattle.key_tuple.specs.declared.TheConstants.{MAX_KEY_BYTES}
 use Rattle.index_law.specs.Shape.{Shape}
@@ -15,8 +15,8 @@ learn_leaf-note-requires g c =
     let short : byte_count key ≤ MAX_KEY_BYTES = subst (λ k. byte_count k ≤ MAX_KEY_BYTES)
     c.tuple.ensures.fields c.is_within_limits.ensures.short in
     record {
-      own = search rules;
-      learner = search rules;
+      own = (c.requires.own.0, c.descend-way.ensures.own.1);
+      learner = c.requires.learner;
       unique = subst (λ (s : Shape). HasUnique c.args.learner.now i (fields_for s i)) before
           c.requires.unique;
       figures = figures_bounded c.args.mode key went.is.page.is.page.rows c.descend-way.result.spot
@@ -33,7 +33,7 @@ own_spot-spot-requires g c =
     let went = c.descend-way.ensures.went in
     let before = sym (taught_shape _ _ _ _ _ _ _ _ taught ∙ went_shape went) in
     record {
-      own = search rules;
+      own = (c.requires.own.0, c.learn_leaf-note.ensures.own.1);
       fields = c.requires.fields ∙ ap (λ (s : Shape). fields_for s c.args.index) before;
       leaf = taught_leaf _ _ _ _ _ _ _ _ taught;
       known = taught.becomes.does.known;

@@ -1,6 +1,7 @@
 use Rattle.std.proofs.Common.{◌≤◌, subst}
 use Rattle.key_tuple.specs.Fold.{asked_fields}
 use Rattle.list_facts.proofs.Places.{inside}
+use Rattle.buffer_pool.proofs.CallLemmas.{frame_has}
 use Rattle.leaf_search.proofs.LessonLemmas.{one_unique, leaf_paged, leaf_few, counts_descent, counted_suits}
 use Rattle.leaf_search.proofs.lesson.count_descent.Goals as goal
 
@@ -36,3 +37,10 @@ returns-clause-suits c = λ h. counted_suits c.args.pass.now c.args.block c.args
     c.after_descent-learnt.new.block c.requires.unique c.unique-unique.ensures
     c.requires.learner.1 c.row_count-rows.ensures c.after_descent-learnt.ensures.did
     c.after_descent-learnt.ensures.block c.requires.fits
+
+pub frame-leaf-requires-clause-held : goal.frame-leaf-requires-clause-held
+frame-leaf-requires-clause-held c = let leaf = c.requires.leaf in (
+  leaf.frame,
+  leaf.frame,
+  frame_has c.args.pass.now c.requires.known c.args.block leaf.frame leaf.knows,
+)
