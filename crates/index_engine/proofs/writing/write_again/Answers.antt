@@ -1,4 +1,4 @@
-use Rattle.std.proofs.Common.{refl, subst, ◌≡◌, IfSome}
+use Rattle.std.proofs.Common.{refl, subst, ◌≡◌, IfSome, IfOk, IsErr, Result, Ok, Err}
 use Rattle.list_facts.proofs.Outcomes.{when_err}
 use Rattle.map_history.specs.Told.{columns_told}
 use Rattle.map_history.specs.declared.reply.Told.{Told}
@@ -9,6 +9,11 @@ use Rattle.engine_law.specs.Says.{columns_by}
 use Rattle.index_engine.specs.Writes.{write_asked, TriesWrite}
 use Rattle.index_engine.proofs.TryLemmas.{quiet_yet, quiet_then_again, way_tells, way_quiet, way_unanswered}
 use Rattle.index_engine.proofs.writing.write_again.Goals as goal
+
+-- what is so of each success is so of a failure
+when_no_ok : {T E : Type 0} (r : Result T E) (P : T → Type 0) → IsErr r → IfOk r P
+when_no_ok (Err e) P failed = tt
+when_no_ok (Ok x) P failed = absurd cc
 
 pub loop-init : goal.loop-init
 loop-init g c = let call = c.args.call.now in record {
@@ -86,3 +91,18 @@ returns-in_err-told-clause-nothing g c = c.try_write.ensures.nothing
 
 pub try_write-requires-clause-most : goal.try_write-requires-clause-most
 try_write-requires-clause-most g c = c.requires.most
+
+pub hold_leaf-leaf-requires-clause-own : goal.hold_leaf-leaf-requires-clause-own
+hold_leaf-leaf-requires-clause-own g c = c.loop.invariant.own.1
+
+pub try_write-requires-clause-own : goal.try_write-requires-clause-own
+try_write-requires-clause-own g c = c.hold_leaf-leaf.ensures.own.1
+
+pub try_write-requires-clause-alone : goal.try_write-requires-clause-alone
+try_write-requires-clause-alone g c = c.hold_leaf-leaf.ensures.held
+
+pub returns-in_err-told-clause-ok : goal.returns-in_err-told-clause-ok
+returns-in_err-told-clause-ok g c = when_no_ok c.from_residual.result _ c.from_residual.ensures.0
+
+pub returns-in_err-told-clause-columns : goal.returns-in_err-told-clause-columns
+returns-in_err-told-clause-columns g c = when_no_ok c.from_residual.result _ c.from_residual.ensures.0

@@ -118,3 +118,8 @@ invariant_of-pass g c = let pass = c.args.pass.now in
       low = tried.low ∙ (pass.low ∙ sym numbers.low);
       end = tried.end ∙ (pass.end ∙ sym numbers.end);
     }
+
+pub write_key-requires-clause-most : goal.write_key-requires-clause-most
+write_key-requires-clause-most g c = c.from-most.ensures ∙ (c.args.pass.now.most
+    ∙ ap (λ (t : Terms Shape). t.max_changes) (c.requires.own.0.1
+    ∙ (sym c.find-searched.ensures.own.1.1 ∙ (write_key-requires-clause-own g c).1)))
