@@ -14,6 +14,8 @@ use Rattle.hash_upkeep.specs.declared.change.RowChange.{RowChange}
 use Rattle.hash_law.specs.Blocks.{folds_of}
 use Rattle.hash_upkeep.specs.Hashing.{row_node, row_nodes, row_entries}
 use Rattle.hash_upkeep.specs.Change.{few_nodes, ChangesAt}
+use Rattle.hash_upkeep.specs.declared.upkeep.Upkeep.{Upkeep}
+use Rattle.hash_upkeep.specs.Upkeep.{IsRowAnswer}
 
 -- the neighbour that decides of a node, and the one of which it decides
 leads_is : (left : Bool) (xs ys : List Node)
@@ -112,3 +114,18 @@ row_exchange how rows place change differ s =
     moved : {a a' b b' c c' d d' : List Node} → a ≡ a' → b ≡ b' → c ≡ c' → d ≡ d'
         → Exchanges a' b' c' d' → Exchanges a b c d
     moved p q r s e = rw (p, q, r, s) e
+
+-- what a row brings in and drives out tells an answer
+pub row_answer : (how : Hashing) (rows : List Row) (place : ℕ)
+    (answer_of : (brought driven : List Node) → Upkeep) (change : RowChange) (answer : Upkeep)
+    → ChangesAt how rows place change
+    → answer ≡ answer_of (few_nodes change.brought) (few_nodes change.driven)
+    → IsRowAnswer how rows place answer_of answer
+row_answer how rows place answer_of change answer s is = record {
+  left = s.left;
+  row = s.row;
+  right = s.right;
+  parts = s.parts;
+  place_is = s.place_is;
+  is = is ∙ (λ i. answer_of (s.brought i) (s.driven i));
+}

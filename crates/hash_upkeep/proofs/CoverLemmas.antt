@@ -1,5 +1,5 @@
 -- Nodes that share a fold with others.
-use Rattle.std.proofs.Common.{◌≡◌, ◌⊎◌, inl, inr, ℕ, ◌+◌, ◌≤◌, ◌==◌, Bool, true, false, cond, Option, Some, None, List, [], ◌∷◌, ◌++◌, refl, sym, ap, ◌∙◌, arith, eq-eqb}
+use Rattle.std.proofs.Common.{◌≡◌, ◌≢◌, ◌⊎◌, inl, inr, ℕ, ◌+◌, ◌≤◌, ◌==◌, Bool, true, false, cond, Option, Some, None, List, [], ◌∷◌, ◌++◌, refl, sym, ap, ◌∙◌, arith, eq-eqb}
 use Rattle.std.proofs.lemmas.Bool.Decides.{nat_tests}
 use Rattle.chain_arena.specs.declared.node.Node.{Node}
 use Rattle.chain_arena.specs.Bag.{same_node, HasNode}
@@ -24,6 +24,10 @@ fold_or_other m fold = go (m.fold == fold) refl
     go : (b : Bool) → (m.fold == fold) ≡ b → (m.fold ≡ fold) ⊎ (bit (m.fold == fold) ≡ 0)
     go true e = inl (eqb_is m.fold fold e)
     go false e = inr (ap bit e)
+
+-- nodes of which one does not count with the other's fold have two folds
+pub folds_apart : (m n : Node) → bit (m.fold == n.fold) ≡ 0 → n.fold ≢ m.fold
+folds_apart m n none e = omega (arith, none, ap bit (eq-eqb m.fold n.fold (sym e)))
 
 -- a node shares its fold with itself
 pub shares_own : (m : Node) (ms : List Node) (fold : ℕ) → m.fold ≡ fold

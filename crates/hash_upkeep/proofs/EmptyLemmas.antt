@@ -1,5 +1,5 @@
 -- Blocks whose nodes all leave, and the entries that come after them.
-use Rattle.std.proofs.Common.{◌≡◌, ◌≢◌, inl, inr, ℕ, ◌<◌, ◌≤◌, Bool, true, false, cond, Option, Some, None, List, [], ◌++◌, sym, ap, ◌∙◌, arith, lt-ltb, le-ltb}
+use Rattle.std.proofs.Common.{◌≡◌, ◌≢◌, inl, inr, ℕ, ◌<◌, ◌≤◌, Bool, true, false, cond, Option, Some, None, List, [], ◌++◌, refl, sym, ap, ◌∙◌, subst, arith, lt-ltb, le-ltb}
 use Rattle.key_tuple.specs.declared.mode.Params.{Params}
 use Rattle.chain_arena.specs.declared.node.Node.{Node}
 use Rattle.chain_arena.specs.Bag.{count_of}
@@ -9,7 +9,8 @@ use Rattle.hash_law.specs.Entries.{NodesAt}
 use Rattle.hash_law.specs.Changes.{Exchanges}
 use Rattle.hash_law.specs.Sums.{AreOfBlock}
 use Rattle.hash_upkeep.specs.declared.built.Build.TheVariants.{Built, ArenaFull}
-use Rattle.hash_upkeep.specs.Hashing.{hashing_if, nodes_if, entries_if}
+use Rattle.hash_upkeep.specs.declared.hashing.Hashing.{Hashing}
+use Rattle.hash_upkeep.specs.Hashing.{hashing_if, as_built, nodes_if, entries_if, row_entries}
 use Rattle.hash_upkeep.specs.Cover.{count_with, AreCovered, LosesFolds, Renews, RenewsBoth}
 use Rattle.hash_upkeep.specs.Build.{build_by}
 use Rattle.hash_upkeep.proofs.CoverLemmas.{count_with-append}
@@ -64,7 +65,7 @@ both_empty a b ms moved ks old p q new apart covered covered' l m k = record {
 }
 
 -- none of a block's own nodes is another block's
-none_elsewhere : (block : ℕ) (ms : List Node) (n : Node) → AreOfBlock block ms → n.block ≢ block
+pub none_elsewhere : (block : ℕ) (ms : List Node) (n : Node) → AreOfBlock block ms → n.block ≢ block
     → count_of n ms ≡ 0
 none_elsewhere block ms n own other = elim (none_or_some (count_of n ms)) [
   | inl none ↦ none
@@ -153,3 +154,13 @@ pub built_is : (n s need spare : ℕ) → need ≡ n → spare ≡ s → need �
 built_is n s need spare e f room =
     sym (ap (λ b. cond b (ArenaFull need spare) (Built need)) (le-ltb spare need room))
     ∙ (λ i. build_by (e i) (f i))
+
+-- a block that is hashed so already has its entries
+pub stays_built : (how : Hashing) (built : Option Params) (rows : List Row) (part : Part)
+    → built ≡ Some how.params → NodesAt how.block part.nodes (entries_if (as_built how built) rows)
+    → Renews how.block (row_entries how rows) part part
+stays_built how built rows part same at = record {
+  nodes = subst (λ b. NodesAt how.block part.nodes (entries_if (as_built how b) rows)) same at;
+  others = λ n other. refl;
+  shape = record { room = refl; stamps = refl };
+}

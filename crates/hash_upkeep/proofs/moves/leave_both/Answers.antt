@@ -1,9 +1,21 @@
-use Rattle.std.proofs.Common.{subst}
-use Rattle.hash_upkeep.specs.Hashing.{nodes_if}
+use Rattle.std.proofs.Common.{subst, sym}
+use Rattle.hash_upkeep.specs.Hashing.{CanHashIf, nodes_if}
 use Rattle.hash_upkeep.specs.Cover.{LosesFolds}
 use Rattle.hash_upkeep.specs.Moves.{from_was, to_was}
 use Rattle.hash_upkeep.proofs.EmptyLemmas.{both_empty}
 use Rattle.hash_upkeep.proofs.moves.leave_both.Goals as goal
+
+pub leave_if-requires : goal.leave_if-requires
+leave_if-requires c = record {
+  hash = subst (λ h. CanHashIf h c.args.blocks.now.from c.args.from.now)
+      (sym c.from_was-from_how.ensures) c.requires.hash.from_page;
+}
+
+pub leave_if-requires-3 : goal.leave_if-requires-3
+leave_if-requires-3 c = record {
+  hash = subst (λ h. CanHashIf h c.args.blocks.now.to c.args.to.now) (sym c.to_was.ensures)
+      c.requires.hash.to_page;
+}
 
 pub returns : goal.returns
 returns c = let m = c.args.blocks.now in let from = c.args.from.now.rows in

@@ -2,7 +2,8 @@ use Rattle.index_page.specs.Changes.{rows_without}
 use Rattle.hash_law.specs.Changes.{leader, follower}
 use Rattle.hash_upkeep.specs.Hashing.{row_entries, row_node, row_nodes}
 use Rattle.hash_upkeep.specs.Change.{few_nodes}
-use Rattle.hash_upkeep.proofs.ChangeLemmas.{row_exchange}
+use Rattle.hash_upkeep.specs.Upkeep.{upkeep_of}
+use Rattle.hash_upkeep.proofs.ChangeLemmas.{row_exchange, row_answer}
 use Rattle.hash_upkeep.proofs.KeepLemmas.{Swaps, swaps, own_entries, renews_kept, exact_covers}
 use Rattle.hash_upkeep.proofs.RoomLemmas.{goes_kept}
 use Rattle.hash_upkeep.proofs.rows.on_delete.Goals as goal
@@ -53,3 +54,10 @@ returns-clause-part c = let p = (goal.at.returns-clause-part c).After-row_change
     renews_kept c.args.how.now.block s.result (few_nodes change.brought) (few_nodes change.driven)
     (row_entries c.args.how.now (rows_without c.args.place c.args.page.now.rows)) c.args.part.now
     s.new.part (swap p) s.ensures.nodes s.ensures.others s.ensures.shape
+
+pub returns-clause-answer : goal.returns-clause-answer
+returns-clause-answer c =
+    row_answer c.args.how.now c.args.page.now.rows c.args.place
+    (λ brought driven. upkeep_of c.args.part.now.spare brought driven)
+    c.row_change_at-change.result c.swap_nodes.result c.row_change_at-change.ensures
+    c.swap_nodes.ensures.answer

@@ -4,7 +4,8 @@ use Rattle.hash_law.specs.Changes.{Exchanges}
 use Rattle.hash_upkeep.specs.Hashing.{row_nodes, row_entries}
 use Rattle.hash_upkeep.specs.Cover.{AreCovered}
 use Rattle.hash_upkeep.specs.Change.{few_nodes}
-use Rattle.hash_upkeep.proofs.ChangeLemmas.{row_exchange, without_at}
+use Rattle.hash_upkeep.specs.Upkeep.{upkeep_of}
+use Rattle.hash_upkeep.proofs.ChangeLemmas.{row_exchange, row_answer, without_at}
 use Rattle.hash_upkeep.proofs.KeepLemmas.{Swaps, swaps, own_entries, renews_kept, exact_covers, more_cover}
 use Rattle.hash_upkeep.proofs.RoomLemmas.{room_after}
 use Rattle.hash_upkeep.proofs.rows.on_insert.Goals as goal
@@ -65,3 +66,10 @@ returns-clause-part c = let p = (goal.at.returns-clause-part c).After-row_change
     renews_kept c.args.how.now.block s.result (few_nodes change.driven) (few_nodes change.brought)
     (row_entries c.args.how.now c.args.page.now.rows) c.args.part.now s.new.part (swap p)
     s.ensures.nodes s.ensures.others s.ensures.shape
+
+pub returns-clause-answer : goal.returns-clause-answer
+returns-clause-answer c =
+    row_answer c.args.how.now c.args.page.now.rows c.args.place
+    (λ brought driven. upkeep_of c.args.part.now.spare driven brought)
+    c.row_change_at-change.result c.swap_nodes.result c.row_change_at-change.ensures
+    c.swap_nodes.ensures.answer
