@@ -1,10 +1,10 @@
 -- A frame that is hashed in its partition.
-use Rattle.std.proofs.Common.{◌≡◌, ℕ, true, false, if◌then◌else◌, Option, Some, None, [], sym, ap, subst, ◌∙◌, refl}
+use Rattle.std.proofs.Common.{◌≡◌, ℕ, true, false, if◌then◌else◌, Option, Some, None, List, [], sym, ap, subst, ◌∙◌, refl}
 use Rattle.std.specs.Prelude.{is_some, IsSome}
 use Rattle.list_facts.proofs.Places.{same_some}
 use Rattle.key_tuple.specs.declared.mode.Params.{Params}
 use Rattle.index_page.specs.Page.{PageRows}
-use Rattle.index_page.specs.Rows.{find_row}
+use Rattle.index_page.specs.Rows.{Row, find_row}
 use Rattle.index_page.specs.Changes.{rows_without}
 use Rattle.chain_arena.specs.Bag.{count_of}
 use Rattle.hash_partition.specs.Part.{Part}
@@ -23,6 +23,12 @@ use Rattle.hash_upkeep.specs.Laws.{EntriesAreOwed}
 use Rattle.forest_law.specs.declared.objects.Frame.{Frame}
 use Rattle.forest_law.specs.Hashed.{hash_block}
 use Rattle.hash_maintain.specs.Leaves.{IsHashedSo, CutsFolds, IsExactSo, KeepsUpSo, unhashed, frame_built, kept_frame, paged_without, without_row, HasRowInFrame}
+
+-- what holds of the rows of a frame's page holds of the rows of any page that it has
+pub rows_of_page : (P : List Row → Type 0) (f : Frame) (here page : PageRows) → f.page ≡ Some here
+    → f.page ≡ Some page → P here.rows → P page.rows
+rows_of_page P f here page e g has =
+    subst (λ (z : PageRows). P z.rows) (same_some here page (sym e ∙ g)) has
 
 -- a page that can be hashed so, where the frame is tidy
 pub can_hash : (how : Hashing) (f : Frame) (page : PageRows) → f.page ≡ Some page

@@ -1,4 +1,4 @@
-use Rattle.std.proofs.Common.{◌≡◌, sym, ap, ◌∙◌, refl}
+use Rattle.std.proofs.Common.{◌≡◌, ◌≢◌, Some, sym, ap, ◌∙◌, refl, rules}
 use Rattle.latch_law.specs.declared.knows.Terms.{Terms}
 use Rattle.index_page.specs.declared.head.PageHead.{PageHead}
 use Rattle.hash_law.specs.Blocks.{part_for}
@@ -7,7 +7,30 @@ use Rattle.forest_world.specs.Held.{shape_of_pass}
 use Rattle.hash_maintain.specs.Leaves.{frame_built}
 use Rattle.hash_maintain.proofs.SpaceLemmas.{still_same, still_there, has_parts, is_there, cuts_as}
 use Rattle.hash_maintain.proofs.BuildLemmas.{cut_to, page_index, leaf_of, build_so, builds, counted_so}
+use Rattle.hash_maintain.proofs.building.build_frame.Given.{Over}
 use Rattle.hash_maintain.proofs.building.build_frame.Goals as goal
+use Rattle.hash_maintain.proofs.building.build_frame.Goals.{Else-eq}
+
+-- the frame is hashed so already, or not
+already : (g : Over) (c : goal.Then-eq g) → c.args.frame.now.figures.built ≡ Some c.args.params
+already g c = search rules
+
+apart : (g : Over) (c : Else-eq g)
+    → c.args.frame.now.figures.built ≢ Some c.args.params
+apart g c = search rules
+
+pub returns-then-eq-clause-frame : goal.returns-then-eq-clause-frame
+returns-then-eq-clause-frame g c = λ isnt index leaf. absurd (isnt (already g c))
+
+pub returns-then-eq-clause-builds : goal.returns-then-eq-clause-builds
+returns-then-eq-clause-builds g c = λ isnt index leaf. absurd (isnt (already g c))
+
+pub returns-clause-not_needed : goal.returns-clause-not_needed
+returns-clause-not_needed g c =
+    λ e. absurd (apart g (goal.at.returns-clause-not_needed g c).Else-eq e)
+
+pub part_back-requires-clause-own : goal.part_back-requires-clause-own
+part_back-requires-clause-own g c = c.hold_part_out-partition.ensures.own.1
 
 pub leaf_page-requires : goal.leaf_page-requires
 leaf_page-requires g c = (c.requires.leaf.leaf.page, c.requires.leaf.leaf.page_is)

@@ -1,8 +1,10 @@
-use Rattle.std.proofs.Common.{◌≡◌, ℕ, Option, refl, sym, ap, subst, ◌∙◌}
+use Rattle.std.proofs.Common.{◌≡◌, ℕ, Option, length, refl, sym, ap, subst, ◌∙◌}
 use Rattle.key_tuple.specs.declared.mode.Params.{Params}
 use Rattle.forest_law.specs.declared.objects.Frame.{Frame}
 use Rattle.hash_maintain.specs.Leaves.{KeepsUpSo, hashed_with, index_if}
-use Rattle.hash_maintain.proofs.LeafLemmas.{can_hash, was_exact, was_can, built_exact}
+use Rattle.hash_upkeep.specs.Build.{BuildsAnew, LacksIfFull}
+use Rattle.hash_upkeep.specs.Hashing.{row_entries}
+use Rattle.hash_maintain.proofs.LeafLemmas.{rows_of_page, can_hash, was_exact, was_can, built_exact}
 use Rattle.hash_maintain.proofs.leaves.rehash.Goals as goal
 use Rattle.hash_maintain.proofs.leaves.rehash.Goals.{in-Some, in-None}
 
@@ -25,6 +27,18 @@ pub build-answer-requires-clause-exact : goal.build-answer-requires-clause-exact
 build-answer-requires-clause-exact c = was_exact c.entries_are_owed.ensures c.args.how.now
     c.args.frame.now c.leaf_page.result.now c.leaf_page.ensures c.args.part.now c.requires.tidy
     c.requires.leaf c.requires.exact c.args.frame.now.figures.built refl
+
+pub returns-clause-anew : goal.returns-clause-anew
+returns-clause-anew c = λ isnt page paged. rows_of_page
+    (λ rows. BuildsAnew c.args.how.now rows c.args.part.now c.build-answer.new.part
+    c.build-answer.result) c.args.frame.now c.leaf_page.result.now page c.leaf_page.ensures paged
+    (c.build-answer.ensures.anew isnt)
+
+pub returns-clause-room : goal.returns-clause-room
+returns-clause-room c = λ page paged. rows_of_page
+    (λ rows. LacksIfFull c.build-answer.result c.build-answer.new.part.spare
+    (length (row_entries c.args.how.now rows))) c.args.frame.now c.leaf_page.result.now page
+    c.leaf_page.ensures paged c.build-answer.ensures.room
 
 pub returns-clause-frame : goal.returns-clause-frame
 returns-clause-frame c = let f = c.args.frame.now in let how = c.args.how.now in

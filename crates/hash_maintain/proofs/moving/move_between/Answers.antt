@@ -105,3 +105,6 @@ returns-in_default-clause-rests g c = λ _. (refl, refl, refl, refl)
 pub returns-in_default-clause-moves : goal.returns-in_default-clause-moves
 returns-in_default-clause-moves g c = λ i is. absurd (hashed_or_not
     (first_hashed c.args.from.now c.args.to.now) i is (sym c.first_hashed.ensures ∙ c.in_default.is))
+
+pub part_back-requires-clause-own : goal.part_back-requires-clause-own
+part_back-requires-clause-own g c = c.hold_part_out-partition.ensures.own.1
