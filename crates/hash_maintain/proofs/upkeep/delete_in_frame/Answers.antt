@@ -118,3 +118,6 @@ returns-in_default-clause-keeps g c = λ how e. absurd
 
 pub returns-in-Some-clause-kept : goal.returns-in-Some-clause-kept
 returns-in-Some-clause-kept g c = c.row_goes-answer.ensures.kept
+
+pub part_back-requires-clause-own : goal.part_back-requires-clause-own
+part_back-requires-clause-own g c = c.hold_part_out-partition.ensures.own.1

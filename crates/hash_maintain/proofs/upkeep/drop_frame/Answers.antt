@@ -114,3 +114,6 @@ returns-in_default-clause-drops g c = λ how e. absurd
     ∙ ap (λ (s : Shape). s.fold_bits)
     (c.shape-layout.ensures ∙ ap (λ (t : Terms Shape). t.shape) (sym c.requires.own.1)))
     c.hashing_of.ensures c.in_default.is e)
+
+pub part_back-requires-clause-own : goal.part_back-requires-clause-own
+part_back-requires-clause-own g c = c.hold_part_out-partition.ensures.own.1
