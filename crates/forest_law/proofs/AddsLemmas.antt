@@ -1,5 +1,5 @@
 -- Items that are added one behind the other.
-use Rattle.std.proofs.Common.{◌≡◌, ◌⊎◌, inl, inr, ℕ, ◌+◌, ◌<◌, ◌≤◌, [], ◌∷◌, ◌++◌, List, length, length-append, sym, ap, ◌∙◌, arith}
+use Rattle.std.proofs.Common.{◌≡◌, ◌⊎◌, inl, inr, ℕ, ◌+◌, ◌<◌, ◌≤◌, [], ◌∷◌, ◌++◌, List, length, length-append, sym, ap, subst, ◌∙◌, arith}
 use Rattle.std.proofs.lemmas.Bool.{cases_lt}
 use mathlib.Core.Option.{some}
 use lib.ListN.{get_elem?}
@@ -32,3 +32,9 @@ module _ {X : Type 0} (old : List X) (made : ℕ → X) where
           let count = adds.counted in
           at_last new x (length old + i) (omega (arith, count, same))
           ∙ ap some (is ∙ ap made (sym same))
+
+  -- a count that came to its end is the end
+  pub adds_all : (new : List X) (n last end : ℕ) → AddsEach old new n made → n ≤ last → last ≤ n
+      → last ≡ end → AddsEach old new end made
+  adds_all new n last end adds within past is =
+      subst (λ m. AddsEach old new m made) (omega (arith, within, past, is)) adds
