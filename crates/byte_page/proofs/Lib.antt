@@ -5,5 +5,6 @@ pub mod DeleteLemmas
 pub mod MovingLemmas
 pub mod TailLemmas
 pub mod SetLemmas
+pub mod CopyLemmas
 pub mod ReplaceLemmas
 pub mod AgreeLemmas
