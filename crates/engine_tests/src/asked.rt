@@ -45,6 +45,11 @@ pub(crate) struct Asked {
     pub(crate) wanted: Wanted,
 }
 
+/// Puts one more behind what is asked.
+pub(crate) fn add<R: Abort>(rt: &R, asked: &mut Vec<Asked>, one: Asked) {
+    asked.push(one).expect(rt, "memory for what is asked");
+}
+
 impl Asked {
     /// Whether that was told, and the row that was found has the value.
     pub(crate) fn is_told(&self, told: &Told, value: &[u8]) -> bool {

@@ -18,7 +18,7 @@ use std::sync::Wait;
 use tree_descent::descend;
 
 /// The rows, each with as many bytes as a row may have. They fill a leaf.
-const ROWS: [Row; 5] = [b"a1", b"c1", b"m5", b"m7", b"n1"];
+static ROWS: [Row; 5] = [b"a1", b"c1", b"m5", b"m7", b"n1"];
 
 /// Another row, for which the leaf is split behind its second one.
 const NEXT: Row = b"o1";

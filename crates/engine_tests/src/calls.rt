@@ -3,7 +3,7 @@ use crate::asked::Order;
 use crate::steps::{Step, assert_steps};
 use map_history::Reply;
 
-const STEPS: [Step; 14] = [
+static STEPS: [Step; 14] = [
     (b'a', Order::Get, Reply::Absent, 0),
     (b'a', Order::Del, Reply::Absent, 0),
     (b'a', Order::Put((b"x", 1)), Reply::Ok, 1),

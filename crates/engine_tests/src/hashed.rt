@@ -2,7 +2,7 @@
 //! round.
 use crate::asked::Order;
 use crate::recount::Counted;
-use crate::rounds::{Round, asked_in, each};
+use crate::rounds::{Round, asked_in};
 use crate::setup::asked_alone;
 use key_tuple::Mode;
 use map_history::Sizes;
@@ -22,35 +22,23 @@ fn sizes_for(fold_bits: u32) -> Sizes {
     }
 }
 
-/// Looks for rows until the leaves that they are on are hashed.
-fn looks(order: Order, first: u32, rows: u32) -> Round {
-    Round {
-        order,
-        first,
-        step: 16,
-        rows,
-        times: 300,
-    }
-}
-
 /// Sixty rows with 1,000 bytes: six leaves have eight rows, and the last has twelve. A row of each of
 /// the six is looked for. Sixteen larger ones come between those of the first two leaves, which
 /// split. Eight values get shorter; four of the sixth leaf get longer, and it stays hashed. Then the
 /// larger rows go, and twelve others beside them, and leaves are merged. Two hundred rows fill so
-/// many leaves that all others are evicted; and rows of the last three are looked for.
-fn rounds(order: Order) -> [Round; 9] {
-    [
-        each(Order::Put((b"", 1000)), 0, 2, 60),
-        looks(order, 8, 6),
-        each(Order::Put((b"", 2000)), 1, 2, 16),
-        each(Order::Set((b"s", 1)), 0, 2, 8),
-        each(Order::Set((b"s", 1500)), 84, 2, 4),
-        each(Order::Del, 1, 2, 16),
-        each(Order::Del, 32, 2, 12),
-        each(Order::Put((b"", 2000)), 200, 1, 200),
-        looks(order, 72, 3),
-    ]
-}
+/// many leaves that all others are evicted; and rows of the last three are looked for. Those that look
+/// for rows do so until the leaves that they are on are hashed, each case in its own way.
+static ROUNDS: [Round; 9] = [
+    (Order::Put((b"", 1000)), 0, 2, 60, 60),
+    (Order::Get, 8, 16, 6, 300),
+    (Order::Put((b"", 2000)), 1, 2, 16, 16),
+    (Order::Set((b"s", 1)), 0, 2, 8, 8),
+    (Order::Set((b"s", 1500)), 84, 2, 4, 4),
+    (Order::Del, 1, 2, 16, 16),
+    (Order::Del, 32, 2, 12, 12),
+    (Order::Put((b"", 2000)), 200, 1, 200, 200),
+    (Order::Get, 72, 16, 3, 300),
+];
 
 /// How the rows are looked for, to how many bits folds are cut, and how many nodes there are after
 /// some of the rounds.
@@ -60,7 +48,7 @@ struct Case {
     nodes: [Option<u32>; 9],
 }
 
-const CASES: [Case; 5] = [
+static CASES: [Case; 5] = [
     // A node for each row of a hashed leaf.
     Case {
         order: Order::Get,
@@ -128,8 +116,8 @@ fn counted_after<R: AllocGlobal + Abort + Wait>(
     fold_bits: u32,
     count: usize,
 ) -> Counted {
-    let rounds = rounds(order);
-    let asked = asked_in(rt, rounds.get(..count).expect(rt, "so many rounds"), 0);
+    let rounds = ROUNDS.get(..count).expect(rt, "so many rounds");
+    let asked = asked_in(rt, rounds, 0, order);
     let (told, counted) = asked_alone(rt, &sizes_for(fold_bits), 1, &asked);
     assert!(rt; told as usize == asked.len(), "order {told}");
     counted

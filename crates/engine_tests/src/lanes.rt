@@ -5,7 +5,7 @@ ghost use Rattle.engine_tests.specs.Fields.{FirstHasFields};
 
 use crate::asked::Order;
 use crate::recount::Counted;
-use crate::rounds::{Round, asked_in, each};
+use crate::rounds::{Round, asked_in};
 use crate::setup::{counted, open, worked};
 use index_engine::{Engine, EnginePass};
 use key_tuple::Mode;
@@ -15,7 +15,7 @@ use std::sync::Wait;
 use std::thread::{Threads, join};
 
 /// As few blocks as eight callers may have, and pages for all rows.
-const SIZES: Sizes = Sizes {
+static SIZES: Sizes = Sizes {
     blocks: 72,
     pages: 1000,
     parts: 2,
@@ -25,32 +25,22 @@ const SIZES: Sizes = Sizes {
     max_changes: 10_000,
 };
 
-/// An order that is given to four rows of a caller again and again.
-fn again(order: Order) -> Round {
-    Round {
-        order,
-        first: 0,
-        step: 8,
-        rows: 4,
-        times: 200,
-    }
-}
+/// What each caller does with every eighth row: gets and seeks go to four of its rows again and again.
+/// All eight together have 800 rows, of which eight fill a leaf.
+static ROUNDS: [Round; 9] = [
+    (Order::Put((b"", 2000)), 0, 8, 100, 100),
+    (Order::Get, 0, 8, 4, 200),
+    (Order::Set((b"s", 2048)), 0, 8, 30, 30),
+    (Order::Set((b"s", 1)), 240, 8, 30, 30),
+    (Order::Get, 0, 8, 4, 200),
+    (Order::Del, 240, 8, 40, 40),
+    (Order::Seek(Mode::Le), 0, 8, 4, 200),
+    (Order::Put((b"", 100)), 240, 8, 40, 40),
+    (Order::Get, 0, 8, 4, 200),
+];
 
-/// What each caller does with every eighth row. All eight together have 800 rows, of which eight
-/// fill a leaf.
-fn rounds() -> [Round; 9] {
-    [
-        each(Order::Put((b"", 2000)), 0, 8, 100),
-        again(Order::Get),
-        each(Order::Set((b"s", 2048)), 0, 8, 30),
-        each(Order::Set((b"s", 1)), 240, 8, 30),
-        again(Order::Get),
-        each(Order::Del, 240, 8, 40),
-        again(Order::Seek(Mode::Le)),
-        each(Order::Put((b"", 100)), 240, 8, 40),
-        again(Order::Get),
-    ]
-}
+/// How the rows of all are looked for at the end: each once, and four again and again.
+static LOOKS: [Round; 2] = [(Order::Get, 0, 1, 800, 800), (Order::Get, 0, 8, 4, 200)];
 
 /// Gives the upper half of a pass's numbers away.
 fn split<R: AllocGlobal + Abort>(
@@ -93,7 +83,7 @@ fn told<R: AllocGlobal + Abort + Wait>(
     requires fields { FirstHasFields engine.now 1 }
     ensures own { IsOf engine.now result }
 {
-    let asked = asked_in(rt, rounds, ahead);
+    let asked = asked_in(rt, rounds, ahead, Order::Get);
     let (pass, count) = worked(rt, engine, pass, 1, &asked);
     assert!(rt; count as usize == asked.len(), "order {count}");
     pass
@@ -106,7 +96,7 @@ fn one_lane<R: AllocGlobal + Abort + Wait>(rt: &R, engine: &Engine, pass: Engine
     ensures own { IsOf engine.now result }
 {
     let (number, _) = pass.numbers();
-    told(rt, engine, pass, &rounds(), number)
+    told(rt, engine, pass, &ROUNDS, number)
 }
 
 /// Two callers work the rounds at once.
@@ -189,8 +179,7 @@ fn eight_lanes<R: AllocGlobal + Abort + Threads + Wait + Sync>(
 fn counted_at_the_end<R: AllocGlobal + Abort + Threads + Wait + Sync>(rt: &R) -> Counted {
     let (engine, pass) = open(rt, &SIZES, 1, 8);
     let pass = eight_lanes(rt, &engine, pass);
-    let looks = [each(Order::Get, 0, 1, 800), again(Order::Get)];
-    let pass = told(rt, &engine, pass, &looks, 0);
+    let pass = told(rt, &engine, pass, &LOOKS, 0);
     counted(rt, engine, pass, &SIZES)
 }
 

@@ -1,29 +1,15 @@
 //! What an opening refuses.
-ghost use Rattle.std.specs.Prelude.{◌<◌, ◌≤◌};
-
 use crate::setup::smallest;
 use index_engine::{Engine, EngineError};
-use map_history::Sizes;
 use settings::{Setting, set_size};
 use std::process::Abort;
-
-/// What an opening of three indexes for some lanes keeps as its sizes, or the setting that it refuses.
-fn opened<R: AllocGlobal + Abort>(rt: &R, sizes: &Sizes, lanes: u32) -> Result<Sizes, Setting>
-    requires { (0 < lanes) × (lanes ≤ 64) }
-{
-    match Engine::open(rt.alloc(), sizes, &[1, 1, 4], lanes) {
-        Ok((_, pass)) => Ok(*pass.sizes()),
-        Err(EngineError::BadSize(setting)) => Err(setting),
-        Err(EngineError::NoMemory) => panic!(rt; "no memory"),
-    }
-}
 
 /// A setting of the smallest sizes for three indexes, for so many lanes, and whether these open or
 /// are refused.
 type Case = (Setting, u32, u32, bool);
 
 /// With 16 blocks, 1 part and 1 cell the products are within. 256 blocks are for 31 lanes.
-const SETTINGS: [Case; 15] = [
+static SETTINGS: [Case; 15] = [
     (Setting::Blocks, 15, 1, false),
     (Setting::Blocks, 65_537, 1, false),
     (Setting::Blocks, 256, 31, true),
@@ -41,14 +27,17 @@ const SETTINGS: [Case; 15] = [
     (Setting::MaxChanges, 8_388_609, 1, false),
 ];
 
-/// Whether these open or are refused so.
+/// Whether these open with such sizes, or are refused by the setting.
 fn is_opened_so<R: AllocGlobal + Abort>(rt: &R, case: &Case) -> bool {
     let (setting, number, lanes, opens) = *case;
     let mut sizes = smallest(3, 1);
     set_size(&mut sizes, setting, number);
     assert!(rt; 0 < lanes && lanes <= 64);
-    let wanted = if opens { Ok(sizes) } else { Err(setting) };
-    opened(rt, &sizes, lanes) == wanted
+    match Engine::open(rt.alloc(), &sizes, &[1, 1, 4], lanes) {
+        Ok((_, pass)) => opens && *pass.sizes() == sizes,
+        Err(EngineError::BadSize(refused)) => !opens && refused == setting,
+        Err(EngineError::NoMemory) => panic!(rt; "no memory"),
+    }
 }
 
 #[test]

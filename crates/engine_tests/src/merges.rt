@@ -1,5 +1,5 @@
 //! Pages of rows that went are merged, and their numbers are free again.
-use crate::asked::{Asked, Name, Order, Wanted};
+use crate::asked::{Asked, Name, Order, Wanted, add};
 use crate::setup::{asked_alone, smallest};
 use crate::steps::{Numbered, assert_replies, assert_told};
 use map_history::Reply;
@@ -11,7 +11,7 @@ const PUT: Order = Order::Put((b"", 1000));
 
 /// What is asked where forty rows with 1,000 bytes stand on leaves of 8, 8, 8 and 16 and there is no
 /// further page. With four rows on the first leaf it and the next one have room on one page.
-const DELS: [Numbered; 6] = [
+static DELS: [Numbered; 6] = [
     (2, Order::Del, Reply::Ok),
     (3, Order::Del, Reply::Ok),
     (4, Order::Del, Reply::Ok),
@@ -32,13 +32,15 @@ fn add_long<R: Abort>(rt: &R, asked: &mut Vec<Asked>, number: u32, order: Order,
         lengths: &[767],
     };
     let wanted = Wanted::Reply(reply);
-    asked
-        .push(Asked {
+    add(
+        rt,
+        asked,
+        Asked {
             name,
             order,
             wanted,
-        })
-        .expect(rt, "memory for an order");
+        },
+    );
 }
 
 /// Puts so many rows with long keys in.

@@ -1,6 +1,6 @@
 //! Two leaves beside each other, of which the right one is hashed by the first of two fields, with the
 //! first row of each group: what a seek is told of the hash.
-use crate::asked::{Asked, Name, Order, Wanted};
+use crate::asked::{Asked, Name, Order, Wanted, add};
 use crate::names::{BOTH, FIRST, Row, SIZES, name_of};
 use crate::recount::Counted;
 use crate::setup::asked_alone;
@@ -11,7 +11,7 @@ use std::sync::Wait;
 
 /// The rows, each with as many bytes as a row may have. So a leaf has room for five, and a sixth one
 /// splits it behind the second.
-const ROWS: [Row; 8] = [b"a1", b"c1", b"m5", b"m7", b"n1", b"o1", b"p1", b"q1"];
+static ROWS: [Row; 8] = [b"a1", b"c1", b"m5", b"m7", b"n1", b"o1", b"p1", b"q1"];
 
 /// The value of a row begins as its name does.
 fn put(row: Row) -> Asked {
@@ -26,13 +26,15 @@ fn put(row: Row) -> Asked {
 fn look<R: Abort>(rt: &R, asked: &mut Vec<Asked>, name: Name, times: u32) {
     let (order, wanted) = (Order::Seek(Mode::Ge), Wanted::Reply(Reply::Found));
     for _ in 0..times {
-        asked
-            .push(Asked {
+        add(
+            rt,
+            asked,
+            Asked {
                 name,
                 order,
                 wanted,
-            })
-            .expect(rt, "memory for a seek");
+            },
+        );
     }
 }
 
@@ -42,7 +44,7 @@ fn look<R: Abort>(rt: &R, asked: &mut Vec<Asked>, name: Name, times: u32) {
 fn until_hashed<R: AllocGlobal + Abort>(rt: &R) -> Vec<Asked> {
     let mut asked = Vec::new(rt.alloc());
     for row in ROWS.iter() {
-        asked.push(put(*row)).expect(rt, "memory for a put");
+        add(rt, &mut asked, put(*row));
     }
     look(rt, &mut asked, name_of(b"o1", FIRST), 40);
     look(rt, &mut asked, name_of(b"m5", BOTH), 130);
@@ -61,7 +63,7 @@ type Case = (Mode, Row, &'static [usize], How, Option<Row>);
 
 /// Only where the row that the hash leads to is the sought one, and its page alone shows that, it
 /// is a hit: it is the first of its leaf, and there is a leaf to the left.
-const CASES: [Case; 5] = [
+static CASES: [Case; 5] = [
     (Mode::Ge, b"m3", BOTH, How::Unequal, Some(b"m5")),
     (Mode::Ge, b"m5", BOTH, How::Hit, Some(b"m5")),
     (Mode::Ge, b"m5", FIRST, How::Unequal, Some(b"m5")),
@@ -86,7 +88,7 @@ fn asked_by(case: &Case) -> Asked {
 /// A seek is told so, from this start.
 fn assert_case<R: AllocGlobal + Abort + Wait>(rt: &R, case: &Case) {
     let mut asked = until_hashed(rt);
-    asked.push(asked_by(case)).expect(rt, "memory for a seek");
+    add(rt, &mut asked, asked_by(case));
     counted(rt, &asked);
 }
 

@@ -11,7 +11,7 @@ const LONG: Order = Order::Put((b"", 2000));
 /// So many pages, what puts each row, and how many rows there are when there is no page for the next
 /// one. 16 rows with 1,000 bytes fill a leaf, and ascending ones leave 8 on each leaf but the last. A
 /// root that is raised takes a page, and each split another.
-const PUTS: [(u32, Order, u32); 8] = [
+static PUTS: [(u32, Order, u32); 8] = [
     (1, SHORT, 16),
     (2, SHORT, 16),
     (3, SHORT, 24),
@@ -31,7 +31,7 @@ fn leaves_are_as_full_as_they_can_be(rt: HostRuntime) {
 }
 
 /// What is asked where eight rows with 2,000 bytes filled the only leaf: the ninth finds no page.
-const AFTER: [Numbered; 8] = [
+static AFTER: [Numbered; 8] = [
     (9, LONG, Reply::SpaceFull),
     (1, Order::Get, Reply::Found),
     (9, Order::Get, Reply::Absent),

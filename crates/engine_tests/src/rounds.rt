@@ -1,30 +1,12 @@
 //! Rounds: what is asked of many rows one after another.
-use crate::asked::{Asked, Name, Order, Wanted};
+use crate::asked::{Asked, Name, Order, Wanted, add};
 use key_tuple::Mode;
 use map_history::Reply;
 use std::process::Abort;
 
-/// An order that is given so often, to rows that are numbered from the first one on, in steps; when
-/// so many rows have had it, it begins anew.
-#[derive(Clone, Copy)]
-pub(crate) struct Round {
-    pub(crate) order: Order,
-    pub(crate) first: u32,
-    pub(crate) step: u32,
-    pub(crate) rows: u32,
-    pub(crate) times: u32,
-}
-
-/// An order that is given to each of some rows once.
-pub(crate) fn each(order: Order, first: u32, step: u32, rows: u32) -> Round {
-    Round {
-        order,
-        first,
-        step,
-        rows,
-        times: rows,
-    }
-}
+/// An order, the number of the first row that is given it, the step to the number of each next one,
+/// how many rows there are, and how often it is given; when all rows have had it, it begins anew.
+pub(crate) type Round = (Order, u32, u32, u32, u32);
 
 /// The name of a row. Its key has two bytes: eight rows have one first byte, and are a group. A seek
 /// goes before the group, or behind it.
@@ -49,29 +31,43 @@ fn reply_to(order: Order) -> Reply {
     }
 }
 
-/// Puts what a round asks of rows whose numbers are higher by so much behind the others.
-fn add_round<R: Abort>(rt: &R, asked: &mut Vec<Asked>, round: &Round, ahead: u32) {
-    let (order, reply) = (round.order, reply_to(round.order));
-    for before in 0..round.times {
-        let row = before.checked_rem(round.rows).unwrap_or(0);
-        let number = round.first.wrapping_add(row.wrapping_mul(round.step));
+/// Puts what a round asks of rows whose numbers are higher by so much behind the others, with this
+/// order in place of a get.
+fn add_round<R: Abort>(rt: &R, asked: &mut Vec<Asked>, round: &Round, ahead: u32, get: Order) {
+    let (order, first, step, rows, times) = *round;
+    let order = if matches!(order, Order::Get) {
+        get
+    } else {
+        order
+    };
+    let wanted = Wanted::Reply(reply_to(order));
+    for before in 0..times {
+        let row = before.checked_rem(rows).unwrap_or(0);
+        let number = first.wrapping_add(row.wrapping_mul(step));
         let name = name_of(number.wrapping_add(ahead), order);
-        let wanted = Wanted::Reply(reply);
-        asked
-            .push(Asked {
+        add(
+            rt,
+            asked,
+            Asked {
                 name,
                 order,
                 wanted,
-            })
-            .expect(rt, "memory for what is asked");
+            },
+        );
     }
 }
 
-/// What the rounds ask, one after the other, of rows whose numbers are higher by so much.
-pub(crate) fn asked_in<R: AllocGlobal + Abort>(rt: &R, rounds: &[Round], ahead: u32) -> Vec<Asked> {
+/// What the rounds ask, one after the other, of rows whose numbers are higher by so much, with this
+/// order in place of each get.
+pub(crate) fn asked_in<R: AllocGlobal + Abort>(
+    rt: &R,
+    rounds: &[Round],
+    ahead: u32,
+    get: Order,
+) -> Vec<Asked> {
     let mut asked = Vec::new(rt.alloc());
     for round in rounds {
-        add_round(rt, &mut asked, round, ahead);
+        add_round(rt, &mut asked, round, ahead, get);
     }
     asked
 }

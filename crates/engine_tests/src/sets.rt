@@ -3,7 +3,7 @@ use crate::asked::Order;
 use crate::steps::{Numbered, Step, assert_replies, assert_steps};
 use map_history::Reply;
 
-const STEPS: [Step; 10] = [
+static STEPS: [Step; 10] = [
     (b'a', Order::Set((b"x", 1)), Reply::Absent, 0),
     (b'a', Order::Put((b"xy", 2)), Reply::Ok, 1),
     (b'a', Order::Set((b"zz", 2)), Reply::Ok, 2),
@@ -26,7 +26,7 @@ const LONGEST: Order = Order::Set((b"s", 2048));
 
 /// What is asked where eight rows have a page. A row is charged 13 bytes more than its value of 2,000
 /// has, of the page's 16,252: so the rows leave 148 bytes, of which each longer value takes 48.
-const ROOM: [Numbered; 11] = [
+static ROOM: [Numbered; 11] = [
     (1, Order::Set((b"s", 2000)), Reply::Ok),
     (1, LONGEST, Reply::Ok),
     (2, LONGEST, Reply::Ok),

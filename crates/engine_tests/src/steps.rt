@@ -1,5 +1,5 @@
 //! Tables of what a caller asks, one order after another, and of what each is told.
-use crate::asked::{Asked, Name, Order, Text, Wanted};
+use crate::asked::{Asked, Name, Order, Text, Wanted, add};
 use crate::setup::{asked_alone, smallest};
 use map_history::{How, Note, Reply, Told};
 use std::process::Abort;
@@ -31,14 +31,14 @@ fn asked_after<R: AllocGlobal + Abort>(
 ) -> Vec<Asked> {
     let mut asked = Vec::new(rt.alloc());
     for row in 0..rows {
-        asked
-            .push(asked_by((row.wrapping_add(1), put, Reply::Ok)))
-            .expect(rt, "memory for a put");
+        add(
+            rt,
+            &mut asked,
+            asked_by((row.wrapping_add(1), put, Reply::Ok)),
+        );
     }
     for step in table {
-        asked
-            .push(asked_by(*step))
-            .expect(rt, "memory for an order");
+        add(rt, &mut asked, asked_by(*step));
     }
     asked
 }
@@ -92,15 +92,11 @@ fn asked_fresh((letter, order, reply, point): Step) -> Asked {
 fn asked_freshly<R: AllocGlobal + Abort>(rt: &R, steps: &[Step], last: Text) -> Vec<Asked> {
     let mut asked = Vec::new(rt.alloc());
     for step in steps {
-        asked
-            .push(asked_fresh(*step))
-            .expect(rt, "memory for a step");
+        add(rt, &mut asked, asked_fresh(*step));
     }
     let get = asked_fresh((b'a', Order::Get, Reply::Found, 0));
     let wanted = Wanted::Found(last, None);
-    asked
-        .push(Asked { wanted, ..get })
-        .expect(rt, "memory for a get");
+    add(rt, &mut asked, Asked { wanted, ..get });
     asked
 }
 
