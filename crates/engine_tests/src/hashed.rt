@@ -3,7 +3,7 @@
 use crate::asked::Order;
 use crate::recount::Counted;
 use crate::rounds::{Round, asked_in};
-use crate::setup::asked_alone;
+use crate::setup::counted_alone;
 use key_tuple::Mode;
 use map_history::Sizes;
 use std::process::Abort;
@@ -118,9 +118,7 @@ fn counted_after<R: AllocGlobal + Abort + Wait>(
 ) -> Counted {
     let rounds = ROUNDS.get(..count).expect(rt, "so many rounds");
     let asked = asked_in(rt, rounds, 0, order);
-    let (told, counted) = asked_alone(rt, &sizes_for(fold_bits), 1, &asked);
-    assert!(rt; told as usize == asked.len(), "order {told}");
-    counted
+    counted_alone(rt, &sizes_for(fold_bits), 1, &asked)
 }
 
 /// Whether so many nodes were counted, or some where none are named, and leaves where there are

@@ -2,8 +2,7 @@
 //! first row of each group: what a seek is told of the hash.
 use crate::asked::{Asked, Name, Order, Wanted, add};
 use crate::names::{BOTH, FIRST, Row, SIZES, name_of};
-use crate::recount::Counted;
-use crate::setup::asked_alone;
+use crate::setup::counted_alone;
 use key_tuple::Mode;
 use map_history::{How, Reply};
 use std::process::Abort;
@@ -51,13 +50,6 @@ fn until_hashed<R: AllocGlobal + Abort>(rt: &R) -> Vec<Asked> {
     asked
 }
 
-/// All of this is told what it has to be, by an engine whose keys have two fields.
-fn counted<R: AllocGlobal + Abort + Wait>(rt: &R, asked: &[Asked]) -> Counted {
-    let (count, counted) = asked_alone(rt, &SIZES, 2, asked);
-    assert!(rt; count as usize == asked.len(), "order {count}");
-    counted
-}
-
 /// What is asked, how it is found, and which row that is.
 type Case = (Mode, Row, &'static [usize], How, Option<Row>);
 
@@ -89,7 +81,7 @@ fn asked_by(case: &Case) -> Asked {
 fn assert_case<R: AllocGlobal + Abort + Wait>(rt: &R, case: &Case) {
     let mut asked = until_hashed(rt);
     add(rt, &mut asked, asked_by(case));
-    counted(rt, &asked);
+    counted_alone(rt, &SIZES, 2, &asked);
 }
 
 #[test]
@@ -101,6 +93,6 @@ fn a_row_at_the_edge_of_its_leaf_is_a_hit_for_its_own_key_alone(rt: HostRuntime)
 
 #[test]
 fn one_leaf_is_hashed_and_has_one_group(rt: HostRuntime) {
-    let counted = counted(&rt, &until_hashed(&rt));
+    let counted = counted_alone(&rt, &SIZES, 2, &until_hashed(&rt));
     assert!(rt; counted.leaves == 1 && counted.nodes == 1);
 }

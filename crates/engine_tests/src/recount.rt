@@ -100,7 +100,10 @@ fn add_frame<R: AllocGlobal + Abort>(
     bits: u8,
 ) -> bool {
     assert!(rt; frame.hashed.is_some() == frame.figures.built.is_some());
-    let (Some(index), Some(params)) = (frame.hashed, frame.figures.built) else {
+    let Some(index) = frame.hashed else {
+        return false;
+    };
+    let Some(params) = frame.figures.built else {
         return false;
     };
     let how = Hashed {

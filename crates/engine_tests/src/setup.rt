@@ -128,3 +128,17 @@ pub(crate) fn asked_alone<R: AllocGlobal + Abort + Wait>(
     let (pass, count) = worked(rt, &engine, pass, fields, asked);
     (count, counted(rt, engine, pass, sizes))
 }
+
+/// What was hashed once an engine's only caller had asked all this, and was told what it has to be.
+pub(crate) fn counted_alone<R: AllocGlobal + Abort + Wait>(
+    rt: &R,
+    sizes: &Sizes,
+    fields: u8,
+    asked: &[Asked],
+) -> Counted
+    requires fields { (1 ≤ fields) × (fields ≤ MAX_FIELDS) }
+{
+    let (count, counted) = asked_alone(rt, sizes, fields, asked);
+    assert!(rt; count as usize == asked.len(), "order {count}");
+    counted
+}

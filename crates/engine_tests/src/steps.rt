@@ -1,6 +1,6 @@
 //! Tables of what a caller asks, one order after another, and of what each is told.
 use crate::asked::{Asked, Name, Order, Text, Wanted, add};
-use crate::setup::{asked_alone, smallest};
+use crate::setup::{counted_alone, smallest};
 use map_history::{How, Note, Reply, Told};
 use std::process::Abort;
 use std::sync::Wait;
@@ -50,8 +50,7 @@ pub(crate) fn assert_told<R: AllocGlobal + Abort + Wait>(
     changes: u32,
     asked: &[Asked],
 ) {
-    let (count, _) = asked_alone(rt, &smallest(pages, changes), 1, asked);
-    assert!(rt; count as usize == asked.len(), "order {count}");
+    counted_alone(rt, &smallest(pages, changes), 1, asked);
 }
 
 /// In an engine with so many pages an order to put a row is told `Ok` for each number from 1 on, as
