@@ -76,17 +76,20 @@ fn nodes_of<R: AllocGlobal + Abort>(rt: &R, page: &Page, how: &Hashed) -> Vec<No
     nodes
 }
 
-/// The first or the last node of each run with one fold is due.
+/// The first or the last node of each run with one fold is due: the one that comes first where they
+/// are looked at from the left, or from the right.
 fn add_due<R: Abort>(rt: &R, due: &mut Vec<Due>, nodes: &[Node], how: &Hashed) {
-    for run in nodes.chunk_by(|a, b| a.fold == b.fold) {
-        let node = if how.params.left {
-            run.first()
-        } else {
-            run.last()
-        };
-        let (index, node) = (how.index, *node.expect(rt, "a node"));
-        due.push(Due { index, node })
-            .expect(rt, "memory for a node");
+    let mut fold = None;
+    for before in 0..nodes.len() {
+        let behind = nodes.len().wrapping_sub(before).wrapping_sub(1);
+        let place = if how.params.left { before } else { behind };
+        let node = *nodes.get(place).expect(rt, "a node");
+        if fold != Some(node.fold) {
+            let index = how.index;
+            due.push(Due { index, node })
+                .expect(rt, "memory for a node");
+        }
+        fold = Some(node.fold);
     }
 }
 

@@ -61,12 +61,15 @@ fn ask<R: AllocGlobal + Abort + Wait>(
     }
     assert!(rt; key.count() == fields);
     match asked.order {
-        Order::Put(text) => engine
-            .put(pass, 0, &key, &value_of(rt, text), rt)
-            .expect(rt, "memory for a row"),
-        Order::Set(text) => engine
-            .set(pass, 0, &key, &value_of(rt, text), rt)
-            .expect(rt, "memory for a value"),
+        Order::Put(text) | Order::Set(text) => {
+            let value = value_of(rt, text);
+            let told = if matches!(asked.order, Order::Put(_)) {
+                engine.put(pass, 0, &key, &value, rt)
+            } else {
+                engine.set(pass, 0, &key, &value, rt)
+            };
+            told.expect(rt, "memory for a value")
+        }
         Order::Del => engine.del(pass, 0, &key, rt),
         Order::Get | Order::Seek(_) => engine.get(pass, 0, &key, out, rt),
     }
