@@ -18,16 +18,20 @@ fn drawn<R: AllocGlobal + Abort>(rt: &R, seed: u64, lane: u64) -> String {
     lane_text(rt.alloc(), seed, lane, 400, 3, 6).expect(rt, MEMORY)
 }
 
+/// Whether that seed and that number draw this lane.
+fn is_drawn<R: AllocGlobal + Abort>(rt: &R, text: &str, seed: u64, lane: u64) -> bool {
+    drawn(rt, seed, lane).as_str() == text
+}
+
 #[test]
 fn lanes_are_drawn_by_their_numbers(rt: HostRuntime) {
     let lane = drawn(&rt, 7, 1);
-    assert!(rt; drawn(&rt, 7, 1).as_str() == lane.as_str());
-    assert!(rt; drawn(&rt, 7, 2).as_str() != lane.as_str());
-    assert!(rt; drawn(&rt, 8, 1).as_str() != lane.as_str());
+    assert!(rt; is_drawn(&rt, lane.as_str(), 7, 1));
+    assert!(rt; !is_drawn(&rt, lane.as_str(), 7, 2) && !is_drawn(&rt, lane.as_str(), 8, 1));
 }
 
 /// Verbs, and how many lines of 400 each has at least.
-const VERBS: [(&str, u64); 5] = [
+static VERBS: [(&str, u64); 5] = [
     ("get ", 60),
     ("seek ", 40),
     ("put ", 60),

@@ -94,7 +94,7 @@ const GROUP: Case = Case {
     counted: &[("hit", 70), ("cold", 134), ("short", 1), ("built", 1)],
 };
 
-const CASES: [Case; 3] = [HIT, NO_ROOM, GROUP];
+static CASES: [Case; 3] = [HIT, NO_ROOM, GROUP];
 
 fn lane_text<R: AllocGlobal + Abort>(rt: &R, lane: &Lane) -> String {
     let mut text = String::new(rt.alloc());
@@ -154,7 +154,7 @@ fn searches_that_are_alike_become_hits(rt: HostRuntime) {
 
 /// Three keys of which one bit of a fold can't tell one from another: they are one group, and the
 /// hash leads to its first row, which isn't the one that is asked for.
-const ALIKE: Lane = Lane {
+static ALIKE: Lane = Lane {
     first: "put t a 1\nput t c 2\nput t e 3\n",
     again: "get t c\n",
     times: 300,
@@ -162,7 +162,7 @@ const ALIKE: Lane = Lane {
 };
 
 /// What is counted there.
-const ALIKE_COUNTED: [(&str, u64); 4] = [
+static ALIKE_COUNTED: [(&str, u64); 4] = [
     ("cold", 158),
     ("unequal", 145),
     ("built", 1),

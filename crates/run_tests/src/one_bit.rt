@@ -31,7 +31,7 @@ struct Searches {
 
 /// Gets and seeks of rows that are there, until the leaf is hashed by the first row of each run and
 /// then by the last one; and then others, half of them by numbers between those of the rows.
-const SEARCHES: [Searches; 6] = [
+static SEARCHES: [Searches; 6] = [
     Searches {
         way: Way::Get,
         first: 2,
@@ -180,12 +180,16 @@ fn puts_and_searches<R: AllocGlobal + Abort>(rt: &R) -> Asked {
     asked
 }
 
+/// Whether a report without columns and statistics is this.
+fn is_plain<R: AllocGlobal + Abort>(rt: &R, report: &str, plain: &str) -> bool {
+    without_columns(rt, report).as_str() == plain
+}
+
 /// Some searches are hits, and some lead to another row.
 #[test]
 fn a_thousand_searches_are_right_where_the_hash_errs(rt: HostRuntime) {
     let asked = puts_and_searches(&rt);
     let report = done(&rt, SCHEMA, &[asked.lane.as_str()]);
-    let plain = without_columns(&rt, report.as_str());
-    assert!(rt; plain.as_str() == asked.report.as_str());
+    assert!(rt; is_plain(&rt, report.as_str(), asked.report.as_str()));
     assert!(rt; is_counted(report.as_str(), "hit") && is_counted(report.as_str(), "unequal"));
 }

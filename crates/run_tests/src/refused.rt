@@ -5,7 +5,7 @@ use ahi_cli::Status;
 const GET: &str = "get t a\n";
 
 /// Lanes, the load and the put that are to fail, the status, and what is written.
-const REFUSED: [(&[&str], Option<u64>, Option<u64>, Status, &str); 12] = [
+static REFUSED: [(&[&str], Option<u64>, Option<u64>, Status, &str); 12] = [
     (&[LANE], None, Some(1), Status::SinkFault, "ahi run\n"),
     (&[LANE], None, Some(0), Status::SinkFault, ""),
     (&[LANE], Some(0), None, Status::ShelfFault, "shelf 0\n"),
@@ -69,7 +69,7 @@ fn each_refusal_is_told(rt: HostRuntime) {
 }
 
 /// Words where a schema `s` and one lane `l1` are held, the status, and what is written.
-const WORDS: [(&[&str], Status, &str); 7] = [
+static WORDS: [(&[&str], Status, &str); 7] = [
     (&["run", "s", "none"], Status::ShelfFault, "shelf 1\n"),
     (&["run", "s", "l1", "l2"], Status::ShelfFault, "shelf 2\n"),
     (&["run", "s"], Status::Usage, USAGE),

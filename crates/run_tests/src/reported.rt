@@ -8,7 +8,7 @@ use std::thread::Threads;
 
 /// A schema, a lane, and its report from the answers up to the statistics. Each answer is by a descent
 /// of an index that has learnt nothing yet.
-const REPORTS: [(&str, &str, &str); 7] = [
+static REPORTS: [(&str, &str, &str); 7] = [
     (SCHEMA, "", "changes t 0\n"),
     (
         SCHEMA,

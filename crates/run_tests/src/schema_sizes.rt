@@ -15,15 +15,16 @@ fn nine_puts<R: AllocGlobal + Abort>(rt: &R, value: &str) -> String {
     lane
 }
 
+/// What is told to the first eight puts.
+const EIGHT_PUTS: &str =
+    "1 ok @1 cold no\n2 ok @2 cold no\n3 ok @3 cold no\n4 ok @4 cold no\n5 ok @5 cold no\n6 ok @6 cold no\n7 ok @7 cold no\n8 ok @8 cold no\n";
+
 /// What is told to the nine puts, of which eight have room, and to the get; and the changes.
 fn eight_rows<R: AllocGlobal + Abort>(rt: &R, value: &str) -> String {
     let mut told = String::new(rt.alloc());
-    for key in 1..9u32 {
-        write!(told, "{key} ok @{key} cold no\n").expect(rt, MEMORY);
-    }
     write!(
         told,
-        "9 space-full cold no\n10 found {value} @8 cold no\nchanges t 8\n"
+        "{EIGHT_PUTS}9 space-full cold no\n10 found {value} @8 cold no\nchanges t 8\n"
     )
     .expect(rt, MEMORY);
     for key in 1..9u32 {
@@ -52,7 +53,7 @@ fn a_list_of_two_changes_is_full_at_the_third(rt: HostRuntime) {
 }
 
 /// Schemas whose sizes can't be had, and what is written.
-const REFUSED: [(&str, &str); 5] = [
+static REFUSED: [(&str, &str); 5] = [
     ("pages 0\nindex t 1\n", "sizes pages\n"),
     ("pages 1\nindex t 1\nindex u 1\n", "sizes pages\n"),
     ("pages 0\nblocks 15\nindex t 1\n", "sizes blocks\n"),

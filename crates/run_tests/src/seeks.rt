@@ -9,7 +9,7 @@ use std::sync::Wait;
 use std::thread::Threads;
 
 /// The words of a seek in each mode.
-const SEEKS: [&str; 4] = ["seek t ge", "seek t g", "seek t le", "seek t l"];
+static SEEKS: [&str; 4] = ["seek t ge", "seek t g", "seek t le", "seek t l"];
 
 /// So many numbers from this one on, in steps.
 fn numbers_from(first: u64, step: u64, count: u64) -> Numbers {

@@ -38,7 +38,7 @@ fn a_lane_alone_meets_none(rt: HostRuntime) {
 }
 
 /// Numbers of lanes that are refused, with the status and with what is written.
-const REFUSED: [(usize, Status, &str); 4] = [
+static REFUSED: [(usize, Status, &str); 4] = [
     (65, Status::Usage, USAGE),
     (64, Status::TooLarge, "sizes blocks\n"),
     (32, Status::TooLarge, "sizes blocks\n"),

@@ -33,7 +33,7 @@ fn done_lanes_leave_the_pass_of_all(rt: HostRuntime) {
 }
 
 /// Lanes that aren't done: the load and the put that are to fail, and the status.
-const UNDONE: [(&[&str], Option<u64>, Option<u64>, Status); 6] = [
+static UNDONE: [(&[&str], Option<u64>, Option<u64>, Status); 6] = [
     (&[], None, None, Status::Usage),
     (&["get t\n"], None, None, Status::Script),
     (&LANES, Some(0), None, Status::ShelfFault),

@@ -36,7 +36,7 @@ type Rows = (u64, u64, u64, u64, usize, usize);
 
 /// Rows that fill several leaves: ascending, descending and out of order; with keys that begin
 /// alike; and with the longest keys, over which there are three levels.
-const ROWS: [Rows; 5] = [
+static ROWS: [Rows; 5] = [
     (0, 1, 1, 40, 0, 1000),
     (39, 1, 39, 40, 0, 1000),
     (0, 21, 7, 500, 0, 200),

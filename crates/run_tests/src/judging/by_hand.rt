@@ -8,7 +8,7 @@ pub(super) type Edits = &'static [(&'static str, &'static str)];
 
 pub(super) const SCHEMA: &str = "# two indexes\nindex t 1\nindex u 2\n";
 
-const LANES: [&str; 2] = [
+static LANES: [&str; 2] = [
     "# says nothing\nput t a x\nget t a\n\ndel t a\nput t a y\nget t b\nput u a,b x\n",
     "put t a z\ndel t a\nput t b w\nget t a\nget u a,b\ndel u a,b",
 ];
@@ -46,7 +46,7 @@ pub(super) fn judge_edited<R: AllocGlobal + Abort>(
 }
 
 /// Words for the dashes of some answers, and the statistics that count them.
-const COLUMNS: Edits = &[
+static COLUMNS: Edits = &[
     ("2 ok @1 - -", "2 ok @1 cold no"),
     ("3 found x @1 - -", "3 found x @1 no-entry built"),
     ("5 absent @2 - -", "5 absent @2 hit -"),

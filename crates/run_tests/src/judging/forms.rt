@@ -4,7 +4,7 @@ use report_judge::{Lie, judge};
 use std::alloc::Global;
 
 /// Edits of the report, and the line that isn't in its form then.
-const FORMS: [(Edits, u64); 19] = [
+static FORMS: [(Edits, u64); 19] = [
     (&[("2 ok @1", "02 ok @1")], 3),
     (&[("2 ok @1", "2 ok @01")], 3),
     (&[("2 ok @1", "2  ok @1")], 3),
@@ -51,7 +51,7 @@ fn a_report_is_text(rt: HostRuntime) {
 }
 
 /// A schema and a lane that can't be read, and the file and the line of what isn't plain.
-const ASKED: [(&str, &str, usize, u64); 7] = [
+static ASKED: [(&str, &str, usize, u64); 7] = [
     ("index t 1\n\nindex u\n", "", 0, 3),
     (SCHEMA, "# a\nget t %61\n", 1, 2),
     (SCHEMA, "get t a,b\n", 1, 1),

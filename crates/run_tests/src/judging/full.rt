@@ -8,7 +8,7 @@ const SCHEMA: &str = "index t 1\n";
 const LANE: &str = "put t a x\nput t b y\nput t c z\ndel t a\nput t a w\ndel t d\nget t a\n";
 
 /// What the lines are told where an index may have two changes.
-const FULL: [&str; 7] = [
+static FULL: [&str; 7] = [
     "1 ok @1",
     "2 ok @2",
     "3 log-full 2",
@@ -39,7 +39,7 @@ type Told = (usize, &'static str, u64, u64, Option<u64>);
 
 const MANY: u64 = LIMITS.pages;
 
-const TOLD: [Told; 9] = [
+static TOLD: [Told; 9] = [
     (0, "", 2, MANY, None),
     (0, "", 3, MANY, Some(3)),
     (0, "", LIMITS.changes, MANY, Some(3)),
@@ -52,7 +52,7 @@ const TOLD: [Told; 9] = [
 ];
 
 /// Two rows of one index by one lane take seven pages at most.
-const ROOM: [Told; 4] = [
+static ROOM: [Told; 4] = [
     (3, "3 space-full", 2, 7, None),
     (3, "3 space-full", 2, 8, Some(3)),
     (4, "4 space-full", 2, 7, Some(4)),

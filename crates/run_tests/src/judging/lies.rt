@@ -16,7 +16,7 @@ const BY_LANES: Edits = &[
 ];
 
 /// Lies, and how each is refused.
-const LIES: [(&str, Edits, Lie); 17] = [
+static LIES: [(&str, Edits, Lie); 17] = [
     (
         "swapped answers",
         &[
