@@ -26,8 +26,10 @@ fn is_drawn<R: AllocGlobal + Abort>(rt: &R, text: &str, seed: u64, lane: u64) ->
 #[test]
 fn lanes_are_drawn_by_their_numbers(rt: HostRuntime) {
     let lane = drawn(&rt, 7, 1);
-    assert!(rt; is_drawn(&rt, lane.as_str(), 7, 1));
-    assert!(rt; !is_drawn(&rt, lane.as_str(), 7, 2) && !is_drawn(&rt, lane.as_str(), 8, 1));
+    let is_again = is_drawn(&rt, lane.as_str(), 7, 1);
+    assert!(rt;
+        is_again && !is_drawn(&rt, lane.as_str(), 7, 2) && !is_drawn(&rt, lane.as_str(), 8, 1)
+    );
 }
 
 /// Verbs, and how many lines of 400 each has at least.

@@ -41,8 +41,7 @@ fn rows_within<R: AllocGlobal + Abort + Threads + Wait + Sync>(rt: &R, pages: u6
 /// have them all, and with one page less the last four find none.
 #[test]
 fn sixteen_frames_are_enough_for_five_hundred_pages(rt: HostRuntime) {
-    assert!(rt; rows_within(&rt, 500) == Some(2000));
-    assert!(rt; rows_within(&rt, 499) == Some(1996));
+    assert!(rt; rows_within(&rt, 500) == Some(2000) && rows_within(&rt, 499) == Some(1996));
 }
 
 /// The lane of every eighth number from this one on, below 2,400, with values of 1,000 bytes.

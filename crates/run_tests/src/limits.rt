@@ -30,20 +30,13 @@ fn are_too_long<R: AllocGlobal + Abort + Threads + Wait + Sync>(
     ends(rt, SCHEMA, lanes, Status::TooLarge, text)
 }
 
-/// Whether the second of two lanes is too long.
-fn are_two_too_long<R: AllocGlobal + Abort + Threads + Wait + Sync>(
-    rt: &R,
-    one: &str,
-    two: &str,
-) -> bool {
-    are_too_long(rt, &[one, two], "too-large 2\n")
-}
-
 #[test]
 fn one_byte_more_is_too_long(rt: HostRuntime) {
     let mut comment = long_comment(&rt);
-    assert!(rt; are_two_too_long(&rt, comment.as_str(), "#"));
-    assert!(rt; are_two_too_long(&rt, "#", comment.as_str()));
+    assert!(rt;
+        are_too_long(&rt, &[comment.as_str(), "#"], "too-large 2\n")
+            && are_too_long(&rt, &["#", comment.as_str()], "too-large 2\n")
+    );
     comment.push('#').expect(&rt, MEMORY);
     assert!(rt; are_too_long(&rt, &[comment.as_str()], "too-large 1\n"));
 }
@@ -83,8 +76,7 @@ fn is_too_long<R: AllocGlobal + Abort + Threads + Wait + Sync>(
 
 #[test]
 fn a_longer_key_or_value_is_refused(rt: HostRuntime) {
-    assert!(rt; is_too_long(&rt, 768, 1));
-    assert!(rt; is_too_long(&rt, 1, 2049));
+    assert!(rt; is_too_long(&rt, 768, 1) && is_too_long(&rt, 1, 2049));
 }
 
 /// So many lines in turns: a put of a row, and its del.

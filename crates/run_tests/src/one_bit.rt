@@ -180,16 +180,14 @@ fn puts_and_searches<R: AllocGlobal + Abort>(rt: &R) -> Asked {
     asked
 }
 
-/// Whether a report without columns and statistics is this.
-fn is_plain<R: AllocGlobal + Abort>(rt: &R, report: &str, plain: &str) -> bool {
-    without_columns(rt, report).as_str() == plain
-}
-
 /// Some searches are hits, and some lead to another row.
 #[test]
 fn a_thousand_searches_are_right_where_the_hash_errs(rt: HostRuntime) {
     let asked = puts_and_searches(&rt);
     let report = done(&rt, SCHEMA, &[asked.lane.as_str()]);
-    assert!(rt; is_plain(&rt, report.as_str(), asked.report.as_str()));
-    assert!(rt; is_counted(report.as_str(), "hit") && is_counted(report.as_str(), "unequal"));
+    let plain = without_columns(&rt, report.as_str());
+    let is_right = plain.as_str() == asked.report.as_str();
+    assert!(rt;
+        is_right && is_counted(report.as_str(), "hit") && is_counted(report.as_str(), "unequal")
+    );
 }

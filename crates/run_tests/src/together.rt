@@ -25,16 +25,14 @@ fn two_meet<R: AllocGlobal + Abort + Threads + Wait + Sync>(rt: &R, gate: &Meeti
 #[test]
 fn two_lanes_meet_before_each_line(rt: HostRuntime) {
     let gate = Meeting::new();
-    assert!(rt; two_meet(&rt, &gate));
-    assert!(rt; !gate.gave_up() && gate.counts() == [1, 1, 1, 1, 0]);
+    assert!(rt; two_meet(&rt, &gate) && !gate.gave_up() && gate.counts() == [1, 1, 1, 1, 0]);
 }
 
 #[test]
 fn a_lane_alone_meets_none(rt: HostRuntime) {
     let gate = Meeting::new();
     let (status, _) = run_at(&rt, &gate, SCHEMA, &[TWO_GETS]);
-    assert!(rt; status == Status::Done);
-    assert!(rt; gate.gave_up() && gate.counts() == [1, 1, 0, 0, 0]);
+    assert!(rt; status == Status::Done && gate.gave_up() && gate.counts() == [1, 1, 0, 0, 0]);
 }
 
 /// Numbers of lanes that are refused, with the status and with what is written.

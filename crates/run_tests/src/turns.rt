@@ -77,6 +77,5 @@ fn the_gate_is_asked_before_each_line(rt: HostRuntime) {
     let gate = InTurns::new();
     let report = report_of(&rt, MIDDLE);
     let ended = run_at(&rt, &gate, SCHEMA, &[FIRST, SECOND]);
-    assert!(rt; is_end(&ended, Status::Done, report.as_str()));
-    assert!(rt; !gate.gave_up());
+    assert!(rt; is_end(&ended, Status::Done, report.as_str()) && !gate.gave_up());
 }

@@ -148,6 +148,6 @@ fn judge_second<R: AllocGlobal + Abort>(rt: &R, said: &str) -> Result<(), Lie> {
 
 #[test]
 fn a_change_serves_one_line(rt: HostRuntime) {
-    assert!(rt; judge_second(&rt, "duplicate @1") == Ok(()));
-    assert!(rt; judge_second(&rt, "ok @1") == Err(Lie::Wrong { lane: 2, line: 1 }));
+    let wrong = Err(Lie::Wrong { lane: 2, line: 1 });
+    assert!(rt; judge_second(&rt, "duplicate @1").is_ok() && judge_second(&rt, "ok @1") == wrong);
 }
