@@ -156,7 +156,5 @@ fn leaves_after<R: AllocGlobal + Abort + Wait>(rt: &R, count: usize) -> u32 {
 /// Six leaves are hashed; two of them split and both halves are; and some are merged.
 #[test]
 fn hashed_leaves_split_and_merge(rt: HostRuntime) {
-    assert!(rt; leaves_after(&rt, 2) == 6);
-    assert!(rt; leaves_after(&rt, 3) >= 8);
-    assert!(rt; leaves_after(&rt, 7) < 7);
+    assert!(rt; leaves_after(&rt, 2) == 6 && leaves_after(&rt, 3) >= 8 && leaves_after(&rt, 7) < 7);
 }
