@@ -64,7 +64,7 @@ macro_rules! said {
 }
 
 /// Values, refusals, columns, and full lists and spaces.
-const ANSWERS: [Answer; 11] = [
+static ANSWERS: [Answer; 11] = [
     said!(
         7,
         Ask::Get,

@@ -6,7 +6,7 @@ use std::process::Abort;
 /// The number of an index, fields, how many of them and how many bytes of the next one are folded,
 /// how many bits are kept, and the fold. The number alone, the bytes `foob`, is a vector that the
 /// hash is published with, and of one field the lowest bit is that of its bytes.
-const FOLDS: [(u32, &[&[u8]], (u8, u16), u8, u64); 11] = [
+static FOLDS: [(u32, &[&[u8]], (u8, u16), u8, u64); 11] = [
     (7, &[b"ab", b"xyz"], (0, 0), 64, 0x4d25_6f7f_9dce_0810),
     (7, &[b"ab", b"xyz"], (0, 1), 64, 0xe4a4_e6d9_2518_5803),
     (7, &[b"ab", b"xyz"], (1, 9), 64, 0x013f_0a6f_8855_05f0),

@@ -32,7 +32,7 @@ const GOOD_SCHEMAS: &str = "\
 /// and a name stands once.
 type Files = (bool, &'static str, u8, u32);
 
-const FILES: [Files; 13] = [
+static FILES: [Files; 13] = [
     (true, BAD_LANES, BAD, 1),
     (true, GOOD_LANES, READ, 0),
     (true, UNKNOWN_INDEXES, UNKNOWN, 1),

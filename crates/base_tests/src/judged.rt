@@ -18,7 +18,7 @@ const FALSE_START: &str =
     "1 ok @1 - -\n2 duplicate @1 - -\n3 ok @2 - -\n4 found y @2 - -\n5 ok @3 - -\nchanges t 3\n1 1 1 set a x\n";
 
 /// The report as it is, and with a lie.
-const EDITS: [Edit; 9] = [
+static EDITS: [Edit; 9] = [
     ("ahi run", "ahi run", Ok(())),
     (
         TRUE_START,

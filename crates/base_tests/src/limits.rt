@@ -5,7 +5,7 @@ use std::process::Abort;
 
 /// The lengths of fields, and why there is no such key and no such tuple. No fields are a tuple, and
 /// no key is asked for.
-const FIELDS: [(&[usize], Option<KeyError>); 8] = [
+static FIELDS: [(&[usize], Option<KeyError>); 8] = [
     (&[], None),
     (&[1, 1, 1, 1], None),
     (&[1, 1, 1, 1, 1], Some(KeyError::TooManyFields(5))),
@@ -17,7 +17,7 @@ const FIELDS: [(&[usize], Option<KeyError>); 8] = [
 ];
 
 /// The lengths of values, and why there is no such value.
-const VALUES: [(usize, Option<KeyError>); 3] = [
+static VALUES: [(usize, Option<KeyError>); 3] = [
     (0, None),
     (2048, None),
     (2049, Some(KeyError::TooLong(2049))),

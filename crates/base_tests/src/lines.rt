@@ -48,7 +48,7 @@ type Printed = (
     &'static [u8],
 );
 
-const CHANGES: [Printed; 5] = [
+static CHANGES: [Printed; 5] = [
     (1, 1, Ask::Put, &[b"a"], b"x", b"1 1 1 put a x\n"),
     (2, 2, Ask::Put, &[b"a", b"\0"], b"2", b"2 1 2 put a,%00 2\n"),
     (3, 5, Ask::Set, &[b"a", b"b"], b"", b"3 1 5 set a,b ~\n"),

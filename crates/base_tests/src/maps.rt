@@ -15,7 +15,7 @@ type Asked = (
     &'static [u8],
 );
 
-const LIFE: [Asked; 9] = [
+static LIFE: [Asked; 9] = [
     (Ask::Put, &[b"a"], b"x", Reply::Ok, b""),
     (Ask::Get, &[b"a"], b"", Reply::Found, b"x"),
     (Ask::Put, &[b"a"], b"y", Reply::Duplicate, b"x"),
@@ -28,7 +28,7 @@ const LIFE: [Asked; 9] = [
 ];
 
 /// Seeks among the four rows, of which each value is of one row.
-const SEEKS: [Asked; 9] = [
+static SEEKS: [Asked; 9] = [
     (Ask::Seek(Mode::Ge), &[b"a", b"y"], b"", Reply::Found, b"r"),
     (Ask::Seek(Mode::Ge), &[b"a"], b"", Reply::Found, b"p"),
     (Ask::Seek(Mode::G), &[b"a", b"x"], b"", Reply::Found, b"r"),
@@ -47,7 +47,7 @@ const SEEKS: [Asked; 9] = [
 ];
 
 /// The second and the third field of rows whose first one is `a`, and their values.
-const ROWS: [(&[u8], &[u8], &[u8]); 4] = [
+static ROWS: [(&[u8], &[u8], &[u8]); 4] = [
     (b"y", b"2", b"s"),
     (b"x", b"1", b"p"),
     (b"y", b"1", b"r"),

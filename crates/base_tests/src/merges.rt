@@ -64,7 +64,7 @@ fn is_at(changes: &[LaneChange<'_>], place: usize, (number, lane, line): (u64, u
 
 /// Lane 1 made the first and the third change of index 0, lane 2 the second, and lane 3 the third
 /// of index 1.
-const THREE: [Made; 3] = [(4, 0, 2, 2), (9, 0, 0, 1), (7, 1, 0, 1)];
+static THREE: [Made; 3] = [(4, 0, 2, 2), (9, 0, 0, 1), (7, 1, 0, 1)];
 
 fn are_by_number(first: &[LaneChange<'_>], second: &[LaneChange<'_>]) -> bool {
     first.len() == 3
@@ -76,7 +76,7 @@ fn are_by_number(first: &[LaneChange<'_>], second: &[LaneChange<'_>]) -> bool {
 }
 
 /// Each of 64 lanes made every 64th change.
-const MANY: [Made; 64] = [(1, 0, 64, 15_625); 64];
+static MANY: [Made; 64] = [(1, 0, 64, 15_625); 64];
 
 /// The changes are so many, and are numbered from 1.
 fn are_counted(changes: &[LaneChange<'_>], count: u64) -> bool {

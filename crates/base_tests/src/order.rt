@@ -5,7 +5,7 @@ use std::cmp::Ordering;
 use std::process::Abort;
 
 /// The fields of keys, as the keys rise.
-const ASCENDING: [&[&[u8]]; 6] = [
+static ASCENDING: [&[&[u8]]; 6] = [
     &[b"", b"zz"],
     &[b"a"],
     &[b"a", b""],
@@ -22,7 +22,7 @@ type Agreed = (
     (u8, u16),
 );
 
-const AGREED: [Agreed; 8] = [
+static AGREED: [Agreed; 8] = [
     (&[], &[b"a", b"b"], Ordering::Equal, (0, 0)),
     (&[b"a"], &[b"a", b"b"], Ordering::Equal, (1, 0)),
     (&[b"a", b"b"], &[b"a", b"b"], Ordering::Equal, (2, 0)),

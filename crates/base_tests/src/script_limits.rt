@@ -27,7 +27,7 @@ fn a_schema_has_64_indexes_at_most(rt: HostRuntime) {
 /// behind it, how many bytes follow, and how the lane ends.
 type Lengths = (&'static [u8], usize, &'static [u8], usize, u8);
 
-const LENGTHS: [Lengths; 11] = [
+static LENGTHS: [Lengths; 11] = [
     (b"put t ", MAX_KEY_BYTES, b" ", MAX_VALUE_BYTES, READ),
     (b"set t ", MAX_KEY_BYTES, b" ", MAX_VALUE_BYTES, READ),
     (b"put t ", 768, b" ", 1, LONG),
@@ -65,7 +65,7 @@ fn keys_values_and_tuples_have_their_limits(rt: HostRuntime) {
 }
 
 /// Lanes of one line, its number, the mode of a seek, the fields, and the value of a set.
-const LINES: [Asking; 5] = [
+static LINES: [Asking; 5] = [
     (b"seek two ge a", 1, Some(Mode::Ge), &[b"a"], b""),
     (b"seek two g %2C", 1, Some(Mode::G), &[b","], b""),
     (b"seek two le ~", 1, Some(Mode::Le), &[b""], b""),

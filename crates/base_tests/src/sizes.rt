@@ -4,7 +4,7 @@ use key_tuple::{Key, MAX_POINTER_SIZE, MAX_ROW_SIZE, Value, pointer_size, row_si
 use std::process::Abort;
 
 /// The lengths of a row's fields and of its value, and the sizes of the row and of a pointer.
-const ROWS: [(&[usize], usize, u16, u16); 7] = [
+static ROWS: [(&[usize], usize, u16, u16); 7] = [
     (&[1], 1, 9, 11),
     (&[1], 127, 135, 11),
     (&[1], 128, 137, 11),

@@ -26,7 +26,7 @@ macro_rules! wrong {
 }
 
 /// The report as it is, and with a lie.
-const EDITS: [Edit; 9] = [
+static EDITS: [Edit; 9] = [
     ("ahi run", "ahi run", Ok(())),
     ("6 found a,y,1 r", "6 found a,y,2 s", wrong!(6)),
     ("6 found a,y,1 r", "6 found a,y,1 s", wrong!(6)),

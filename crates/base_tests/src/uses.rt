@@ -36,7 +36,7 @@ fn a_buffer_is_filled_again(rt: HostRuntime) {
     assert!(rt; has_fields(&copy, &[b"ab", b""]) && has_fields(&buffer, &[b"cdef"]));
 }
 
-const ROWS: [(&[u8], u8); 3] = [(b"b", 2), (b"a", 1), (b"c", 3)];
+static ROWS: [(&[u8], u8); 3] = [(b"b", 2), (b"a", 1), (b"c", 3)];
 
 fn three_rows<R: AllocGlobal + Abort>(rt: &R) -> BTreeMap<Key, u8> {
     let mut rows = BTreeMap::new(rt.alloc());

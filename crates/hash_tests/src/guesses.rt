@@ -7,7 +7,7 @@ use std::process::Abort;
 
 /// The digit of the second field that is sought, if there is one, how, and what the check tells of the
 /// page's first row. The page has (m, 5) and (m, 7).
-const CHECKS: [(Option<u8>, Mode, Option<bool>); 5] = [
+static CHECKS: [(Option<u8>, Mode, Option<bool>); 5] = [
     // A first row passes by its whole key alone, since a page stands before it,
     (Some(b'3'), Mode::Ge, None),
     (Some(b'5'), Mode::Ge, Some(true)),

@@ -262,7 +262,7 @@ fn without_room_each_build_is_due_again(rt: HostRuntime) {
 
 /// How often a group of keys is sought before the first one is put in, with the others, and once they are
 /// there, how far the rows beside the position agree, and how many rows there are.
-const GROUP: [(u32, Match, Match, u16); 3] = [
+static GROUP: [(u32, Match, Match, u16); 3] = [
     (1, NONE, NONE, 0),
     (3, ONE, NONE, 3),
     (200, ONE, TWO, 4),

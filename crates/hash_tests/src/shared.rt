@@ -9,7 +9,7 @@ use std::process::Abort;
 const NODES: u32 = 200;
 
 /// The other block has these nodes, some of folds that the leaf has too.
-const OTHERS: [Node; 3] = [
+static OTHERS: [Node; 3] = [
     Node {
         fold: 0,
         block: 9,

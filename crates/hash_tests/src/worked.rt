@@ -31,7 +31,7 @@ fn three_entries_need_three_nodes(rt: HostRuntime) {
 /// The nodes of a partition, whether a row of b goes again once it came, what the last of both is told,
 /// and what is spare then. The lowest bit of the folds of a, c and e is 1, and that of b is 0. So a
 /// is the one entry of the three, and b brings itself in and parts c from a.
-const ROWS: [(u32, bool, Upkeep, u32); 3] = [
+static ROWS: [(u32, bool, Upkeep, u32); 3] = [
     (3, false, Upkeep::Kept, 0),
     (2, false, Upkeep::Dropped { need: 2, spare: 1 }, 2),
     (3, true, Upkeep::Kept, 2),

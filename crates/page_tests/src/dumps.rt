@@ -12,7 +12,7 @@ use std::process::Abort;
 type Line = (usize, [u8; 16]);
 
 /// The lines of page 3 of index 0 that aren't all zero.
-const LINES: [Line; 8] = [
+static LINES: [Line; 8] = [
     (
         0x0000,
         [
@@ -38,7 +38,7 @@ const LINES: [Line; 8] = [
 ];
 
 /// The lines that are others or new once a row with the key `a` and the value `x` is in it.
-const ROW_LINES: [Line; 5] = [
+static ROW_LINES: [Line; 5] = [
     (
         0x0020,
         [0, 0, 0, 0, 0, 0, 0, 2, 0, 0x81, 0x80, 3, 0, 0, 0, 0],
@@ -53,7 +53,7 @@ const ROW_LINES: [Line; 5] = [
 ];
 
 /// The keys of eight rows, and where they stand.
-pub(crate) const EIGHT: [(u8, Place); 8] = [
+pub(crate) static EIGHT: [(u8, Place); 8] = [
     (b'a', 127),
     (b'b', 136),
     (b'c', 145),
@@ -93,7 +93,7 @@ const SHORTER_PARTS: Parts = &[
 /// A value that the row with `x` gets, the place where it stands then, and what the page has.
 type Set = (&'static [u8], Place, Parts);
 
-const SETS: [Set; 3] = [
+static SETS: [Set; 3] = [
     (b"y", 127, &[(0x80, b"y")]),
     (b"xyz", 136, LONGER_PARTS),
     (b"", 127, SHORTER_PARTS),

@@ -15,7 +15,7 @@ const SLOTS: usize = 16_370;
 
 /// The bytes of the front of a page with eight rows, and without the first of them, that aren't
 /// those of a page without rows.
-const FRONT: [(usize, u8, u8); 11] = [
+static FRONT: [(usize, u8, u8); 11] = [
     (39, 3, 3),
     (40, 0x3f, 0x3f),
     (41, 0x40, 0x40),
@@ -31,9 +31,9 @@ const FRONT: [(usize, u8, u8); 11] = [
 
 /// The slots of supremum, of the fourth row, or of the fifth where the first one is gone, and of
 /// infimum.
-const ALL_SLOTS: [u8; 14] = [0, 0x70, 0x18, 0x0b, 0, 0x63, 0, 0, 0, 0, 0, 0, 0, 0];
+static ALL_SLOTS: [u8; 14] = [0, 0x70, 0x18, 0x0b, 0, 0x63, 0, 0, 0, 0, 0, 0, 0, 0];
 
-const OTHER_SLOTS: [u8; 14] = [0, 0x70, 0x1f, 0xe4, 0, 0x63, 0, 0, 0, 0, 0, 0, 0, 0];
+static OTHER_SLOTS: [u8; 14] = [0, 0x70, 0x1f, 0xe4, 0, 0x63, 0, 0, 0, 0, 0, 0, 0, 0];
 
 /// Page 3 with rows of the keys `a` to `h` and values of 2,000 bytes.
 fn page_with_long<R: AllocGlobal + Abort>(rt: &R) -> BytePage

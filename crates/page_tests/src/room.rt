@@ -29,7 +29,7 @@ fn grow<R: AllocGlobal + Abort>(rt: &R, page: &mut Page, count: usize) -> Result
 }
 
 /// How many bytes the value of the first row has, what that is told, and how many are free then.
-const VALUES: [(usize, Result<Place, PageError>, u16); 3] = [
+static VALUES: [(usize, Result<Place, PageError>, u16); 3] = [
     (1047, Ok(0), 0),
     (
         1048,

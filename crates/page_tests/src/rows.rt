@@ -35,7 +35,7 @@ fn ends(page: &Page) -> (Option<Place>, Option<Place>) {
 }
 
 /// The texts of three rows, in the order in which they come. Each has its place of this table.
-const TEXTS: [&[u8]; 3] = [b"bc", b"d", b"ba"];
+static TEXTS: [&[u8]; 3] = [b"bc", b"d", b"ba"];
 
 /// The places of the rows of `ba`, `bc` and `d`.
 const BA: Option<Place> = Some(2);
@@ -70,7 +70,7 @@ const WHOLE: Match = Match {
 };
 
 /// A text, a mode, and where that cuts these rows.
-const CUTS: [(&[u8], Mode, Side, Side); 8] = [
+static CUTS: [(&[u8], Mode, Side, Side); 8] = [
     (b"b", Mode::Ge, (None, NONE), (BA, BYTE)),
     (b"bb", Mode::G, (BA, BYTE), (BC, BYTE)),
     (b"bc", Mode::Ge, (BA, BYTE), (BC, WHOLE)),

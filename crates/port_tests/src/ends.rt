@@ -4,7 +4,7 @@ use io_port::{MemoryShelf, MemorySink, Shelf, ShelfError, Sink};
 use std::process::Abort;
 
 /// Two names, the load and the put that are to fail, the answer, and what is written.
-const COPIES: [(&str, &str, u64, u64, Copied, &str); 6] = [
+static COPIES: [(&str, &str, u64, u64, Copied, &str); 6] = [
     ("a", "b", 9, 9, Copied::Done, "oneseven"),
     ("b", "a", 9, 9, Copied::Done, "sevenone"),
     ("a", "c", 9, 9, Copied::ShelfFault, ""),

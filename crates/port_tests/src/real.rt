@@ -23,7 +23,7 @@ fn a_real_file_is_loaded_whole_or_refused(rt: HostRuntime) {
 
 /// Names of nothing that can be read: a folder is opened, and its first read fails; and no path is
 /// empty or has a byte 0.
-const UNREADABLE: [&str; 4] = [".", "no_such_file", "", "port\0file"];
+static UNREADABLE: [&str; 4] = [".", "no_such_file", "", "port\0file"];
 
 #[test]
 fn what_cannot_be_read_is_a_fault(rt: HostRuntime) {

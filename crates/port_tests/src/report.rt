@@ -10,7 +10,7 @@ use std::process::Abort;
 
 /// Three lines: the number of each, the key, and the value that it puts or none where it takes the
 /// row away.
-const LINES: [(u32, &[u8], Option<&[u8]>); 3] = [
+static LINES: [(u32, &[u8], Option<&[u8]>); 3] = [
     (1, b"a", Some(b"x")),
     (2, b"a", None),
     (3, b"b", Some(b"y")),
@@ -20,10 +20,10 @@ const LINES: [(u32, &[u8], Option<&[u8]>); 3] = [
 type Made = (u64, u32, usize);
 
 /// The changes of two indexes: of the first, lane 2 made the first change and lane 1 the second.
-const CHANGES: [&[Made]; 2] = [&[(1, 2, 0), (2, 1, 1)], &[(1, 1, 2)]];
+static CHANGES: [&[Made]; 2] = [&[(1, 2, 0), (2, 1, 1)], &[(1, 1, 2)]];
 
 /// The changes of two lanes.
-const ANSWERS: [&[Made]; 2] = [&[(2, 1, 1), (1, 1, 2)], &[(1, 2, 0)]];
+static ANSWERS: [&[Made]; 2] = [&[(2, 1, 1), (1, 1, 2)], &[(1, 2, 0)]];
 
 /// Such a line.
 fn line_of<R: AllocGlobal + Abort>(rt: &R, line: u32, field: &[u8], bytes: Option<&[u8]>) -> Line {

@@ -12,7 +12,7 @@ const TEXT: &[u8] = b"0123456789";
 const LONG: usize = 65_546;
 
 /// The read that fails, the limit, how the reading ends, and the reads that were made.
-const READINGS: [(u32, u64, Result<(), ShelfError>, u32); 3] = [
+static READINGS: [(u32, u64, Result<(), ShelfError>, u32); 3] = [
     (99, 10, Ok(()), 5),
     (2, 10, Err(ShelfError::Failed), 2),
     (4, 5, Err(ShelfError::TooLong(5)), 2),
@@ -32,7 +32,7 @@ fn a_writer_takes_all_or_fails(rt: HostRuntime) {
 }
 
 /// The room of the writer, the puts of ten bytes, whether they are taken, and what it has then.
-const BLOCKS: [(usize, u32, bool, Option<usize>); 4] = [
+static BLOCKS: [(usize, u32, bool, Option<usize>); 4] = [
     (0, 6_553, true, None),
     (0, 6_554, false, None),
     (65_530, 6_554, true, None),

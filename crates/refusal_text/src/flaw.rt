@@ -66,7 +66,7 @@ fn flaw_of_index(line: &[u8], count: usize) -> &'static str {
 
 /// The verbs of lanes, how many words their lines have, and what is said of a line that has not so
 /// many.
-const VERBS: [(&[u8], usize, &str); 5] = [
+static VERBS: [(&[u8], usize, &str); 5] = [
     (b"get", 3, "get wants an index and a key"),
     (b"del", 3, "del wants an index and a key"),
     (b"put", 4, "put wants an index, a key and a value"),

@@ -8,7 +8,7 @@ pub const COUNTS: &str =
     "hit 0 off 0 cold 0 short 0 part-busy 0 no-entry 0 block-busy 0 clock 0 unequal 0 by-clock 0 by-busy 0 by-moved 0 by-last 0 built 0 same 0 arena 0 raced 0 worn 0";
 
 /// The words that are counted, in their order.
-pub const COUNTED: [&str; 18] = [
+pub static COUNTED: [&str; 18] = [
     "hit",
     "off",
     "cold",
@@ -30,7 +30,7 @@ pub const COUNTED: [&str; 18] = [
 ];
 
 /// Why a search went down the tree.
-const DESCENTS: [&str; 8] = [
+static DESCENTS: [&str; 8] = [
     "off",
     "cold",
     "short",
@@ -42,7 +42,7 @@ const DESCENTS: [&str; 8] = [
 ];
 
 /// What became of a build where a search went down, or why it wasn't counted.
-const NOTES: [&str; 6] = ["no", "built", "same", "arena", "raced", "worn"];
+static NOTES: [&str; 6] = ["no", "built", "same", "arena", "raced", "worn"];
 
 /// Whether the two words may stand beside one another.
 pub(crate) fn may_stand(how: &str, note: &str) -> bool {

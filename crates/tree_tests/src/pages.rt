@@ -7,7 +7,7 @@ use std::process::Abort;
 use std::sync::Wait;
 
 /// A page, an index and a level, and the block that has it where there is such a page.
-const ASKED: [(u32, u32, u16, Option<u32>); 6] = [
+static ASKED: [(u32, u32, u16, Option<u32>); 6] = [
     (0, 0, 0, Some(0)),
     (1, 1, 0, Some(1)),
     (0, 1, 0, None),
