@@ -32,9 +32,8 @@ impl Engine {
         ensures hashed { IfOk result (λ objects. IsHashExact (known pass).terms.shape
             objects.items) }
     {
-        let EnginePass { world, .. } = pass;
-        let Engine { space, .. } = self;
-        let Ok(objects) = space.close(alloc, world) else {
+        let (world, _) = pass.into_parts();
+        let Ok(objects) = self.into_space().close(alloc, world) else {
             return Err(NoMemory);
         };
         Ok(objects)

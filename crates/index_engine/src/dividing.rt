@@ -50,11 +50,7 @@ impl Engine {
         ensures joined { known pass.new ≡ both_parts (known pass.old) (known other) }
         ensures taught { lessons_of pass.new ≡ joined_parts (lessons_of pass.old) (lessons_of other) }
     {
-        let EnginePass {
-            world,
-            learn,
-            sizes: _,
-        } = other;
+        let (world, learn) = other.into_parts();
         self.space.join(&mut pass.world, world);
         self.learner.join(&mut pass.learn, learn);
     }
