@@ -18,7 +18,7 @@ use crate::full::say_full;
 use crate::pools::{give_pool_back, pool, take_pool};
 use crate::victims::make_room;
 use crossbeam_utils::Backoff;
-use forest_world::{ForestPass, ForestSpace, Pool, Where};
+use forest_world::{ForestPass, ForestSpace, Pool, Where, shape};
 use std::sync::Wait;
 
 /// What a look at the pool found.
@@ -75,7 +75,7 @@ fn try_room<R: Wait>(space: &ForestSpace, pass: &mut ForestPass, index: u32, wai
     ensures fits { IsFittedTree (view pass.new) }
 {
     take_pool(space, pass, wait);
-    let pages = space.shape().pages();
+    let pages = shape(space).pages();
     let Some(number) = lowest_free(pool(space, pass), pages) else {
         say_full(space, pass, index);
         give_pool_back(space, pass);

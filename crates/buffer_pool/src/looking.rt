@@ -19,7 +19,7 @@ use crate::frames::try_frame;
 use crate::placing::{restore, set_age};
 use crate::pools::{give_pool_back, pool, take_pool};
 use crate::victims::make_room;
-use forest_world::{ForestPass, ForestSpace, Pool, Where};
+use forest_world::{ForestPass, ForestSpace, Pool, Where, fits};
 use latch_space::Take;
 use std::sync::Wait;
 
@@ -74,7 +74,7 @@ fn find_page<R: Wait>(space: &ForestSpace, pass: &mut ForestPass, page: u32, wai
         → TellsLook pass.old t x page result pass.new }
     ensures fits { IsFittedTree (view pass.new) }
 {
-    pass.fits();
+    fits(pass);
     match place_of(pool(space, pass), page) {
         Where::Free => Looked::Free,
         Where::InFrame(block) => hold_named(space, pass, page, block),
@@ -103,7 +103,7 @@ fn hold_named(space: &ForestSpace, pass: &mut ForestPass, page: u32, block: u32)
         → TellsLook pass.old t x page result pass.new }
     ensures fits { IsFittedTree (view pass.new) }
 {
-    pass.fits();
+    fits(pass);
     match try_frame(space, pass, block) {
         Take::Taken => {
             set_age(space, pass, block);

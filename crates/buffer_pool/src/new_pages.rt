@@ -20,7 +20,7 @@ use crate::free_numbers::hold_room;
 use crate::parts::unhash_block;
 use crate::placing::{bring, drop_page};
 use crate::pools::{give_pool_back, take_pool};
-use forest_world::{ForestPass, ForestSpace};
+use forest_world::{ForestPass, ForestSpace, fits};
 use index_page::{Page, PageHead};
 use std::alloc::Global;
 use std::sync::Wait;
@@ -52,7 +52,7 @@ pub fn new_page<R: Wait>(
     ensures memory { result ≡ Err refused.NoMemory → GetsNothing pass.old pass.new }
     ensures fits { IsFittedTree (view pass.new) }
 {
-    pass.fits();
+    fits(pass);
     let Ok(mut page) = Page::empty(alloc, own_head(head, 0)) else {
         return Err(PoolError::NoMemory);
     };

@@ -5,7 +5,7 @@ ghost use Rattle.forest_law.specs.Numbers.{tree_id, frame_id, frames_of};
 ghost use Rattle.forest_world.specs.Held.{shape_of_pass};
 ghost use Rattle.buffer_pool.specs.Forests.{IsForest};
 
-use forest_world::{ForestPass, ForestSpace};
+use forest_world::{ForestPass, ForestSpace, shape};
 
 /// The number of the block's frame.
 pub(crate) fn frame_number(space: &ForestSpace, pass: &ForestPass, block: u32) -> u32
@@ -14,7 +14,7 @@ pub(crate) fn frame_number(space: &ForestSpace, pass: &ForestPass, block: u32) -
     ensures { result ≡ frame_id (shape_of_pass pass.now) block }
 {
     let _ = pass;
-    space.shape().frame_id(block)
+    shape(space).frame_id(block)
 }
 
 /// The number of the index's tree.
@@ -24,5 +24,5 @@ pub(crate) fn tree_number(space: &ForestSpace, pass: &ForestPass, index: u32) ->
     ensures { result ≡ tree_id index }
 {
     let _ = pass;
-    space.shape().tree_id(index)
+    shape(space).tree_id(index)
 }

@@ -15,7 +15,7 @@ use crate::frames::give_back;
 use crate::hands::frame;
 use crate::looking::{Looked, look_for};
 use crossbeam_utils::Backoff;
-use forest_world::{ForestPass, ForestSpace, Frame};
+use forest_world::{ForestPass, ForestSpace, Frame, fits};
 use std::sync::Wait;
 
 /// Holds the page, and answers the block that has it in its frame. It takes no memory.
@@ -30,7 +30,7 @@ pub fn page_in<R: Wait>(space: &ForestSpace, pass: &mut ForestPass, page: u32, w
     ensures took { PagesIn pass.old page result pass.new }
     ensures fits { IsFittedTree (view pass.new) }
 {
-    pass.fits();
+    fits(pass);
     let Some(block) = hold_page(space, pass, page, wait) else {
         unreachable!()
     };
@@ -86,7 +86,7 @@ pub fn try_page<R: Wait>(
     ensures did { TellsPageTry pass.old page result pass.new }
     ensures fits { IsFittedTree (view pass.new) }
 {
-    pass.fits();
+    fits(pass);
     let backoff = Backoff::new();
     for _ in wait.forever() {
         match look_for(space, pass, page, wait) {

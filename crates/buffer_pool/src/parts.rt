@@ -12,7 +12,7 @@ ghost use Rattle.buffer_pool.specs.Parts.{part_of_index, HoldsPartIf, KnowsPartI
 ghost use Rattle.buffer_pool.specs.Parts.{MayUnhash, UnhashesBlock};
 
 use crate::hands::{frame, frame_back, frame_out};
-use forest_world::{ForestPass, ForestSpace, hands_keep_the_hash};
+use forest_world::{ForestPass, ForestSpace, fits, hands_keep_the_hash, shape};
 use hash_maintain::{drop_frame, give_part_back, hold_part, upkeep_keeps_the_hash};
 use std::sync::Wait;
 
@@ -33,10 +33,10 @@ pub fn hold_part_for<R: Wait>(
     ensures held { HoldsPartIf pass.old result pass.new }
     ensures fits { IsFittedTree (view pass.new) }
 {
-    pass.fits();
-    let part = space.shape().part_for(hashed?);
+    fits(pass);
+    let part = shape(space).part_for(hashed?);
     hold_part(space, pass, part, wait);
-    pass.fits();
+    fits(pass);
     Some(part)
 }
 
@@ -52,7 +52,7 @@ pub fn give_part_if(space: &ForestSpace, pass: &mut ForestPass, part: Option<u32
     if let Some(part) = part {
         give_part_back(space, pass, part);
     }
-    pass.fits();
+    fits(pass);
 }
 
 /// Takes the block's nodes out of the partition of its index, in a step of its own: the frame isn't
@@ -73,7 +73,7 @@ pub(crate) fn unhash_block<R: Wait>(
     ensures did { UnhashesBlock pass.old block pass.new }
     ensures fits { IsFittedTree (view pass.new) }
 {
-    pass.fits();
+    fits(pass);
     hands_keep_the_hash();
     upkeep_keeps_the_hash();
     let part = hold_part_for(space, pass, frame(space, pass, block).hashed, wait);

@@ -18,7 +18,9 @@ use crate::ages::{forget_age, touch};
 use crate::hands::frame_out;
 use crate::pools::{pool_back, pool_out};
 use crate::turning::{load, put_page, set_page, turn, unload};
-use forest_world::{ForestPass, ForestSpace, Frame, Pool, Stored, Where, hands_keep_the_hash};
+use forest_world::{
+    ForestPass, ForestSpace, Frame, Pool, Stored, Where, fits, hands_keep_the_hash,
+};
 use index_page::Page;
 
 /// The block gets a new age.
@@ -32,7 +34,7 @@ pub(crate) fn set_age(space: &ForestSpace, pass: &mut ForestPass, block: u32)
         → SetsAge pass.old block t x pass.new }
     ensures fits { IsFittedTree (view pass.new) }
 {
-    pass.fits();
+    fits(pass);
     hands_keep_the_hash();
     let mut pool = pool_out(space, pass);
     touch(&mut pool, block);
@@ -49,7 +51,7 @@ pub(crate) fn restore(space: &ForestSpace, pass: &mut ForestPass, block: u32, pa
         → HoldsPoolAndFrame pass.old block t x f → RestoresTo pass.old block page t x pass.new }
     ensures fits { IsFittedTree (view pass.new) }
 {
-    pass.fits();
+    fits(pass);
     let mut frame = frame_out(space, pass, block);
     let mut pool = pool_out(space, pass);
     let Some(stored) = put_page(&mut pool, page, Where::InFrame(block), None) else {
@@ -69,7 +71,7 @@ pub(crate) fn bring(space: &ForestSpace, pass: &mut ForestPass, block: u32, page
         → BringsTo pass.old block page t x pass.new }
     ensures fits { IsFittedTree (view pass.new) }
 {
-    pass.fits();
+    fits(pass);
     let number = page.head().number;
     let stored = Stored {
         page,
@@ -94,7 +96,7 @@ pub(crate) fn drop_page(space: &ForestSpace, pass: &mut ForestPass, block: u32)
         → FreesFrom pass.old block page.head.number t x f pass.new }
     ensures fits { IsFittedTree (view pass.new) }
 {
-    pass.fits();
+    fits(pass);
     let mut frame = frame_out(space, pass, block);
     let mut pool = pool_out(space, pass);
     clear(&mut frame, &mut pool, block);

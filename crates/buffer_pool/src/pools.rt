@@ -10,7 +10,7 @@ ghost use Rattle.buffer_pool.specs.Forests.{IsForest, IsFittedTree};
 ghost use Rattle.buffer_pool.specs.Pools.{LacksPool, HoldsPool, HoldsKnownPool, HasPoolOut};
 ghost use Rattle.buffer_pool.specs.Pools.{TakesPool, TakesPoolOut, PutsPoolBack, GivesPool};
 
-use forest_world::{ForestPass, ForestSpace, Object, Pool};
+use forest_world::{ForestPass, ForestSpace, Object, Pool, shape};
 use std::sync::Wait;
 
 /// Tries until the pool is taken.
@@ -22,7 +22,7 @@ pub fn take_pool<R: Wait>(space: &ForestSpace, pass: &mut ForestPass, wait: &R)
     ensures took { TakesPool pass.old pass.new }
     ensures fits { IsFittedTree (view pass.new) }
 {
-    space.take(pass, space.shape().pool_id(), wait);
+    space.take(pass, shape(space).pool_id(), wait);
 }
 
 /// The pool as it stands now.
@@ -30,7 +30,7 @@ pub fn pool<'p>(space: &ForestSpace, pass: &'p ForestPass) -> &'p Pool
     requires { HoldsPool pass.now }
     ensures { (x y : Pool) → HasPool pass.now x y → result.now ≡ y }
 {
-    as_pool(pass.look(space.shape().pool_id()))
+    as_pool(pass.look(shape(space).pool_id()))
 }
 
 /// The pool itself. Its place in hand stays empty until `pool_back`.
@@ -40,7 +40,7 @@ pub fn pool_out(space: &ForestSpace, pass: &mut ForestPass) -> Pool
     ensures own { IsSamePass pass.old pass.new × IsPassOf space.now pass.new }
     ensures out { TakesPoolOut pass.old result pass.new }
 {
-    into_pool(pass.take_out(space.shape().pool_id()))
+    into_pool(pass.take_out(shape(space).pool_id()))
 }
 
 /// Puts a pool into the place of the one that was taken out.
@@ -50,7 +50,7 @@ pub fn pool_back(space: &ForestSpace, pass: &mut ForestPass, pool: Pool)
     ensures own { IsSamePass pass.old pass.new × IsPassOf space.now pass.new }
     ensures back { PutsPoolBack pass.old pool pass.new }
 {
-    pass.put_back(space.shape().pool_id(), Object::Pool(pool));
+    pass.put_back(shape(space).pool_id(), Object::Pool(pool));
 }
 
 /// Gives the pool back, which is what it is known to be.
@@ -61,7 +61,7 @@ pub fn give_pool_back(space: &ForestSpace, pass: &mut ForestPass)
     ensures gave { GivesPool pass.old pass.new }
     ensures fits { IsFittedTree (view pass.new) }
 {
-    space.release(pass, space.shape().pool_id());
+    space.release(pass, shape(space).pool_id());
 }
 
 // The pool that an object is.

@@ -59,6 +59,7 @@ pub(crate) fn unload(frame: &mut Frame) -> Stored
     requires { (page : PageRows) × (frame.old.page ≡ Some page) }
     ensures { UnloadsFrame frame.old result frame.new }
 {
+    // the proof speaks of the clock that the frame has here
     let _before = frame.clock;
     let Some(page) = frame.page.take() else {
         unreachable!()

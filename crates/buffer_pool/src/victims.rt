@@ -22,7 +22,7 @@ use crate::hands::{frame, frame_out};
 use crate::parts::unhash_block;
 use crate::pools::{pool, pool_out};
 use crate::turning::{set_page, turn, unload};
-use forest_world::{ForestPass, ForestSpace, Frame, Pool, Where};
+use forest_world::{ForestPass, ForestSpace, Frame, Pool, Where, fits};
 use latch_space::Take;
 use std::sync::Wait;
 
@@ -62,7 +62,7 @@ fn try_victim(space: &ForestSpace, pass: &mut ForestPass) -> Option<u32>
         → TellsVictim pass.old x result pass.new }
     ensures fits { IsFittedTree (view pass.new) }
 {
-    pass.fits();
+    fits(pass);
     let mut last: Option<u32> = None;
     for _i in 0..pool(space, pass).ages.len() {
         let Some(block) = pool(space, pass).ages.next(last) else {
@@ -87,7 +87,7 @@ fn try_other(space: &ForestSpace, pass: &mut ForestPass, block: u32) -> bool
     ensures fits { IsFittedTree (view pass.new) }
 {
     if holds_frame(space, pass, block) {
-        pass.fits();
+        fits(pass);
         return false;
     }
     match try_frame(space, pass, block) {
@@ -108,7 +108,7 @@ fn empty_frame<R: Wait>(space: &ForestSpace, pass: &mut ForestPass, block: u32, 
         → EmptiesFrame pass.old block t x pass.new }
     ensures fits { IsFittedTree (view pass.new) }
 {
-    pass.fits();
+    fits(pass);
     if !has_page(frame(space, pass, block)) {
         return;
     }
@@ -134,7 +134,7 @@ fn evict<R: Wait>(space: &ForestSpace, pass: &mut ForestPass, block: u32, wait: 
         → EmptiesFrame pass.old block t x pass.new }
     ensures fits { IsFittedTree (view pass.new) }
 {
-    pass.fits();
+    fits(pass);
     unhash_block(space, pass, block, wait);
     let mut frame = frame_out(space, pass, block);
     let mut pool = pool_out(space, pass);

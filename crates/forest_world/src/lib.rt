@@ -4,6 +4,7 @@
 
 mod hands;
 mod opening;
+mod telling;
 mod world;
 
 pub use forest_law::{
@@ -11,4 +12,5 @@ pub use forest_law::{
 };
 pub use hands::{hands_change_the_pool, hands_keep_the_hash, hands_make_steps, known_is_at_rest};
 pub use opening::open_forest;
+pub use telling::{fits, shape};
 pub use world::{ForestPass, ForestSpace, ForestWorld};

@@ -12,7 +12,7 @@ ghost use Rattle.hash_guess.specs.Confirms.{HoldsNamedRow, ChecksFrame, SuitsFra
 use buffer_pool::{frame, give_back};
 use chain_arena::Node;
 use forest_law::frames_tell_pages;
-use forest_world::{ForestPass, ForestSpace, Frame};
+use forest_world::{ForestPass, ForestSpace, Frame, fits};
 use guess_check::check;
 use index_page::Place;
 use key_tuple::{Fields, Mode};
@@ -38,7 +38,7 @@ pub(crate) fn confirm<A: Fields>(
     ensures none { IfNone result (Refutes pass.old index mode (A.fields_of tuple.now) node.now
         pass.new) }
 {
-    pass.fits();
+    fits(pass);
     frames_tell_pages();
     let told = check_frame(
         frame(space, pass, node.block),

@@ -12,7 +12,7 @@ ghost use Rattle.hash_guess.specs.Follows.{HasNodeInHand, FindsBusy, FollowsTo};
 use buffer_pool::try_frame;
 use chain_arena::Node;
 use forest_law::nodes_lead_to_frames;
-use forest_world::{ForestPass, ForestSpace};
+use forest_world::{ForestPass, ForestSpace, fits, shape};
 use hash_maintain::give_part_back;
 use latch_space::Take;
 
@@ -28,9 +28,9 @@ pub(crate) fn follow(space: &ForestSpace, pass: &mut ForestPass, index: u32, nod
     ensures taken { result ≡ Taken → FollowsTo pass.old index node.now pass.new }
     ensures busy { (n : ℕ) → result ≡ Busy n → FindsBusy pass.old index node.now n pass.new }
 {
-    pass.fits();
+    fits(pass);
     nodes_lead_to_frames();
-    let part = space.shape().part_for(index);
+    let part = shape(space).part_for(index);
     let take = try_frame(space, pass, node.block);
     give_part_back(space, pass, part);
     take

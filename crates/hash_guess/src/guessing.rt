@@ -17,7 +17,7 @@ use crate::following::follow;
 use crate::leading::lead;
 use crate::outcome::Guess;
 use chain_arena::Node;
-use forest_world::{ForestPass, ForestSpace};
+use forest_world::{ForestPass, ForestSpace, fits};
 use key_tuple::{Fields, Mode};
 use latch_space::Take;
 use learning::Info;
@@ -51,7 +51,7 @@ pub fn guess<A: Fields>(
 {
     let info = learner.recommend(learn, index);
     let told = find_named(space, pass, index, tuple, mode, &info);
-    pass.fits();
+    fits(pass);
     match told {
         Ok((node, found)) => Guess::Hit {
             block: node.block,
@@ -92,7 +92,7 @@ fn find_named<A: Fields>(
     ensures err { IfErr result (λ cause. MissedFor pass.old index mode (A.fields_of tuple.now)
         info.now cause pass.new) }
 {
-    pass.fits();
+    fits(pass);
     let node = lead(space, pass, index, tuple, info)?;
     if let Take::Busy { holder } = follow(space, pass, index, &node) {
         return Err(Cause::BlockBusy { holder });

@@ -10,7 +10,7 @@ ghost use Rattle.hash_guess.specs.Leads.{is_cold, IsAsked, HoldsEntry, MissedBy}
 
 use crate::cause::Cause;
 use chain_arena::Node;
-use forest_world::{ForestPass, ForestSpace};
+use forest_world::{ForestPass, ForestSpace, fits, shape};
 use hash_maintain::{give_part_back, partition, try_part};
 use key_tuple::{Fields, fold};
 use latch_space::Take;
@@ -65,8 +65,8 @@ fn look_up<A: Fields>(
     ensures err { IfErr result (λ cause. MissedBy pass.old index (A.fields_of tuple.now) info.now
         cause pass.new) }
 {
-    pass.fits();
-    let layout = space.shape();
+    fits(pass);
+    let layout = shape(space);
     let part = layout.part_for(index);
     let fold = fold(index, tuple, &info.params, layout.fold_bits());
     if let Take::Busy { holder } = try_part(space, pass, part) {

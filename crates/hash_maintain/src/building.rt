@@ -10,7 +10,7 @@ ghost use Rattle.hash_maintain.specs.Upkeep.{AreInPlace, BuildsInHand, CountsLea
 
 use crate::leaves::{leaf_page, rehash};
 use crate::parting::{hold_part_out, part_back};
-use forest_world::{ForestPass, ForestSpace, Frame};
+use forest_world::{ForestPass, ForestSpace, Frame, fits, shape};
 use hash_upkeep::{Build, Hashing, count_entries, entries_are_owed};
 use key_tuple::Params;
 use std::sync::Wait;
@@ -29,13 +29,13 @@ pub fn count_leaf(
     requires fields { AskFew frame.now.page params }
     ensures counts { CountsLeaf pass.now block params frame.now result }
 {
-    pass.fits();
+    fits(pass);
     let page = leaf_page(frame);
     let how = Hashing {
         index: page.head().index,
         block,
         params,
-        bits: space.shape().fold_bits(),
+        bits: shape(space).fold_bits(),
     };
     count_entries(page, &how)
 }
@@ -68,12 +68,12 @@ pub fn build_frame<R: Wait>(
         → HasLeafOf (hash_block frame.old) index
         → BuildsInHand pass.old block index params frame.old frame.new result pass.new }
 {
-    pass.fits();
+    fits(pass);
     entries_are_owed();
     if frame.figures.built == Some(params) {
         return Build::NotNeeded;
     }
-    let layout = space.shape();
+    let layout = shape(space);
     let how = Hashing {
         index: leaf_page(frame).head().index,
         block,

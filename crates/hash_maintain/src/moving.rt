@@ -9,7 +9,7 @@ ghost use Rattle.hash_maintain.specs.Upkeep.{AreInPlace};
 
 use crate::moves::rows_moved;
 use crate::parting::{hold_part_out, part_back};
-use forest_world::{ForestPass, ForestSpace, Frame};
+use forest_world::{ForestPass, ForestSpace, Frame, fits, shape};
 use hash_upkeep::{Move, Upkeep};
 use std::sync::Wait;
 
@@ -38,8 +38,8 @@ pub fn move_between<R: Wait>(
         (move_in pass.old index from_block to_block from.old to.old) from.old to.old from.new to.new
         result pass.new }
 {
-    pass.fits();
-    let layout = space.shape();
+    fits(pass);
+    let layout = shape(space);
     if let Some(index) = first_hashed(from, to) {
         let part = layout.part_for(index);
         let blocks = Move {

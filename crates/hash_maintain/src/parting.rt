@@ -10,7 +10,7 @@ ghost use Rattle.forest_world.specs.Held.{HasPart, HoldsPart, shape_of_pass};
 ghost use Rattle.hash_maintain.specs.Parting.{GivesPart, HasPartOut, HasRoomFor, HoldsPartOut, IsInPlace, LacksPart};
 ghost use Rattle.hash_maintain.specs.Parting.{PutsPartBack, TakesPartition, TakesPartOut, TellsPart};
 
-use forest_world::{ForestPass, ForestSpace, Object};
+use forest_world::{ForestPass, ForestSpace, Object, fits, shape};
 use hash_partition::Partition;
 use latch_space::Take;
 use std::sync::Wait;
@@ -25,7 +25,7 @@ pub fn hold_part<R: Wait>(space: &ForestSpace, pass: &mut ForestPass, part: u32,
     ensures held { OnFalse result (LacksPart pass.old part → ⊥) }
     ensures found { OnFalse result (pass.new ≡ pass.old) }
 {
-    pass.fits();
+    fits(pass);
     let number = part_number(space, pass, part);
     if pass.holds(number) {
         return false;
@@ -117,8 +117,8 @@ fn part_number(space: &ForestSpace, pass: &ForestPass, part: u32) -> u32
     requires there { part < (shape_of_pass pass.now).parts }
     ensures { result ≡ part_id (shape_of_pass pass.now) part }
 {
-    pass.fits();
-    space.shape().part_id(part)
+    fits(pass);
+    shape(space).part_id(part)
 }
 
 // The partition that an object is.

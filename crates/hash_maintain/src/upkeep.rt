@@ -14,7 +14,7 @@ ghost use Rattle.hash_maintain.specs.Upkeep.{KeepsUpWithRow, hashing_in};
 
 use crate::leaves::{hashing_of, row_came, row_goes, unhash};
 use crate::parting::{hold_part_out, part_back};
-use forest_world::{ForestPass, ForestSpace, Frame};
+use forest_world::{ForestPass, ForestSpace, Frame, fits, shape};
 use hash_upkeep::{Upkeep, entries_are_owed};
 use index_page::Place;
 use std::sync::Wait;
@@ -40,9 +40,9 @@ pub fn drop_frame<R: Wait>(
         → KeepsUpInHand pass.old (part_for (shape_of_pass pass.old).parts how.index) block frame.new
         pass.new }
 {
-    pass.fits();
+    fits(pass);
     entries_are_owed();
-    let layout = space.shape();
+    let layout = shape(space);
     if let Some(how) = hashing_of(frame, block, layout.fold_bits()) {
         let part = layout.part_for(how.index);
         let mut partition = hold_part_out(space, pass, part, wait);
@@ -74,9 +74,9 @@ pub fn insert_in_frame<R: Wait>(
         → KeepsUpWithRow pass.old block place how frame.old frame.new
         (λ spare brought driven. upkeep_of spare driven brought) result pass.new }
 {
-    pass.fits();
+    fits(pass);
     entries_are_owed();
-    let layout = space.shape();
+    let layout = shape(space);
     if let Some(how) = hashing_of(frame, block, layout.fold_bits()) {
         let part = layout.part_for(how.index);
         let mut partition = hold_part_out(space, pass, part, wait);
@@ -112,9 +112,9 @@ pub fn delete_in_frame<R: Wait>(
         (λ spare brought driven. upkeep_of spare brought driven) result pass.new }
     ensures kept { result ≡ Upkeep.Kept }
 {
-    pass.fits();
+    fits(pass);
     entries_are_owed();
-    let layout = space.shape();
+    let layout = shape(space);
     if let Some(how) = hashing_of(frame, block, layout.fold_bits()) {
         let part = layout.part_for(how.index);
         let mut partition = hold_part_out(space, pass, part, wait);

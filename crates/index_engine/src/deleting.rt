@@ -9,7 +9,7 @@ ghost use Rattle.leaf_changes.specs.Holds.{HoldsFreshAlone};
 ghost use Rattle.index_engine.specs.Leaving.{AnswersDel};
 ghost use Rattle.index_engine.specs.Traces.{SeesEach, HasLightPage};
 
-use forest_world::{ForestPass, Frame};
+use forest_world::{ForestPass, Frame, fits};
 use leaf_changes::TreeCall;
 use map_history::{Reply, Told};
 use std::sync::Wait;
@@ -52,7 +52,7 @@ fn merge<R: Wait>(call: &TreeCall<'_, R>, pass: &mut ForestPass)
     ensures silent { GrowsSilently pass.old pass.new }
     ensures seen { SeesEach (view pass.old) call.now.index }
 {
-    pass.fits();
+    fits(pass);
     let _ = shrink(
         call.alloc, call.space, pass, call.index, call.key, call.wait,
     );

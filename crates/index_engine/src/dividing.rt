@@ -9,6 +9,7 @@ ghost use Rattle.search_info.specs.Parts.{lower_part, upper_part, joined_parts};
 ghost use Rattle.index_engine.specs.Engines.{known, lessons_of, IsOf, IsSame};
 
 use crate::engine::{Engine, EnginePass};
+use forest_world::fits;
 use key_tuple::NoMemory;
 use map_history::Sizes;
 use std::alloc::Global;
@@ -68,7 +69,7 @@ impl EnginePass {
     pub fn fits(&self)
         ensures { IsFitted IsLawful IsRight IsReference (known self.now) }
     {
-        self.world.fits();
+        fits(&self.world);
     }
 
     /// The sizes that its engine was opened with.

@@ -11,7 +11,7 @@ ghost use Rattle.leaf_changes.specs.Holds.{HoldsFreshAlone};
 use crate::tree_call::TreeCall;
 use buffer_pool::{frame_back, frame_out, give_back, hold_part_for};
 use forest_law::blocks_ask_the_same;
-use forest_world::ForestPass;
+use forest_world::{ForestPass, fits};
 use hash_maintain::{delete_in_frame, give_part_back, insert_in_frame, upkeep_keeps_the_hash};
 use index_page::Place;
 use std::sync::Wait;
@@ -41,7 +41,7 @@ impl<R: Wait> TreeCall<'_, R> {
         ensures own { IsSamePass pass.old pass.new × IsPassOf self.now.space.now pass.new }
         ensures kept { KeepsRowThatCame pass.old block place pass.new }
     {
-        pass.fits();
+        fits(pass);
         blocks_ask_the_same();
         upkeep_keeps_the_hash();
         let mut frame = frame_out(self.space, pass, block);
@@ -56,7 +56,7 @@ impl<R: Wait> TreeCall<'_, R> {
         ensures own { IsSamePass pass.old pass.new × IsPassOf self.now.space.now pass.new }
         ensures kept { KeepsRowToGo pass.old block place pass.new }
     {
-        pass.fits();
+        fits(pass);
         blocks_ask_the_same();
         upkeep_keeps_the_hash();
         let mut frame = frame_out(self.space, pass, block);

@@ -11,7 +11,7 @@ ghost use Rattle.leaf_search.specs.Builds.{EndsBuild, IsCountedLeaf};
 ghost use Rattle.leaf_search.specs.Lessons.{FrameBecomes, note_of_build, with_figures};
 
 use buffer_pool::{frame, frame_back, frame_out};
-use forest_world::{ForestPass, ForestSpace, hands_keep_the_hash};
+use forest_world::{ForestPass, ForestSpace, fits, hands_keep_the_hash, shape};
 use hash_maintain::{build_frame, count_leaf, give_part_back, hold_part, upkeep_keeps_the_hash};
 use hash_upkeep::Build;
 use learning::BlockFigures;
@@ -37,7 +37,7 @@ pub(crate) fn hash_leaf<R: Wait>(
         → EndsHashing pass.old index block h.leaf.frame h.leaf.is.page figures.now result pass.new }
     ensures fits { IsFittedTree (view pass.new) }
 {
-    pass.fits();
+    fits(pass);
     let unhelped = BlockFigures {
         helps: 0,
         ..*figures
@@ -65,7 +65,7 @@ pub(crate) fn keep_figures(
         pass.new }
     ensures fits { IsFittedTree (view pass.new) }
 {
-    pass.fits();
+    fits(pass);
     hands_keep_the_hash();
     let mut frame = frame_out(space, pass, block);
     frame.figures = *figures;
@@ -94,16 +94,16 @@ fn build_leaf<R: Wait>(
         → EndsBuild pass.old index block h.leaf.frame h.leaf.is.page figures.now result pass.new }
     ensures fits { IsFittedTree (view pass.new) }
 {
-    pass.fits();
+    fits(pass);
     upkeep_keeps_the_hash();
     let leaf = frame(space, pass, block);
     let need = count_leaf(space, pass, leaf, block, figures.advice);
-    let part = space.shape().part_for(index);
+    let part = shape(space).part_for(index);
     hold_part(space, pass, part, wait);
     let answer = build_in_hand(space, pass, index, block, figures, need, wait);
     space.settle(pass);
     give_part_back(space, pass, part);
-    pass.fits();
+    fits(pass);
     answer
 }
 
@@ -127,7 +127,7 @@ fn build_in_hand<R: Wait>(
         → BuiltInHand pass.old block index figures.now h.teach.leaf.frame h.teach.leaf.is.page
         h.part result pass.new }
 {
-    pass.fits();
+    fits(pass);
     let _ = index;
     let mut frame = frame_out(space, pass, block);
     frame.figures = *figures;

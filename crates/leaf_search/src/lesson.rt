@@ -17,7 +17,7 @@ ghost use Rattle.leaf_search.specs.Lessons.{descent_to, CountsDescent, Teaches};
 
 use crate::building::{hash_leaf, keep_figures};
 use buffer_pool::frame;
-use forest_world::{ForestPass, ForestSpace, Frame};
+use forest_world::{ForestPass, ForestSpace, Frame, fits};
 use learning::{BlockFigures, Figures};
 use map_history::Note;
 use search_info::{Learn, LearnPass, Learner};
@@ -50,7 +50,7 @@ pub fn learn_leaf<R: Wait>(
         pass.new (knowledge learn.new) }
     ensures fits { IsFittedTree (view pass.new) }
 {
-    pass.fits();
+    fits(pass);
     let (learnt, figures) = count_descent(space, pass, learner, learn, index, block, figures);
     match learnt {
         Learn::Learnt { build: true, .. } => hash_leaf(space, pass, index, block, &figures, wait),

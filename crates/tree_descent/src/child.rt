@@ -12,7 +12,7 @@ ghost use Rattle.tree_descent.specs.Descents.{HoldsInner, TakesChild};
 
 use crate::picking::picked_child;
 use buffer_pool::page_in;
-use forest_world::{ForestPass, ForestSpace};
+use forest_world::{ForestPass, ForestSpace, fits};
 use key_tuple::{Fields, Mode};
 use std::sync::Wait;
 
@@ -38,7 +38,7 @@ pub fn child_for<T: Fields, R: Wait>(
     ensures took { TakesChild pass.old block index mode (T.fields_of tuple.now) result pass.new }
     ensures fits { IsFittedTree (view pass.new) }
 {
-    pass.fits();
+    fits(pass);
     let child = picked_child(space, pass, block, index, tuple, mode);
     page_in(space, pass, child, wait)
 }

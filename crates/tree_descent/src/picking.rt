@@ -15,7 +15,7 @@ ghost use Rattle.tree_descent.specs.Ways.{HoldsPage, HoldsSome, HoldsAbove};
 use crate::pages::{child_in, page_of};
 use crate::positions::has_position;
 use buffer_pool::frame;
-use forest_world::{ForestPass, ForestSpace};
+use forest_world::{ForestPass, ForestSpace, fits};
 use index_page::{Page, Spot};
 use key_tuple::{Fields, Mode};
 
@@ -47,7 +47,7 @@ pub(crate) fn picked_child<T: Fields>(
         (cut_in (shape_of_pass pass.now) index mode (T.fields_of tuple.now)) h.is.page.rows result }
 {
     let _ = index;
-    pass.fits();
+    fits(pass);
     child_in(held_page(space, pass, block), tuple, mode)
 }
 

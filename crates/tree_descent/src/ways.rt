@@ -15,7 +15,7 @@ ghost use Rattle.tree_descent.specs.Ways.{HoldsAbove, GoesDown, LooksFor, TriesD
 use crate::pages::page_of;
 use crate::picking::{is_within, picked_child};
 use buffer_pool::{frame, give_back, page_if, page_in};
-use forest_world::{ForestPass, ForestSpace};
+use forest_world::{ForestPass, ForestSpace, fits};
 use key_tuple::{Fields, Mode};
 use std::sync::Wait;
 
@@ -49,7 +49,7 @@ pub(crate) fn try_down<T: Fields, R: Wait>(
         block = page_if(space, pass, child, index, level, wait)?;
     }
     if is_within(space, pass, block, index, tuple, mode) {
-        pass.fits();
+        fits(pass);
         return Some(block);
     }
     give_back(space, pass, block);
@@ -74,7 +74,7 @@ fn take_root<R: Wait>(
         → GoesDown pass.old cut index result.1 result.0 pass.new }
     ensures fits { IsFittedTree (view pass.new) }
 {
-    pass.fits();
+    fits(pass);
     let block = page_in(space, pass, index, wait);
     (block, page_of(frame(space, pass, block)).head().level)
 }

@@ -11,7 +11,7 @@ ghost use Rattle.tree_growth.specs.Ways.{IsGoingDown, ArrivesAt, ArrivesWithRoom
 use crate::halves::keep_half;
 use crate::looking::{PageInHand, page_in_hand};
 use buffer_pool::{PoolError, give_back, page_in};
-use forest_world::{ForestPass, ForestSpace};
+use forest_world::{ForestPass, ForestSpace, fits};
 use key_tuple::Key;
 use std::alloc::Global;
 use std::sync::Wait;
@@ -61,7 +61,7 @@ pub(crate) fn grow_root<R: Wait>(
     ensures fits { IsFittedTree (view pass.new) }
 {
     if !root.is_full {
-        pass.fits();
+        fits(pass);
         return Ok(root);
     }
     match raise_root(alloc, space, pass, index, root.block, wait) {

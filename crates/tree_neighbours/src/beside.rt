@@ -12,7 +12,7 @@ ghost use Rattle.tree_neighbours.specs.Sides as sides;
 
 use crate::side::{Side, page_on};
 use buffer_pool::{frame, page_in, try_page};
-use forest_world::{ForestPass, ForestSpace};
+use forest_world::{ForestPass, ForestSpace, fits};
 use std::sync::Wait;
 
 /// What stands on a side of a leaf.
@@ -47,7 +47,7 @@ pub fn take_beside<R: Wait>(
     ensures fits { IsFittedTree (view pass.new) }
 {
     let _ = index;
-    pass.fits();
+    fits(pass);
     let Some(other) = page_beside(space, pass, block, side) else {
         return Beside::AtEnd;
     };

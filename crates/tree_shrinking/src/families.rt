@@ -17,7 +17,7 @@ ghost use Rattle.tree_shrinking.specs.Families.{siblings_before, siblings_after}
 
 use crate::pairs::Siblings;
 use crate::reading::held_page;
-use forest_world::{ForestPass, ForestSpace};
+use forest_world::{ForestPass, ForestSpace, fits};
 use index_page::{Page, Place};
 use key_tuple::{Key, Mode};
 
@@ -79,7 +79,7 @@ pub(crate) fn family_in(
         held.page.is.page.rows result.child }
 {
     let _ = index;
-    pass.fits();
+    fits(pass);
     family_on(held_page(space, pass, block), key)
 }
 

@@ -15,7 +15,7 @@ use crate::merging::merge_children;
 use crate::pairs::{Pair, Siblings, are_to_join, give_pair_back, take_pair};
 use crate::reading::held_page;
 use buffer_pool::give_back;
-use forest_world::{ForestPass, ForestSpace};
+use forest_world::{ForestPass, ForestSpace, fits};
 use index_page::loads_add_up;
 use key_tuple::{Key, NoMemory};
 use std::alloc::Global;
@@ -44,7 +44,7 @@ pub(crate) fn join_child<R: Wait>(
         → FreesUnder pass.old parent index key.now.tuple pass.new }
     ensures fits { IsFittedTree (view pass.new) }
 {
-    pass.fits();
+    fits(pass);
     let family = family_in(space, pass, parent, index, key);
     let before = siblings_before(family);
     if join_beside(alloc, space, pass, parent, before, index, key, wait)? {
@@ -78,7 +78,7 @@ fn join_beside<R: Wait>(
 {
     match beside {
         None => {
-            pass.fits();
+            fits(pass);
             Ok(false)
         }
         Some(asked) => join_pair(alloc, space, pass, parent, asked, index, key, wait),
@@ -152,7 +152,7 @@ fn lift_only<R: Wait>(
     ensures fits { IsFittedTree (view pass.new) }
 {
     let _ = key;
-    pass.fits();
+    fits(pass);
     let page = held_page(space, pass, parent);
     if page.head().number != index || page.count() > 1 {
         give_back(space, pass, child);

@@ -13,7 +13,7 @@ ghost use Rattle.tree_shrinking.specs.Merging.{CanMerge, MergesPair, MergesChild
 
 use crate::settling::merge_hashed;
 use buffer_pool::{frame, free_page, give_back, page_in};
-use forest_world::{ForestPass, ForestSpace};
+use forest_world::{ForestPass, ForestSpace, fits};
 use key_tuple::NoMemory;
 use std::sync::Wait;
 use tree_smo::{SplitBlocks, head_of, pages_are_numbered};
@@ -73,7 +73,7 @@ fn merge_pair<R: Wait>(
     ensures memory { OnErr result (GetsNothing pass.old pass.new) }
     ensures fits { IsFittedTree (view pass.new) }
 {
-    pass.fits();
+    fits(pass);
     match head_of(frame(space, pass, at.right)).next {
         None => merge_hashed(space, pass, at, index, None, wait),
         Some(next) => {

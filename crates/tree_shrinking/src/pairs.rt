@@ -11,7 +11,7 @@ ghost use Rattle.tree_shrinking.specs.Pairs.{HoldsAbovePair, HoldsPair, TellsJoi
 use crate::reading::held_page;
 use crate::{LIGHT_LOAD, MERGED_LOAD};
 use buffer_pool::{give_back, page_in};
-use forest_world::{ForestPass, ForestSpace};
+use forest_world::{ForestPass, ForestSpace, fits};
 use key_tuple::Key;
 use std::sync::Wait;
 
@@ -60,7 +60,7 @@ pub(crate) fn take_pair<R: Wait>(
     let _ = parent;
     let _ = index;
     let _ = key;
-    pass.fits();
+    fits(pass);
     let left = page_in(space, pass, asked.left, wait);
     let right = page_in(space, pass, asked.right, wait);
     (left, right)
@@ -84,7 +84,7 @@ pub(crate) fn give_pair_back(
 {
     let _ = index;
     let _ = key;
-    pass.fits();
+    fits(pass);
     give_back(space, pass, pair.right);
     give_back(space, pass, pair.left);
 }

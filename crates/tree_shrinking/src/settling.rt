@@ -15,7 +15,7 @@ ghost use Rattle.tree_shrinking.specs.MergePlans.{HoldsMerge, MakesMerge, Merges
 use crate::hands::join_halves;
 use crate::hashing::hashed_index;
 use buffer_pool::{frame, give_part_if, hold_part_for};
-use forest_world::{ForestPass, ForestSpace};
+use forest_world::{ForestPass, ForestSpace, fits};
 use key_tuple::NoMemory;
 use std::sync::Wait;
 use tree_smo::{SplitBlocks, head_of, keep_up_between, laws_of_moves, relink_behind};
@@ -43,7 +43,7 @@ pub(crate) fn merge_hashed<R: Wait>(
     ensures err { OnErr result (GetsNothing pass.old pass.new) }
     ensures fits { IsFittedTree (view pass.new) }
 {
-    pass.fits();
+    fits(pass);
     let hashed = hashed_index(space, pass, at.right, at.child);
     let part = hold_part_for(space, pass, hashed, wait);
     let made = make_merge(space, pass, at, index, next, wait);
@@ -73,7 +73,7 @@ fn make_merge<R: Wait>(
     ensures fits { IsFittedTree (view pass.new) }
 {
     let _ = index;
-    pass.fits();
+    fits(pass);
     laws_of_moves();
     let left = head_of(frame(space, pass, at.child)).number;
     join_halves(space, pass, at)?;

@@ -15,7 +15,7 @@ ghost use Rattle.tree_shrinking.specs.Lifting.{CanLift, SinksRoot};
 
 use crate::hashing::hashed_index;
 use buffer_pool::{change_tree, frame_back, frame_out, give_part_if, hold_part_for, tree};
-use forest_world::{ForestPass, ForestSpace, Tree};
+use forest_world::{ForestPass, ForestSpace, Tree, fits};
 use key_tuple::NoMemory;
 use std::alloc::Global;
 use std::sync::Wait;
@@ -47,7 +47,7 @@ pub(crate) fn sink_hashed<R: Wait>(
     ensures err { OnErr result (GetsNothing pass.old pass.new) }
     ensures fits { IsFittedTree (view pass.new) }
 {
-    pass.fits();
+    fits(pass);
     let hashed = hashed_index(space, pass, child, root);
     let part = hold_part_for(space, pass, hashed, wait);
     let made = sink_root(alloc, space, pass, index, root, child, wait);
@@ -78,7 +78,7 @@ fn sink_root<R: Wait>(
     ensures err { OnErr result (IsAsBefore pass.old pass.new) }
     ensures fits { IsFittedTree (view pass.new) }
 {
-    pass.fits();
+    fits(pass);
     laws_of_moves();
     sink_storeys(alloc, space, pass, root, child)?;
     keep_up_between(space, pass, child, root, wait);

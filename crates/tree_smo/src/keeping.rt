@@ -10,7 +10,7 @@ ghost use Rattle.tree_smo.specs.PartHeld.{LawsOfMoves};
 
 use buffer_pool::{frame_back, frame_out};
 use forest_law::blocks_ask_the_same;
-use forest_world::{ForestPass, ForestSpace, hands_keep_the_hash};
+use forest_world::{ForestPass, ForestSpace, fits, hands_keep_the_hash};
 use hash_maintain::{move_between, moves_keep_the_hash};
 use hash_upkeep::moves_are_covered;
 use std::sync::Wait;
@@ -32,7 +32,7 @@ pub fn keep_up_between<R: Wait>(
     ensures kept { (m : HasMovedRows pass.old from to)
         → KeepsMovedRows pass.old from to m pass.new }
 {
-    pass.fits();
+    fits(pass);
     moves_keep_the_hash();
     let mut gave = frame_out(space, pass, from);
     let mut took = frame_out(space, pass, to);

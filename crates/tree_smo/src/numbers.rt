@@ -3,7 +3,7 @@ ghost use Rattle.std.specs.Prelude.{◌<◌, ◌^◌};
 ghost use Rattle.latch_space.specs.Spaces.{IsPassOf};
 ghost use Rattle.forest_world.specs.Held.{shape_of_pass};
 
-use forest_world::{ForestPass, ForestSpace};
+use forest_world::{ForestPass, ForestSpace, shape};
 
 /// The number of pages is one of four bytes, so no page has the number that stands for none.
 pub fn pages_are_numbered(space: &ForestSpace, pass: &ForestPass)
@@ -11,5 +11,5 @@ pub fn pages_are_numbered(space: &ForestSpace, pass: &ForestPass)
     ensures { (shape_of_pass pass.now).pages < 2 ^ 32 }
 {
     let _ = pass;
-    let _pages = space.shape().pages();
+    let _pages = shape(space).pages();
 }

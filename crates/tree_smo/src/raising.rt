@@ -16,7 +16,7 @@ ghost use Rattle.tree_smo.specs.Storeys.{HoldsStoreys, MakesRaise};
 use crate::plans::head_of;
 use crate::storeys::make_raise;
 use buffer_pool::{PoolError, frame, free_page, give_part_if, hold_part_for, new_page};
-use forest_world::{ForestPass, ForestSpace};
+use forest_world::{ForestPass, ForestSpace, fits};
 use key_tuple::NoMemory;
 use std::alloc::Global;
 use std::sync::Wait;
@@ -46,7 +46,7 @@ pub fn raise_root<R: Wait>(
     ensures memory { result ≡ Err refused.NoMemory → GetsNothing pass.old pass.new }
     ensures fits { IsFittedTree (view pass.new) }
 {
-    pass.fits();
+    fits(pass);
     let head = head_of(frame(space, pass, root));
     let under = new_page(alloc, space, pass, head, wait)?;
     match raise_hashed(alloc, space, pass, index, root, under, wait) {
@@ -81,7 +81,7 @@ fn raise_hashed<R: Wait>(
     ensures err { OnErr result (GetsNothing pass.old pass.new) }
     ensures fits { IsFittedTree (view pass.new) }
 {
-    pass.fits();
+    fits(pass);
     let hashed = frame(space, pass, root).hashed;
     let part = hold_part_for(space, pass, hashed, wait);
     let made = make_raise(alloc, space, pass, index, root, under, wait);

@@ -18,7 +18,7 @@ use crate::keeping::{keep_up_between, laws_of_moves};
 use crate::plans::{SplitPlan, head_of};
 use crate::relinking::relink_behind;
 use buffer_pool::frame;
-use forest_world::{ForestPass, ForestSpace};
+use forest_world::{ForestPass, ForestSpace, fits};
 use key_tuple::NoMemory;
 use std::sync::Wait;
 
@@ -44,7 +44,7 @@ pub(crate) fn make_split<R: Wait>(
     ensures err { OnErr result (IsAsBefore pass.old pass.new) }
     ensures fits { IsFittedTree (view pass.new) }
 {
-    pass.fits();
+    fits(pass);
     laws_of_moves();
     let SplitPlan {
         parent,

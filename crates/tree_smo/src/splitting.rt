@@ -21,7 +21,7 @@ use crate::settling::make_split;
 use buffer_pool::{
     PoolError, frame, free_page, give_back, give_part_if, hold_part_for, new_page, page_in,
 };
-use forest_world::{ForestPass, ForestSpace};
+use forest_world::{ForestPass, ForestSpace, fits};
 use key_tuple::NoMemory;
 use std::alloc::Global;
 use std::sync::Wait;
@@ -51,7 +51,7 @@ pub fn split_child<R: Wait>(
     ensures memory { result ≡ Err refused.NoMemory → GetsNothing pass.old pass.new }
     ensures fits { IsFittedTree (view pass.new) }
 {
-    pass.fits();
+    fits(pass);
     pages_are_numbered(space, pass);
     let low = frame(space, pass, child);
     let head = head_of(low);
@@ -100,7 +100,7 @@ fn split_planned<R: Wait>(
     ensures memory { result ≡ Err refused.NoMemory → GetsNothing pass.old pass.new }
     ensures fits { IsFittedTree (view pass.new) }
 {
-    pass.fits();
+    fits(pass);
     match plan.head.next {
         None => split_beside(alloc, space, pass, plan, wait),
         Some(next) => {
@@ -139,7 +139,7 @@ fn split_beside<R: Wait>(
     ensures memory { result ≡ Err refused.NoMemory → GetsNothing pass.old pass.new }
     ensures fits { IsFittedTree (view pass.new) }
 {
-    pass.fits();
+    fits(pass);
     let right = new_page(alloc, space, pass, plan.head, wait)?;
     match split_hashed(space, pass, plan, right, wait) {
         Ok(()) => Ok(right),
@@ -172,7 +172,7 @@ fn split_hashed<R: Wait>(
     ensures err { OnErr result (GetsNothing pass.old pass.new) }
     ensures fits { IsFittedTree (view pass.new) }
 {
-    pass.fits();
+    fits(pass);
     let hashed = frame(space, pass, plan.child).hashed;
     let part = hold_part_for(space, pass, hashed, wait);
     let made = make_split(space, pass, plan, right, wait);

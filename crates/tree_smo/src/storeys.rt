@@ -13,7 +13,7 @@ ghost use Rattle.tree_smo.specs.Storeys.{MakesRaiseHeld};
 
 use crate::keeping::{keep_up_between, laws_of_moves};
 use buffer_pool::{change_tree, frame_back, frame_out, tree};
-use forest_world::{ForestPass, ForestSpace, Tree};
+use forest_world::{ForestPass, ForestSpace, Tree, fits};
 use key_tuple::NoMemory;
 use std::alloc::Global;
 use std::sync::Wait;
@@ -43,7 +43,7 @@ pub(crate) fn make_raise<R: Wait>(
     ensures err { OnErr result (IsAsBefore pass.old pass.new) }
     ensures fits { IsFittedTree (view pass.new) }
 {
-    pass.fits();
+    fits(pass);
     laws_of_moves();
     change_storeys(alloc, space, pass, root, under)?;
     keep_up_between(space, pass, root, under, wait);
