@@ -15,7 +15,7 @@ use Rattle.ahi_cli.specs.FirstRefusal.{named_stop}
 use Rattle.report_print.specs.Prints.{Prints}
 use Rattle.ahi_cli.specs.Prints.{EndsWith, EndsRefused, halted, ended}
 use Rattle.ahi_cli.specs.Trail.{LeavesTrail}
-use Rattle.lane_threads.specs.Passes.{EnginePass}
+use Rattle.lane_threads.specs.Engine.{EnginePass}
 use Rattle.ahi_cli.specs.Run.{Asked, Stops}
 use Rattle.ahi_cli.specs.Stops.{status_of, stop_text}
 use Rattle.ahi_cli.specs.Words.{accepted, file_names}

@@ -13,7 +13,7 @@ use Rattle.map_history.specs.Report.{ChangeLine, Report}
 use Rattle.map_history.specs.Spelling.{spell}
 use Rattle.script.specs.Schema.{SchemaText}
 use Rattle.script.specs.Views.{schema_text}
-use Rattle.lane_threads.specs.Passes.{EnginePass}
+use Rattle.lane_threads.specs.Engine.{EnginePass}
 use Rattle.lane_law.specs.Reports.{report_with}
 use Rattle.lane_threads.specs.Together.{lane_texts, RanTogether, AreReported}
 use Rattle.lane_threads.proofs.LegalLemmas.{reported}

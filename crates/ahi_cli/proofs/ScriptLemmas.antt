@@ -6,7 +6,7 @@ use Rattle.map_history.specs.declared.TheConstants.{MAX_INDEXES, MAX_LANES}
 use Rattle.map_history.specs.LegalReport.{Line}
 use Rattle.script.specs.Schema.{SchemaText}
 use Rattle.script.specs.Views.{schema_text}
-use Rattle.lane_threads.specs.Passes.{EngineError}
+use Rattle.lane_threads.specs.Engine.{EngineError}
 use Rattle.settings.specs.declared.setting.Setting.{Setting}
 use Rattle.settings.specs.Limits.{first_broken}
 use Rattle.lane_threads.specs.Together.{lane_texts, AllAreLinesOf}

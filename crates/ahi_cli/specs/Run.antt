@@ -5,7 +5,7 @@ use Rattle.io_port.specs.Shelf.{Files}
 use Rattle.io_port.specs.declared.shelf.Shelf.{Ghosts}
 use Rattle.map_history.specs.LegalReport.{Line, Run, IsLegalBytes}
 use Rattle.script.specs.Schema.{SchemaText}
-use Rattle.lane_threads.specs.Passes.{EnginePass, known, lessons_of}
+use Rattle.lane_threads.specs.Engine.{EnginePass, known, lessons_of}
 use Rattle.lane_law.specs.Taught.{IsTaught}
 use Rattle.lane_law.specs.Trail.{IsTrail}
 use Rattle.ahi_cli.specs.declared.stop.Stop.{Stop}

@@ -1,7 +1,7 @@
 -- The pass that a call leaves.
 use Rattle.std.specs.Prelude.{ℕ, ◌≡◌, ◌≢◌, List, Option, None}
 use Rattle.std.specs.Option.{IsSomeAnd}
-use Rattle.lane_threads.specs.Passes.{EnginePass}
+use Rattle.lane_threads.specs.Engine.{EnginePass}
 use Rattle.ahi_cli.specs.declared.status.Status.{Status}
 use Rattle.ahi_cli.specs.declared.status.Status.TheVariants.{Done}
 use Rattle.ahi_cli.specs.Ends.{Output, IsWritten}

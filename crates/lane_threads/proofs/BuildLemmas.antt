@@ -6,7 +6,7 @@ use Rattle.std.specs.declared.alloc.Global.{Global}
 use mathlib.Core.Option.{some}
 use lib.ListN.{get_elem?}
 use Rattle.map_history.specs.declared.line.Line.{Line}
-use Rattle.lane_work.specs.Engine.{Engine, EnginePass}
+use Rattle.lane_threads.specs.Engine.{Engine, EnginePass}
 use Rattle.lane_threads.specs.declared.doer.LaneDoer.{LaneDoer}
 use Rattle.lane_threads.specs.Doing.{IsReadyFor, AreReadyFor}
 

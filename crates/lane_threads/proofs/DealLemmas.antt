@@ -8,7 +8,7 @@ use Rattle.call_law.specs.Spoken.{View, OwnAnswer}
 use Rattle.list_facts.specs.Parts.{made_below, made_from}
 use Rattle.search_info.specs.Parts.{maker, cut_at, lower_part, upper_part}
 use Rattle.search_info.specs.declared.knows.Knows.{Knows}
-use Rattle.lane_work.specs.Engine.{Engine, EnginePass, known, lessons_of, IsOf}
+use Rattle.lane_threads.specs.Engine.{Engine, EnginePass, known, lessons_of, IsOf}
 use Rattle.lane_threads.specs.Dealt.{said_by, IsSigned, IsLane, AreLanes, IsShare, AreDealt, AreFresh, AddsDealt}
 use Rattle.lane_threads.proofs.ListLemmas.{at_either, within}
 

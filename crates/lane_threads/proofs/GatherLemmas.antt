@@ -10,7 +10,7 @@ use Rattle.index_law.specs.State.{Entries}
 use Rattle.search_info.specs.Parts.{joined_parts}
 use Rattle.search_info.specs.declared.knows.Knows.{Knows}
 use Rattle.search_info.specs.declared.knows.Try.{Try}
-use Rattle.lane_work.specs.Engine.{Engine, EnginePass, known, lessons_of, IsOf}
+use Rattle.lane_threads.specs.Engine.{Engine, EnginePass, known, lessons_of, IsOf}
 use Rattle.lane_threads.specs.Gathered.{Gathers}
 
 longer_none : (xs : List Entries) → longer xs [] ≡ xs

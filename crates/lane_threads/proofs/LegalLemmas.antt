@@ -24,7 +24,7 @@ use Rattle.index_law.specs.State.{Entries}
 use Rattle.learning.specs.Opening.{opening_info}
 use Rattle.search_info.specs.History.{Start}
 use Rattle.search_info.specs.declared.knows.Opening.{Opening}
-use Rattle.lane_work.specs.Engine.{EnginePass, known, lessons_of}
+use Rattle.lane_threads.specs.Engine.{EnginePass, known, lessons_of}
 use Rattle.lane_law.proofs.LegalLemmas as proved
 use Rattle.lane_law.proofs.MergedLemmas.{noted_printed, are_entries}
 use Rattle.lane_law.proofs.MergeLemmas.{are_lists}

@@ -1,3 +1,6 @@
+pub mod RowLemmas
+pub mod NoteLemmas
+pub mod LaneLemmas
 pub mod ReadyLemmas
 pub mod BuildLemmas
 pub mod PartLemmas

@@ -5,7 +5,7 @@ use Rattle.std.specs.Prelude.{ℕ, Vec}
 use Rattle.std.specs.declared.alloc.Global.{Global}
 use Rattle.change_log.specs.Log.{Log}
 use Rattle.map_history.specs.declared.counts.Counts.{Counts}
-use Rattle.lane_work.specs.Engine.{EnginePass}
+use Rattle.lane_threads.specs.Engine.{EnginePass}
 use Rattle.lane_threads.specs.declared.doer.DoneLane.{DoneLane}
 use Rattle.lane_threads.specs.declared.doer.LaneDoer.{LaneDoer}
 use Rattle.lane_threads.specs.Doing.{AreParts}

@@ -16,13 +16,13 @@ use Rattle.map_history.specs.declared.line.Line.{Line}
 use Rattle.map_history.specs.Lines.{line_texts}
 use Rattle.index_law.specs.Shape.{Shape}
 use Rattle.call_law.specs.Spoken.{Spoken, OwnAnswer, spoken}
-use Rattle.lane_work.specs.Engine.{Engine, EnginePass, known, lessons_of, IsOf, indexes_of}
+use Rattle.lane_threads.specs.Engine.{Engine, EnginePass, known, lessons_of, IsOf, indexes_of}
 use Rattle.report_text.specs.Texts.{answer_line_text}
 use Rattle.lane_law.specs.Merged.{lane_notes, all_notes}
 use Rattle.lane_law.specs.Taught.{told_try, lane_tries, all_tries}
 use Rattle.lane_law.specs.Worked.{AreInOrder, lane_sayings}
 use Rattle.search_info.specs.declared.knows.Try.{Try}
-use Rattle.lane_work.specs.Works.{Works}
+use Rattle.lane_threads.specs.Works.{Works}
 use Rattle.lane_threads.specs.Dealt.{IsLane, AreLanes, AreFresh}
 use Rattle.lane_threads.specs.Gathered.{all_tried}
 use Rattle.lane_threads.specs.Said.{SayLanes}

@@ -20,10 +20,10 @@ use Rattle.map_history.specs.declared.sizes.Sizes.{Sizes}
 use Rattle.map_history.specs.declared.line.Line.{Line}
 use Rattle.index_law.specs.Shape.{Shape}
 use Rattle.forest_law.specs.State.{or_zero, fields_for}
-use Rattle.lane_work.specs.Engine.{Engine, EnginePass, known, IsOf}
+use Rattle.lane_threads.specs.Engine.{Engine, EnginePass, known, IsOf}
 use Rattle.forest_world.specs.Opening.{forest_terms}
 use Rattle.lane_law.specs.Lines.{IsOpOf, AreLinesOf}
-use Rattle.lane_work.specs.Workable.{IsWorkableOp, AreWorkable}
+use Rattle.lane_threads.specs.Workable.{IsWorkableOp, AreWorkable}
 use Rattle.lane_threads.specs.Ready.{IsReady}
 use Rattle.lane_threads.specs.Together.{AllAreLinesOf}
 

@@ -4,7 +4,7 @@ use Rattle.map_history.specs.Report.{AnswerLine}
 use Rattle.map_history.specs.LegalReport.{Line}
 use Rattle.call_law.specs.Spoken.{spoken}
 use Rattle.call_law.proofs.TraceLemmas.{spoken-append}
-use Rattle.lane_work.specs.Engine.{Engine, EnginePass, known}
+use Rattle.lane_threads.specs.Engine.{Engine, EnginePass, known}
 use Rattle.lane_law.specs.Worked.{lane_sayings}
 use Rattle.lane_law.specs.Runs.{all_sayings}
 use Rattle.lane_threads.specs.Dealt.{AreLanes}

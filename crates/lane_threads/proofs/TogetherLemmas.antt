@@ -28,7 +28,7 @@ use Rattle.call_law.specs.Spoken.{View}
 use Rattle.search_info.specs.Passes.{opening}
 use Rattle.search_info.specs.declared.knows.Knows.{Knows}
 use Rattle.lane_law.specs.Taught.{told_try}
-use Rattle.lane_work.specs.Engine.{Engine, EnginePass, known, lessons_of, nothing_learnt, IsOf, indexes_of}
+use Rattle.lane_threads.specs.Engine.{Engine, EnginePass, known, lessons_of, nothing_learnt, IsOf, indexes_of}
 use Rattle.forest_world.specs.Opening.{forest_terms}
 use Rattle.lane_threads.specs.Dealt.{AreLanes, AreDealt, AreFresh}
 use Rattle.lane_threads.specs.Gathered.{Gathers}

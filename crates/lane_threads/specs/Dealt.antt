@@ -3,7 +3,7 @@ use Rattle.std.specs.Prelude.{ℕ, ◌≡◌, ◌+◌, ◌<◌, ◌≤◌, List,
 use mathlib.Core.Option.{some}
 use lib.ListN.{get_elem?}
 use Rattle.call_law.specs.Spoken.{OwnAnswer, View}
-use Rattle.lane_work.specs.Engine.{Engine, EnginePass, known, lessons_of, IsOf}
+use Rattle.lane_threads.specs.Engine.{Engine, EnginePass, known, lessons_of, IsOf}
 
 -- the answers of the number n
 abbrev pub said_by : ℕ → List OwnAnswer → List OwnAnswer

@@ -6,8 +6,8 @@ use Rattle.change_log.specs.Log.{Log}
 use Rattle.map_history.specs.declared.counts.Counts.{Counts}
 use Rattle.map_history.specs.declared.line.Line.{Line}
 use Rattle.map_history.specs.Lines.{line_texts}
-use Rattle.lane_work.specs.Engine.{Engine, EnginePass, IsOf, IsSame}
-use Rattle.lane_work.specs.Works.{Works}
+use Rattle.lane_threads.specs.Engine.{Engine, EnginePass, IsOf, IsSame}
+use Rattle.lane_threads.specs.Works.{Works}
 use Rattle.lane_threads.specs.declared.apart.Parts.{Parts}
 use Rattle.lane_threads.specs.declared.doer.DoneLane.{DoneLane}
 use Rattle.lane_threads.specs.declared.doer.LaneDoer.{LaneDoer}

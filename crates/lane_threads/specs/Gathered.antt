@@ -6,7 +6,7 @@ use Rattle.list_facts.specs.Parts.{longer}
 use Rattle.call_law.specs.Spoken.{OwnAnswer}
 use Rattle.index_law.specs.State.{Entries}
 use Rattle.search_info.specs.declared.knows.Try.{Try}
-use Rattle.lane_work.specs.Engine.{Engine, EnginePass, known, lessons_of, IsOf}
+use Rattle.lane_threads.specs.Engine.{Engine, EnginePass, known, lessons_of, IsOf}
 
 -- each is a pass of the engine
 abbrev pub ArePassesOf : Engine → List EnginePass → Type 0

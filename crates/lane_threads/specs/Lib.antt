@@ -1,7 +1,9 @@
+pub mod Engine
+pub mod Workable
+pub mod Works
 pub mod Dealt
 pub mod Gathered
 pub mod Said
 pub mod Together
 pub mod Ready
 pub mod Doing
-pub mod Passes

@@ -5,7 +5,7 @@ use lib.ListN.{get_elem?}
 use Rattle.map_history.specs.Report.{AnswerLine}
 use Rattle.map_history.specs.LegalReport.{Line}
 use Rattle.call_law.specs.Spoken.{spoken}
-use Rattle.lane_work.specs.Engine.{EnginePass, known}
+use Rattle.lane_threads.specs.Engine.{EnginePass, known}
 use Rattle.lane_law.specs.Worked.{lane_sayings}
 
 -- there are as many lanes as passes, and each pass said what the lines of its lane were answered,

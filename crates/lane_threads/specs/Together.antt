@@ -17,7 +17,7 @@ use Rattle.forest_law.specs.Law.{IsLawful}
 use Rattle.forest_law.specs.References.{IsReference}
 use Rattle.index_law.specs.Rightness.{IsRight}
 use Rattle.call_law.specs.Spoken.{spoken}
-use Rattle.lane_work.specs.Engine.{EnginePass, known, lessons_of, nothing_learnt}
+use Rattle.lane_threads.specs.Engine.{EnginePass, known, lessons_of, nothing_learnt}
 use Rattle.forest_world.specs.Opening.{forest_terms}
 use Rattle.report_text.specs.Texts.{answer_line_text}
 use Rattle.lane_law.specs.Merged.{all_notes}

@@ -4,8 +4,8 @@ ghost use Rattle.lane_threads.specs.Doing.{ArePartsOf, AddsPartsOf};
 
 use crate::doer::{DoneLane, LaneDoer};
 use change_log::LaneLog;
+use index_engine::EnginePass;
 use key_tuple::NoMemory;
-use lane_work::EnginePass;
 use map_history::Counts;
 use report_text::Texts;
 use std::alloc::Global;

@@ -1,10 +1,10 @@
 //! Dealing out a pass.
 ghost use Rattle.std.specs.Prelude.{◌≡◌, [], IfOk};
-ghost use Rattle.lane_work.specs.Engine.{known, lessons_of, IsOf};
+ghost use Rattle.lane_threads.specs.Engine.{known, lessons_of, IsOf};
 ghost use Rattle.lane_threads.specs.Dealt.{AreDealt, AreFresh, AddsDealt};
 
+use index_engine::{Engine, EnginePass};
 use key_tuple::NoMemory;
-use lane_work::{Engine, EnginePass};
 use std::alloc::Global;
 
 /// A pass for each number of this one, in order. After `NoMemory` the pass is gone, and its numbers

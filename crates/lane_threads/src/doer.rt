@@ -1,7 +1,8 @@
 //! A lane before and after it works.
 ghost use Rattle.lane_threads.specs.Ready.{IsReady};
 
-use lane_work::{Engine, EnginePass, LaneWork};
+use crate::lane::LaneWork;
+use index_engine::{Engine, EnginePass};
 use map_history::Line;
 use std::alloc::Global;
 

@@ -3,8 +3,8 @@ ghost use Rattle.std.specs.Prelude.{IfOk};
 ghost use Rattle.lane_threads.specs.Doing.{DoesLane, WorkedOnce};
 
 use crate::doer::{DoneLane, LaneDoer, ReadyLane};
+use crate::lane::work_lane;
 use key_tuple::NoMemory;
-use lane_work::work_lane;
 use lanes::{Doer, Gate};
 use std::sync::Wait;
 use std::thread::Threads;

@@ -2,7 +2,7 @@
 ghost use Rattle.std.specs.Prelude.{◌≡◌, [], MatchOption};
 ghost use Rattle.lane_threads.specs.Gathered.{ArePassesOf, AreInRow, Gathers};
 
-use lane_work::{Engine, EnginePass};
+use index_engine::{Engine, EnginePass};
 
 /// Joins passes whose numbers follow one another, from the last to the first. No pass makes `None`.
 pub(crate) fn gather(engine: &Engine, mut passes: Vec<EnginePass>) -> Option<EnginePass>

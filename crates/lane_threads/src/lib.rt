@@ -7,10 +7,12 @@ mod dealing;
 mod doer;
 mod doing;
 mod gathering;
+mod lane;
 mod laws;
+mod line;
 mod readying;
 mod together;
 
-pub use lane_work::{EngineError, EnginePass};
+pub use index_engine::{EngineError, EnginePass};
 pub use laws::runs_are_legal;
 pub use together::{LanesWork, work_lanes};

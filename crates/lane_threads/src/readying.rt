@@ -1,14 +1,14 @@
 //! Lanes made ready.
 ghost use Rattle.std.specs.Prelude.{◌≡◌, ◌+◌, length, IfOk};
 ghost use Rattle.std.specs.List.{AllByRecursion};
-ghost use Rattle.lane_work.specs.Engine.{known, IsOf, indexes_of};
-ghost use Rattle.lane_work.specs.Workable.{AreWorkable};
+ghost use Rattle.lane_threads.specs.Engine.{known, IsOf, indexes_of};
+ghost use Rattle.lane_threads.specs.Workable.{AreWorkable};
 ghost use Rattle.lane_threads.specs.Dealt.{AreLanes};
 ghost use Rattle.lane_threads.specs.Doing.{IsReadyFor, AreReadyFor};
 
 use crate::doer::{LaneDoer, ReadyLane};
+use index_engine::{Engine, EnginePass};
 use key_tuple::NoMemory;
-use lane_work::{Engine, EnginePass};
 use map_history::Line;
 use std::alloc::Global;
 

@@ -7,7 +7,7 @@ ghost use Rattle.map_history.specs.declared.TheConstants.{MAX_INDEXES, MAX_LANES
 ghost use Rattle.settings.specs.Limits.{first_broken};
 ghost use Rattle.latch_law.specs.Rule.{first_view};
 ghost use Rattle.forest_world.specs.Opening.{forest_terms};
-ghost use Rattle.lane_work.specs.Engine.{known, lessons_of, nothing_learnt, IsOf};
+ghost use Rattle.lane_threads.specs.Engine.{known, lessons_of, nothing_learnt, IsOf};
 ghost use Rattle.lane_law.specs.Lines.{AreLinesOf};
 ghost use Rattle.lane_threads.specs.Together.{lane_texts, RanTogether};
 
@@ -17,8 +17,8 @@ use crate::gathering::gather;
 use crate::readying::ready_lanes;
 use change_log::LaneLog;
 use column_counts::add_up;
+use index_engine::{Engine, EngineError, EnginePass};
 use key_tuple::NoMemory;
-use lane_work::{Engine, EngineError, EnginePass};
 use lanes::{Gate, run_lanes};
 use map_history::{Counts, Line, Sizes};
 use report_text::Texts;

@@ -1,5 +1,5 @@
 use Rattle.std.proofs.Common.{◌≡◌, ◌+◌, arith}
-use Rattle.lane_work.specs.Engine.{known}
+use Rattle.lane_threads.specs.Engine.{known}
 use Rattle.lane_threads.proofs.DealLemmas.{added_one, cut_ok}
 use Rattle.lane_threads.proofs.dealing.+deal_onto.Goals as goal
 

@@ -1,7 +1,7 @@
 use Rattle.std.proofs.Common.{◌≡◌, ◌+◌, ◌∙◌, List, [], ◌∷◌, length, sym, refl, subst}
 use mathlib.Core.Option.{some}
 use lib.ListN.{get_elem?}
-use Rattle.lane_work.specs.Engine.{EnginePass}
+use Rattle.lane_threads.specs.Engine.{EnginePass}
 use Rattle.lane_threads.proofs.ListLemmas.{at_length, after_length, taken_off}
 use Rattle.lane_threads.proofs.GatherLemmas.{gathers_one, gathers_more}
 use Rattle.lane_threads.proofs.gathering.gather.Goals as goal

@@ -1,5 +1,5 @@
 use Rattle.std.proofs.Common.{◌≡◌, List, ◌∷◌, ◌++◌}
-use Rattle.lane_work.specs.Engine.{EnginePass}
+use Rattle.lane_threads.specs.Engine.{EnginePass}
 use Rattle.lane_threads.specs.Gathered.{Gathers}
 use Rattle.lane_threads.proofs.gathering.gather.Given as goal
 

@@ -5,7 +5,7 @@ use Rattle.std.specs.Vec.Iter.{into_iter_items}
 use Rattle.map_history.specs.declared.line.Line.{Line}
 use Rattle.lane_threads.specs.declared.doer.LaneDoer.{LaneDoer}
 use Rattle.lane_threads.specs.Doing.{IsReadyFor, AreReadyFor}
-use Rattle.lane_work.specs.Workable.{AreWorkable}
+use Rattle.lane_threads.specs.Workable.{AreWorkable}
 use Rattle.lane_threads.proofs.ListLemmas.{all_at}
 use Rattle.lane_threads.proofs.BuildLemmas.{drop_at, built_more, built_all}
 use Rattle.lane_threads.proofs.readying.ready_lanes.Goals as goal

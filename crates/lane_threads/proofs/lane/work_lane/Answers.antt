@@ -4,10 +4,10 @@ use Rattle.std.proofs.lemmas.Result.{err_from_is_err_and}
 use Rattle.map_history.specs.declared.line.Line.{Line}
 use Rattle.map_history.specs.Lines.{line_text, line_texts}
 use Rattle.index_engine.specs.Engines.{indexes_of}
-use Rattle.lane_work.specs.Workable.{IsWorkable}
-use Rattle.lane_work.specs.Works.{Works}
-use Rattle.lane_work.proofs.LaneLemmas.{works_none, works_more, workable_at, workable_plain, workable_below, workable_seen, lines_more, same_none, same_more, none_noted, few_noted, room_for_notes, nothing_promised}
-use Rattle.lane_work.proofs.lane.work_lane.Goals as goal
+use Rattle.lane_threads.specs.Workable.{IsWorkable}
+use Rattle.lane_threads.specs.Works.{Works}
+use Rattle.lane_threads.proofs.LaneLemmas.{works_none, works_more, workable_at, workable_plain, workable_below, workable_seen, lines_more, same_none, same_more, none_noted, few_noted, room_for_notes, nothing_promised}
+use Rattle.lane_threads.proofs.lane.work_lane.Goals as goal
 
 pub loop-line-init : goal.loop-line-init
 loop-line-init g c = let work = c.in_ok-work.work in record {

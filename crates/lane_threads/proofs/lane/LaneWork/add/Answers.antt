@@ -5,8 +5,8 @@ use Rattle.map_history.specs.Lines.{line_text}
 use Rattle.map_history.specs.Statistics.{counts_of}
 use Rattle.map_history.specs.Told.{columns_told}
 use Rattle.column_counts.specs.Sums.{sum_of}
-use Rattle.lane_work.specs.Works.{CountsLine}
-use Rattle.lane_work.proofs.lane.LaneWork.add.Goals as goal
+use Rattle.lane_threads.specs.Works.{CountsLine}
+use Rattle.lane_threads.proofs.lane.LaneWork.add.Goals as goal
 
 pub returns : goal.returns
 returns c =

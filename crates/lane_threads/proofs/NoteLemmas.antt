@@ -12,7 +12,7 @@ use Rattle.map_history.specs.Report.{Columns, Answer, Replied, LogFull, SpaceFul
 use Rattle.map_history.specs.LegalReport.{Line, columns_of}
 use Rattle.map_history.specs.Told.{said, replied_at, answer_of}
 use Rattle.lane_law.specs.Merged.{notes_of}
-use Rattle.lane_work.specs.Works.{told_notes}
+use Rattle.lane_threads.specs.Works.{told_notes}
 
 -- a reply without a change notes nothing
 plain_notes : (k : ℕ) (line : Line) (o : Option MapReply) (point : Option ℕ) (columns : Columns) (answer : Answer) → ((r : MapReply) → o ≡ Some r → r ≢ Done) → replied_at o point columns ≡ Some answer → [] ≡ notes_of k line answer

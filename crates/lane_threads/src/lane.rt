@@ -4,8 +4,8 @@ ghost use Rattle.map_history.specs.Lines.{line_text, line_texts};
 ghost use Rattle.map_history.specs.Statistics.{counts_of};
 ghost use Rattle.map_history.specs.Told.{answer_of};
 ghost use Rattle.index_engine.specs.Engines.{known, IsOf, IsSame, indexes_of};
-ghost use Rattle.lane_work.specs.Workable.{AreWorkable};
-ghost use Rattle.lane_work.specs.Works.{Works, AddsLine, NotesLine};
+ghost use Rattle.lane_threads.specs.Workable.{AreWorkable};
+ghost use Rattle.lane_threads.specs.Works.{Works, AddsLine, NotesLine};
 
 use crate::line::work_line;
 use change_log::{LaneChange, LaneLog};
@@ -21,10 +21,10 @@ use std::sync::Wait;
 /// What a lane was told: its printed answers, the changes that it made, and for each index the
 /// counts of the words in its answers' columns.
 #[derive(Drop)]
-pub struct LaneWork<'a> {
-    pub answers: Texts,
-    pub log: LaneLog<'a>,
-    pub counts: Vec<Counts>,
+pub(crate) struct LaneWork<'a> {
+    pub(crate) answers: Texts,
+    pub(crate) log: LaneLog<'a>,
+    pub(crate) counts: Vec<Counts>,
 }
 
 impl<'a> LaneWork<'a> {
@@ -66,7 +66,7 @@ impl<'a> LaneWork<'a> {
 
 /// Works the lines of a lane, which has this number from 1, one after another. The gate is asked
 /// before each. The engine has so many indexes.
-pub fn work_lane<'a, R: Wait, G: Gate>(
+pub(crate) fn work_lane<'a, R: Wait, G: Gate>(
     alloc: Global,
     engine: &Engine,
     pass: &mut EnginePass,

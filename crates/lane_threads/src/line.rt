@@ -5,7 +5,7 @@ ghost use Rattle.index_engine.specs.Engines.{known, lessons_of, IsOf, IsSame};
 ghost use Rattle.call_law.specs.Once.{IsQuiet};
 ghost use Rattle.engine_law.specs.Tells.{TellsOnce};
 ghost use Rattle.search_info.specs.Tries.{TriesAfter};
-ghost use Rattle.lane_work.specs.Workable.{IsWorkable};
+ghost use Rattle.lane_threads.specs.Workable.{IsWorkable};
 
 use index_engine::{Engine, EnginePass};
 use key_tuple::NoMemory;

@@ -33,12 +33,12 @@ use Rattle.lane_law.specs.Worked.{answered}
 use Rattle.lane_law.proofs.JoinLemmas.{notes_more}
 use Rattle.lane_law.proofs.TaughtLemmas.{taught_none, taught_more}
 use Rattle.lane_law.proofs.WorkLemmas.{worked_none, plain_marks, worked_more}
-use Rattle.lane_work.specs.Workable.{IsWorkable, AreWorkable}
+use Rattle.lane_threads.specs.Workable.{IsWorkable, AreWorkable}
 use Rattle.column_counts.specs.Counted.{AreCounts}
 use Rattle.column_counts.specs.Sums.{sum_of}
 use Rattle.column_counts.proofs.SumLemmas.{none_counted, counts_as, one_more}
-use Rattle.lane_work.specs.Works.{Works, told_notes}
-use Rattle.lane_work.proofs.NoteLemmas.{noted_by, columns_told_by}
+use Rattle.lane_threads.specs.Works.{Works, told_notes}
+use Rattle.lane_threads.proofs.NoteLemmas.{noted_by, columns_told_by}
 
 -- no line, no work
 pub works_none : (p : EnginePass) (texts : List (List ℕ)) (log : Log) (counts : List Counts) (n : ℕ) → texts ≡ [] → log.noted ≡ [] → n ≡ (known p).terms.indexes → counts ≡ replicate n (counts_of []) → Works p p [] texts log counts

@@ -8,9 +8,9 @@ use Rattle.index_law.specs.Meanings.{lent_row}
 use Rattle.index_engine.specs.Engines.{known, lessons_of}
 use Rattle.engine_law.specs.Tells.{TellsOnce}
 use Rattle.search_info.specs.Tries.{TriesAfter}
-use Rattle.lane_work.specs.Workable.{IsWorkableOp}
-use Rattle.lane_work.proofs.RowLemmas.{shows_no_row, result_shows_no_row, gave_up_quiet}
-use Rattle.lane_work.proofs.line.work_line.Goals as goal
+use Rattle.lane_threads.specs.Workable.{IsWorkableOp}
+use Rattle.lane_threads.proofs.RowLemmas.{shows_no_row, result_shows_no_row, gave_up_quiet}
+use Rattle.lane_threads.proofs.line.work_line.Goals as goal
 
 pub returns-in-Put-clause-ok : goal.returns-in-Put-clause-ok
 returns-in-Put-clause-ok g c =

@@ -1,8 +1,8 @@
 use Rattle.std.proofs.Common.{◌≡◌, ◌≤◌, length, take}
 use Rattle.map_history.specs.Lines.{line_texts}
 use Rattle.index_engine.specs.Engines.{IsOf, IsSame}
-use Rattle.lane_work.specs.Works.{Works}
-use Rattle.lane_work.proofs.lane.work_lane.Given as goal
+use Rattle.lane_threads.specs.Works.{Works}
+use Rattle.lane_threads.proofs.lane.work_lane.Given as goal
 
 -- the lines so far are worked, and there is room for as many notes as there are lines
 abbrev pub invariant-loop-line : goal.invariant-loop-line

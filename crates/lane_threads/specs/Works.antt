@@ -22,7 +22,7 @@ use Rattle.lane_law.specs.Merged.{lane_notes}
 use Rattle.lane_law.specs.Taught.{Taught}
 use Rattle.column_counts.specs.Counted.{AreCounts}
 use Rattle.column_counts.specs.Sums.{sum_of}
-use Rattle.lane_work.specs.declared.lane.LaneWork.{LaneWork}
+use Rattle.lane_threads.specs.declared.lane.LaneWork.{LaneWork}
 
 -- The lines were answered one after another by a pass that was p and is q, which tried what their
 -- columns ask for: their answers are printed so, the changes among them are noted, and their columns
