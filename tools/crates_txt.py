@@ -14,10 +14,7 @@ class Crate:
     name: str
     group: str
     stands_on: list = field(default_factory=list)
-
-    @property
-    def folder(self):
-        return os.path.join(TOP, "crates", self.name)
+    folder: str = ""
 
 
 def read(path=os.path.join(TOP, "crates.txt")):
@@ -30,7 +27,8 @@ def read(path=os.path.join(TOP, "crates.txt")):
             elif ":" in line:
                 head, _, libraries = line.partition(":")
                 name = head.split()[0]
-                crates[name] = Crate(name, group, libraries.split())
+                folder = os.path.join(TOP, "crates", name)
+                crates[name] = Crate(name, group, libraries.split(), folder)
     return crates
 
 
