@@ -147,6 +147,7 @@ def write_alone(merger, crate, to):
 
 
 def write_part(merger, crates, to):
+    """Writes one of the larger crates."""
     for crate in crates:
         write_code(merger, crate, os.path.join(to, "src"))
         for kind in ("specs", "proofs"):
@@ -175,17 +176,17 @@ def write_all(top):
     made = {}
     for name in [*crates_txt.below(crates, PROGRAM), PROGRAM]:
         part = merger.part_of.get(name, name)
-        own = [crates[it] for it in PARTS.get(part, [name])]
-        below = [merger.part_of.get(it, it) for crate in own for it in crate.stands_on]
-        to = os.path.join(top, part)
         if part in made:
             continue
+        own = [crates[it] for it in PARTS.get(part, [name])]
+        to = os.path.join(top, part)
         if part in PARTS:
             write_part(merger, own, to)
         elif merger.part_of.keys() & set(own[0].stands_on):
             write_alone(merger, own[0], to)
         else:
             to = own[0].folder
+        below = (merger.part_of.get(it, it) for crate in own for it in crate.stands_on)
         stands_on = [it for it in dict.fromkeys(below) if it != part]
         made[part] = crates_txt.Crate(part, "", stands_on, to)
     return in_order(made)
