@@ -8,10 +8,16 @@ use std::alloc::Global;
 use std::marker::Model;
 
 /// One row, seen as its key's fields and its value. It has room for the largest row.
-#[derive(Drop)]
 pub struct RowBuf {
     key: FieldBuffer,
     value: Vec<u8>,
+}
+
+// Written out, so that a crate above drops it by one call.
+impl Drop for RowBuf {
+    fn drop(self) {
+        let Self { key: _, value: _ } = self;
+    }
 }
 
 impl Model for RowBuf {
