@@ -12,10 +12,16 @@ use std::alloc::Global;
 use std::marker::Model;
 
 /// Texts one behind another, seen as the list of them.
-#[derive(Drop)]
 pub struct Texts {
     bytes: Vec<u8>,
     ends: Vec<usize>,
+}
+
+// Written out, so that a crate above drops it by one call.
+impl Drop for Texts {
+    fn drop(self) {
+        let Self { bytes: _, ends: _ } = self;
+    }
 }
 
 impl Model for Texts {
