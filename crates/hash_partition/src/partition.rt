@@ -11,10 +11,19 @@ use std::marker::Model;
 
 /// The nodes of the leaves that are hashed for some indexes, and of each block a stamp, if it has
 /// one.
-#[derive(Drop)]
 pub struct Partition {
     table: ChainTable,
     stamps: Vec<Option<u64>>,
+}
+
+// Written out, so that a crate above drops it by one call.
+impl Drop for Partition {
+    fn drop(self) {
+        let Self {
+            table: _,
+            stamps: _,
+        } = self;
+    }
 }
 
 impl Model for Partition {
