@@ -6,7 +6,6 @@ use key_tuple::Key;
 use learning::BlockFigures;
 
 /// A block of the pool: the page that it has, if any, and what is kept of it.
-#[derive(Drop)]
 pub struct Frame {
     /// The page.
     pub page: Option<Page>,
@@ -20,6 +19,20 @@ pub struct Frame {
     pub figures: BlockFigures,
     /// The index that it is hashed for, if it is.
     pub hashed: Option<u32>,
+}
+
+// Written out, so that a crate above drops it by one call.
+impl Drop for Frame {
+    fn drop(self) {
+        let Self {
+            page: _,
+            low: _,
+            high: _,
+            clock: _,
+            figures: _,
+            hashed: _,
+        } = self;
+    }
 }
 
 impl Frame {
@@ -46,7 +59,6 @@ pub enum Where {
 }
 
 /// The image of a page: the page with its bounds, outside all frames.
-#[derive(Drop)]
 pub struct Stored {
     /// The page.
     pub page: Page,
@@ -54,6 +66,17 @@ pub struct Stored {
     pub low: Option<Key>,
     /// Each key of the page is below this one; none for the last page of a level.
     pub high: Option<Key>,
+}
+
+// Written out, so that a crate above drops it by one call.
+impl Drop for Stored {
+    fn drop(self) {
+        let Self {
+            page: _,
+            low: _,
+            high: _,
+        } = self;
+    }
 }
 
 /// Where each page is, the pages that are in no frame, and how long ago each frame was used.
