@@ -59,6 +59,7 @@ pub enum Where {
 }
 
 /// The image of a page: the page with its bounds, outside all frames.
+#[derive(Drop)]
 pub struct Stored {
     /// The page.
     pub page: Page,
@@ -66,17 +67,6 @@ pub struct Stored {
     pub low: Option<Key>,
     /// Each key of the page is below this one; none for the last page of a level.
     pub high: Option<Key>,
-}
-
-// Written out, so that a crate above drops it by one call.
-impl Drop for Stored {
-    fn drop(self) {
-        let Self {
-            page: _,
-            low: _,
-            high: _,
-        } = self;
-    }
 }
 
 /// Where each page is, the pages that are in no frame, and how long ago each frame was used.
