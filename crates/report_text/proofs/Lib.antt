@@ -2,4 +2,5 @@ pub mod AnswerLemmas
 pub mod ChangeLemmas
 pub mod LineLemmas
 pub mod RunLemmas
+pub mod StatisticsLemmas
 pub mod TextLemmas

@@ -1,5 +1,5 @@
 -- What is printed of an operation.
-use Rattle.std.specs.Prelude.{ℕ, Option, Some, None, List, [], codes}
+use Rattle.std.specs.Prelude.{ℕ, Option, Some, None, List, [], ◌∷◌, codes, decimal}
 use Rattle.change_log.specs.Entries.{printed_entry}
 use Rattle.change_log.specs.Log.{ChangeNote}
 use Rattle.key_tuple.specs.Order.{FieldList}
@@ -10,12 +10,18 @@ use Rattle.map_history.specs.declared.reply.Told.{Told}
 use Rattle.map_history.specs.Operation.{operation_of}
 use Rattle.map_history.specs.Report.{Answer, ChangeLine}
 use Rattle.map_history.specs.Spelling.{change_text}
+use Rattle.map_history.specs.Text.{line_of}
 use Rattle.map_history.specs.Told.{answer_of}
 
 -- the printed answer to an operation that was told this, with the row that was found
 abbrev pub printed_answer : Op → Told → FieldList → List ℕ → Option Answer
 printed_answer op told key value =
     answer_of (operation_of op).ask told (record { key = key; value = value })
+
+-- the line of a change with these words behind its number, its lane and its line
+abbrev pub noted_line : ChangeNote → List (List ℕ) → List ℕ
+noted_line note words =
+    line_of (decimal note.number ∷ decimal note.lane ∷ decimal note.line.line ∷ words)
 
 -- the line of an entry with its number, if there is one
 abbrev pub entry_text : ℕ → Option ChangeLine → List ℕ

@@ -1,11 +1,13 @@
 //! The words that a line is made of.
 ghost use Rattle.std.specs.Prelude.{◌≡◌, ◌++◌, OnOk, OnErr, decimal};
 ghost use Rattle.report_text.specs.Line.{KeepsBytes};
-ghost use Rattle.report_text.specs.Words.{count_text, text_of};
+ghost use Rattle.report_text.specs.Words.{text_of};
 
 use crate::field::{put_field, put_key};
+use crate::statistics::put_counts;
 use itoa::Buffer;
 use key_tuple::Fields;
+use map_history::Counts;
 use std::alloc::AllocError;
 
 /// One word of a line.
@@ -20,8 +22,8 @@ pub enum Word<'a, K> {
     Value(&'a [u8]),
     /// The fields of a key.
     Key(&'a K),
-    /// A text and a number in decimal digits, with a space between.
-    Count(&'a str, u64),
+    /// The words of statistics, each with its number, and a space between each two.
+    Statistics(&'a Counts),
 }
 
 impl<'a, K> Clone for Word<'a, K> {
@@ -35,22 +37,12 @@ impl<'a, K> Clone for Word<'a, K> {
 impl<'a, K> Copy for Word<'a, K> {}
 
 /// Appends a number in decimal digits.
-fn put_number(out: &mut Vec<u8>, number: u64) -> Result<(), AllocError>
+pub(crate) fn put_number(out: &mut Vec<u8>, number: u64) -> Result<(), AllocError>
     ensures ok { OnOk result (out.new.items ≡ out.old.items ++ decimal number) }
     ensures err { OnErr result (KeepsBytes out.old.items out.new.items) }
 {
     let mut digits = Buffer::new();
     out.extend_from_slice(digits.format(number).as_bytes())
-}
-
-/// Appends a text, a space and a number.
-fn put_count(out: &mut Vec<u8>, text: &str, number: u64) -> Result<(), AllocError>
-    ensures ok { OnOk result (out.new.items ≡ out.old.items ++ count_text text.now number) }
-    ensures err { OnErr result (KeepsBytes out.old.items out.new.items) }
-{
-    out.extend_from_slice(text.as_bytes())?;
-    out.push(b' ')?;
-    put_number(out, number)
 }
 
 pub(crate) fn put_word<K: Fields>(out: &mut Vec<u8>, word: &Word<'_, K>) -> Result<(), AllocError>
@@ -66,6 +58,6 @@ pub(crate) fn put_word<K: Fields>(out: &mut Vec<u8>, word: &Word<'_, K>) -> Resu
         }
         Word::Value(bytes) => put_field(out, bytes),
         Word::Key(key) => put_key(out, *key),
-        Word::Count(text, number) => put_count(out, text, *number),
+        Word::Statistics(counts) => put_counts(out, counts),
     }
 }

@@ -16,8 +16,8 @@ returns-in_ok-push-in-Point-clause-err g c = Extends-at_last_step _ _ _ _ _ c.in
 pub returns-in-Text-clause-err : goal.returns-in-Text-clause-err
 returns-in-Text-clause-err g c = Stays-where_err _ _ _ _ c.extend_from_slice.ensures.items
 
-pub returns-in-Count-clause-ok : goal.returns-in-Count-clause-ok
-returns-in-Count-clause-ok g c = rw c.in-Count.is c.put_count.ensures.ok
+pub returns-in-Statistics-clause-ok : goal.returns-in-Statistics-clause-ok
+returns-in-Statistics-clause-ok g c = rw c.in-Statistics.is c.put_counts.ensures.ok
 
 pub returns-in-Value-clause-ok : goal.returns-in-Value-clause-ok
 returns-in-Value-clause-ok g c = rw c.in-Value.is c.put_field.ensures.ok

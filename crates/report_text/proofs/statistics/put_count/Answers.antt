@@ -1,5 +1,5 @@
 use Rattle.report_text.proofs.LineLemmas.{Extends-at_last_exit, Extends-at_third_step, OnOk-at_exit, Stays-at_exit, put_in_three}
-use Rattle.report_text.proofs.word.put_count.Goals as goal
+use Rattle.report_text.proofs.statistics.put_count.Goals as goal
 
 pub returns-in_err-extend_from_slice-clause-ok : goal.returns-in_err-extend_from_slice-clause-ok
 returns-in_err-extend_from_slice-clause-ok c = OnOk-at_exit _ _ c.from_residual.ensures.0
