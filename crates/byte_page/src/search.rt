@@ -12,7 +12,7 @@ use page_search::find_cut;
 
 /// The rows around a cut: their places, and how far the tuple agrees with each of them, (0, 0)
 /// where there is none.
-#[derive(Clone, Copy, PartialEq, Eq)]
+#[derive(Clone, Copy)]
 pub struct ByteSpot {
     /// The last row that the cut leaves out.
     pub before: Option<Place>,
