@@ -3,7 +3,7 @@ ghost use Rattle.std.specs.Prelude.{◌≡◌};
 ghost use Rattle.compact_record.specs.Kind.{status_bits, info_bits, kind_with};
 
 /// What a record is.
-#[derive(Clone, Copy, PartialEq, Eq)]
+#[derive(Clone, Copy)]
 pub enum RecordKind {
     /// A row: its tail is a value, whose length is written.
     Row,

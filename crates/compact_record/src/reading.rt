@@ -9,7 +9,7 @@ use crate::lengths::{get_length, length_size};
 use crate::{CHILD_BYTES, HEAD_BYTES, MAX_PAGE_BYTES};
 
 /// Where a record begins and ends.
-#[derive(Clone, Copy, PartialEq, Eq)]
+#[derive(Clone, Copy)]
 pub struct Extent {
     /// Its first byte.
     pub start: u16,

@@ -12,7 +12,7 @@ use crate::{HEAD_BYTES, HEAP_NUMBERS, LENGTH_LIMIT, MAX_PAGE_BYTES};
 use key_tuple::Fields;
 
 /// What the head of a record says.
-#[derive(Clone, Copy, PartialEq, Eq)]
+#[derive(Clone, Copy)]
 pub struct RecordHead {
     /// What the record is.
     pub kind: RecordKind,
