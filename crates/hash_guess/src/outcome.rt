@@ -4,7 +4,7 @@ use index_page::Place;
 use search_info::Learn;
 
 /// What a guess tells.
-#[derive(Clone, Copy, PartialEq, Eq)]
+#[derive(Clone, Copy)]
 pub enum Guess {
     /// The block's frame is held, and the row at the place of its page is the one that the mode asks
     /// for.
