@@ -12,7 +12,7 @@ use key_tuple::{Params, fold};
 
 /// How a leaf is hashed: for which index, as which block, with which parameters, and to how many
 /// bits its folds are cut.
-#[derive(Clone, Copy, PartialEq, Eq)]
+#[derive(Clone, Copy)]
 pub struct Hashing {
     pub index: u32,
     pub block: u32,

@@ -16,7 +16,7 @@ use key_tuple::Params;
 
 /// Two blocks of an index, from one of which rows moved to the other, and with which parameters
 /// each was hashed, if it was. Folds are cut to so many bits.
-#[derive(Clone, Copy, PartialEq, Eq)]
+#[derive(Clone, Copy)]
 pub struct Move {
     pub index: u32,
     pub bits: u8,
