@@ -3,7 +3,7 @@ use key_tuple::NoMemory;
 use settings::Setting;
 
 /// What `Engine::open` refuses.
-#[derive(Debug, Clone, Copy, PartialEq, Eq)]
+#[derive(Debug, Clone, Copy)]
 pub enum EngineError {
     /// The first setting that is outside its limits.
     BadSize(Setting),
