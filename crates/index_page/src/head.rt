@@ -1,7 +1,7 @@
 //! The head of a page.
 
 /// What a page is beside its rows.
-#[derive(Clone, Copy, PartialEq, Eq)]
+#[derive(Clone, Copy)]
 pub struct PageHead {
     /// The page's own number.
     pub number: u32,

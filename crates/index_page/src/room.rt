@@ -14,7 +14,7 @@ use crate::spot::Place;
 use key_tuple::Value;
 
 /// Where a page has bytes for a record, beside those of its records.
-#[derive(Clone, Copy, PartialEq, Eq)]
+#[derive(Clone, Copy)]
 pub struct Gaps {
     /// How long the record was that was taken out last and whose bytes weren't taken again, 0 where
     /// there is none.

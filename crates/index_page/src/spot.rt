@@ -6,7 +6,7 @@ pub type Place = u16;
 
 /// The rows around a cut: their places, and how far the tuple agrees with each of them, (0, 0)
 /// where there is none.
-#[derive(Clone, Copy, PartialEq, Eq)]
+#[derive(Clone, Copy)]
 pub struct Spot {
     /// The last row that the cut leaves out.
     pub before: Option<Place>,
