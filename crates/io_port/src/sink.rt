@@ -4,7 +4,7 @@ ghost use Rattle.io_port.specs.Faults.{ShowsFault};
 ghost use Rattle.io_port.specs.Sink.{Puts, PutsSome};
 
 /// Why a put didn't take all of its bytes.
-#[derive(Clone, Copy, Debug, PartialEq, Eq)]
+#[derive(Clone, Copy, Debug)]
 pub enum SinkError {
     Failed,
 }
