@@ -2,7 +2,7 @@
 use std::alloc::{AllocError, AllocFailed};
 
 /// There was no memory.
-#[derive(Debug, Clone, Copy, PartialEq, Eq)]
+#[derive(Debug, Clone, Copy)]
 pub struct NoMemory;
 
 impl From<AllocError> for NoMemory {

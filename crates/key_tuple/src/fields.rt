@@ -19,7 +19,7 @@ pub trait Fields {
 }
 
 /// So many empty fields.
-#[derive(Clone, Copy, PartialEq, Eq)]
+#[derive(Clone, Copy)]
 pub struct Blank {
     /// How many.
     pub count: u8,
