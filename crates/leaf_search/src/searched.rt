@@ -4,7 +4,7 @@ use map_history::{How, Note};
 use tree_descent::Leaf;
 
 /// What is in hand after a search of a key: its leaf, and perhaps where its row stands there.
-#[derive(Clone, Copy, PartialEq, Eq)]
+#[derive(Clone, Copy)]
 pub enum KeySearch {
     /// The hash led to the key's row.
     Row {
@@ -20,7 +20,7 @@ pub enum KeySearch {
 }
 
 /// The leaf of a key in hand, how it was found, and what was learnt from that.
-#[derive(Clone, Copy, PartialEq, Eq)]
+#[derive(Clone, Copy)]
 pub struct Searched {
     /// The leaf, and where the key belongs on it.
     pub leaf: Leaf,
