@@ -5,7 +5,7 @@ ghost use Rattle.learning.specs.Opening.{opening_block};
 use key_tuple::{Match, Params};
 
 /// How far the tuple of a search agrees with the rows on both sides of its position.
-#[derive(Clone, Copy, PartialEq, Eq)]
+#[derive(Clone, Copy)]
 pub struct Figures {
     /// With the row before the position.
     pub low: Match,
@@ -42,7 +42,7 @@ impl BlockFigures {
 }
 
 /// A search that went down the tree.
-#[derive(Clone, Copy, PartialEq, Eq)]
+#[derive(Clone, Copy)]
 pub struct Descent {
     /// How many fields the index has.
     pub unique: u8,
@@ -55,7 +55,7 @@ pub struct Descent {
 }
 
 /// What an index learns from.
-#[derive(Clone, Copy, PartialEq, Eq)]
+#[derive(Clone, Copy)]
 pub enum Event {
     /// The hash answered a search.
     Hit,
