@@ -10,7 +10,7 @@ pub const COUNTED: usize = 18;
 
 /// How many answers and pieces of an index have each word of `counted_words` in their columns, in
 /// the order of these words.
-#[derive(Clone, Copy, PartialEq, Eq)]
+#[derive(Clone, Copy)]
 pub struct Counts {
     pub numbers: [u64; COUNTED],
 }

@@ -29,7 +29,7 @@ pub struct Told {
 }
 
 /// One piece of a scan, with its columns.
-#[derive(Clone, Copy, PartialEq, Eq)]
+#[derive(Clone, Copy)]
 pub struct Piece {
     /// The number of changes of the index at which its rows were read.
     pub point: u64,
