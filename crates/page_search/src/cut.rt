@@ -7,7 +7,7 @@ use crate::agreement::Agreement;
 use key_tuple::Match;
 
 /// Where a cut parts the rows of a page.
-#[derive(Clone, Copy, PartialEq, Eq)]
+#[derive(Clone, Copy)]
 pub struct CutPlace {
     /// The place of the last row that it leaves out, or that of infimum.
     pub before: u16,
