@@ -19,7 +19,7 @@ use key_tuple::{Fields, Mode};
 use std::sync::Wait;
 
 /// A leaf in hand, and where a search stands on it.
-#[derive(Clone, Copy, PartialEq, Eq)]
+#[derive(Clone, Copy)]
 pub struct Leaf {
     /// The block whose frame has the leaf.
     pub block: u32,
