@@ -16,7 +16,7 @@ use forest_world::{ForestPass, ForestSpace, fits};
 use std::sync::Wait;
 
 /// What stands on a side of a leaf.
-#[derive(Clone, Copy, PartialEq, Eq)]
+#[derive(Clone, Copy)]
 pub enum Beside {
     /// Nothing: it is the last leaf on this side.
     AtEnd,

@@ -20,7 +20,7 @@ use std::sync::Wait;
 use tree_descent::{Leaf, descend};
 
 /// A leaf in hand, and perhaps the leaf beside it.
-#[derive(Clone, Copy, PartialEq, Eq)]
+#[derive(Clone, Copy)]
 pub struct LeafPair {
     /// The leaf that has the tuple's position.
     pub leaf: Leaf,

@@ -6,7 +6,7 @@ use index_page::{Page, Place, Spot};
 use key_tuple::Mode;
 
 /// A side of a leaf: where the greater keys are, or the lesser ones.
-#[derive(Clone, Copy, PartialEq, Eq)]
+#[derive(Clone, Copy)]
 pub enum Side {
     /// Where the lesser keys are.
     Left,
