@@ -39,3 +39,6 @@ slot_owner-requires c =
     let r = c.requires in
     let count = c.slot_count-count.ensures r.0 r.4.page.is in
     (r.0, r.4.page.is, subst (λ (n : ℕ). c.loop-slot.slot < n) count c.loop-slot-test.true)
+
+pub loop-slot-init : goal.loop-slot-init
+loop-slot-init c = λ m gs free s r. omega arith
