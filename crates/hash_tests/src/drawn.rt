@@ -13,9 +13,11 @@ pub(crate) const PLACE: u16 = 99;
 #[derive(Drop)]
 pub(crate) struct Cut {
     pub(crate) left: bool,
-    pub(crate) before: Vec<Node>,
+    /// The nodes of the rows.
+    pub(crate) rows: Vec<Node>,
+    /// How many of them stand before the cut.
+    pub(crate) before: usize,
     pub(crate) node: Node,
-    pub(crate) after: Vec<Node>,
 }
 
 /// A row of a chain of numbers, the next of which is drawn.
@@ -35,25 +37,28 @@ fn draw_node(state: &mut u64, place: u16) -> Node {
     }
 }
 
-/// The nodes of up to 30 rows, at places from the first one on.
-fn draw_half<R: AllocGlobal + Abort>(rt: &R, state: &mut u64, first: u16) -> Vec<Node> {
-    let mut nodes = Vec::new(rt.alloc());
+/// Puts the nodes of up to 30 rows behind the others, at places from the first one on.
+fn draw_half<R: Abort>(rt: &R, rows: &mut Vec<Node>, state: &mut u64, first: u16) {
     let count = (draw(state) % 31) as u16;
     for place in first..first.saturating_add(count) {
-        nodes
-            .push(draw_node(state, place))
+        rows.push(draw_node(state, place))
             .expect(rt, "memory for a node");
     }
-    nodes
 }
 
 /// The leaf of this number.
 pub(crate) fn draw_cut<R: AllocGlobal + Abort>(rt: &R, number: u64) -> Cut {
     let mut state = number;
+    let mut rows = Vec::new(rt.alloc());
+    let left = draw(&mut state) % 2 == 0;
+    draw_half(rt, &mut rows, &mut state, 0);
+    let before = rows.len();
+    let node = draw_node(&mut state, PLACE);
+    draw_half(rt, &mut rows, &mut state, PLACE + 1);
     Cut {
-        left: draw(&mut state) % 2 == 0,
-        before: draw_half(rt, &mut state, 0),
-        node: draw_node(&mut state, PLACE),
-        after: draw_half(rt, &mut state, PLACE + 1),
+        left,
+        rows,
+        before,
+        node,
     }
 }

@@ -2,6 +2,7 @@
 ghost use Rattle.std.specs.Prelude.{◌≡◌, ◌<◌};
 ghost use Rattle.search_info.specs.Passes.{IsLearnPassOf, HasUnique};
 
+use crate::claims::ensure;
 use key_tuple::Match;
 use learning::{BlockFigures, Event, Figures, Info, is_info_of, pack};
 use search_info::{Learn, LearnPass, Learner};
@@ -23,12 +24,11 @@ fn open_one<R: AllocGlobal + Abort>(rt: &R, first: &Info, passes: u32) -> (Learn
     requires one { 0 < passes }
     ensures own { IsLearnPassOf result.0 result.1 × HasUnique result.0 0 1 }
 {
-    assert!(rt; is_info_of(1, first));
-    let Ok((learner, pass)) = Learner::open(rt.alloc(), [*first].as_slice(), [1].as_slice(), passes)
-    else {
+    ensure(rt, is_info_of(1, first), "an info of one field");
+    let Ok(opened) = Learner::open(rt.alloc(), [*first].as_slice(), [1].as_slice(), passes) else {
         panic!(rt; "no memory")
     };
-    (learner, pass)
+    opened
 }
 
 /// Cuts the pass in two, which has all numbers up to this one.
@@ -38,7 +38,7 @@ fn cut<R: Abort>(rt: &R, learner: &Learner, pass: &mut LearnPass, all: u32) -> L
     ensures given { IsLearnPassOf learner.now result }
 {
     let (low, end) = pass.numbers();
-    assert!(rt; low == 0 && end == all && end >= 2);
+    ensure(rt, low == 0 && end == all && end >= 2, "all numbers");
     learner.split(pass).expect(rt, "another pass")
 }
 
@@ -76,6 +76,19 @@ fn builds_once(learner: &Learner, pass: &mut LearnPass) -> bool
     as_told
 }
 
+/// Whether a hit or a miss is counted, and doesn't let build.
+fn counts(learner: &Learner, pass: &mut LearnPass, is_hit: bool) -> bool
+    requires own { IsLearnPassOf learner.now pass.old × HasUnique learner.now 0 1 }
+    ensures { IsLearnPassOf learner.now pass.new }
+{
+    let learn = if is_hit {
+        learner.after_hit(pass, 0)
+    } else {
+        learner.after_miss(pass, 0)
+    };
+    matches!(&learn, Learn::Learnt { build: false, .. })
+}
+
 /// Whether 169 hits are counted, and none lets build.
 fn counts_hits(learner: &Learner, pass: &mut LearnPass) -> bool
     requires own { IsLearnPassOf learner.now pass.old × HasUnique learner.now 0 1 }
@@ -83,18 +96,24 @@ fn counts_hits(learner: &Learner, pass: &mut LearnPass) -> bool
 {
     let mut counted = true;
     for _ in 0..169 {
-        let learn = learner.after_hit(pass, 0);
-        counted = counted && matches!(&learn, Learn::Learnt { build: false, .. });
+        counted = counts(learner, pass, true) && counted;
     }
     counted
 }
 
+/// Whether the build and the hits are as they have to be, and the word is.
+fn ends_with_word(learner: &Learner, mut pass: LearnPass) -> bool
+    requires own { IsLearnPassOf learner.now pass × HasUnique learner.now 0 1 }
+{
+    let as_told = builds_once(learner, &mut pass) && counts_hits(learner, &mut pass);
+    let info = learner.recommend(&mut pass, 0);
+    as_told && is_info_of(1, &info) && pack(&info) == 0x0000_012f_0000_63a7
+}
+
 #[test]
 fn one_key_of_three_ends_with_its_word(rt: HostRuntime) {
-    let (learner, mut pass) = open_one(&rt, &Info::opening(), 1);
-    assert!(rt; builds_once(&learner, &mut pass) && counts_hits(&learner, &mut pass));
-    let info = learner.recommend(&mut pass, 0);
-    assert!(rt; is_info_of(1, &info) && pack(&info) == 0x0000_012f_0000_63a7);
+    let (learner, pass) = open_one(&rt, &Info::opening(), 1);
+    assert!(rt; ends_with_word(&learner, pass));
 }
 
 /// Whether the learner says just this of its index.
@@ -105,16 +124,17 @@ fn says(learner: &Learner, pass: &mut LearnPass, info: &Info) -> bool
     learner.recommend(pass, 0) == *info
 }
 
-/// Whether a hit and a miss are told that the word is worn, and a descent leaves its block.
-fn is_worn(learner: &Learner, pass: &mut LearnPass) -> bool
-    requires own { IsLearnPassOf learner.now pass.old × HasUnique learner.now 0 1 }
-    ensures { IsLearnPassOf learner.now pass.new }
+/// Whether a hit and a miss are told that the word is worn, a descent leaves its block, and the learner
+/// says what it began with.
+fn is_worn(learner: &Learner, mut pass: LearnPass, first: &Info) -> bool
+    requires own { IsLearnPassOf learner.now pass × HasUnique learner.now 0 1 }
 {
-    let hit = learner.after_hit(pass, 0);
-    let miss = learner.after_miss(pass, 0);
+    let hit = learner.after_hit(&mut pass, 0);
+    let miss = learner.after_miss(&mut pass, 0);
     let mut block = BlockFigures::opening();
-    let builds = descend(learner, pass, &mut block, ONE);
-    hit == Learn::Worn && miss == Learn::Worn && !builds && block == BlockFigures::opening()
+    let builds = descend(learner, &mut pass, &mut block, ONE);
+    let kept = !builds && block == BlockFigures::opening() && says(learner, &mut pass, first);
+    hit == Learn::Worn && miss == Learn::Worn && kept
 }
 
 #[test]
@@ -123,45 +143,35 @@ fn a_worn_word_stays(rt: HostRuntime) {
         events: u32::MAX,
         ..Info::opening()
     };
-    let (learner, mut pass) = open_one(&rt, &first, 1);
-    assert!(rt; is_worn(&learner, &mut pass) && says(&learner, &mut pass, &first));
+    let (learner, pass) = open_one(&rt, &first, 1);
+    assert!(rt; is_worn(&learner, pass, &first));
 }
 
-/// Whether a hit that a miss of another pass overtakes is told so, and isn't counted.
-fn is_overtaken(learner: &Learner, pass: &mut LearnPass, other: &mut LearnPass) -> bool
-    requires own { IsLearnPassOf learner.now pass.old × HasUnique learner.now 0 1 }
-    requires others { IsLearnPassOf learner.now other.old }
+/// Whether a hit that a miss of another pass, which has the upper numbers, overtakes is told so, and isn't
+/// counted.
+fn is_overtaken(learner: &Learner, mut pass: LearnPass, mut other: LearnPass) -> bool
+    requires own { IsLearnPassOf learner.now pass × HasUnique learner.now 0 1 }
+    requires others { IsLearnPassOf learner.now other }
 {
+    if other.numbers() != (3, 7) {
+        return false;
+    }
     let read = Info::opening();
     let found = Info { events: 1, ..read };
-    let Some((word, before)) = learner.read(pass, 0, &Event::Hit) else {
+    let Some((word, before)) = learner.read(&mut pass, 0, &Event::Hit) else {
         return false
     };
-    let counted = learner.after_miss(other, 0);
-    let raced = learner.exchange(pass, 0, &Event::Hit, word, &before);
+    let counted = learner.after_miss(&mut other, 0);
+    let raced = learner.exchange(&mut pass, 0, &Event::Hit, word, &before);
     let told = matches!(&counted, Learn::Learnt { .. }) && raced == Learn::Raced { read, found };
-    word == 0x4002 && told && says(learner, pass, &found)
+    word == 0x4002 && told && says(learner, &mut pass, &found)
 }
 
 #[test]
 fn an_event_that_another_overtakes_is_not_counted(rt: HostRuntime) {
     let (learner, mut pass) = open_one(&rt, &Info::opening(), 7);
-    let mut other = cut(&rt, &learner, &mut pass, 7);
-    assert!(rt; other.numbers() == (3, 7));
-    assert!(rt; is_overtaken(&learner, &mut pass, &mut other));
-}
-
-/// Whether an event is counted.
-fn event(learner: &Learner, pass: &mut LearnPass, is_hit: bool) -> bool
-    requires own { IsLearnPassOf learner.now pass.old × HasUnique learner.now 0 1 }
-    ensures { IsLearnPassOf learner.now pass.new }
-{
-    let learn = if is_hit {
-        learner.after_hit(pass, 0)
-    } else {
-        learner.after_miss(pass, 0)
-    };
-    matches!(&learn, Learn::Learnt { .. })
+    let other = cut(&rt, &learner, &mut pass, 7);
+    assert!(rt; is_overtaken(&learner, pass, other));
 }
 
 /// Makes 1,000 events, and says how many were counted.
@@ -171,7 +181,7 @@ fn events(learner: &Learner, mut pass: LearnPass) -> (LearnPass, u32)
 {
     let mut counted: u32 = 0;
     for i in 0..1000 {
-        if event(learner, &mut pass, i % 3 == 0) {
+        if counts(learner, &mut pass, i % 3 == 0) {
             counted = counted.saturating_add(1);
         }
     }
@@ -185,7 +195,7 @@ fn count_of<R: Abort>(rt: &R, learner: &Learner, mut one: LearnPass, two: LearnP
 {
     let (_, middle) = one.numbers();
     let (next, _) = two.numbers();
-    assert!(rt; middle == next);
+    ensure(rt, middle == next, "the next numbers");
     learner.join(&mut one, two);
     learner.recommend(&mut one, 0).events
 }
@@ -205,6 +215,5 @@ fn two_threads_count_what_the_word_counts(rt: HostRuntime) {
             ensures { IsLearnPassOf learner result.0 }
         { events(&learner, other) },
     );
-    let counted = u64::from(count_of(&rt, &learner, one, two));
-    assert!(rt; counted == u64::from(here) + u64::from(there));
+    assert!(rt; count_of(&rt, &learner, one, two) == here.saturating_add(there));
 }

@@ -2,6 +2,7 @@
 ghost use Rattle.std.specs.Prelude.{◌<◌, ℕ};
 ghost use Rattle.learning.specs.Bounds.{IsEventOf};
 
+use crate::claims::ensure;
 use key_tuple::{Match, Params};
 use learning::{
     BlockFigures, Descent, Event, Figures, Info, is_descent_of, is_info_of, learn, learn_block,
@@ -10,21 +11,15 @@ use learning::{
 use std::process::Abort;
 
 /// What the hash would do when it is asked.
-#[derive(Clone, Copy)]
 enum Hash {
     Answers,
     Fails,
     IsShort,
 }
 
-/// A search in an index of so many fields, which comes to a leaf of so many rows.
-#[derive(Clone, Copy)]
-struct Search {
-    unique: u8,
-    figures: Figures,
-    rows: u16,
-    hash: Hash,
-}
+/// How often a key is sought, how far the rows beside its position agree, how many rows the leaf has, and
+/// what the hash would do.
+type Search = (u32, Match, Match, u16, Hash);
 
 /// How often each thing happened in a run, and when a build was first due.
 #[derive(Clone, Copy)]
@@ -39,9 +34,18 @@ struct Counts {
     first_due: u32,
 }
 
+/// Searches in an index of so many fields, with room for its entries or with none, and what they count.
+struct Lesson {
+    unique: u8,
+    room: bool,
+    searches: &'static [Search],
+    counts: Counts,
+}
+
 /// One index with one leaf.
 #[derive(Clone, Copy)]
 struct Run {
+    unique: u8,
     info: Info,
     block: BlockFigures,
     counts: Counts,
@@ -75,23 +79,103 @@ const TWO: Match = Match {
     bytes: 0,
 };
 
-fn start(room: bool) -> Run {
+/// Three puts into an empty leaf, then the same key sought 300 times.
+static HITS: Lesson = Lesson {
+    unique: 1,
+    room: true,
+    searches: &[
+        (3, NONE, NONE, 3, Hash::Answers),
+        (300, NONE, ONE, 3, Hash::Answers),
+    ],
+    counts: Counts {
+        hit: 169,
+        cold: 134,
+        built: 1,
+        first_due: 129,
+        ..NOTHING
+    },
+};
+
+/// The same where the hash fails.
+static MISSES: Lesson = Lesson {
+    unique: 1,
+    room: true,
+    searches: &[
+        (3, NONE, NONE, 3, Hash::Fails),
+        (300, NONE, ONE, 3, Hash::Fails),
+    ],
+    counts: Counts {
+        cold: 158,
+        unequal: 145,
+        built: 1,
+        same: 24,
+        first_due: 129,
+        ..NOTHING
+    },
+};
+
+/// The same where there is no room.
+static NO_ROOM: Lesson = Lesson {
+    unique: 1,
+    room: false,
+    searches: &[
+        (3, NONE, NONE, 3, Hash::Answers),
+        (300, NONE, ONE, 3, Hash::Answers),
+    ],
+    counts: Counts {
+        cold: 303,
+        arena: 172,
+        first_due: 129,
+        ..NOTHING
+    },
+};
+
+/// A group of keys is sought before the first one is put in, with the others, and once they are there.
+static GROUP: Lesson = Lesson {
+    unique: 3,
+    room: true,
+    searches: &[
+        (1, NONE, NONE, 0, Hash::Answers),
+        (3, ONE, NONE, 3, Hash::Answers),
+        (200, ONE, TWO, 4, Hash::Answers),
+    ],
+    counts: Counts {
+        hit: 70,
+        cold: 134,
+        built: 1,
+        first_due: 128,
+        ..NOTHING
+    },
+};
+
+/// The same, and then a tuple of too few fields is sought.
+static SHORT: Lesson = Lesson {
+    unique: 3,
+    room: true,
+    searches: &[
+        (1, NONE, NONE, 0, Hash::Answers),
+        (3, ONE, NONE, 3, Hash::Answers),
+        (200, ONE, TWO, 4, Hash::Answers),
+        (1, NONE, ONE, 4, Hash::IsShort),
+    ],
+    counts: Counts {
+        hit: 70,
+        cold: 134,
+        short: 1,
+        built: 1,
+        first_due: 128,
+        ..NOTHING
+    },
+};
+
+fn start(unique: u8, room: bool) -> Run {
     Run {
+        unique,
         info: Info::opening(),
         block: BlockFigures::opening(),
         counts: NOTHING,
         number: 0,
         room,
-    }
-}
-
-/// A search in an index of keys of three fields, the hash of which answers.
-fn group_search(low: Match, up: Match, rows: u16) -> Search {
-    Search {
-        unique: 3,
-        figures: Figures { low, up },
-        rows,
-        hash: Hash::Answers,
     }
 }
 
@@ -102,18 +186,22 @@ fn one_more(count: &mut u32) {
 fn teach(rt: &impl Abort, run: &mut Run, event: &Event)
     requires { (unique : ℕ) × IsEventOf unique event.now }
 {
-    assert!(rt; run.info.events < u32::MAX);
+    ensure(rt, run.info.events < u32::MAX, "room for an event");
     run.info = learn(&run.info, event);
 }
 
 fn go_down(rt: &impl Abort, run: &mut Run, search: &Search) {
     let descent = Descent {
-        unique: search.unique,
-        figures: search.figures,
+        unique: run.unique,
+        figures: Figures {
+            low: search.1,
+            up: search.2,
+        },
         block: run.block,
-        rows: search.rows,
+        rows: search.3,
     };
-    assert!(rt; run.info.events < u32::MAX && is_descent_of(search.unique, &descent));
+    ensure(rt, run.info.events < u32::MAX, "room for an event");
+    ensure(rt, is_descent_of(run.unique, &descent), "a descent");
     let event = Event::Descent(descent);
     let due = should_build(&run.info, &event);
     run.block = learn_block(&run.info, &descent);
@@ -141,7 +229,7 @@ fn build(run: &mut Run) {
 }
 
 /// Asks the hash, if that is promised something: whether it answers.
-fn ask(rt: &impl Abort, run: &mut Run, hash: Hash) -> bool {
+fn ask(rt: &impl Abort, run: &mut Run, hash: &Hash) -> bool {
     if run.info.potential == 0 || !run.info.last {
         one_more(&mut run.counts.cold);
         return false;
@@ -164,38 +252,15 @@ fn ask(rt: &impl Abort, run: &mut Run, hash: Hash) -> bool {
     }
 }
 
-fn searches(rt: &impl Abort, run: &mut Run, times: u32, search: &Search) {
-    for _ in 0..times {
+/// Makes the search as often as it says.
+fn seek(rt: &impl Abort, run: &mut Run, search: &Search) {
+    run.number = 0;
+    for _ in 0..search.0 {
         one_more(&mut run.number);
-        if !ask(rt, run, search.hash) {
+        if !ask(rt, run, &search.4) {
             go_down(rt, run, search);
         }
     }
-}
-
-/// Three puts into an empty leaf, then the same key sought 300 times.
-fn one_key(rt: &impl Abort, room: bool, hash: Hash) -> Run {
-    let mut run = start(room);
-    let apart = Figures {
-        low: NONE,
-        up: NONE,
-    };
-    let put = Search {
-        unique: 1,
-        figures: apart,
-        rows: 3,
-        hash,
-    };
-    searches(rt, &mut run, 3, &put);
-    run.number = 0;
-    let figures = Figures { low: NONE, up: ONE };
-    searches(rt, &mut run, 300, &Search { figures, ..put });
-    run
-}
-
-/// The run has these counts.
-fn has(run: &Run, counts: &Counts) -> bool {
-    numbers(&run.counts) == numbers(counts)
 }
 
 fn numbers(counts: &Counts) -> [u32; 8] {
@@ -211,92 +276,50 @@ fn numbers(counts: &Counts) -> [u32; 8] {
     ]
 }
 
-/// What is learnt by three puts and 300 searches for one of the keys, which have these counts.
-fn learnt(rt: &impl Abort, room: bool, hash: Hash, counts: &Counts) -> Info {
-    let run = one_key(rt, room, hash);
-    assert!(rt; has(&run, counts));
+/// What is learnt by these searches, which count what they have to.
+fn learnt(rt: &impl Abort, lesson: &Lesson) -> Info {
+    let mut run = start(lesson.unique, lesson.room);
+    for search in lesson.searches {
+        seek(rt, &mut run, search);
+    }
+    let as_told = numbers(&run.counts) == numbers(&lesson.counts);
+    ensure(rt, as_told, "these counts");
     run.info
 }
 
-const HITS: Counts = Counts {
-    hit: 169,
-    cold: 134,
-    built: 1,
-    first_due: 129,
-    ..NOTHING
-};
+/// The info of an index of one field has this word.
+fn has_word(info: &Info, word: u64) -> bool {
+    is_info_of(1, info) && pack(info) == word && unpack(word) == *info
+}
 
 #[test]
 fn one_key_of_three_is_hit_from_its_132nd_search(rt: HostRuntime) {
-    let info = learnt(&rt, true, Hash::Answers, &HITS);
-    let word = 0x0000_012f_0000_63a7;
-    assert!(rt; info.potential == 105 && info.analysis == 17);
-    assert!(rt; is_info_of(1, &info) && pack(&info) == word && unpack(word) == info);
+    let info = learnt(&rt, &HITS);
+    assert!(rt; has_word(&info, 0x0000_012f_0000_63a7) && has_word(&Info::opening(), 0x4002));
+    ensure(
+        &rt,
+        info.potential == 105 && info.analysis == 17,
+        "these counts",
+    );
 }
-
-const MISSES: Counts = Counts {
-    cold: 158,
-    unequal: 145,
-    built: 1,
-    same: 24,
-    first_due: 129,
-    ..NOTHING
-};
 
 #[test]
 fn keys_with_one_fold_are_built_again_and_again(rt: HostRuntime) {
-    assert!(rt; learnt(&rt, true, Hash::Fails, &MISSES).potential == 127);
+    assert!(rt; learnt(&rt, &MISSES).potential == 127);
 }
-
-const NO_ROOM: Counts = Counts {
-    cold: 303,
-    arena: 172,
-    first_due: 129,
-    ..NOTHING
-};
 
 #[test]
 fn without_room_each_build_is_due_again(rt: HostRuntime) {
-    learnt(&rt, false, Hash::Answers, &NO_ROOM);
+    learnt(&rt, &NO_ROOM);
 }
-
-/// How often a group of keys is sought before the first one is put in, with the others, and once they are
-/// there, how far the rows beside the position agree, and how many rows there are.
-static GROUP: [(u32, Match, Match, u16); 3] = [
-    (1, NONE, NONE, 0),
-    (3, ONE, NONE, 3),
-    (200, ONE, TWO, 4),
-];
-
-const GROUP_COUNTS: Counts = Counts {
-    hit: 70,
-    cold: 134,
-    short: 1,
-    built: 1,
-    first_due: 128,
-    ..NOTHING
-};
 
 #[test]
 fn a_group_of_keys_is_hit_by_its_first_row(rt: HostRuntime) {
-    let mut run = start(true);
-    for (times, low, up, rows) in GROUP.iter() {
-        run.number = 0;
-        searches(&rt, &mut run, *times, &group_search(*low, *up, *rows));
-    }
     let params = Params {
         fields: 2,
         bytes: 0,
         left: true,
     };
-    assert!(rt; run.info.params == params);
-    let mut first = group_search(NONE, ONE, 4);
-    first.hash = Hash::IsShort;
-    searches(&rt, &mut run, 1, &first);
-    assert!(rt; has(&run, &GROUP_COUNTS));
-}
-
-#[test]
-fn the_opening_word(rt: HostRuntime) {
-    assert!(rt; pack(&Info::opening()) == 0x4002);
+    assert!(rt; learnt(&rt, &GROUP).params == params);
+    learnt(&rt, &SHORT);
 }

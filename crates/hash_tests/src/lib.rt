@@ -7,6 +7,8 @@ mod chains;
 #[cfg(test)]
 mod changes;
 #[cfg(test)]
+mod claims;
+#[cfg(test)]
 mod drawn;
 #[cfg(test)]
 mod guesses;

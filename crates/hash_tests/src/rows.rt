@@ -3,14 +3,15 @@ ghost use Rattle.std.specs.Prelude.{◌≡◌, IsSome};
 ghost use Rattle.index_page.specs.Rows.{find_row};
 ghost use Rattle.index_page.specs.Changes.{rows_without};
 
+use crate::claims::ensure;
 use hash_upkeep::rows_come_and_go;
 use index_page::{Body, Page, PageHead, Place};
 use key_tuple::{Fields, Key, Mode};
-use sample_rows::{key_of, value_of};
+use sample_rows::value_of;
 use std::process::Abort;
 
 /// A leaf of index 0 with a page before it and no rows, for keys of so many fields.
-pub(crate) fn empty_leaf<R: AllocGlobal + Abort>(rt: &R, fields: u8) -> Page
+fn empty_leaf<R: AllocGlobal + Abort>(rt: &R, fields: u8) -> Page
     ensures { result.head.fields ≡ fields }
 {
     let head = PageHead {
@@ -24,41 +25,48 @@ pub(crate) fn empty_leaf<R: AllocGlobal + Abort>(rt: &R, fields: u8) -> Page
     Page::empty(rt.alloc(), head).expect(rt, "a page")
 }
 
-/// Puts a row in whose key isn't there, and tells its place.
-pub(crate) fn put<R: AllocGlobal + Abort>(rt: &R, page: &mut Page, key: &Key) -> Place
+/// The key of these fields, of a letter each, two at most.
+pub(crate) fn key_of<R: AllocGlobal + Abort>(rt: &R, letters: &[u8]) -> Key {
+    let is_one = letters.len() == 1;
+    ensure(rt, is_one || letters.len() == 2, "one letter or two");
+    let ends: &[usize] = if is_one { &[1] } else { &[1, 2] };
+    let bytes = letters.to_vec(rt.alloc()).expect(rt, "memory for letters");
+    Key::from_parts(bytes, ends).expect(rt, "a key")
+}
+
+/// Puts the row of these letters in, whose key isn't there, and tells its place.
+pub(crate) fn put<R: AllocGlobal + Abort>(rt: &R, page: &mut Page, letters: &[u8]) -> Place
     ensures rows { rows_without result page.new.rows ≡ page.old.rows }
     ensures there { IsSome (find_row result page.new.rows) }
     ensures head { page.new.head ≡ page.old.head }
 {
-    rows_come_and_go();
-    let value = value_of(rt.alloc(), b"v").expect(rt, "a value");
-    let head = *page.head();
-    assert!(rt; head.level == 0 && key.count() == head.fields);
+    put_key(rt, page, &key_of(rt, letters))
+}
+
+fn put_key<R: AllocGlobal + Abort>(rt: &R, page: &mut Page, key: &Key) -> Place
+    ensures rows { rows_without result page.new.rows ≡ page.old.rows }
+    ensures there { IsSome (find_row result page.new.rows) }
+    ensures head { page.new.head ≡ page.old.head }
+{
+    ensure(rt, page.head().level == 0, "a leaf");
+    ensure(rt, key.count() == page.head().fields, "as many fields");
     let spot = page.search(key, Mode::Ge);
-    assert!(rt; spot.up.fields != key.count());
+    ensure(rt, spot.up.fields != key.count(), "another key");
+    rows_come_and_go();
     key.tuple().is_within_limits();
+    let value = value_of(rt.alloc(), b"v").expect(rt, "a value");
     page.insert_at(&spot, key, Body::Value(&value))
         .expect(rt, "room for a row")
 }
 
-/// Puts the row of a letter in, which is its key of one field.
-pub(crate) fn put_letter<R: AllocGlobal + Abort>(rt: &R, page: &mut Page, letter: u8) -> Place
-    ensures rows { rows_without result page.new.rows ≡ page.old.rows }
-    ensures there { IsSome (find_row result page.new.rows) }
-    ensures head { page.new.head ≡ page.old.head }
+/// A leaf with rows of so many letters each.
+pub(crate) fn leaf_of<R: AllocGlobal + Abort>(rt: &R, fields: u8, letters: &[u8]) -> Page
+    ensures { result.head.fields ≡ fields }
 {
-    let key = key_of(rt.alloc(), &[letter]).expect(rt, "a key");
-    put(rt, page, &key)
-}
-
-/// A leaf with a row for each letter.
-pub(crate) fn lettered<R: AllocGlobal + Abort>(rt: &R, letters: &[u8]) -> Page
-    ensures { result.head.fields ≡ 1 }
-{
-    let mut page = empty_leaf(rt, 1);
-    for letter in letters {
-        put_letter(rt, &mut page, *letter);
+    let mut page = empty_leaf(rt, fields);
+    for row in letters.chunks(usize::from(fields).max(1)) {
+        put(rt, &mut page, row);
     }
-    assert!(rt; page.head().fields == 1);
+    ensure(rt, page.head().fields == fields, "the page's fields");
     page
 }

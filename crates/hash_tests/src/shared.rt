@@ -1,6 +1,8 @@
 //! A partition that a leaf shares with another block, and claims of it.
-ghost use Rattle.std.specs.Prelude.{◌≤◌};
+ghost use Rattle.std.specs.Prelude.{◌≡◌};
+ghost use Rattle.hash_partition.specs.Part.{empty_part};
 
+use crate::claims::ensure;
 use chain_arena::Node;
 use hash_partition::Partition;
 use std::process::Abort;
@@ -27,46 +29,49 @@ static OTHERS: [Node; 3] = [
     },
 ];
 
-/// Enters the nodes, for which there is room.
-pub(crate) fn enter_all<R: Abort>(rt: &R, part: &mut Partition, nodes: &[Node]) {
-    for node in nodes {
-        assert!(rt; part.spare() > 0);
-        part.enter(*node);
-    }
-}
-
-/// Takes the nodes out, each of which is there.
-pub(crate) fn leave_all<R: Abort>(rt: &R, part: &mut Partition, nodes: &[Node]) {
-    for node in nodes {
-        assert!(rt; part.leave(node));
-    }
-}
-
-/// A partition with these nodes, and room for so many.
-pub(crate) fn part_of<R: AllocGlobal + Abort>(
-    rt: &R,
-    cells: u32,
-    room: u32,
-    nodes: &[Node],
-) -> Partition
-    requires { 1 ≤ cells }
+/// A partition without nodes, with room for so many.
+pub(crate) fn part_of<R: AllocGlobal + Abort>(rt: &R, cells: u32, nodes: u32) -> Partition
+    ensures { result ≡ empty_part nodes 16 }
 {
-    let mut part = Partition::new(rt.alloc(), cells, room, 16).expect(rt, "a partition");
-    enter_all(rt, &mut part, nodes);
+    ensure(rt, cells > 0, "cells");
+    Partition::new(rt.alloc(), cells, nodes, 16).expect(rt, "a partition")
+}
+
+/// Enters the node, if there is room.
+pub(crate) fn enters(part: &mut Partition, node: Node) -> bool {
+    let room = part.spare() > 0;
+    if room {
+        part.enter(node);
+    }
+    room
+}
+
+/// The node comes, for which there is room, or goes, and is there.
+pub(crate) fn moves(part: &mut Partition, node: &Node, comes: bool) -> bool {
+    if comes {
+        enters(part, *node)
+    } else {
+        part.leave(node)
+    }
+}
+
+/// The nodes of the other block come or go.
+fn move_others<R: Abort>(rt: &R, part: &mut Partition, come: bool) {
+    for node in OTHERS.iter() {
+        ensure(rt, moves(part, node, come), "the other block's node");
+    }
+}
+
+/// A partition with the nodes of the other block.
+pub(crate) fn shared_part<R: AllocGlobal + Abort>(rt: &R) -> Partition {
+    let mut part = part_of(rt, 16, NODES);
+    move_others(rt, &mut part, true);
     part
 }
 
-/// A partition with the nodes of the other block and these.
-pub(crate) fn shared_part<R: AllocGlobal + Abort>(rt: &R, nodes: &[Node]) -> Partition {
-    let mut part = part_of(rt, 16, NODES, &OTHERS);
-    enter_all(rt, &mut part, nodes);
-    part
-}
-
-/// The partition has these nodes and the other block's, and no more: all of them leave, and then all
-/// its nodes are spare.
-pub(crate) fn assert_just<R: Abort>(rt: &R, part: &mut Partition, nodes: &[Node]) {
-    leave_all(rt, part, nodes);
-    leave_all(rt, part, &OTHERS);
-    assert!(rt; part.spare() == NODES);
+/// The partition has the nodes of the other block, and no more: they leave, and then all its nodes are
+/// spare.
+pub(crate) fn assert_others<R: Abort>(rt: &R, part: &mut Partition) {
+    move_others(rt, part, false);
+    ensure(rt, part.spare() == NODES, "no more nodes");
 }

@@ -16,6 +16,8 @@ pub(crate) enum Step {
     Find(u64, Option<u32>),
     /// How many more nodes there is room for.
     Spare(u32),
+    /// How many cells a table has, and how many it gets, which a partition never does.
+    Resize(u32, u32),
 }
 
 /// The cells and the nodes of a table or a partition, and what it does one after the other.
@@ -32,8 +34,8 @@ pub(crate) fn node(fold: u64, block: u32) -> Node {
 
 /// This is the node of the fold and a block, or none.
 pub(crate) fn is_node(found: Option<Node>, fold: u64, block: Option<u32>) -> bool {
-    match (found, block) {
-        (Some(found), Some(block)) => found == node(fold, block),
-        (found, block) => found.is_none() && block.is_none(),
+    match block {
+        Some(block) => found == Some(node(fold, block)),
+        None => found.is_none(),
     }
 }
