@@ -1,6 +1,7 @@
 //! The bytes of a page against a dump.
 ghost use Rattle.std.specs.Prelude.{◌≡◌, []};
 
+use crate::claims::ensure;
 use crate::records::OneByte;
 use crate::setup::value;
 use byte_page::BytePage;
@@ -50,18 +51,6 @@ static ROW_LINES: [Line; 5] = [
         0x0080,
         *b"x\x00\x00\x00\x00\x00\x00\x00\x00\x00\x00\x00\x00\x00\x00\x00",
     ),
-];
-
-/// The keys of eight rows, and where they stand.
-pub(crate) static EIGHT: [(u8, Place); 8] = [
-    (b'a', 127),
-    (b'b', 136),
-    (b'c', 145),
-    (b'd', 154),
-    (b'e', 163),
-    (b'f', 172),
-    (b'g', 181),
-    (b'h', 190),
 ];
 
 /// Parts of a page's bytes: where each begins, and which they are.
@@ -118,11 +107,8 @@ pub(crate) fn line_at(at: usize) -> [u8; 16] {
 fn assert_dump<R: Abort>(rt: &R, bytes: &[u8], others: &[Line]) {
     let mut at = 0usize;
     for line in bytes.chunks(16) {
-        let wanted = match line_of(others, at) {
-            Some(other) => other,
-            None => line_at(at),
-        };
-        assert!(rt; line == wanted.as_slice());
+        let wanted = line_of(others, at).unwrap_or(line_at(at));
+        ensure(rt, line == wanted.as_slice(), "the line of the dump");
         at = at.wrapping_add(16);
     }
 }
@@ -131,7 +117,7 @@ fn assert_dump<R: Abort>(rt: &R, bytes: &[u8], others: &[Line]) {
 fn assert_parts<R: Abort>(rt: &R, bytes: &[u8], parts: Parts) {
     for (at, wanted) in parts {
         let found = bytes.get(*at..).unwrap_or(&[]);
-        assert!(rt; found.starts_with(wanted));
+        ensure(rt, found.starts_with(wanted), "this part");
     }
 }
 
@@ -159,7 +145,10 @@ fn page_with_row<R: AllocGlobal + Abort>(rt: &R) -> BytePage
     let mut page = page_three(rt);
     let key = OneByte { bytes: *b"a" };
     let value = value(rt, b"x");
-    assert!(rt; page.insert(&key, Body::Value(&value)) == Ok(127));
+    let place = page
+        .insert(&key, Body::Value(&value))
+        .expect(rt, "room for a row");
+    ensure(rt, place == 127, "the first place");
     page
 }
 
@@ -180,18 +169,29 @@ pub(crate) fn offer<R: Abort>(
     spots_tell_keys();
     let spot = page.search(&key, Mode::Ge);
     if spot.up.fields == 1 {
-        panic!(rt; "the key is there");
+        rt.panic("another key");
     }
     page.insert(&key, Body::Value(value))
 }
 
-/// Page 3 with rows of the keys `a` to `h` and values of one byte, which stand where they do in the
-/// dump: the eighth splits the slot of supremum.
-fn page_with_eight<R: AllocGlobal + Abort>(rt: &R) -> BytePage {
+/// Page 3 with rows of the keys `a` to `h` and values of these bytes, of which the first one stands at this
+/// place and each other one so many bytes behind the one before.
+pub(crate) fn page_with_eight<R: AllocGlobal + Abort>(
+    rt: &R,
+    bytes: &[u8],
+    first: Place,
+    step: Place,
+) -> BytePage
+    ensures fields { result.page.head.fields ≡ 1 }
+    ensures level { result.page.head.level ≡ 0 }
+{
     let mut page = page_three(rt);
-    let value = value(rt, b"x");
-    for (byte, place) in EIGHT.iter() {
-        assert!(rt; offer(rt, &mut page, *byte, &value) == Ok(*place));
+    let value = value(rt, bytes);
+    let mut place = first;
+    for byte in b'a'..b'i' {
+        let told = offer(rt, &mut page, byte, &value).expect(rt, "room for a row");
+        ensure(rt, told == place, "the row's place");
+        place = place.saturating_add(step);
     }
     page
 }
@@ -213,17 +213,14 @@ pub(crate) fn set_first<R: AllocGlobal + Abort>(
 fn assert_set<R: AllocGlobal + Abort>(rt: &R, set: &Set) {
     let (value, place, parts) = *set;
     let mut page = page_with_row(rt);
-    assert!(rt; set_first(rt, &mut page, value) == Ok(place));
+    let told = set_first(rt, &mut page, value).expect(rt, "room for the value");
+    ensure(rt, told == place, "the row's place");
     assert_parts(rt, page.bytes(), parts);
 }
 
 #[test]
-fn a_page_without_rows_has_the_bytes_of_the_dump(rt: HostRuntime) {
+fn pages_have_the_bytes_of_the_dump(rt: HostRuntime) {
     assert_dump(&rt, page_three(&rt).bytes(), &[]);
-}
-
-#[test]
-fn a_page_with_a_row_has_the_bytes_of_the_dump(rt: HostRuntime) {
     assert_dump(&rt, page_with_row(&rt).bytes(), &ROW_LINES);
 }
 
@@ -234,7 +231,8 @@ fn a_value_goes_in_place_behind_or_over_the_one_before(rt: HostRuntime) {
     }
 }
 
+// The eighth row splits the slot of supremum.
 #[test]
 fn a_page_with_eight_rows_has_three_slots(rt: HostRuntime) {
-    assert_parts(&rt, page_with_eight(&rt).bytes(), EIGHT_PARTS);
+    assert_parts(&rt, page_with_eight(&rt, b"x", 127, 9).bytes(), EIGHT_PARTS);
 }

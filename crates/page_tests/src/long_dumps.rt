@@ -1,7 +1,8 @@
 //! The bytes of a page with long rows, full and scattered, against what the format says.
 ghost use Rattle.std.specs.Prelude.{◌≡◌, ◌<◌, length};
 
-use crate::dumps::{EIGHT, line_at, offer, page_three, set_first};
+use crate::claims::ensure;
+use crate::dumps::{line_at, offer, page_with_eight, set_first};
 use crate::setup::value;
 use byte_page::BytePage;
 use index_page::{PageError, Place};
@@ -40,12 +41,7 @@ fn page_with_long<R: AllocGlobal + Abort>(rt: &R) -> BytePage
     ensures fields { result.page.head.fields ≡ 1 }
     ensures level { result.page.head.level ≡ 0 }
 {
-    let mut page = page_three(rt);
-    let value = value(rt, &[b'x'; 2000]);
-    for (byte, _) in EIGHT.iter() {
-        assert!(rt; offer(rt, &mut page, *byte, &value).is_ok());
-    }
-    page
+    page_with_eight(rt, &[b'x'; 2000], 128, ROW_BYTES as Place)
 }
 
 /// A byte of the front of a page with eight rows, or without the first of them.
@@ -117,18 +113,18 @@ fn assert_long_dump<R: Abort>(rt: &R, bytes: &[u8], gone: bool)
     requires { length bytes.now ≡ 16384 }
 {
     for at in 0..16_384usize {
-        assert!(rt; bytes[at] == byte_at(at, gone));
+        ensure(rt, bytes[at] == byte_at(at, gone), "the byte of the format");
     }
 }
 
 /// What a page is told that has no gap for a row, or a value, that is a byte longer than the others.
-const SCATTERED: Result<Place, PageError> = Err(PageError::Scattered {
+static SCATTERED: Result<Place, PageError> = Err(PageError::Scattered {
     need: 2011,
     run: 178,
 });
 
 /// What it is told once eight rows have filled it.
-const FULL: Result<Place, PageError> = Err(PageError::PageFull {
+static FULL: Result<Place, PageError> = Err(PageError::PageFull {
     need: 2010,
     free: 172,
 });
@@ -145,7 +141,7 @@ fn assert_refused<R: AllocGlobal + Abort>(
     requires level { page.old.page.head.level ≡ 0 }
 {
     let value = value(rt, &[b'x'; 2001][..count.min(2001)]);
-    assert!(rt; offer(rt, page, b'i', &value) == *told);
+    ensure(rt, offer(rt, page, b'i', &value) == *told, "this refusal");
     assert_long_dump(rt, page.bytes(), gone);
 }
 
@@ -159,7 +155,7 @@ fn take_first<R: Abort>(rt: &R, page: &mut BytePage)
     ensures { page.new.page.head ≡ page.old.page.head }
 {
     let place = page.first().expect(rt, "a row");
-    assert!(rt; place == 128);
+    ensure(rt, place == 128, "the first place");
     page.delete(place);
 }
 
@@ -173,6 +169,7 @@ fn a_scattered_page_has_the_bytes_of_the_format(rt: HostRuntime) {
 #[test]
 fn a_value_that_is_scattered_leaves_the_bytes(rt: HostRuntime) {
     let mut page = page_with_long(&rt);
-    assert!(rt; set_first(&rt, &mut page, &[b'x'; 2001]) == SCATTERED);
+    let told = set_first(&rt, &mut page, &[b'x'; 2001]);
+    ensure(&rt, told == SCATTERED, "this refusal");
     assert_long_dump(&rt, page.bytes(), false);
 }

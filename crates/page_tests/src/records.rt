@@ -30,8 +30,7 @@ fn a_row_has_the_bytes_of_the_dump(rt: HostRuntime) {
         heap_number: 2,
     };
     let place = write(&mut page, 120, head, &OneByte { bytes: *b"a" }, b"x");
-    assert!(rt; place == 127);
-    assert!(rt; page[119..] == [0xee, 1, 1, 0, 0, 0x10, 0, 0, 0x61, 0x78, 0xee]);
+    assert!(rt; place == 127 && page[119..] == [0xee, 1, 1, 0, 0, 0x10, 0, 0, 0x61, 0x78, 0xee]);
 }
 
 #[test]
@@ -43,6 +42,5 @@ fn a_leftmost_pointer_has_its_flag(rt: HostRuntime) {
     };
     let tail: [u8; CHILD_BYTES] = [0, 0, 0, 5];
     let place = write(&mut page, 1, head, &Blank { count: 1 }, &tail);
-    assert!(rt; place == 7);
-    assert!(rt; page == [0xee, 0, 0x10, 0, 0x19, 0, 0, 0, 0, 0, 5, 0xee]);
+    assert!(rt; place == 7 && page == [0xee, 0, 0x10, 0, 0x19, 0, 0, 0, 0, 0, 5, 0xee]);
 }

@@ -1,4 +1,5 @@
 //! Worked loads, moves and copies.
+use crate::claims::ensure;
 use crate::setup::{
     assert_letters, charged, lettered, page_of, place_at, put, put_bytes, set, take_out,
 };
@@ -23,13 +24,10 @@ fn fill_up<R: AllocGlobal + Abort>(rt: &R, page: &mut Page) -> Result<Place, Pag
     put(rt, page, &[16], &[7; 1003])
 }
 
-/// Gives the first row a value of so many bytes.
-fn grow<R: AllocGlobal + Abort>(rt: &R, page: &mut Page, count: usize) -> Result<Place, PageError> {
-    set(rt, page, &[0], &[8; 2048][..count.min(2048)])
-}
-
 /// How many bytes the value of the first row has, what that is told, and how many are free then.
-static VALUES: [(usize, Result<Place, PageError>, u16); 3] = [
+type Growth = (usize, Result<Place, PageError>, u16);
+
+static VALUES: [Growth; 3] = [
     (1047, Ok(0), 0),
     (
         1048,
@@ -42,15 +40,23 @@ static VALUES: [(usize, Result<Place, PageError>, u16); 3] = [
     (1047, Ok(0), 0),
 ];
 
+/// Gives the first row this value.
+fn assert_grows<R: AllocGlobal + Abort>(rt: &R, page: &mut Page, row: &Growth) {
+    let (count, told, free) = *row;
+    let grown = set(rt, page, &[0], &[8; 2048][..count.min(2048)]);
+    ensure(rt, grown == told && page.free() == free, "this value");
+}
+
 /// Sixteen rows of 1,012 bytes have room, another one has none, and the first one grows into what is free.
 fn fill_and_grow<R: AllocGlobal + Abort>(rt: &R, page: &mut Page) {
     let full = PageError::PageFull {
         need: 1013,
         free: 44,
     };
-    assert!(rt; fill_up(rt, page) == Err(full) && page.free() == 44);
-    for (count, told, free) in VALUES.iter() {
-        assert!(rt; grow(rt, page, *count) == *told && page.free() == *free);
+    ensure(rt, fill_up(rt, page) == Err(full), "a full page");
+    ensure(rt, page.free() == 44, "44 bytes");
+    for row in VALUES.iter() {
+        assert_grows(rt, page, row);
     }
 }
 
@@ -61,21 +67,25 @@ fn sixteen_rows_of_1012_bytes_have_room(rt: HostRuntime) {
 
 /// Puts the row with that number in, the shortest first: of no byte, of one, and of two.
 fn put_short<R: AllocGlobal + Abort>(rt: &R, page: &mut Page, n: u16) -> Result<Place, PageError> {
-    match n {
-        0 => put(rt, page, &[], &[]),
-        1..=256 => put(rt, page, &[(n - 1) as u8], &[]),
-        _ => put(rt, page, &(n - 257).to_be_bytes(), &[]),
-    }
+    let byte = [(n.wrapping_sub(1) % 256) as u8];
+    let bytes = n.wrapping_sub(257).to_be_bytes();
+    let field: &[u8] = match n {
+        0 => &[],
+        1..=256 => &byte,
+        _ => &bytes,
+    };
+    put(rt, page, field, &[])
 }
 
 /// So many of the shortest rows have room, and then not a byte is left.
 fn fill_with_short<R: AllocGlobal + Abort>(rt: &R, page: &mut Page) {
     for n in 0..1651 {
-        assert!(rt; put_short(rt, page, n).is_ok());
+        put_short(rt, page, n).expect(rt, "room for a row");
     }
     let full = PageError::PageFull { need: 10, free: 0 };
-    assert!(rt; put_short(rt, page, 1651) == Err(full));
-    assert!(rt; page.load() == 16252 && page.count() == 1651);
+    ensure(rt, put_short(rt, page, 1651) == Err(full), "a full page");
+    ensure(rt, page.load() == 16252, "all bytes");
+    ensure(rt, page.count() == 1651, "all rows");
 }
 
 #[test]
@@ -85,7 +95,7 @@ fn the_shortest_1651_rows_fill_a_page(rt: HostRuntime) {
 
 /// After how many rows a split would cut the page.
 fn cut_after<R: Abort>(rt: &R, page: &Page) -> u16 {
-    assert!(rt; page.count() >= 2);
+    ensure(rt, page.count() >= 2, "two rows");
     page.split_point()
 }
 
@@ -104,19 +114,21 @@ fn rows_are_cut_near_half_of_their_load(rt: HostRuntime) {
 
 /// Moves the rows from that key on to the other page, which has none.
 fn move_from<R: AllocGlobal + Abort>(rt: &R, page: &mut Page, field: &[u8], to: &mut Page) {
-    let (head, other) = (*page.head(), *to.head());
-    assert!(rt; head.level == other.level && head.fields == other.fields && to.count() == 0);
+    ensure(rt, page.head().level == to.head().level, "one level");
+    ensure(rt, page.head().fields == to.head().fields, "as many fields");
+    ensure(rt, to.count() == 0, "no rows");
     let first = place_at(rt, page, field).expect(rt, "a row");
-    assert!(rt; page.move_tail(first, to).is_ok());
+    page.move_tail(first, to).expect(rt, "memory");
 }
 
 /// Moves all rows to a page that has none.
 fn move_to<R: Abort>(rt: &R, page: &mut Page, to: &mut Page) {
-    let (head, other) = (*page.head(), *to.head());
-    assert!(rt; head.level == other.level && head.fields == other.fields && to.count() == 0);
-    assert!(rt; page.load() <= 16252);
+    ensure(rt, page.head().level == to.head().level, "one level");
+    ensure(rt, page.head().fields == to.head().fields, "as many fields");
+    ensure(rt, to.count() == 0, "no rows");
+    ensure(rt, page.load() <= 16252, "room for all");
     page.is_in_order();
-    assert!(rt; page.move_all(to).is_ok());
+    page.move_all(to).expect(rt, "memory");
 }
 
 /// The rows of c, a and b go to the other page, c back, and then a and b.
@@ -138,9 +150,9 @@ fn rows_move_from_page_to_page(rt: HostRuntime) {
 
 /// The rows get new places; the page is saved, a row goes, and it is restored.
 fn renew<R: AllocGlobal + Abort>(rt: &R, page: &mut Page, copy: &mut PageCopy) {
-    assert!(rt; page.reorganise(copy).is_ok());
+    page.reorganise(copy).expect(rt, "memory");
     assert_letters(rt, page, b"abc");
-    assert!(rt; page.save(copy).is_ok());
+    page.save(copy).expect(rt, "memory");
     take_out(rt, page, b"a");
     page.restore(copy);
     assert_letters(rt, page, b"abc");

@@ -1,6 +1,5 @@
 //! Worked pages: searches, places, children, many rows.
-ghost use Rattle.std.specs.Prelude.{◌<◌};
-
+use crate::claims::ensure;
 use crate::setup::{assert_letters, key, lettered, page_of, place_at, put_bytes, take_out};
 use index_page::{Body, Page, Place, spots_tell_keys};
 use key_tuple::{Blank, Fields, Key, Match, Mode};
@@ -20,9 +19,10 @@ fn assert_cut<R: AllocGlobal + Abort>(
     above: Side,
 ) {
     let tuple = key(rt, text);
-    assert!(rt; tuple.count() == page.head().fields);
+    ensure(rt, tuple.count() == page.head().fields, "as many fields");
     let spot = page.search(&tuple, mode);
-    assert!(rt; (spot.before, spot.low) == below && (spot.after, spot.up) == above);
+    ensure(rt, (spot.before, spot.low) == below, "this row before");
+    ensure(rt, (spot.after, spot.up) == above, "this row after");
 }
 
 /// The first and the last row, as a tuple without fields finds them.
@@ -48,7 +48,8 @@ const D: Option<Place> = Some(1);
 fn three_texts<R: AllocGlobal + Abort>(rt: &R) -> Page {
     let mut page = page_of(rt, 0);
     for (place, text) in TEXTS.iter().enumerate() {
-        assert!(rt; usize::from(put_bytes(rt, &mut page, text, b"v")) == place);
+        let is_there = usize::from(put_bytes(rt, &mut page, text, b"v")) == place;
+        ensure(rt, is_there, "the text's place");
     }
     page
 }
@@ -97,22 +98,28 @@ fn sent<T: Send>(value: T) -> T {
 /// The row with that key has this value.
 fn assert_value<R: AllocGlobal + Abort>(rt: &R, page: &Page, field: &[u8], value: &[u8]) {
     let place = place_at(rt, page, field).expect(rt, "a row");
-    assert!(rt; page.head().level == 0 && page.row(place).value() == value);
+    ensure(rt, page.head().level == 0, "a leaf");
+    ensure(rt, page.row(place).value() == value, "this value");
 }
 
 /// The row of b goes, and d with another value comes to its place.
 fn give_way<R: AllocGlobal + Abort>(rt: &R, page: &mut Page) {
     let old = place_at(rt, page, b"b");
     take_out(rt, page, b"b");
-    assert!(rt; place_at(rt, page, b"b").is_none());
-    assert!(rt; Some(put_bytes(rt, page, b"d", b"new")) == old);
+    ensure(rt, place_at(rt, page, b"b").is_none(), "no such row");
+    ensure(
+        rt,
+        Some(put_bytes(rt, page, b"d", b"new")) == old,
+        "the row's place",
+    );
 }
 
 /// Of c, a and b the first two are where they were, and d came.
 fn assert_given_way<R: AllocGlobal + Abort>(rt: &R, page: &Page) {
     assert_letters(rt, page, b"acd");
     assert_value(rt, page, b"d", b"new");
-    assert!(rt; place_at(rt, page, b"c") == Some(0) && place_at(rt, page, b"a") == Some(1));
+    ensure(rt, place_at(rt, page, b"c") == Some(0), "the first place");
+    ensure(rt, place_at(rt, page, b"a") == Some(1), "the second place");
 }
 
 #[test]
@@ -126,22 +133,23 @@ fn a_place_is_taken_again(rt: HostRuntime) {
 fn put_child<R: Abort>(rt: &R, page: &mut Page, key: &Key, child: u32) {
     let head = *page.head();
     if head.level == 0 || key.count() != head.fields {
-        panic!(rt; "no page for such keys");
+        rt.panic("a page for such keys");
     }
     let spot = page.search(key, Mode::Ge);
     if spot.up.fields == key.count() {
-        panic!(rt; "the key is there");
+        rt.panic("another key");
     }
     page.is_in_order();
     key.tuple().is_within_limits();
     spots_tell_keys();
-    assert!(rt; page.insert(key, Body::Child(child)).is_ok());
+    page.insert(key, Body::Child(child))
+        .expect(rt, "room for a row");
 }
 
 /// The child under that key.
 fn child_of<R: AllocGlobal + Abort>(rt: &R, page: &Page, field: &[u8]) -> u32 {
     let place = place_at(rt, page, field).expect(rt, "a row");
-    assert!(rt; page.head().level != 0);
+    ensure(rt, page.head().level != 0, "an inner page");
     page.row(place).child()
 }
 
@@ -153,16 +161,15 @@ fn an_inner_page_has_children(rt: HostRuntime) {
 }
 
 /// The numbers up to 1,000 in an order of their own.
-fn scattered(n: u16) -> [u8; 4]
-    requires { n < 1000 }
-{
+fn scattered(n: u16) -> [u8; 4] {
     (u32::from(n) * 389 % 1000).to_be_bytes()
 }
 
-/// Puts a row in for each number up to 1,000, each at a further place.
-fn put_all<R: AllocGlobal + Abort>(rt: &R, page: &mut Page) {
-    for n in 0..1000 {
-        assert!(rt; put_bytes(rt, page, &scattered(n), b"v") == n);
+/// Puts so many rows in, each at a further place, or where rows went, each at a place that was left.
+fn put_many<R: AllocGlobal + Abort>(rt: &R, page: &mut Page, count: u16, left: bool) {
+    for n in 0..count {
+        let place = put_bytes(rt, page, &scattered(n), b"v");
+        ensure(rt, place == n || left && place < 500, "a place for the row");
     }
 }
 
@@ -173,27 +180,25 @@ fn take_half<R: AllocGlobal + Abort>(rt: &R, page: &mut Page) {
     }
 }
 
-/// Puts them back, at the places that were left.
-fn put_half<R: AllocGlobal + Abort>(rt: &R, page: &mut Page) {
-    for n in 0..500 {
-        assert!(rt; put_bytes(rt, page, &scattered(n), b"v") < 500);
-    }
-}
-
 /// Each number up to 1,000 is a key.
 fn assert_all<R: AllocGlobal + Abort>(rt: &R, page: &Page) {
     for n in 0..1000u32 {
-        assert!(rt; place_at(rt, page, &n.to_be_bytes()).is_some());
+        let place = place_at(rt, page, &n.to_be_bytes());
+        ensure(rt, place.is_some(), "a row");
     }
 }
 
 #[test]
 fn many_rows_come_and_go(rt: HostRuntime) {
-    let mut page = page_of(&rt, 0);
-    put_all(&rt, &mut page);
-    take_half(&rt, &mut page);
-    assert!(rt; page.count() == 500);
-    put_half(&rt, &mut page);
-    assert_all(&rt, &page);
-    assert!(rt; page.count() == 1000);
+    come_and_go(&rt, &mut page_of(&rt, 0));
+}
+
+/// The rows come, half of them go, and these come back.
+fn come_and_go<R: AllocGlobal + Abort>(rt: &R, page: &mut Page) {
+    put_many(rt, page, 1000, false);
+    take_half(rt, page);
+    ensure(rt, page.count() == 500, "500 rows");
+    put_many(rt, page, 500, true);
+    assert_all(rt, page);
+    ensure(rt, page.count() == 1000, "1,000 rows");
 }

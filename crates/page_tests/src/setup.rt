@@ -2,6 +2,7 @@
 ghost use Rattle.std.specs.Prelude.{◌≡◌, [], IfSome, IsSome};
 ghost use Rattle.index_page.specs.Rows.{find_row};
 
+use crate::claims::ensure;
 use index_page::{Body, Page, PageError, PageHead, Place, charge};
 use key_tuple::{Blank, Fields, Key, Mode, Value};
 use sample_rows::{key_of, value_of};
@@ -40,10 +41,10 @@ pub(crate) fn put<R: AllocGlobal + Abort>(
     bytes: &[u8],
 ) -> Result<Place, PageError> {
     let (key, value) = (key(rt, field), value(rt, bytes));
-    let head = *page.head();
-    assert!(rt; head.level == 0 && key.count() == head.fields);
+    ensure(rt, page.head().level == 0, "a leaf");
+    ensure(rt, key.count() == page.head().fields, "as many fields");
     let spot = page.search(&key, Mode::Ge);
-    assert!(rt; spot.up.fields != key.count());
+    ensure(rt, spot.up.fields != key.count(), "another key");
     key.tuple().is_within_limits();
     page.insert_at(&spot, &key, Body::Value(&value))
 }
@@ -55,10 +56,7 @@ pub(crate) fn put_bytes<R: AllocGlobal + Abort>(
     field: &[u8],
     bytes: &[u8],
 ) -> Place {
-    let Ok(place) = put(rt, page, field, bytes) else {
-        panic!(rt; "no room")
-    };
-    place
+    put(rt, page, field, bytes).expect(rt, "room for a row")
 }
 
 /// What a page is charged for a row of these bytes.
@@ -105,10 +103,10 @@ pub(crate) fn assert_letters<R: Abort>(rt: &R, page: &Page, letters: &[u8]) {
     let mut at = first(page);
     for letter in letters {
         let place = at.expect(rt, "a row");
-        assert!(rt; has_key(page, place, &[*letter]));
+        ensure(rt, has_key(page, place, &[*letter]), "this letter");
         at = next(page, place);
     }
-    assert!(rt; at.is_none());
+    ensure(rt, at.is_none(), "no more rows");
 }
 
 /// The place of the row with that key, if it is there.
@@ -116,7 +114,7 @@ pub(crate) fn place_at<R: AllocGlobal + Abort>(rt: &R, page: &Page, field: &[u8]
     ensures { IfSome result (λ place. IsSome (find_row place page.now.rows)) }
 {
     let key = key(rt, field);
-    assert!(rt; key.count() == page.head().fields);
+    ensure(rt, key.count() == page.head().fields, "as many fields");
     let spot = page.search(&key, Mode::Ge);
     if spot.up.fields == key.count() {
         spot.after
@@ -133,7 +131,7 @@ pub(crate) fn set<R: AllocGlobal + Abort>(
     bytes: &[u8],
 ) -> Result<Place, PageError> {
     let place = place_at(rt, page, field).expect(rt, "a row");
-    assert!(rt; page.head().level == 0);
+    ensure(rt, page.head().level == 0, "a leaf");
     page.set(place, &value(rt, bytes))
 }
 

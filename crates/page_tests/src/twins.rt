@@ -2,6 +2,7 @@
 ghost use Rattle.std.specs.Prelude.{IfSome, IsSome};
 ghost use Rattle.index_page.specs.Rows.{find_row};
 
+use crate::claims::ensure;
 use crate::setup::{charged, first, key, next, page_of, place_at, put, set, take_out, value};
 use byte_page::{ByteCopy, BytePage};
 use index_page::{Body, Gaps, Page, PageError, PageHead, Place};
@@ -41,10 +42,10 @@ fn put_in_bytes<R: AllocGlobal + Abort>(
     bytes: &[u8],
 ) -> Option<PageError> {
     let (key, value) = (key(rt, field), value(rt, bytes));
-    let head = page.head();
-    assert!(rt; head.level == 0 && key.count() == head.fields);
+    ensure(rt, page.head().level == 0, "a leaf");
+    ensure(rt, key.count() == page.head().fields, "as many fields");
     let spot = page.search(&key, Mode::Ge);
-    assert!(rt; spot.up.fields != key.count());
+    ensure(rt, spot.up.fields != key.count(), "another key");
     key.tuple().is_within_limits();
     page.insert_at(&spot, &key, Body::Value(&value)).err()
 }
@@ -54,7 +55,7 @@ fn place_in_bytes<R: AllocGlobal + Abort>(rt: &R, page: &BytePage, field: &[u8])
     ensures { IfSome result (λ place. IsSome (find_row place page.now.page.rows)) }
 {
     let key = key(rt, field);
-    assert!(rt; key.count() == page.head().fields);
+    ensure(rt, key.count() == page.head().fields, "as many fields");
     let spot = page.search(&key, Mode::Ge);
     if spot.up.fields != key.count() {
         return None;
@@ -65,7 +66,8 @@ fn place_in_bytes<R: AllocGlobal + Abort>(rt: &R, page: &BytePage, field: &[u8])
 /// Whether there is a row with that key, on both pages or on neither.
 fn is_there<R: AllocGlobal + Abort>(rt: &R, twins: &Twins, field: &[u8]) -> bool {
     let plain = place_at(rt, &twins.plain, field).is_some();
-    assert!(rt; plain == place_in_bytes(rt, &twins.bytes, field).is_some());
+    let other = place_in_bytes(rt, &twins.bytes, field).is_some();
+    ensure(rt, plain == other, "the row on both pages or on neither");
     plain
 }
 
@@ -92,7 +94,7 @@ fn insert<R: AllocGlobal + Abort>(rt: &R, twins: &mut Twins, field: &[u8], bytes
     let gaps = twins.bytes.gaps();
     let plain = put(rt, &mut twins.plain, field, bytes).err();
     let other = put_in_bytes(rt, &mut twins.bytes, field, bytes);
-    assert!(rt; other == refusal(plain, gaps, wanted));
+    ensure(rt, other == refusal(plain, gaps, wanted), "this refusal");
     if plain.is_none() && other.is_some() {
         take_out(rt, &mut twins.plain, field);
     }
@@ -113,7 +115,7 @@ fn refusal_in_plain<R: AllocGlobal + Abort>(
     bytes: &[u8],
 ) -> Option<PageError> {
     let place = place_at(rt, page, field).expect(rt, "a row");
-    assert!(rt; page.head().level == 0);
+    ensure(rt, page.head().level == 0, "a leaf");
     page.refusal_to_set(place, &value(rt, bytes))
 }
 
@@ -127,13 +129,14 @@ fn set_in_bytes<R: AllocGlobal + Abort>(
     plain: Option<PageError>,
 ) -> Option<PageError> {
     let place = place_in_bytes(rt, page, field).expect(rt, "a row in bytes");
-    assert!(rt; page.head().level == 0);
+    ensure(rt, page.head().level == 0, "a leaf");
     let wanted = if page.row(place).tail().len() == bytes.len() {
         plain
     } else {
         refusal(plain, page.gaps_without(place), charged(rt, field, bytes))
     };
-    assert!(rt; page.set(place, &value(rt, bytes)).err() == wanted);
+    let told = page.set(place, &value(rt, bytes)).err();
+    ensure(rt, told == wanted, "this refusal");
     wanted
 }
 
@@ -142,7 +145,9 @@ fn set_in_bytes<R: AllocGlobal + Abort>(
 fn set_both<R: AllocGlobal + Abort>(rt: &R, twins: &mut Twins, field: &[u8], bytes: &[u8]) {
     let plain = refusal_in_plain(rt, &twins.plain, field, bytes);
     let refused = set_in_bytes(rt, &mut twins.bytes, field, bytes, plain).is_some();
-    assert!(rt; refused || set(rt, &mut twins.plain, field, bytes).is_ok());
+    if !refused {
+        set(rt, &mut twins.plain, field, bytes).expect(rt, "room for the value");
+    }
 }
 
 /// One call on both pages, by a number drawn at random, which asks for a value of up to 199 bytes.
@@ -153,7 +158,7 @@ fn call<R: AllocGlobal + Abort>(rt: &R, twins: &mut Twins, drawn: u32) {
     let kind = drawn / 65_536 % 64;
     if kind == 0 {
         twins.bytes.reorganise(&mut twins.copy);
-        assert!(rt; twins.bytes.garbage() == 0);
+        ensure(rt, twins.bytes.garbage() == 0, "no garbage");
     } else {
         change(rt, twins, kind, &field, bytes);
     }
@@ -184,7 +189,7 @@ fn call_often<R: AllocGlobal + Abort>(rt: &R, twins: &mut Twins, calls: u32) {
             .wrapping_add(1);
         let drawn = (state / 4_294_967_296 % 4_294_967_296) as u32;
         call(rt, twins, drawn);
-        assert!(rt; twins.plain.load() == twins.bytes.load());
+        ensure(rt, twins.plain.load() == twins.bytes.load(), "one load");
     }
 }
 
@@ -222,11 +227,11 @@ fn assert_same_rows<R: Abort>(rt: &R, plain: &Page, bytes: &BytePage) {
     let mut place = first_in_bytes(bytes);
     for _ in 0..plain.count() {
         let (row, record) = (at.expect(rt, "a row"), place.expect(rt, "a row in bytes"));
-        assert!(rt; is_same_row(plain, row, bytes, record));
+        ensure(rt, is_same_row(plain, row, bytes, record), "one row");
         at = next(plain, row);
         place = next_in_bytes(bytes, record);
     }
-    assert!(rt; at.is_none() && place.is_none());
+    ensure(rt, at.is_none() && place.is_none(), "no more rows");
 }
 
 /// After so many calls the rows are the same.
