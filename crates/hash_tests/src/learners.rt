@@ -113,7 +113,11 @@ fn ends_with_word(learner: &Learner, mut pass: LearnPass) -> bool
 #[test]
 fn one_key_of_three_ends_with_its_word(rt: HostRuntime) {
     let (learner, pass) = open_one(&rt, &Info::opening(), 1);
-    assert!(rt; ends_with_word(&learner, pass));
+    ensure(
+        &rt,
+        ends_with_word(&learner, pass),
+        "the build and the word",
+    );
 }
 
 /// Whether the learner says just this of its index.
@@ -144,7 +148,7 @@ fn a_worn_word_stays(rt: HostRuntime) {
         ..Info::opening()
     };
     let (learner, pass) = open_one(&rt, &first, 1);
-    assert!(rt; is_worn(&learner, pass, &first));
+    ensure(&rt, is_worn(&learner, pass, &first), "a worn word");
 }
 
 /// Whether a hit that a miss of another pass, which has the upper numbers, overtakes is told so, and isn't
@@ -153,9 +157,7 @@ fn is_overtaken(learner: &Learner, mut pass: LearnPass, mut other: LearnPass) ->
     requires own { IsLearnPassOf learner.now pass × HasUnique learner.now 0 1 }
     requires others { IsLearnPassOf learner.now other }
 {
-    if other.numbers() != (3, 7) {
-        return false;
-    }
+    let (low, end) = other.numbers();
     let read = Info::opening();
     let found = Info { events: 1, ..read };
     let Some((word, before)) = learner.read(&mut pass, 0, &Event::Hit) else {
@@ -164,14 +166,14 @@ fn is_overtaken(learner: &Learner, mut pass: LearnPass, mut other: LearnPass) ->
     let counted = learner.after_miss(&mut other, 0);
     let raced = learner.exchange(&mut pass, 0, &Event::Hit, word, &before);
     let told = matches!(&counted, Learn::Learnt { .. }) && raced == Learn::Raced { read, found };
-    word == 0x4002 && told && says(learner, &mut pass, &found)
+    low == 3 && end == 7 && word == 0x4002 && told && says(learner, &mut pass, &found)
 }
 
 #[test]
 fn an_event_that_another_overtakes_is_not_counted(rt: HostRuntime) {
     let (learner, mut pass) = open_one(&rt, &Info::opening(), 7);
     let other = cut(&rt, &learner, &mut pass, 7);
-    assert!(rt; is_overtaken(&learner, pass, other));
+    ensure(&rt, is_overtaken(&learner, pass, other), "a race");
 }
 
 /// Makes 1,000 events, and says how many were counted.
@@ -215,5 +217,6 @@ fn two_threads_count_what_the_word_counts(rt: HostRuntime) {
             ensures { IsLearnPassOf learner result.0 }
         { events(&learner, other) },
     );
-    assert!(rt; count_of(&rt, &learner, one, two) == here.saturating_add(there));
+    let counted = count_of(&rt, &learner, one, two);
+    ensure(&rt, counted == here.saturating_add(there), "all events");
 }

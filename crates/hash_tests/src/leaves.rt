@@ -17,18 +17,31 @@ fn two_thousand_leaves_keep_up(rt: HostRuntime) {
     }
 }
 
-// A row or a tail comes, or it goes, as the number says. Then the partition has just the nodes of the leaf
-// and those of the other block.
+// A row or a tail comes, or it goes, as the number says: the partition has the old nodes of the leaf and
+// those of the other block, and then just the new ones and those.
 fn keeps_up<R: AllocGlobal + Abort>(rt: &R, number: u64) {
     let cut = draw_cut(rt, number);
     let mut part = shared_part(rt);
     ensure(rt, cut.before <= cut.rows.len(), "a cut among the rows");
-    let comes = number % 2 == 0;
-    if number % 4 < 2 {
-        row_moves(rt, &mut part, &cut, comes);
+    let (is_row, comes) = (number % 4 < 2, number % 2 == 0);
+    let with_row = with_row(rt, &cut);
+    let (without, with) = if is_row {
+        (cut.rows.as_slice(), with_row.as_slice())
     } else {
-        tail_moves(rt, &mut part, &cut, comes);
+        (&cut.rows[..cut.before], cut.rows.as_slice())
+    };
+    let (old, new) = if comes {
+        (without, with)
+    } else {
+        (with, without)
+    };
+    move_runs(rt, &mut part, old, cut.left, 0, true);
+    if is_row {
+        ensure(rt, change_row(&mut part, &cut, comes), "the row's nodes");
+    } else {
+        change_tail(rt, &mut part, &cut, comes);
     }
+    move_runs(rt, &mut part, new, cut.left, 0, false);
     assert_others(rt, &mut part);
 }
 
@@ -64,36 +77,13 @@ fn change_row(part: &mut Partition, cut: &Cut, comes: bool) -> bool
     }
 }
 
-// A row comes between the others, or goes from there.
-fn row_moves<R: AllocGlobal + Abort>(rt: &R, part: &mut Partition, cut: &Cut, comes: bool)
-    requires { cut.now.before ≤ length cut.now.rows.items }
-{
-    let with = with_row(rt, cut);
-    let (old, new) = if comes {
-        (cut.rows.as_slice(), with.as_slice())
-    } else {
-        (with.as_slice(), cut.rows.as_slice())
-    };
-    move_runs(rt, part, old, cut.left, 0, true);
-    ensure(rt, change_row(part, cut, comes), "the row's nodes");
-    move_runs(rt, part, new, cut.left, 0, false);
-}
-
 // The tail comes, and the seam goes before, or it goes, and the seam comes then.
-fn tail_moves<R: Abort>(rt: &R, part: &mut Partition, cut: &Cut, comes: bool)
+fn change_tail<R: Abort>(rt: &R, part: &mut Partition, cut: &Cut, comes: bool)
     requires { cut.now.before ≤ length cut.now.rows.items }
 {
-    let rows = cut.rows.as_slice();
-    let (before, after) = rows.split_at(cut.before);
+    let (before, after) = cut.rows.split_at(cut.before);
     let seam = seam(cut.left, before, after);
-    let (old, new) = if comes {
-        (before, rows)
-    } else {
-        (rows, before)
-    };
-    move_runs(rt, part, old, cut.left, 0, true);
     ensure(rt, !comes || moves_if(part, seam, false), "the seam");
-    move_runs(rt, part, rows, cut.left, PLACE, comes);
+    move_runs(rt, part, &cut.rows, cut.left, PLACE, comes);
     ensure(rt, comes || moves_if(part, seam, true), "room for the seam");
-    move_runs(rt, part, new, cut.left, 0, false);
 }

@@ -295,7 +295,8 @@ fn has_word(info: &Info, word: u64) -> bool {
 #[test]
 fn one_key_of_three_is_hit_from_its_132nd_search(rt: HostRuntime) {
     let info = learnt(&rt, &HITS);
-    assert!(rt; has_word(&info, 0x0000_012f_0000_63a7) && has_word(&Info::opening(), 0x4002));
+    ensure(&rt, has_word(&info, 0x0000_012f_0000_63a7), "the word");
+    ensure(&rt, has_word(&Info::opening(), 0x4002), "the opening word");
     ensure(
         &rt,
         info.potential == 105 && info.analysis == 17,
@@ -305,7 +306,8 @@ fn one_key_of_three_is_hit_from_its_132nd_search(rt: HostRuntime) {
 
 #[test]
 fn keys_with_one_fold_are_built_again_and_again(rt: HostRuntime) {
-    assert!(rt; learnt(&rt, &MISSES).potential == 127);
+    let info = learnt(&rt, &MISSES);
+    ensure(&rt, info.potential == 127, "the highest potential");
 }
 
 #[test]
@@ -320,6 +322,7 @@ fn a_group_of_keys_is_hit_by_its_first_row(rt: HostRuntime) {
         bytes: 0,
         left: true,
     };
-    assert!(rt; learnt(&rt, &GROUP).params == params);
+    let info = learnt(&rt, &GROUP);
+    ensure(&rt, info.params == params, "a group's first row");
     learnt(&rt, &SHORT);
 }

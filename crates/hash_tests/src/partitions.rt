@@ -52,7 +52,7 @@ fn partitions_do_what_the_scripts_say(rt: HostRuntime) {
 
 #[test]
 fn a_block_keeps_its_stamp(rt: HostRuntime) {
-    assert!(rt; keeps_stamp(&mut part_of(&rt, 1, 1)));
+    ensure(&rt, keeps_stamp(&mut part_of(&rt, 1, 1)), "the stamp");
 }
 
 // The partition tells what it has to.

@@ -18,7 +18,9 @@ use std::process::Abort;
 
 /// The nodes of a partition, and what is told where a leaf of a, b and c that isn't hashed is built, and
 /// built again.
-static BUILDS: [(u32, Build, Build); 2] = [
+type Twice = (u32, Build, Build);
+
+static BUILDS: [Twice; 2] = [
     (3, Build::Built { nodes: 3 }, Build::NotNeeded),
     (
         2,
@@ -29,8 +31,8 @@ static BUILDS: [(u32, Build, Build); 2] = [
 
 #[test]
 fn a_leaf_is_built_once_where_it_has_room(rt: HostRuntime) {
-    for (nodes, first, second) in BUILDS.iter() {
-        assert!(rt; builds_twice(&rt, *nodes) == (*first, *second));
+    for row in BUILDS.iter() {
+        ensure(&rt, builds_twice(&rt, row), "these builds");
     }
 }
 
@@ -49,13 +51,13 @@ static ROWS: [Row; 3] = [
 #[test]
 fn a_row_in_a_run_brings_two_in_and_takes_two_out(rt: HostRuntime) {
     for row in ROWS.iter() {
-        assert!(rt; keeps_up(&rt, row));
+        ensure(&rt, keeps_up(&rt, row), "this upkeep");
     }
 }
 
 #[test]
 fn a_dropped_leaf_has_no_entries(rt: HostRuntime) {
-    assert!(rt; drops(&rt) == 5);
+    ensure(&rt, drops(&rt) == 5, "five spare nodes");
 }
 
 fn hashing(bits: u8) -> Hashing
@@ -74,14 +76,15 @@ fn hashing(bits: u8) -> Hashing
     }
 }
 
-// Builds a leaf of a, b and c that isn't hashed, and builds it again.
-fn builds_twice<R: AllocGlobal + Abort>(rt: &R, nodes: u32) -> (Build, Build) {
+// Builds a leaf of a, b and c that isn't hashed, and builds it again: whether the row tells what comes of it.
+fn builds_twice<R: AllocGlobal + Abort>(rt: &R, row: &Twice) -> bool {
+    let (nodes, once, again) = *row;
     let (page, mut part) = (leaf_of(rt, 1, b"abc"), part_of(rt, 4, nodes));
     let how = hashing(64);
     let need = count_entries(&page, &how);
     let first = build(&mut part, &page, None, &how, need);
     let built = first.built_after(how.params);
-    (first, build(&mut part, &page, built, &how, need))
+    first == once && build(&mut part, &page, built, &how, need) == again
 }
 
 // Builds a leaf that isn't hashed, for which there is room.
