@@ -38,18 +38,33 @@ static LINES: [Line; 8] = [
     ),
 ];
 
-/// The lines that are others or new once a row with the key `a` and the value `x` is in it.
-static ROW_LINES: [Line; 5] = [
+/// The same once a row with the key `a` and the value `x` is in it.
+static ROW_LINES: [Line; 9] = [
+    (
+        0x0000,
+        [
+            0, 0, 0, 0, 0, 0, 0, 3, 0xff, 0xff, 0xff, 0xff, 0xff, 0xff, 0xff, 0xff,
+        ],
+    ),
+    (
+        0x0010,
+        [0, 0, 0, 0, 0, 0, 0, 0, 0x45, 0xbf, 0, 0, 0, 0, 0, 0],
+    ),
     (
         0x0020,
         [0, 0, 0, 0, 0, 0, 0, 2, 0, 0x81, 0x80, 3, 0, 0, 0, 0],
     ),
     (0x0030, [0, 0, 0, 5, 0, 0, 0, 1, 0, 0, 0, 0, 0, 0, 0, 0]),
+    (0x0050, [0, 0, 0, 0, 0, 0, 0, 0, 0, 0, 0, 0, 0, 0, 1, 0]),
     (0x0060, *b"\x02\x00\x1cinfimum\x00\x02\x00\x0b\x00\x00"),
     (0x0070, *b"supremum\x01\x01\x00\x00\x10\xff\xf1a"),
     (
         0x0080,
         *b"x\x00\x00\x00\x00\x00\x00\x00\x00\x00\x00\x00\x00\x00\x00\x00",
+    ),
+    (
+        0x3ff0,
+        [0, 0, 0, 0, 0, 0x70, 0, 0x63, 0, 0, 0, 0, 0, 0, 0, 0],
     ),
 ];
 
@@ -88,27 +103,26 @@ static SETS: [Set; 3] = [
     (b"", 127, SHORTER_PARTS),
 ];
 
-/// The line at a place, if it is one of these.
-fn line_of(lines: &[Line], at: usize) -> Option<[u8; 16]> {
+/// The line at a place, which is zero where it is none of these.
+fn line_of(lines: &[Line], at: usize) -> [u8; 16] {
     for (start, bytes) in lines {
         if *start == at {
-            return Some(*bytes);
+            return *bytes;
         }
     }
-    None
+    [0; 16]
 }
 
-/// The sixteen bytes at a place of the dump.
+/// The sixteen bytes at a place of the page without rows.
 pub(crate) fn line_at(at: usize) -> [u8; 16] {
-    line_of(&LINES, at).unwrap_or([0; 16])
+    line_of(&LINES, at)
 }
 
-/// The bytes are those of the dump, but for these lines.
-fn assert_dump<R: Abort>(rt: &R, bytes: &[u8], others: &[Line]) {
+/// The bytes are those of these lines.
+fn assert_dump<R: Abort>(rt: &R, bytes: &[u8], lines: &[Line]) {
     let mut at = 0usize;
     for line in bytes.chunks(16) {
-        let wanted = line_of(others, at).unwrap_or(line_at(at));
-        ensure(rt, line == wanted.as_slice(), "the line of the dump");
+        ensure(rt, line == line_of(lines, at).as_slice(), "the dump's line");
         at = at.wrapping_add(16);
     }
 }
@@ -220,7 +234,7 @@ fn assert_set<R: AllocGlobal + Abort>(rt: &R, set: &Set) {
 
 #[test]
 fn pages_have_the_bytes_of_the_dump(rt: HostRuntime) {
-    assert_dump(&rt, page_three(&rt).bytes(), &[]);
+    assert_dump(&rt, page_three(&rt).bytes(), &LINES);
     assert_dump(&rt, page_with_row(&rt).bytes(), &ROW_LINES);
 }
 

@@ -1,6 +1,7 @@
 //! The bytes of records against a page's dump.
 ghost use Rattle.std.specs.Prelude.{◌∷◌, []};
 
+use crate::claims::ensure;
 use compact_record::{CHILD_BYTES, RecordHead, RecordKind, write};
 use key_tuple::{Blank, Fields};
 
@@ -30,7 +31,8 @@ fn a_row_has_the_bytes_of_the_dump(rt: HostRuntime) {
         heap_number: 2,
     };
     let place = write(&mut page, 120, head, &OneByte { bytes: *b"a" }, b"x");
-    assert!(rt; place == 127 && page[119..] == [0xee, 1, 1, 0, 0, 0x10, 0, 0, 0x61, 0x78, 0xee]);
+    let is_row = page[119..] == [0xee, 1, 1, 0, 0, 0x10, 0, 0, 0x61, 0x78, 0xee];
+    ensure(&rt, place == 127 && is_row, "the row's bytes");
 }
 
 #[test]
@@ -42,5 +44,6 @@ fn a_leftmost_pointer_has_its_flag(rt: HostRuntime) {
     };
     let tail: [u8; CHILD_BYTES] = [0, 0, 0, 5];
     let place = write(&mut page, 1, head, &Blank { count: 1 }, &tail);
-    assert!(rt; place == 7 && page == [0xee, 0, 0x10, 0, 0x19, 0, 0, 0, 0, 0, 5, 0xee]);
+    let is_pointer = page == [0xee, 0, 0x10, 0, 0x19, 0, 0, 0, 0, 0, 5, 0xee];
+    ensure(&rt, place == 7 && is_pointer, "the pointer's bytes");
 }

@@ -13,7 +13,8 @@ fn charge_at<R: AllocGlobal + Abort>(rt: &R, count: usize) -> u16 {
 
 #[test]
 fn a_length_above_127_takes_two_bytes(rt: HostRuntime) {
-    assert!(rt; charge_at(&rt, 127) == 136 && charge_at(&rt, 128) == 138);
+    ensure(&rt, charge_at(&rt, 127) == 136, "one byte of length");
+    ensure(&rt, charge_at(&rt, 128) == 138, "two bytes of length");
 }
 
 /// Puts rows of 1,012 bytes in, of which sixteen have room: what the next one is told.
@@ -47,22 +48,19 @@ fn assert_grows<R: AllocGlobal + Abort>(rt: &R, page: &mut Page, row: &Growth) {
     ensure(rt, grown == told && page.free() == free, "this value");
 }
 
+/// What the next row is told.
+static FULL: Result<Place, PageError> = Err(PageError::PageFull {
+    need: 1013,
+    free: 44,
+});
+
 /// Sixteen rows of 1,012 bytes have room, another one has none, and the first one grows into what is free.
 fn fill_and_grow<R: AllocGlobal + Abort>(rt: &R, page: &mut Page) {
-    let full = PageError::PageFull {
-        need: 1013,
-        free: 44,
-    };
-    ensure(rt, fill_up(rt, page) == Err(full), "a full page");
+    ensure(rt, fill_up(rt, page) == FULL, "a full page");
     ensure(rt, page.free() == 44, "44 bytes");
     for row in VALUES.iter() {
         assert_grows(rt, page, row);
     }
-}
-
-#[test]
-fn sixteen_rows_of_1012_bytes_have_room(rt: HostRuntime) {
-    fill_and_grow(&rt, &mut page_of(&rt, 0));
 }
 
 /// Puts the row with that number in, the shortest first: of no byte, of one, and of two.
@@ -77,19 +75,22 @@ fn put_short<R: AllocGlobal + Abort>(rt: &R, page: &mut Page, n: u16) -> Result<
     put(rt, page, field, &[])
 }
 
+/// What a row is told that the shortest ones leave no byte for.
+static NO_BYTE: Result<Place, PageError> = Err(PageError::PageFull { need: 10, free: 0 });
+
 /// So many of the shortest rows have room, and then not a byte is left.
 fn fill_with_short<R: AllocGlobal + Abort>(rt: &R, page: &mut Page) {
     for n in 0..1651 {
         put_short(rt, page, n).expect(rt, "room for a row");
     }
-    let full = PageError::PageFull { need: 10, free: 0 };
-    ensure(rt, put_short(rt, page, 1651) == Err(full), "a full page");
+    ensure(rt, put_short(rt, page, 1651) == NO_BYTE, "a full page");
     ensure(rt, page.load() == 16252, "all bytes");
     ensure(rt, page.count() == 1651, "all rows");
 }
 
 #[test]
-fn the_shortest_1651_rows_fill_a_page(rt: HostRuntime) {
+fn sixteen_rows_of_1012_bytes_or_1651_short_ones_fill_a_page(rt: HostRuntime) {
+    fill_and_grow(&rt, &mut page_of(&rt, 0));
     fill_with_short(&rt, &mut page_of(&rt, 0));
 }
 
@@ -108,8 +109,10 @@ fn cut_with_huge<R: AllocGlobal + Abort>(rt: &R, page: &mut Page) -> u16 {
 #[test]
 fn rows_are_cut_near_half_of_their_load(rt: HostRuntime) {
     let forty = b"abcdefghijklmnopqrstuvwxyzABCDEFGHIJKLMN";
-    assert!(rt; cut_after(&rt, &lettered(&rt, forty)) == 20);
-    assert!(rt; cut_with_huge(&rt, &mut lettered(&rt, b"abde")) == 2);
+    let half = cut_after(&rt, &lettered(&rt, forty));
+    ensure(&rt, half == 20, "half of forty rows");
+    let before = cut_with_huge(&rt, &mut lettered(&rt, b"abde"));
+    ensure(&rt, before == 2, "two rows before the huge one");
 }
 
 /// Moves the rows from that key on to the other page, which has none.
@@ -149,18 +152,17 @@ fn rows_move_from_page_to_page(rt: HostRuntime) {
 }
 
 /// The rows get new places; the page is saved, a row goes, and it is restored.
-fn renew<R: AllocGlobal + Abort>(rt: &R, page: &mut Page, copy: &mut PageCopy) {
-    page.reorganise(copy).expect(rt, "memory");
+fn renew<R: AllocGlobal + Abort>(rt: &R, page: &mut Page) {
+    let mut copy = PageCopy::new(rt.alloc()).expect(rt, "a copy");
+    page.reorganise(&mut copy).expect(rt, "memory");
     assert_letters(rt, page, b"abc");
-    page.save(copy).expect(rt, "memory");
+    page.save(&mut copy).expect(rt, "memory");
     take_out(rt, page, b"a");
-    page.restore(copy);
+    page.restore(&mut copy);
     assert_letters(rt, page, b"abc");
 }
 
 #[test]
 fn a_page_is_reorganised_and_restored(rt: HostRuntime) {
-    let mut page = lettered(&rt, b"cab");
-    let mut copy = PageCopy::new(rt.alloc()).expect(&rt, "a copy");
-    renew(&rt, &mut page, &mut copy);
+    renew(&rt, &mut lettered(&rt, b"cab"));
 }

@@ -9,31 +9,6 @@ use std::process::Abort;
 /// A row beside a cut, if there is one, and how far the text agrees with it.
 type Side = (Option<Place>, Match);
 
-/// The search for this text cuts between these.
-fn assert_cut<R: AllocGlobal + Abort>(
-    rt: &R,
-    page: &Page,
-    text: &[u8],
-    mode: Mode,
-    below: Side,
-    above: Side,
-) {
-    let tuple = key(rt, text);
-    ensure(rt, tuple.count() == page.head().fields, "as many fields");
-    let spot = page.search(&tuple, mode);
-    ensure(rt, (spot.before, spot.low) == below, "this row before");
-    ensure(rt, (spot.after, spot.up) == above, "this row after");
-}
-
-/// The first and the last row, as a tuple without fields finds them.
-fn ends(page: &Page) -> (Option<Place>, Option<Place>) {
-    let all = Blank { count: 0 };
-    (
-        page.search(&all, Mode::L).after,
-        page.search(&all, Mode::Le).before,
-    )
-}
-
 /// The texts of three rows, in the order in which they come. Each has its place of this table.
 static TEXTS: [&[u8]; 3] = [b"bc", b"d", b"ba"];
 
@@ -71,7 +46,9 @@ const WHOLE: Match = Match {
 };
 
 /// A text, a mode, and where that cuts these rows.
-static CUTS: [(&[u8], Mode, Side, Side); 8] = [
+type Cut = (&'static [u8], Mode, Side, Side);
+
+static CUTS: [Cut; 8] = [
     (b"b", Mode::Ge, (None, NONE), (BA, BYTE)),
     (b"bb", Mode::G, (BA, BYTE), (BC, BYTE)),
     (b"bc", Mode::Ge, (BA, BYTE), (BC, WHOLE)),
@@ -82,24 +59,34 @@ static CUTS: [(&[u8], Mode, Side, Side); 8] = [
     (b"e", Mode::Ge, (D, NONE), (None, NONE)),
 ];
 
+/// The search cuts between the rows that it has to.
+fn assert_cut<R: AllocGlobal + Abort>(rt: &R, page: &Page, cut: &Cut) {
+    let (text, mode, below, above) = *cut;
+    let tuple = key(rt, text);
+    ensure(rt, tuple.count() == page.head().fields, "as many fields");
+    let spot = page.search(&tuple, mode);
+    ensure(rt, (spot.before, spot.low) == below, "this row before");
+    ensure(rt, (spot.after, spot.up) == above, "this row after");
+}
+
+/// A tuple without fields finds the first and the last row.
+fn has_ends(page: &Page) -> bool {
+    let all = Blank { count: 0 };
+    let (first, last) = (page.search(&all, Mode::L), page.search(&all, Mode::Le));
+    first.after == BA && last.before == D
+}
+
 #[test]
 fn spots_are_where_the_modes_cut(rt: HostRuntime) {
     let page = three_texts(&rt);
-    for (text, mode, below, above) in CUTS.iter() {
-        assert_cut(&rt, &page, text, *mode, *below, *above);
+    for cut in CUTS.iter() {
+        assert_cut(&rt, &page, cut);
     }
-    assert!(rt; ends(&page) == (BA, D));
+    ensure(&rt, has_ends(&page), "the first and the last row");
 }
 
 fn sent<T: Send>(value: T) -> T {
     value
-}
-
-/// The row with that key has this value.
-fn assert_value<R: AllocGlobal + Abort>(rt: &R, page: &Page, field: &[u8], value: &[u8]) {
-    let place = place_at(rt, page, field).expect(rt, "a row");
-    ensure(rt, page.head().level == 0, "a leaf");
-    ensure(rt, page.row(place).value() == value, "this value");
 }
 
 /// The row of b goes, and d with another value comes to its place.
@@ -117,7 +104,13 @@ fn give_way<R: AllocGlobal + Abort>(rt: &R, page: &mut Page) {
 /// Of c, a and b the first two are where they were, and d came.
 fn assert_given_way<R: AllocGlobal + Abort>(rt: &R, page: &Page) {
     assert_letters(rt, page, b"acd");
-    assert_value(rt, page, b"d", b"new");
+    let place = place_at(rt, page, b"d").expect(rt, "a row");
+    ensure(rt, page.head().level == 0, "a leaf");
+    ensure(
+        rt,
+        page.row(place).value() == b"new".as_slice(),
+        "the new value",
+    );
     ensure(rt, place_at(rt, page, b"c") == Some(0), "the first place");
     ensure(rt, place_at(rt, page, b"a") == Some(1), "the second place");
 }
@@ -157,7 +150,7 @@ fn child_of<R: AllocGlobal + Abort>(rt: &R, page: &Page, field: &[u8]) -> u32 {
 fn an_inner_page_has_children(rt: HostRuntime) {
     let mut page = page_of(&rt, 1);
     put_child(&rt, &mut page, &key(&rt, b"m"), 5);
-    assert!(rt; child_of(&rt, &page, b"m") == 5);
+    ensure(&rt, child_of(&rt, &page, b"m") == 5, "the child");
 }
 
 /// The numbers up to 1,000 in an order of their own.
