@@ -84,7 +84,8 @@ fn builds_twice<R: AllocGlobal + Abort>(rt: &R, row: &Twice) -> bool {
     let need = count_entries(&page, &how);
     let first = build(&mut part, &page, None, &how, need);
     let built = first.built_after(how.params);
-    first == once && build(&mut part, &page, built, &how, need) == again
+    let second = build(&mut part, &page, built, &how, need);
+    first == once && second == again
 }
 
 // Builds a leaf that isn't hashed, for which there is room.
@@ -121,7 +122,9 @@ fn keeps_up<R: AllocGlobal + Abort>(rt: &R, row: &Row) -> bool {
     let (mut page, mut part) = (leaf_of(rt, 1, b"ace"), part_of(rt, 4, nodes));
     let how = hashing(1);
     build_first(rt, &mut part, &page, &how);
-    comes(rt, &mut part, &mut page, &how, goes) == upkeep && part.spare() == spare
+    let told = comes(rt, &mut part, &mut page, &how, goes);
+    let left = part.spare();
+    told == upkeep && left == spare
 }
 
 // Builds a leaf of a, b and c with five nodes, and drops it: what is spare then.
