@@ -115,34 +115,31 @@ fn rows_are_cut_near_half_of_their_load(rt: HostRuntime) {
     ensure(&rt, before == 2, "two rows before the huge one");
 }
 
-/// Moves the rows from that key on to the other page, which has none.
-fn move_from<R: AllocGlobal + Abort>(rt: &R, page: &mut Page, field: &[u8], to: &mut Page) {
+/// Moves the rows from that key on, or all of them, to the other page, which has none.
+fn move_to<R: AllocGlobal + Abort>(rt: &R, page: &mut Page, from: Option<&[u8]>, to: &mut Page) {
     ensure(rt, page.head().level == to.head().level, "one level");
     ensure(rt, page.head().fields == to.head().fields, "as many fields");
     ensure(rt, to.count() == 0, "no rows");
-    let first = place_at(rt, page, field).expect(rt, "a row");
-    page.move_tail(first, to).expect(rt, "memory");
-}
-
-/// Moves all rows to a page that has none.
-fn move_to<R: Abort>(rt: &R, page: &mut Page, to: &mut Page) {
-    ensure(rt, page.head().level == to.head().level, "one level");
-    ensure(rt, page.head().fields == to.head().fields, "as many fields");
-    ensure(rt, to.count() == 0, "no rows");
-    ensure(rt, page.load() <= 16252, "room for all");
-    page.is_in_order();
-    page.move_all(to).expect(rt, "memory");
+    let moved = if let Some(field) = from {
+        let first = place_at(rt, page, field).expect(rt, "a row");
+        page.move_tail(first, to)
+    } else {
+        ensure(rt, page.load() <= 16252, "room for all");
+        page.is_in_order();
+        page.move_all(to)
+    };
+    moved.expect(rt, "memory");
 }
 
 /// The rows of c, a and b go to the other page, c back, and then a and b.
 fn move_about<R: AllocGlobal + Abort>(rt: &R, page: &mut Page, to: &mut Page) {
-    move_from(rt, page, b"a", to);
+    move_to(rt, page, Some(b"a"), to);
     assert_letters(rt, to, b"abc");
-    move_from(rt, to, b"c", page);
+    move_to(rt, to, Some(b"c"), page);
     assert_letters(rt, page, b"c");
     assert_letters(rt, to, b"ab");
     take_out(rt, page, b"c");
-    move_to(rt, to, page);
+    move_to(rt, to, None, page);
     assert_letters(rt, page, b"ab");
 }
 

@@ -63,7 +63,7 @@ static CUTS: [Cut; 8] = [
 fn assert_cut<R: AllocGlobal + Abort>(rt: &R, page: &Page, cut: &Cut) {
     let (text, mode, below, above) = *cut;
     let tuple = key(rt, text);
-    ensure(rt, tuple.count() == page.head().fields, "as many fields");
+    ensure(rt, page.head().fields == 1, "keys of one field");
     let spot = page.search(&tuple, mode);
     ensure(rt, (spot.before, spot.low) == below, "this row before");
     ensure(rt, (spot.after, spot.up) == above, "this row after");

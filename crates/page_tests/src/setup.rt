@@ -1,5 +1,6 @@
 //! Pages to test, and claims of them. What isn't as it has to be ends the test where it is found.
-ghost use Rattle.std.specs.Prelude.{◌≡◌, [], IfSome, IsSome};
+ghost use Rattle.std.specs.Prelude.{◌≡◌, [], length, IfSome, IsSome};
+ghost use Rattle.key_tuple.specs.Limits.{IsWithinLimits};
 ghost use Rattle.index_page.specs.Rows.{find_row};
 
 use crate::claims::ensure;
@@ -9,8 +10,13 @@ use sample_rows::{key_of, value_of};
 use std::process::Abort;
 
 /// The key of one field, of these bytes.
-pub(crate) fn key<R: AllocGlobal + Abort>(rt: &R, bytes: &[u8]) -> Key {
-    key_of(rt.alloc(), bytes).expect(rt, "a key")
+pub(crate) fn key<R: AllocGlobal + Abort>(rt: &R, bytes: &[u8]) -> Key
+    ensures one { length result.tuple ≡ 1 }
+    ensures limits { IsWithinLimits result.tuple }
+{
+    let key = key_of(rt.alloc(), bytes).expect(rt, "a key");
+    key.tuple().is_within_limits();
+    key
 }
 
 /// The value of these bytes.
@@ -42,10 +48,9 @@ pub(crate) fn put<R: AllocGlobal + Abort>(
 ) -> Result<Place, PageError> {
     let (key, value) = (key(rt, field), value(rt, bytes));
     ensure(rt, page.head().level == 0, "a leaf");
-    ensure(rt, key.count() == page.head().fields, "as many fields");
+    ensure(rt, page.head().fields == 1, "keys of one field");
     let spot = page.search(&key, Mode::Ge);
-    ensure(rt, spot.up.fields != key.count(), "another key");
-    key.tuple().is_within_limits();
+    ensure(rt, spot.up.fields != 1, "another key");
     page.insert_at(&spot, &key, Body::Value(&value))
 }
 
@@ -62,7 +67,6 @@ pub(crate) fn put_bytes<R: AllocGlobal + Abort>(
 /// What a page is charged for a row of these bytes.
 pub(crate) fn charged<R: AllocGlobal + Abort>(rt: &R, field: &[u8], bytes: &[u8]) -> u16 {
     let (key, value) = (key(rt, field), value(rt, bytes));
-    key.tuple().is_within_limits();
     charge(&key, Body::Value(&value))
 }
 
@@ -114,9 +118,9 @@ pub(crate) fn place_at<R: AllocGlobal + Abort>(rt: &R, page: &Page, field: &[u8]
     ensures { IfSome result (λ place. IsSome (find_row place page.now.rows)) }
 {
     let key = key(rt, field);
-    ensure(rt, key.count() == page.head().fields, "as many fields");
+    ensure(rt, page.head().fields == 1, "keys of one field");
     let spot = page.search(&key, Mode::Ge);
-    if spot.up.fields == key.count() {
+    if spot.up.fields == 1 {
         spot.after
     } else {
         None

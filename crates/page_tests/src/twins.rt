@@ -43,10 +43,9 @@ fn put_in_bytes<R: AllocGlobal + Abort>(
 ) -> Option<PageError> {
     let (key, value) = (key(rt, field), value(rt, bytes));
     ensure(rt, page.head().level == 0, "a leaf");
-    ensure(rt, key.count() == page.head().fields, "as many fields");
+    ensure(rt, page.head().fields == 1, "keys of one field");
     let spot = page.search(&key, Mode::Ge);
-    ensure(rt, spot.up.fields != key.count(), "another key");
-    key.tuple().is_within_limits();
+    ensure(rt, spot.up.fields != 1, "another key");
     page.insert_at(&spot, &key, Body::Value(&value)).err()
 }
 
@@ -55,9 +54,9 @@ fn place_in_bytes<R: AllocGlobal + Abort>(rt: &R, page: &BytePage, field: &[u8])
     ensures { IfSome result (λ place. IsSome (find_row place page.now.page.rows)) }
 {
     let key = key(rt, field);
-    ensure(rt, key.count() == page.head().fields, "as many fields");
+    ensure(rt, page.head().fields == 1, "keys of one field");
     let spot = page.search(&key, Mode::Ge);
-    if spot.up.fields != key.count() {
+    if spot.up.fields != 1 {
         return None;
     }
     spot.after
