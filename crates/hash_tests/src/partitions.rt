@@ -64,7 +64,7 @@ fn does(part: &mut Partition, step: &Step) -> bool {
         Step::Remove(block, told) => part.leave_block(block) == told,
         Step::Find(fold, told) => is_node(part.find(fold), fold, told),
         Step::Spare(told) => part.spare() == told,
-        Step::Resize(..) => false,
+        Step::Resize(..) | Step::Million(_) => false,
     }
 }
 
@@ -84,5 +84,5 @@ fn keeps_stamp(part: &mut Partition) -> bool
     let stays = part.stamp(3);
     part.set_stamp(3, None);
     let goes = part.stamp(3);
-    comes == Some(8) && other.is_none() && stays == Some(8) && goes.is_none()
+    [comes, other, stays, goes] == [Some(8), None, Some(8), None]
 }

@@ -40,22 +40,15 @@ pub(crate) fn put<R: AllocGlobal + Abort>(rt: &R, page: &mut Page, letters: &[u8
     ensures there { IsSome (find_row result page.new.rows) }
     ensures head { page.new.head ≡ page.old.head }
 {
-    put_key(rt, page, &key_of(rt, letters))
-}
-
-fn put_key<R: AllocGlobal + Abort>(rt: &R, page: &mut Page, key: &Key) -> Place
-    ensures rows { rows_without result page.new.rows ≡ page.old.rows }
-    ensures there { IsSome (find_row result page.new.rows) }
-    ensures head { page.new.head ≡ page.old.head }
-{
+    let key = key_of(rt, letters);
     ensure(rt, page.head().level == 0, "a leaf");
     ensure(rt, key.count() == page.head().fields, "as many fields");
-    let spot = page.search(key, Mode::Ge);
+    let spot = page.search(&key, Mode::Ge);
     ensure(rt, spot.up.fields != key.count(), "another key");
     rows_come_and_go();
     key.tuple().is_within_limits();
     let value = value_of(rt.alloc(), b"v").expect(rt, "a value");
-    page.insert_at(&spot, key, Body::Value(&value))
+    page.insert_at(&spot, &key, Body::Value(&value))
         .expect(rt, "room for a row")
 }
 

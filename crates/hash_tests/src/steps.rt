@@ -1,6 +1,14 @@
 //! What a table of chains or a partition is asked, one step after the other.
 use chain_arena::Node;
 
+/// What each of a million nodes does.
+#[derive(Clone, Copy)]
+pub(crate) enum Round {
+    Comes,
+    IsFound,
+    Goes,
+}
+
 /// What is asked, mostly about the node of a fold and a block, and what it has to tell.
 #[derive(Clone, Copy)]
 pub(crate) enum Step {
@@ -16,8 +24,10 @@ pub(crate) enum Step {
     Find(u64, Option<u32>),
     /// How many more nodes there is room for.
     Spare(u32),
-    /// How many cells a table has, and how many it gets, which a partition never does.
+    /// How many cells a table has, and how many it gets. No partition is asked for that,
     Resize(u32, u32),
+    /// nor for a million nodes of 1,000 blocks, which come, are found, or go, but for those of block 7.
+    Million(Round),
 }
 
 /// The cells and the nodes of a table or a partition, and what it does one after the other.
