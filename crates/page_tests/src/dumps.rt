@@ -71,7 +71,7 @@ static ROW_LINES: [Line; 9] = [
 /// Parts of a page's bytes: where each begins, and which they are.
 type Parts = &'static [(usize, &'static [u8])];
 
-/// The head's numbers and the slots with these eight rows.
+/// The head's numbers and the slots with eight rows, of the keys `a` to `h` and a value of one byte.
 const EIGHT_PARTS: Parts = &[
     (38, &[0, 3, 0, 192, 0x80, 10, 0, 0]),
     (54, &[0, 8]),

@@ -48,7 +48,7 @@ fn assert_grows<R: AllocGlobal + Abort>(rt: &R, page: &mut Page, row: &Growth) {
     ensure(rt, grown == told && page.free() == free, "this value");
 }
 
-/// What the next row is told.
+/// What the row behind sixteen is told.
 static FULL: Result<Place, PageError> = Err(PageError::PageFull {
     need: 1013,
     free: 44,
@@ -57,7 +57,7 @@ static FULL: Result<Place, PageError> = Err(PageError::PageFull {
 /// Sixteen rows of 1,012 bytes have room, another one has none, and the first one grows into what is free.
 fn fill_and_grow<R: AllocGlobal + Abort>(rt: &R, page: &mut Page) {
     ensure(rt, fill_up(rt, page) == FULL, "a full page");
-    ensure(rt, page.free() == 44, "44 bytes");
+    ensure(rt, page.free() == 44, "44 free bytes");
     for row in VALUES.iter() {
         assert_grows(rt, page, row);
     }
