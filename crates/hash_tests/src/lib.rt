@@ -25,6 +25,8 @@ mod recount;
 #[cfg(test)]
 mod rows;
 #[cfg(test)]
+mod runs;
+#[cfg(test)]
 mod shared;
 #[cfg(test)]
 mod steps;
