@@ -1,6 +1,4 @@
 //! What may be asked, and by which words.
-use crate::words::first_word;
-
 /// Which row a seek asks for, by its tuple.
 #[derive(Clone, Copy, PartialEq)]
 pub enum Reach {
@@ -38,37 +36,35 @@ impl Act {
     pub(crate) fn writes_row(self) -> bool {
         matches!(self, Act::Put | Act::Set)
     }
-}
 
-/// What a verb asks with the words behind it: the act, the key or tuple, and the value, if any. A
-/// word that lacks is empty, as none is that fits.
-pub(crate) fn asked_of<'a>(verb: &str, words: &'a str) -> Option<(Act, &'a str, &'a str)> {
-    let (first, second) = first_word(words);
-    match verb {
-        "get" => Some((Act::Get, words, "")),
-        "del" => Some((Act::Del, words, "")),
-        "put" => Some((Act::Put, first, second)),
-        "set" => Some((Act::Set, first, second)),
-        "seek" => sought_of(first, second),
-        _ => None,
+    /// How many words tell a change that does this, if it is one.
+    pub(crate) fn count_words(self) -> usize {
+        match self {
+            Act::Put | Act::Set => 6,
+            Act::Del => 5,
+            Act::Get | Act::Seek(_) => 0,
+        }
     }
 }
 
-/// The same of a seek, by the words for its mode and its tuple.
-fn sought_of<'a>(mode: &str, tuple: &'a str) -> Option<(Act, &'a str, &'a str)> {
-    match reach_of(mode) {
-        Some(reach) => Some((Act::Seek(reach), tuple, "")),
-        None => None,
-    }
-}
+/// Verbs, the mode behind the index where one seeks, and what they ask.
+static ACTS: [(&str, &str, Act); 8] = [
+    ("get", "", Act::Get),
+    ("put", "", Act::Put),
+    ("set", "", Act::Set),
+    ("del", "", Act::Del),
+    ("seek", "ge", Act::Seek(Reach::From)),
+    ("seek", "g", Act::Seek(Reach::Past)),
+    ("seek", "le", Act::Seek(Reach::UpTo)),
+    ("seek", "l", Act::Seek(Reach::Before)),
+];
 
-/// The reach of a mode's word.
-fn reach_of(word: &str) -> Option<Reach> {
-    match word {
-        "ge" => Some(Reach::From),
-        "g" => Some(Reach::Past),
-        "le" => Some(Reach::UpTo),
-        "l" => Some(Reach::Before),
-        _ => None,
+/// What a verb asks that has this word behind its index.
+pub(crate) fn act_of<'a>(verb: &'a str, behind: &'a str) -> Option<Act> {
+    for (word, mode, act) in ACTS.iter() {
+        if verb == *word && (mode.is_empty() || behind == *mode) {
+            return Some(*act);
+        }
     }
+    None
 }

@@ -1,5 +1,5 @@
 //! What a schema and its lanes ask.
-use crate::acts::{Act, asked_of};
+use crate::acts::{Act, act_of};
 use crate::judging::Lie;
 use crate::keys::{count_fields, is_plain};
 use crate::words::{add, first_word, named_number};
@@ -23,38 +23,40 @@ pub struct Line<'a> {
     pub value: &'a str,
 }
 
-/// The indexes of a schema, in their order.
-pub fn read_schema<'a>(alloc: Global, text: &'a str) -> Result<Vec<Index<'a>>, Lie> {
+/// The indexes of a schema, in their order. A line that can't be read is told, where no lie was told
+/// before.
+pub fn read_schema<'a>(
+    alloc: Global,
+    judged: &mut Result<(), Lie>,
+    text: &'a str,
+) -> Vec<Index<'a>> {
     let mut indexes = Vec::new(alloc);
-    let mut judged = Ok(());
     let mut line: u64 = 0;
     for said in text.split('\n') {
         line = line.wrapping_add(1);
         if says_something(said) {
             let lie = Lie::Asked { file: 0, line };
-            add(&mut judged, &mut indexes, index_of(said), lie);
+            add(judged, &mut indexes, index_of(said), lie);
         }
     }
-    judged?;
-    Ok(indexes)
+    indexes
 }
 
-/// The lines of each lane that say something.
+/// The lines of each lane that say something. A line that can't be read is told in the same way.
 pub fn read_lanes<'a>(
     alloc: Global,
+    judged: &mut Result<(), Lie>,
     indexes: &[Index<'_>],
     lanes: &[&'a str],
-) -> Result<Vec<Vec<Line<'a>>>, Lie> {
+) -> Vec<Vec<Line<'a>>> {
     let mut asked = Vec::new(alloc);
-    let mut judged = Ok(());
     let mut file: usize = 0;
     for text in lanes {
         file = file.wrapping_add(1);
-        let lines = read_lane(alloc, &mut judged, indexes, file, text);
-        add(&mut judged, &mut asked, Some(lines), Lie::NoMemory);
+        let lines = read_lane(alloc, judged, indexes, file, text);
+        add(judged, &mut asked, Some(lines), Lie::NoMemory);
     }
-    judged?;
-    Ok(asked)
+    asked
 }
 
 /// Those of one lane, which has this file.
@@ -66,12 +68,12 @@ fn read_lane<'a>(
     text: &'a str,
 ) -> Vec<Line<'a>> {
     let mut lines = Vec::new(alloc);
-    let mut number: u64 = 0;
+    let mut line: u64 = 0;
     for said in text.split('\n') {
-        number = number.wrapping_add(1);
+        line = line.wrapping_add(1);
         if says_something(said) {
-            let lie = Lie::Asked { file, line: number };
-            add(judged, &mut lines, line_of(indexes, number, said), lie);
+            let lie = Lie::Asked { file, line };
+            add(judged, &mut lines, line_of(indexes, line, said), lie);
         }
     }
     lines
@@ -82,7 +84,7 @@ fn says_something(line: &str) -> bool {
 }
 
 fn index_of<'a>(line: &'a str) -> Option<Index<'a>> {
-    match named_number("index", line) {
+    match named_number("index ", line) {
         Some((name, fields)) => Some(Index { name, fields }),
         None => None,
     }
@@ -92,11 +94,17 @@ fn index_of<'a>(line: &'a str) -> Option<Index<'a>> {
 fn line_of<'a>(indexes: &[Index<'_>], number: u64, said: &'a str) -> Option<Line<'a>> {
     let (verb, rest) = first_word(said);
     let (name, words) = first_word(rest);
-    let Some((act, key, value)) = asked_of(verb, words) else {
+    let (first, second) = first_word(words);
+    let Some(act) = act_of(verb, first) else {
         return None;
     };
     let Some((index, fields)) = index_named(indexes, name) else {
         return None;
+    };
+    let (key, value) = match act {
+        Act::Get | Act::Del => (words, ""),
+        Act::Put | Act::Set => (first, second),
+        Act::Seek(_) => (second, ""),
     };
     let line = Line {
         number,

@@ -1,7 +1,6 @@
 //! The two last words of answers, and the statistics that count them.
 use crate::answers::Answer;
-use crate::words::is_among;
-use std::alloc::AllocError;
+use crate::words::{first_word, is_among, number_of};
 
 /// What a line of statistics says after the name, where all answers have two dashes.
 pub const COUNTS: &str =
@@ -29,42 +28,49 @@ pub static COUNTED: [&str; 18] = [
     "worn",
 ];
 
-/// Why a search went down the tree.
-static DESCENTS: [&str; 8] = [
-    "off",
-    "cold",
-    "short",
-    "part-busy",
-    "no-entry",
-    "block-busy",
-    "clock",
-    "unequal",
+/// The words that say how a search went, and those that may stand behind each of them: why it went down
+/// the tree, and what became of a build then, or why it wasn't counted.
+static COLUMNS: [(&[&str], &[&str]); 3] = [
+    (&["-"], &["-"]),
+    (&["hit"], &["-", "raced", "worn"]),
+    (
+        &[
+            "off",
+            "cold",
+            "short",
+            "part-busy",
+            "no-entry",
+            "block-busy",
+            "clock",
+            "unequal",
+        ],
+        &["no", "built", "same", "arena", "raced", "worn"],
+    ),
 ];
-
-/// What became of a build where a search went down, or why it wasn't counted.
-static NOTES: [&str; 6] = ["no", "built", "same", "arena", "raced", "worn"];
 
 /// Whether the two words may stand beside one another.
 pub(crate) fn may_stand(how: &str, note: &str) -> bool {
-    match how {
-        "-" => note == "-",
-        "hit" => is_among(note, &["-", "raced", "worn"]),
-        _ => is_among(how, &DESCENTS) && is_among(note, &NOTES),
+    for (first, second) in COLUMNS.iter() {
+        if is_among(how, first) {
+            return is_among(note, second);
+        }
     }
+    false
 }
 
-/// Adds the line of an index's statistics, by the answers.
-pub(crate) fn add_statistics(
-    line: &mut String,
-    name: &str,
-    index: usize,
-    answers: &[Answer<'_>],
-) -> Result<(), AllocError> {
-    write!(line, "stats {name}")?;
+/// Whether a line is that of an index's statistics, by the answers.
+pub(crate) fn is_counted(line: &str, name: &str, index: usize, answers: &[Answer<'_>]) -> bool {
+    let (first, rest) = first_word(line);
+    let (second, mut rest) = first_word(rest);
     for word in COUNTED.iter() {
-        write!(line, " {word} {}", times(word, index, answers))?;
+        let (said, number) = first_word(rest);
+        let (number, behind) = first_word(number);
+        if said != *word || number_of(number) != Some(times(word, index, answers)) {
+            return false;
+        }
+        rest = behind;
     }
-    Ok(())
+    first == "stats" && second == name && rest.is_empty() && !line.ends_with(' ')
 }
 
 /// How many answers of an index have the word.

@@ -1,29 +1,39 @@
 //! The list of an index, replayed from the empty map. It stands key by key as keys rise, and the
 //! changes of one key in their order.
-use crate::acts::Reach;
+use crate::acts::{Act, Reach};
+use crate::asked::Line;
 use crate::changes::Change;
 use crate::judging::Lie;
 use crate::keys::compare_fields;
 use std::cmp::Ordering;
 
-/// Sorts the list of an index, in which each put has a key that isn't there, and each set or del
+/// Sorts the list of each index, in which each put has a key that isn't there, and each set or del
 /// one that is.
-pub(crate) fn replay(index: usize, list: &mut Vec<Change<'_>>) -> Result<(), Lie> {
-    list.sort_by(|one, other| compare_fields(one.key, other.key))?;
-    check_law(index, list)
+pub(crate) fn replay(changes: &mut Vec<Change<'_>>) -> Result<(), Lie> {
+    let sorted = changes.sort_by(|one, other| {
+        let order = one.index.cmp(&other.index);
+        order.then(compare_fields(one.key, other.key))
+    });
+    match sorted {
+        Ok(()) => check_law(changes),
+        Err(_) => Err(Lie::NoMemory),
+    }
 }
 
 /// Each change has its key there or absent, as it wants it.
-fn check_law(index: usize, list: &[Change<'_>]) -> Result<(), Lie> {
+fn check_law(changes: &[Change<'_>]) -> Result<(), Lie> {
+    let mut index = 0;
     let mut key = "";
     let mut is_there = false;
-    for change in list {
-        if !change.act.is_allowed(is_there && change.key == key) {
+    for change in changes {
+        let is_same = change.index == index && change.key == key;
+        if !change.act.is_allowed(is_there && is_same) {
             return Err(Lie::Unlawful {
-                index,
+                index: change.index,
                 change: change.point,
             });
         }
+        index = change.index;
         key = change.key;
         is_there = change.act.writes_row();
     }
@@ -40,24 +50,29 @@ fn count_before(list: &[Change<'_>], tuple: &str, point: u64) -> usize {
     })
 }
 
-/// The last change of the key among the first so many of the list.
-pub(crate) fn change_at<'a>(list: &[Change<'a>], key: &str, point: u64) -> Option<Change<'a>> {
-    match list.get(count_before(list, key, point).wrapping_sub(1)) {
-        Some(last) if last.key == key => Some(*last),
+/// The row that a line asks about, after so many changes of the list, if it is there.
+pub(crate) fn row_asked<'a>(
+    line: &Line<'_>,
+    list: &[Change<'a>],
+    point: u64,
+) -> Option<(&'a str, &'a str)> {
+    match line.act {
+        Act::Seek(reach) => row_sought(list, reach, line.key, point),
+        _ => row_of(list, line.key, point),
+    }
+}
+
+/// The row of a key: its last change writes it, which is the one before those behind the point.
+fn row_of<'a>(list: &[Change<'a>], key: &str, point: u64) -> Option<(&'a str, &'a str)> {
+    let place = count_before(list, key, point).wrapping_sub(1);
+    match row_left(list, place, point) {
+        Some(row) if row.0 == key => Some(row),
         _ => None,
     }
 }
 
-/// The value of the key after so many changes of the list, if the key is there.
-pub(crate) fn value_at<'a>(list: &[Change<'a>], key: &str, point: u64) -> Option<&'a str> {
-    match change_at(list, key, point) {
-        Some(change) if change.act.writes_row() => Some(change.value),
-        _ => None,
-    }
-}
-
-/// The row that a seek finds after so many changes of the list, if it finds one.
-pub(crate) fn row_at<'a>(
+/// The row that a seek finds.
+fn row_sought<'a>(
     list: &[Change<'a>],
     reach: Reach,
     tuple: &str,

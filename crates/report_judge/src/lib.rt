@@ -1,5 +1,5 @@
-//! A naive judge of reports, and lanes drawn by number to be judged: for tests. It knows nothing of
-//! the program: no parser, no map and no printing of its crates.
+//! A naive judge of reports, for tests. It knows nothing of the program: no parser, no map and no
+//! printing of its crates.
 #![tactic(auto)]
 
 mod acts;
@@ -18,5 +18,5 @@ mod words;
 pub use acts::{Act, Reach};
 pub use asked::{Index, Line, read_lanes, read_schema};
 pub use columns::{COUNTED, COUNTS};
-pub use drawn::{draw, lane_text, lane_texts, schema_text, seek_lane_text, slices_of};
+pub use drawn::draw;
 pub use judging::{LIMITS, Lie, Limits, judge, judge_within};

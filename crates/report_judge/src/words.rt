@@ -16,14 +16,18 @@ pub(crate) fn count_words(text: &str) -> usize {
     text.split(' ').count()
 }
 
-/// The name and the number of a line that has this word, a name and a number.
-pub(crate) fn named_number<'a>(word: &str, line: &'a str) -> Option<(&'a str, u64)> {
-    let (first, rest) = first_word(line);
-    let (name, number) = first_word(rest);
-    if first != word {
+/// The name and the number of a line that begins so and has nothing else.
+pub(crate) fn named_number<'a>(start: &str, line: &'a str) -> Option<(&'a str, u64)> {
+    let Some(rest) = line.strip_prefix(start) else {
         return None;
-    }
+    };
+    let (name, number) = first_word(rest);
     Some(name).zip(number_of(number))
+}
+
+/// The number of a text that begins so and has nothing else.
+pub(crate) fn number_behind(start: &str, text: &str) -> Option<u64> {
+    text.strip_prefix(start).and_then(number_of)
 }
 
 /// The number that a word spells in its one way.
@@ -53,11 +57,12 @@ pub(crate) struct Reader<'a> {
 }
 
 impl<'a> Reader<'a> {
-    pub(crate) fn new(text: &'a str) -> Reader<'a> {
+    /// That of a text behind which this was found.
+    pub(crate) fn new(text: &'a str, judged: Result<(), Lie>) -> Reader<'a> {
         Reader {
             rest: text,
             line: 0,
-            judged: Ok(()),
+            judged,
         }
     }
 
@@ -88,14 +93,7 @@ impl<'a> Reader<'a> {
     /// That the line taken last may stand there.
     pub(crate) fn expect(&mut self, may_stand: bool) {
         if !may_stand {
-            self.tell(Lie::Form { line: self.line });
-        }
-    }
-
-    /// Tells a lie. Those behind the first don't count.
-    pub(crate) fn tell(&mut self, lie: Lie) {
-        if self.judged.is_ok() {
-            self.judged = Err(lie);
+            tell(&mut self.judged, Lie::Form { line: self.line });
         }
     }
 
@@ -105,23 +103,24 @@ impl<'a> Reader<'a> {
     }
 }
 
-/// Adds what is said to a list, or tells that it isn't said, where no lie was told before.
+/// Tells a lie. Those behind the first don't count.
+fn tell(judged: &mut Result<(), Lie>, lie: Lie) {
+    if judged.is_ok() {
+        *judged = Err(lie);
+    }
+}
+
+/// Adds what is said to a list, or tells that it isn't said.
 pub(crate) fn add<T: Drop>(
     judged: &mut Result<(), Lie>,
     list: &mut Vec<T>,
     said: Option<T>,
     lie: Lie,
 ) {
-    let added = match said {
-        Some(item) => add_item(list, item),
-        None => Err(lie),
+    let Some(item) = said else {
+        return tell(judged, lie);
     };
-    if judged.is_ok() {
-        *judged = added;
+    if list.push(item).is_err() {
+        tell(judged, Lie::NoMemory);
     }
-}
-
-fn add_item<T: Drop>(list: &mut Vec<T>, item: T) -> Result<(), Lie> {
-    list.push(item)?;
-    Ok(())
 }
