@@ -1,9 +1,8 @@
 //! Lanes dealt by chance to plain maps, a line at a time: such a run's report is legal.
+use crate::drawing::{lane_texts, schema_text, slices_of};
 use crate::setup::MEMORY;
 use crate::tables::{Table, new_tables};
-use report_judge::{
-    COUNTS, Index, Line, draw, judge, lane_texts, read_lanes, read_schema, schema_text, slices_of,
-};
+use report_judge::{COUNTS, Index, Line, draw, judge, read_lanes, read_schema};
 use std::process::Abort;
 use std::slice::Iter;
 
@@ -131,10 +130,10 @@ pub(crate) fn deal_out<R: AllocGlobal + Abort>(
 
 /// The same of the lanes' texts.
 fn dealt_report<R: AllocGlobal + Abort>(rt: &R, schema: &str, lanes: &[&str], seed: u64) -> String {
-    let indexes = read_schema(rt.alloc(), schema).ok().expect(rt, "a schema");
-    let asked = read_lanes(rt.alloc(), &indexes, lanes)
-        .ok()
-        .expect(rt, "lanes");
+    let mut judged = Ok(());
+    let indexes = read_schema(rt.alloc(), &mut judged, schema);
+    let asked = read_lanes(rt.alloc(), &mut judged, &indexes, lanes);
+    assert!(rt; judged.is_ok());
     deal_out(rt, &indexes, &asked, seed)
 }
 
@@ -146,9 +145,9 @@ fn is_legal<R: AllocGlobal + Abort>(rt: &R, schema: &str, lanes: &[&str], seed: 
 
 #[test]
 fn dealt_lanes_are_legal(rt: HostRuntime) {
-    let schema = schema_text(rt.alloc(), 3).expect(&rt, MEMORY);
-    let texts = lane_texts(rt.alloc(), 5, 8, 500, 3, 6).expect(&rt, MEMORY);
-    let lanes = slices_of(rt.alloc(), &texts).expect(&rt, MEMORY);
+    let schema = schema_text(&rt, 3);
+    let texts = lane_texts(&rt, 5, 8, 500, 3, 6);
+    let lanes = slices_of(&rt, &texts);
     for seed in 0..3 {
         assert!(rt; is_legal(&rt, schema.as_str(), &lanes, seed));
     }

@@ -1,6 +1,5 @@
 //! Lanes are drawn alike by the same numbers alone.
-use crate::setup::MEMORY;
-use report_judge::{lane_text, schema_text};
+use crate::drawing::{lane_text, schema_text};
 use std::process::Abort;
 
 fn count_of_lines(text: &str, verb: &str) -> u64 {
@@ -15,7 +14,7 @@ fn count_of_lines(text: &str, verb: &str) -> u64 {
 
 /// A lane of 400 lines, drawn by this seed and this number.
 fn drawn<R: AllocGlobal + Abort>(rt: &R, seed: u64, lane: u64) -> String {
-    lane_text(rt.alloc(), seed, lane, 400, 3, 6).expect(rt, MEMORY)
+    lane_text(rt, seed, lane, 400, 3, 6)
 }
 
 /// Whether that seed and that number draw this lane.
@@ -51,6 +50,6 @@ fn each_verb_is_drawn(rt: HostRuntime) {
 
 #[test]
 fn indexes_are_named_by_their_numbers(rt: HostRuntime) {
-    let schema = schema_text(rt.alloc(), 3).expect(&rt, MEMORY);
+    let schema = schema_text(&rt, 3);
     assert!(rt; schema.as_str() == "index t0 1\nindex t1 2\nindex t2 3\n");
 }

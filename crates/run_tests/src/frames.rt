@@ -1,8 +1,9 @@
 //! Runs in which pages go to their images and come back all the time, since frames are few.
+use crate::drawing::slices_of;
 use crate::rows::{Look, Numbers, puts_and_gets};
 use crate::setup::{LANE, MEMORY, SCHEMA, legal_within};
 use crate::trees::counted;
-use report_judge::{LIMITS, Limits, slices_of};
+use report_judge::{LIMITS, Limits};
 use std::process::Abort;
 use std::sync::Wait;
 use std::thread::Threads;
@@ -72,7 +73,7 @@ fn eight_lanes<R: AllocGlobal + Abort>(rt: &R) -> Vec<String> {
 /// several times as many as frames.
 fn changes_of_eight<R: AllocGlobal + Abort + Threads + Wait + Sync>(rt: &R) -> Option<u64> {
     let lanes = eight_lanes(rt);
-    let texts = slices_of(rt.alloc(), &lanes).expect(rt, MEMORY);
+    let texts = slices_of(rt, &lanes);
     counted(report_under(rt, 72, LIMITS.pages, &texts).as_str())
 }
 

@@ -16,7 +16,9 @@ fn told_of<R: AllocGlobal + Abort + Threads + Wait + Sync>(rt: &R, lane: &str) -
 
 /// What plain maps report of a lane whose escapes are in lower case.
 fn dealt_of<R: AllocGlobal + Abort>(rt: &R, lane: &str) -> String {
-    let indexes = read_schema(rt.alloc(), SCHEMA).ok().expect(rt, "a schema");
+    let mut judged = Ok(());
+    let indexes = read_schema(rt.alloc(), &mut judged, SCHEMA);
+    assert!(rt; judged.is_ok());
     let report = deal_out(rt, &indexes, &[read_lines(rt, lane)], 1);
     without_columns(rt, report.as_str())
 }

@@ -1,6 +1,6 @@
 //! Drawn lanes through the program, judged by the naive reading.
-use crate::setup::{MEMORY, legal_report};
-use report_judge::{lane_texts, schema_text, slices_of};
+use crate::drawing::{lane_texts, schema_text, slices_of};
+use crate::setup::legal_report;
 use std::process::Abort;
 use std::sync::Wait;
 use std::thread::Threads;
@@ -14,9 +14,9 @@ type Drawn = (u64, u64, u64, u64, u64);
 /// The legal report of drawn lanes.
 fn report_of<R: AllocGlobal + Abort + Threads + Wait + Sync>(rt: &R, drawn: Drawn) -> String {
     let (seed, count, lines, indexes, keys) = drawn;
-    let schema = schema_text(rt.alloc(), indexes).expect(rt, MEMORY);
-    let lanes = lane_texts(rt.alloc(), seed, count, lines, indexes, keys).expect(rt, MEMORY);
-    let texts = slices_of(rt.alloc(), &lanes).expect(rt, MEMORY);
+    let schema = schema_text(rt, indexes);
+    let lanes = lane_texts(rt, seed, count, lines, indexes, keys);
+    let texts = slices_of(rt, &lanes);
     legal_report(rt, schema.as_str(), &texts)
 }
 

@@ -4,6 +4,8 @@
 #[cfg(test)]
 mod dealt;
 #[cfg(test)]
+mod drawing;
+#[cfg(test)]
 mod drawn;
 #[cfg(test)]
 mod frames;

@@ -1,9 +1,9 @@
 //! Seeks over trees, judged by the naive reading: over leaves that are full or empty, at both ends
 //! of an index, and while another lane empties leaves.
+use crate::drawing::{schema_text, seek_lane_text};
 use crate::rows::{Look, Numbers, add_asks, add_puts, bytes_of};
-use crate::setup::{MEMORY, legal_report};
+use crate::setup::legal_report;
 use crate::trees::changes_of;
-use report_judge::{schema_text, seek_lane_text};
 use std::process::Abort;
 use std::sync::Wait;
 use std::thread::Threads;
@@ -100,12 +100,12 @@ fn rows_are_sought_while_leaves_are_emptied(rt: HostRuntime) {
 /// A drawn lane of 200,000 lines, half of them seeks by tuples of one to four fields.
 fn drawn_lane<R: AllocGlobal + Abort>(rt: &R) -> String {
     let value = bytes_of(rt, 'v', 200);
-    seek_lane_text(rt.alloc(), 5, 200_000, 1_000, value.as_str()).expect(rt, MEMORY)
+    seek_lane_text(rt, 5, 200_000, 1_000, value.as_str())
 }
 
 #[test]
 fn many_drawn_seeks_are_reported_legally(rt: HostRuntime) {
-    let schema = schema_text(rt.alloc(), 4).expect(&rt, MEMORY);
+    let schema = schema_text(&rt, 4);
     let lane = drawn_lane(&rt);
     let _report = legal_report(&rt, schema.as_str(), &[lane.as_str()]);
 }
