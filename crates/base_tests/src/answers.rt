@@ -3,9 +3,9 @@ ghost use Rattle.std.specs.Prelude.{ℕ, List, ◌≡◌, true, IsSome};
 ghost use Rattle.key_tuple.specs.Order.{FieldList};
 ghost use Rattle.report_text.specs.Printed.{printed_answer};
 
-use crate::setup::{Ask, MEMORY, line_of, tuple_of};
-use key_tuple::Mode;
-use map_history::{How, Line, Note, Op, Reply, Told};
+use crate::files::{SCHEMA, lines_of};
+use crate::setup::{MEMORY, tuple_of};
+use map_history::{How, Note, Op, Reply, Told};
 use report_text::answer;
 use std::process::Abort;
 
@@ -36,25 +36,23 @@ fn may_be_told(op: &Op, told: &Told) -> bool
     }
 }
 
-/// A line's number, what it asks by which fields, what it is told, the fields and the value of a
-/// row, and how that is printed.
+/// The number of a line, a lane of one that asks the same, what it is told, the fields and the value
+/// of a row, and how that is printed.
 type Answer = (
     u32,
-    Ask,
-    &'static [&'static [u8]],
+    &'static [u8],
     Told,
     &'static [&'static [u8]],
     &'static [u8],
     &'static [u8],
 );
 
-/// An answer to what is asked by the key `a`, without columns and without fields.
+/// An answer without columns and without fields.
 macro_rules! said {
-    ($line:expr, $ask:expr, $reply:expr, $point:expr, $value:expr, $text:expr) => {
+    ($line:expr, $asked:expr, $reply:expr, $point:expr, $value:expr, $text:expr) => {
         (
             $line,
-            $ask,
-            &[b"a"],
+            $asked,
             told!($reply, Some($point), How::Dash, Note::Dash),
             &[],
             $value,
@@ -67,27 +65,27 @@ macro_rules! said {
 static ANSWERS: [Answer; 11] = [
     said!(
         7,
-        Ask::Get,
+        b"get t a",
         Reply::Found,
         3,
         b"\0 !%+,-}~\x7f\xaf\xff",
         b"7 found %00%20!%25+%2c-}%7e%7f%af%ff @3 - -\n"
     ),
-    said!(2, Ask::Get, Reply::Found, 1, b"x", b"2 found x @1 - -\n"),
-    said!(8, Ask::Get, Reply::Found, 4, b"", b"8 found ~ @4 - -\n"),
-    said!(4, Ask::Get, Reply::Absent, 2, b"", b"4 absent @2 - -\n"),
+    said!(2, b"get t a", Reply::Found, 1, b"x", b"2 found x @1 - -\n"),
+    said!(8, b"get t a", Reply::Found, 4, b"", b"8 found ~ @4 - -\n"),
+    said!(4, b"get t a", Reply::Absent, 2, b"", b"4 absent @2 - -\n"),
     said!(
         2,
-        Ask::Put,
+        b"put t a x",
         Reply::Duplicate,
         1,
         b"",
         b"2 duplicate @1 - -\n"
     ),
-    said!(3, Ask::Set, Reply::Absent, 0, b"", b"3 absent @0 - -\n"),
+    said!(3, b"set t a x", Reply::Absent, 0, b"", b"3 absent @0 - -\n"),
     said!(
         9,
-        Ask::Seek(Mode::L),
+        b"seek t l a",
         Reply::Absent,
         4,
         b"",
@@ -95,8 +93,7 @@ static ANSWERS: [Answer; 11] = [
     ),
     (
         3,
-        Ask::Set,
-        &[b"a"],
+        b"set t a x",
         told!(Reply::Ok, Some(7), How::Hit, Note::Dash),
         &[],
         b"",
@@ -104,8 +101,7 @@ static ANSWERS: [Answer; 11] = [
     ),
     (
         205,
-        Ask::Seek(Mode::Ge),
-        &[],
+        b"seek two ge a",
         told!(Reply::Found, Some(4), How::Short, Note::No),
         &[b"a", b""],
         b"p",
@@ -113,8 +109,7 @@ static ANSWERS: [Answer; 11] = [
     ),
     (
         2,
-        Ask::Put,
-        &[b"a"],
+        b"put t a x",
         told!(Reply::LogFull(2), Some(2), How::Cold, Note::No),
         &[],
         b"",
@@ -122,8 +117,7 @@ static ANSWERS: [Answer; 11] = [
     ),
     (
         2,
-        Ask::Put,
-        &[b"a"],
+        b"put t a x",
         told!(Reply::SpaceFull, None, How::Cold, Note::No),
         &[],
         b"",
@@ -131,33 +125,21 @@ static ANSWERS: [Answer; 11] = [
     ),
 ];
 
-/// The answer to this line is printed so.
-fn is_printed<R: AllocGlobal + Abort>(
-    rt: &R,
-    line: &Line,
-    told: &Told,
-    parts: &[&[u8]],
-    value: &[u8],
-    text: &[u8],
-) -> bool {
-    let row = tuple_of(rt, parts);
+/// The answer to a line of this number is printed so.
+fn is_printed<R: AllocGlobal + Abort>(rt: &R, op: &Op, row: &Answer) -> bool {
+    let (number, _, told, parts, value, text) = row;
+    let fields = tuple_of(rt, parts);
     let mut out = Vec::new(rt.alloc());
-    assert!(rt; may_be_told(&line.op, told));
-    answer(&mut out, line.line, told, &row, value, &line.op).expect(rt, MEMORY);
-    out.as_slice() == text
-}
-
-/// The answer is printed as the row says.
-fn tells<R: AllocGlobal + Abort>(rt: &R, row: &Answer) -> bool {
-    let (line, ask, by, told, parts, value, text) = row;
-    let lines = line_of(rt, (*line, 0), *ask, by, b"");
-    let line = lines.first().expect(rt, "a line");
-    is_printed(rt, line, told, parts, value, text)
+    assert!(rt; may_be_told(op, told));
+    answer(&mut out, *number, told, &fields, value, op).expect(rt, MEMORY);
+    out.as_slice() == *text
 }
 
 #[test]
 fn answers_are_printed(rt: HostRuntime) {
     for row in ANSWERS.iter() {
-        assert!(rt; tells(&rt, row));
+        let lines = lines_of(&rt, SCHEMA, row.1);
+        let line = lines.first().expect(&rt, "a line");
+        assert!(rt; is_printed(&rt, &line.op, row));
     }
 }

@@ -3,74 +3,59 @@ use crate::setup::MEMORY;
 use report_judge::draw;
 use std::process::Abort;
 
-/// The index of the row at one of twelve places, and its key up to the last number: the rest of the
-/// place by six.
-fn key_at(place: u64) -> (&'static str, &'static str) {
-    match place {
-        0..=5 => ("t ", "k"),
-        6..=8 => ("two ", "0,k"),
-        _ => ("two ", "1,k"),
-    }
+/// A verb, the mode behind the index where it seeks, and what stands before the number of a value
+/// where it has one. The last says nothing.
+static VERBS: [(&str, &str, &str); 12] = [
+    ("get", "", ""),
+    ("get", "", ""),
+    ("put", "", " v"),
+    ("put", "", " v"),
+    ("set", "", " v"),
+    ("set", "", " v"),
+    ("del", "", ""),
+    ("seek", "ge ", ""),
+    ("seek", "g ", ""),
+    ("seek", "le ", ""),
+    ("seek", "l ", ""),
+    ("#", "", ""),
+];
+
+/// The indexes and keys of twelve rows, and first fields by which only seeks ask.
+static KEYS: [(&str, &str); 14] = [
+    ("t", "k0"),
+    ("t", "k1"),
+    ("t", "k2"),
+    ("t", "k3"),
+    ("t", "k4"),
+    ("t", "k5"),
+    ("two", "0,k0"),
+    ("two", "0,k1"),
+    ("two", "0,k2"),
+    ("two", "1,k3"),
+    ("two", "1,k4"),
+    ("two", "1,k5"),
+    ("two", "0"),
+    ("two", "1"),
+];
+
+/// A drawn one of the first so many.
+fn drawn_of<R: Abort, T: Copy + Drop>(rt: &R, state: &mut u64, list: &[T], count: u64) -> T {
+    let place = draw(state).checked_rem(count).unwrap_or(0);
+    *list.get(place as usize).expect(rt, "a row")
 }
 
-fn mode_of(draw: u64) -> &'static str {
-    match draw % 4 {
-        0 => "ge ",
-        1 => "g ",
-        2 => "le ",
-        _ => "l ",
-    }
-}
-
-/// Adds these words, and behind them a number.
-fn add<R: Abort>(rt: &R, text: &mut String, words: &[&str], number: u64) {
-    for word in words {
-        text.push_str(word).expect(rt, MEMORY);
-    }
-    write!(text, "{number}").expect(rt, MEMORY);
-}
-
-/// Adds a seek by a row's key, or by the first field of `two` alone.
-fn add_seek<R: Abort>(rt: &R, text: &mut String, draw: u64) {
-    let last = draw % 6;
-    let (index, key) = match draw % 36 {
-        0..=11 => ("t ", "k"),
-        12..=23 => ("two ", ""),
-        _ => key_at(last + 6),
-    };
-    let number = if key.is_empty() { last / 3 } else { last };
-    add(rt, text, &["seek ", index, mode_of(draw), key], number);
-}
-
-/// The verb of a line that isn't a seek, and whether it has a value.
-fn verb_of(draw: u64) -> (&'static str, bool) {
-    match draw {
-        0 | 1 => ("get ", false),
-        2 | 3 => ("put ", true),
-        4 | 5 => ("set ", true),
-        _ => ("del ", false),
-    }
-}
-
-/// Adds a line with a drawn verb, about one of the twelve keys.
-fn add_row<R: Abort>(rt: &R, text: &mut String, drawn: u64, row: u64, number: u64) {
-    let (verb, has_value) = verb_of(drawn);
-    let (index, key) = key_at(row % 12);
-    add(rt, text, &[verb, index, key], row % 6);
-    if has_value {
-        add(rt, text, &[" v"], number);
-    }
-}
-
-/// Adds the words of the line of this number.
+/// Adds the line of this number.
 fn add_line<R: Abort>(rt: &R, text: &mut String, state: &mut u64, number: u64) {
-    let row = draw(state);
-    let drawn = draw(state) % 10;
-    match drawn {
-        9 => text.push_str("# says nothing").expect(rt, MEMORY),
-        7 | 8 => add_seek(rt, text, draw(state)),
-        _ => add_row(rt, text, drawn, row, number),
-    }
+    let (verb, mode, value) = drawn_of(rt, state, &VERBS, 12);
+    let count = if mode.is_empty() { 12 } else { 14 };
+    let (index, key) = drawn_of(rt, state, &KEYS, count);
+    write!(text, "{verb} {index} {mode}{key}").expect(rt, MEMORY);
+    let ended = if value.is_empty() {
+        text.push('\n')
+    } else {
+        write!(text, "{value}{number}\n")
+    };
+    ended.expect(rt, MEMORY);
 }
 
 /// So many lines.
@@ -79,7 +64,6 @@ pub(crate) fn lane_text<R: AllocGlobal + Abort>(rt: &R, seed: u64, lines: u64) -
     let mut text = String::new(rt.alloc());
     for before in 0..lines {
         add_line(rt, &mut text, &mut state, before.wrapping_add(1));
-        text.push('\n').expect(rt, MEMORY);
     }
     text
 }

@@ -6,33 +6,25 @@ use script::{Flaw, Line, MAX_FILE_BYTES, ScriptError, read_lane, read_schema};
 use std::process::Abort;
 
 /// Two indexes.
-const SCHEMA: &[u8] = b"# two indexes\n\nindex t 1\nindex two 2\n";
+pub(crate) const SCHEMA: &[u8] = b"# two indexes\n\nindex t 1\nindex two 2\n";
 
-/// How a file ends: it is read, or a line of it has one of three flaws.
-pub(crate) const READ: u8 = 0;
+/// A file is read, or its first line has one of three flaws.
+pub(crate) const READ: Option<ScriptError> = None;
 
-pub(crate) const BAD: u8 = 1;
+pub(crate) const BAD: Option<ScriptError> = Some(ScriptError::Flawed {
+    line: 1,
+    flaw: Flaw::BadLine,
+});
 
-pub(crate) const UNKNOWN: u8 = 2;
+pub(crate) const UNKNOWN: Option<ScriptError> = Some(ScriptError::Flawed {
+    line: 1,
+    flaw: Flaw::UnknownIndex,
+});
 
-pub(crate) const LONG: u8 = 3;
-
-/// It ends so, at this line where it isn't read.
-fn is(error: Option<ScriptError>, end: u8, at: u32) -> bool {
-    match error {
-        None => end == READ,
-        Some(ScriptError::NoMemory) => false,
-        Some(ScriptError::Flawed { line, flaw }) => end == end_by(flaw) && at == line,
-    }
-}
-
-fn end_by(flaw: Flaw) -> u8 {
-    match flaw {
-        Flaw::BadLine => BAD,
-        Flaw::UnknownIndex => UNKNOWN,
-        Flaw::TooLong => LONG,
-    }
-}
+pub(crate) const LONG: Option<ScriptError> = Some(ScriptError::Flawed {
+    line: 1,
+    flaw: Flaw::TooLong,
+});
 
 /// The lines of a lane over this schema, or why it isn't read.
 fn read<R: AllocGlobal + Abort>(
@@ -45,26 +37,18 @@ fn read<R: AllocGlobal + Abort>(
     read_lane(rt.alloc(), lane, &schema)
 }
 
-/// Why a schema isn't read.
-fn schema_error<R: AllocGlobal + Abort>(rt: &R, schema: &[u8]) -> Option<ScriptError> {
-    assert!(rt; schema.len() <= MAX_FILE_BYTES);
-    read_schema(rt.alloc(), schema).err()
-}
-
-/// The file, a lane over those two indexes or a schema, ends so.
-pub(crate) fn ends<R: AllocGlobal + Abort>(
+/// Why the file, a lane over those two indexes or a schema, isn't read.
+pub(crate) fn error_of<R: AllocGlobal + Abort>(
     rt: &R,
     is_lane: bool,
     file: &[u8],
-    end: u8,
-    at: u32,
-) -> bool {
-    let error = if is_lane {
+) -> Option<ScriptError> {
+    assert!(rt; file.len() <= MAX_FILE_BYTES);
+    if is_lane {
         read(rt, SCHEMA, file).err()
     } else {
-        schema_error(rt, file)
-    };
-    is(error, end, at)
+        read_schema(rt.alloc(), file).err()
+    }
 }
 
 /// The lines of a lane over this schema.

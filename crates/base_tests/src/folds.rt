@@ -6,7 +6,9 @@ use std::process::Abort;
 /// The number of an index, fields, how many of them and how many bytes of the next one are folded,
 /// how many bits are kept, and the fold. The number alone, the bytes `foob`, is a vector that the
 /// hash is published with, and of one field the lowest bit is that of its bytes.
-static FOLDS: [(u32, &[&[u8]], (u8, u16), u8, u64); 11] = [
+type Folded = (u32, &'static [&'static [u8]], (u8, u16), u8, u64);
+
+static FOLDS: [Folded; 11] = [
     (7, &[b"ab", b"xyz"], (0, 0), 64, 0x4d25_6f7f_9dce_0810),
     (7, &[b"ab", b"xyz"], (0, 1), 64, 0xe4a4_e6d9_2518_5803),
     (7, &[b"ab", b"xyz"], (1, 9), 64, 0x013f_0a6f_8855_05f0),
@@ -22,25 +24,20 @@ static FOLDS: [(u32, &[&[u8]], (u8, u16), u8, u64); 11] = [
 
 #[test]
 fn prefixes_are_folded(rt: HostRuntime) {
-    for (index, parts, (fields, bytes), bits, want) in FOLDS.iter() {
-        let params = Params {
-            fields: *fields,
-            bytes: *bytes,
-            left: true,
-        };
-        assert!(rt; fold_of(&rt, *index, parts, &params, *bits) == *want);
+    for row in FOLDS.iter() {
+        assert!(rt; is_folded_so(&rt, row));
     }
 }
 
-fn fold_of<R: AllocGlobal + Abort>(
-    rt: &R,
-    index: u32,
-    parts: &[&[u8]],
-    params: &Params,
-    bits: u8,
-) -> u64 {
+fn is_folded_so<R: AllocGlobal + Abort>(rt: &R, row: &Folded) -> bool {
+    let (index, parts, (fields, bytes), bits, want) = row;
+    let params = Params {
+        fields: *fields,
+        bytes: *bytes,
+        left: true,
+    };
     let tuple = tuple_of(rt, parts);
     let is_within = params.asked_fields() <= u16::from(tuple.count());
-    assert!(rt; is_within && 1 <= bits && bits <= 64);
-    fold(index, &tuple, params, bits)
+    assert!(rt; is_within && 1 <= *bits && *bits <= 64);
+    fold(*index, &tuple, &params, *bits) == *want
 }

@@ -1,6 +1,7 @@
 //! The edges of the grammar of schemas and lanes. Texts have several files, apart by `|`.
-use crate::files::{BAD, READ, UNKNOWN, ends};
+use crate::files::{BAD, READ, UNKNOWN, error_of};
 use crate::schema_sizes::{BAD_SETTINGS, GOOD_SETTINGS, LATE_SETTINGS};
+use script::{Flaw, ScriptError};
 use std::process::Abort;
 
 const BAD_LANES: &str = "\
@@ -27,31 +28,45 @@ const BAD_SCHEMAS: &str = "\
 const GOOD_SCHEMAS: &str = "\
     index t 1|index t 4\n|index a_0123456789_0123456789_01234567 1\n";
 
-/// Whether these files are lanes, else they are schemas; the files, and how each ends at which line:
-/// a refusal has the line that it is of. A schema without an index is refused behind its last line,
-/// and a name stands once.
-type Files = (bool, &'static str, u8, u32);
+/// Whether these files are lanes, else they are schemas; the files, and how each ends: a refusal has
+/// the line that it is of. A schema without an index is refused behind its last line, and a name
+/// stands once.
+type Files = (bool, &'static str, Option<ScriptError>);
+
+/// That this line has this flaw.
+macro_rules! flawed {
+    ($flaw:expr, $line:expr) => {
+        Some(ScriptError::Flawed {
+            line: $line,
+            flaw: $flaw,
+        })
+    };
+}
 
 static FILES: [Files; 13] = [
-    (true, BAD_LANES, BAD, 1),
-    (true, GOOD_LANES, READ, 0),
-    (true, UNKNOWN_INDEXES, UNKNOWN, 1),
-    (true, "\n# get u a\n\nget u a", UNKNOWN, 4),
-    (true, "get t a\nget two a\n", BAD, 2),
-    (false, BAD_SCHEMAS, BAD, 1),
-    (false, GOOD_SCHEMAS, READ, 0),
-    (false, "# nothing\n\n", BAD, 3),
-    (false, "# nothing", BAD, 2),
-    (false, "index t 1\nindex t 2\n", BAD, 2),
-    (false, GOOD_SETTINGS, READ, 0),
-    (false, BAD_SETTINGS, BAD, 1),
-    (false, LATE_SETTINGS, BAD, 2),
+    (true, BAD_LANES, BAD),
+    (true, GOOD_LANES, READ),
+    (true, UNKNOWN_INDEXES, UNKNOWN),
+    (
+        true,
+        "\n# get u a\n\nget u a",
+        flawed!(Flaw::UnknownIndex, 4),
+    ),
+    (true, "get t a\nget two a\n", flawed!(Flaw::BadLine, 2)),
+    (false, BAD_SCHEMAS, BAD),
+    (false, GOOD_SCHEMAS, READ),
+    (false, "# nothing\n\n", flawed!(Flaw::BadLine, 3)),
+    (false, "# nothing", flawed!(Flaw::BadLine, 2)),
+    (false, "index t 1\nindex t 2\n", flawed!(Flaw::BadLine, 2)),
+    (false, GOOD_SETTINGS, READ),
+    (false, BAD_SETTINGS, BAD),
+    (false, LATE_SETTINGS, flawed!(Flaw::BadLine, 2)),
 ];
 
 fn each_ends<R: AllocGlobal + Abort>(rt: &R, row: &Files) -> bool {
-    let (are_lanes, files, end, at) = row;
+    let (are_lanes, files, end) = row;
     for file in files.split('|') {
-        if !ends(rt, *are_lanes, file.as_bytes(), *end, *at) {
+        if error_of(rt, *are_lanes, file.as_bytes()) != *end {
             return false;
         }
     }

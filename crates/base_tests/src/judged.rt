@@ -2,7 +2,7 @@
 use crate::edited::{Edit, Written};
 use report_judge::Lie;
 
-const SETS: Written = Written {
+static SETS: Written = Written {
     schema: "index t 1\n",
     lane: "set t a x\nput t a x\nset t a y\nget t a\nset t a y\n",
     report: "ahi run\nlane 1\n1 absent @0 - -\n2 ok @1 - -\n3 ok @2 - -\n4 found y @2 - -\n\

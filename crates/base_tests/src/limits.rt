@@ -26,8 +26,7 @@ static VALUES: [(usize, Option<KeyError>); 3] = [
 #[test]
 fn too_many_fields_and_bytes_are_refused(rt: HostRuntime) {
     for (lengths, refusal) in FIELDS.iter() {
-        assert!(rt; is_tuple_refused_so(&rt, lengths, *refusal));
-        assert!(rt; lengths.is_empty() || is_key_refused_so(&rt, lengths, *refusal));
+        assert!(rt; are_refused_so(&rt, lengths, *refusal));
     }
 }
 
@@ -38,20 +37,18 @@ fn too_long_a_value_is_refused(rt: HostRuntime) {
     }
 }
 
-fn is_key_refused_so<R: AllocGlobal + Abort>(
+/// There is no tuple and no key of such fields, for this reason, or there are both.
+fn are_refused_so<R: AllocGlobal + Abort>(
     rt: &R,
     lengths: &[usize],
     refusal: Option<KeyError>,
 ) -> bool {
+    let tuple = Tuple::try_new(rt.alloc(), of_lengths(rt, lengths)).err();
     let fields = of_lengths(rt, lengths);
-    assert!(rt; !fields.is_empty());
-    Key::try_new(rt.alloc(), fields).err() == refusal
-}
-
-fn is_tuple_refused_so<R: AllocGlobal + Abort>(
-    rt: &R,
-    lengths: &[usize],
-    refusal: Option<KeyError>,
-) -> bool {
-    Tuple::try_new(rt.alloc(), of_lengths(rt, lengths)).err() == refusal
+    let key = if fields.is_empty() {
+        refusal
+    } else {
+        Key::try_new(rt.alloc(), fields).err()
+    };
+    tuple == refusal && key == refusal
 }

@@ -1,7 +1,8 @@
 //! The other lines of a report, byte for byte.
-use crate::setup::{Ask, MEMORY, line_of};
+use crate::files::{SCHEMA, lines_of};
+use crate::setup::MEMORY;
 use change_log::LaneChange;
-use map_history::{Counts, Line};
+use map_history::Counts;
 use report_text::{change, changes_head, lane_head, report_end, report_head, stats};
 use std::process::Abort;
 
@@ -37,38 +38,30 @@ fn heads_and_counts_have_their_words(rt: HostRuntime) {
     assert!(rt; report(&rt).as_slice() == REPORT);
 }
 
-/// The number of a change, the line of lane 1 that asks for it, what that asks for with which key
-/// and value, and the text: a get is no change, and has none.
-type Printed = (
-    u64,
-    u32,
-    Ask,
-    &'static [&'static [u8]],
-    &'static [u8],
-    &'static [u8],
-);
+/// The number of a change, lane 1 up to the line that asks for it, and the text: a get is no change,
+/// and has none.
+type Printed = (u64, &'static [u8], &'static [u8]);
 
 static CHANGES: [Printed; 5] = [
-    (1, 1, Ask::Put, &[b"a"], b"x", b"1 1 1 put a x\n"),
-    (2, 2, Ask::Put, &[b"a", b"\0"], b"2", b"2 1 2 put a,%00 2\n"),
-    (3, 5, Ask::Set, &[b"a", b"b"], b"", b"3 1 5 set a,b ~\n"),
-    (2, 3, Ask::Del, &[b"a"], b"", b"2 1 3 del a\n"),
-    (2, 3, Ask::Get, &[b"a"], b"", b""),
+    (1, b"put t a x", b"1 1 1 put a x\n"),
+    (2, b"\nput two a,%00 2", b"2 1 2 put a,%00 2\n"),
+    (3, b"\n\n\n\nset two a,b ~", b"3 1 5 set a,b ~\n"),
+    (2, b"\n\ndel t a", b"2 1 3 del a\n"),
+    (2, b"\n\nget t a", b""),
 ];
-
-/// The change of this number by this line is printed so.
-fn is_printed<R: AllocGlobal + Abort>(rt: &R, number: u64, line: &Line, text: &[u8]) -> bool {
-    let mut out = Vec::new(rt.alloc());
-    let lane = 1;
-    change(&mut out, &LaneChange { number, lane, line }).expect(rt, MEMORY);
-    out.as_slice() == text
-}
 
 /// The change is printed as the row says.
 fn tells<R: AllocGlobal + Abort>(rt: &R, row: &Printed) -> bool {
-    let (number, line, ask, parts, value, text) = row;
-    let lines = line_of(rt, (*line, 0), *ask, parts, value);
-    is_printed(rt, *number, lines.first().expect(rt, "a line"), text)
+    let (number, lane, text) = row;
+    let lines = lines_of(rt, SCHEMA, lane);
+    let made = LaneChange {
+        number: *number,
+        lane: 1,
+        line: lines.first().expect(rt, "a line"),
+    };
+    let mut out = Vec::new(rt.alloc());
+    change(&mut out, &made).expect(rt, MEMORY);
+    out.as_slice() == *text
 }
 
 #[test]

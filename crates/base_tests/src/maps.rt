@@ -1,50 +1,40 @@
 //! A row's life in a map, seeks in all modes, and a scan that is lent.
-use crate::setup::{Ask, MEMORY, key_of, line_of, value_of};
+use crate::files::lines_of;
+use crate::setup::{MEMORY, key_of, tuple_of, value_of};
 use key_tuple::{Key, Mode, Value};
-use map_history::{Change, Line, Op, OpRef, Reply, RowBuf, answer, apply, make};
+use map_history::{Change, Op, OpRef, Reply, RowBuf, answer, apply, make};
 use std::collections::BTreeMap;
 use std::process::Abort;
 
-/// What is asked of a map, by which fields and with which value, the reply, and the value that is
-/// left in the buffer.
-type Asked = (
-    Ask,
-    &'static [&'static [u8]],
-    &'static [u8],
-    Reply,
-    &'static [u8],
-);
+/// The only line of a lane, the reply, and the value that is left in the buffer.
+type Asked = (&'static [u8], Reply, &'static [u8]);
 
 static LIFE: [Asked; 9] = [
-    (Ask::Put, &[b"a"], b"x", Reply::Ok, b""),
-    (Ask::Get, &[b"a"], b"", Reply::Found, b"x"),
-    (Ask::Put, &[b"a"], b"y", Reply::Duplicate, b"x"),
-    (Ask::Get, &[b"a"], b"", Reply::Found, b"x"),
-    (Ask::Set, &[b"a"], b"y", Reply::Ok, b"x"),
-    (Ask::Get, &[b"a"], b"", Reply::Found, b"y"),
-    (Ask::Del, &[b"a"], b"", Reply::Ok, b"y"),
-    (Ask::Get, &[b"a"], b"", Reply::Absent, b"y"),
-    (Ask::Set, &[b"a"], b"z", Reply::Absent, b"y"),
+    (b"put t a x", Reply::Ok, b""),
+    (b"get t a", Reply::Found, b"x"),
+    (b"put t a y", Reply::Duplicate, b"x"),
+    (b"get t a", Reply::Found, b"x"),
+    (b"set t a y", Reply::Ok, b"x"),
+    (b"get t a", Reply::Found, b"y"),
+    (b"del t a", Reply::Ok, b"y"),
+    (b"get t a", Reply::Absent, b"y"),
+    (b"set t a z", Reply::Absent, b"y"),
 ];
 
 /// Seeks among the four rows, of which each value is of one row.
-static SEEKS: [Asked; 9] = [
-    (Ask::Seek(Mode::Ge), &[b"a", b"y"], b"", Reply::Found, b"r"),
-    (Ask::Seek(Mode::Ge), &[b"a"], b"", Reply::Found, b"p"),
-    (Ask::Seek(Mode::G), &[b"a", b"x"], b"", Reply::Found, b"r"),
-    (
-        Ask::Seek(Mode::G),
-        &[b"a", b"x", b"1"],
-        b"",
-        Reply::Found,
-        b"q",
-    ),
-    (Ask::Seek(Mode::G), &[b"a"], b"", Reply::Absent, b"q"),
-    (Ask::Seek(Mode::Le), &[b"a", b"x"], b"", Reply::Found, b"q"),
-    (Ask::Seek(Mode::Le), &[], b"", Reply::Found, b"s"),
-    (Ask::Seek(Mode::L), &[b"a", b"y"], b"", Reply::Found, b"q"),
-    (Ask::Seek(Mode::L), &[b"a"], b"", Reply::Absent, b"q"),
+static SEEKS: [Asked; 8] = [
+    (b"seek rows ge a,y", Reply::Found, b"r"),
+    (b"seek rows ge a", Reply::Found, b"p"),
+    (b"seek rows g a,x", Reply::Found, b"r"),
+    (b"seek rows g a,x,1", Reply::Found, b"q"),
+    (b"seek rows g a", Reply::Absent, b"q"),
+    (b"seek rows le a,x", Reply::Found, b"q"),
+    (b"seek rows l a,y", Reply::Found, b"q"),
+    (b"seek rows l a", Reply::Absent, b"q"),
 ];
+
+/// The index of those rows, and that of the other one.
+const SCHEMA: &[u8] = b"index rows 3\nindex t 1\n";
 
 /// The second and the third field of rows whose first one is `a`, and their values.
 static ROWS: [(&[u8], &[u8], &[u8]); 4] = [
@@ -54,21 +44,17 @@ static ROWS: [(&[u8], &[u8], &[u8]); 4] = [
     (b"x", b"2", b"q"),
 ];
 
-/// The change that puts a row of these fields and this value.
-fn put_of<R: AllocGlobal + Abort>(rt: &R, parts: &[&[u8]], bytes: &[u8]) -> Change {
-    Change::Put {
-        key: key_of(rt, parts),
-        value: value_of(rt, bytes),
-    }
-}
-
 fn put_row<R: AllocGlobal + Abort>(
     rt: &R,
     map: &mut BTreeMap<Key, Value>,
     parts: &[&[u8]],
     bytes: &[u8],
 ) {
-    apply(map, &put_of(rt, parts, bytes)).expect(rt, MEMORY);
+    let put = Change::Put {
+        key: key_of(rt, parts),
+        value: value_of(rt, bytes),
+    };
+    apply(map, &put).expect(rt, MEMORY);
 }
 
 /// A map of those rows.
@@ -96,28 +82,17 @@ fn replies_to<R: Abort>(
     reply == want && out.value() == left
 }
 
-/// The map replies as the row says.
-fn replies<R: AllocGlobal + Abort>(
-    rt: &R,
-    map: &mut BTreeMap<Key, Value>,
-    out: &mut RowBuf,
-    asked: &Asked,
-) -> bool {
-    let (ask, parts, bytes, want, left) = asked;
-    let lines = line_of(rt, (1, 0), *ask, parts, bytes);
-    let op = &lines.first().expect(rt, "a line").op;
-    replies_to(rt, map, out, op, (*want, left))
-}
-
 /// The map replies as the rows say, one after another.
 fn replies_so<R: AllocGlobal + Abort>(
     rt: &R,
     map: &mut BTreeMap<Key, Value>,
+    out: &mut RowBuf,
     asked: &[Asked],
 ) -> bool {
-    let mut out = RowBuf::new(rt.alloc()).expect(rt, MEMORY);
-    for row in asked {
-        if !replies(rt, map, &mut out, row) {
+    for (lane, want, left) in asked {
+        let lines = lines_of(rt, SCHEMA, lane);
+        let line = lines.first().expect(rt, "a line");
+        if !replies_to(rt, map, out, &line.op, (*want, left)) {
             return false;
         }
     }
@@ -127,17 +102,45 @@ fn replies_so<R: AllocGlobal + Abort>(
 #[test]
 fn a_row_is_put_read_and_taken_out(rt: HostRuntime) {
     let mut map = BTreeMap::new(rt.alloc());
-    assert!(rt; replies_so(&rt, &mut map, &LIFE) && map.is_empty());
+    let mut out = RowBuf::new(rt.alloc()).expect(&rt, MEMORY);
+    assert!(rt; replies_so(&rt, &mut map, &mut out, &LIFE) && map.is_empty());
+}
+
+/// What no lane can ask: a seek of the last row, by no field, and a scan.
+fn unspelled<R: AllocGlobal + Abort>(rt: &R) -> Vec<Op> {
+    let mut ops = Vec::new(rt.alloc());
+    ops.push(Op::Seek {
+        index: 0,
+        mode: Mode::Le,
+        tuple: tuple_of(rt, &[]),
+    })
+    .expect(rt, MEMORY);
+    ops.push(Op::Scan {
+        index: 3,
+        from: tuple_of(rt, &[]),
+        to: None,
+        limit: 9,
+    })
+    .expect(rt, MEMORY);
+    ops
 }
 
 #[test]
 fn seeks_find_the_rows_at_their_cuts(rt: HostRuntime) {
-    assert!(rt; replies_so(&rt, &mut four_rows(&rt), &SEEKS));
+    let mut map = four_rows(&rt);
+    let mut out = RowBuf::new(rt.alloc()).expect(&rt, MEMORY);
+    assert!(rt; replies_so(&rt, &mut map, &mut out, &SEEKS));
+    let ops = unspelled(&rt);
+    let last = ops.first().expect(&rt, "a seek");
+    assert!(rt; replies_to(&rt, &mut map, &mut out, last, (Reply::Found, b"s")));
 }
 
-/// The line is lent as a scan of this index with this limit.
-fn lends_scan(line: &Line, wanted: u32, most: u32) -> bool {
-    match line.op.borrow() {
+/// The last operation is lent as a scan of this index with this limit.
+fn lends_scan(ops: &[Op], wanted: u32, most: u32) -> bool {
+    let Some(op) = ops.last() else {
+        return false;
+    };
+    match op.borrow() {
         OpRef::Scan { index, limit, .. } => index == wanted && limit == most,
         _ => false,
     }
@@ -145,6 +148,5 @@ fn lends_scan(line: &Line, wanted: u32, most: u32) -> bool {
 
 #[test]
 fn an_operation_is_lent(rt: HostRuntime) {
-    let lines = line_of(&rt, (1, 3), Ask::Scan(9), &[], b"");
-    assert!(rt; lends_scan(lines.first().expect(&rt, "a line"), 3, 9));
+    assert!(rt; lends_scan(&unspelled(&rt), 3, 9));
 }

@@ -1,21 +1,16 @@
 //! Worked merges.
-use crate::setup::{Ask, MEMORY, add_line};
+use crate::files::{SCHEMA, lines_of};
+use crate::setup::MEMORY;
 use change_log::{LaneChange, LaneLog, merge};
 use map_history::Line;
 use std::process::Abort;
 
-/// What a lane did: the number of its line that takes a row out, the index, how far the changes that
-/// it made by that line are apart, and how many they are. The first has the lane's number.
-type Made = (u32, u32, u64, u32);
+/// A lane's lines that take rows out: lines 4, 7 and 9.
+const DELS: &[u8] = b"\n\n\ndel t k\n\n\ndel two k,k\n\ndel t k\n";
 
-/// The line of each lane.
-fn lines_of<R: AllocGlobal + Abort>(rt: &R, lanes: &[Made]) -> Vec<Line> {
-    let mut lines = Vec::new(rt.alloc());
-    for (line, index, _, _) in lanes {
-        add_line(rt, &mut lines, (*line, *index), Ask::Del, &[b"k"], b"");
-    }
-    lines
-}
+/// What a lane did: the place of its line among those, how far the changes that it made by that line
+/// are apart, and how many they are. The first has the lane's number.
+type Made = (usize, u64, u32);
 
 /// The log of a lane that made every `step`th change by one line, so many of them.
 fn log_of<'a, R: AllocGlobal + Abort>(
@@ -45,8 +40,8 @@ fn logs_of<'a, R: AllocGlobal + Abort>(
 ) -> Vec<LaneLog<'a>> {
     let mut logs = Vec::new(rt.alloc());
     let mut lane: u32 = 0;
-    for (place, (_, _, step, count)) in lanes.iter().enumerate() {
-        let line = lines.get(place).expect(rt, "a line");
+    for (place, step, count) in lanes {
+        let line = lines.get(*place).expect(rt, "a line");
         lane = lane.wrapping_add(1);
         logs.push(log_of(rt, lane, line, *step, *count))
             .expect(rt, MEMORY);
@@ -64,7 +59,7 @@ fn is_at(changes: &[LaneChange<'_>], place: usize, (number, lane, line): (u64, u
 
 /// Lane 1 made the first and the third change of index 0, lane 2 the second, and lane 3 the third
 /// of index 1.
-static THREE: [Made; 3] = [(4, 0, 2, 2), (9, 0, 0, 1), (7, 1, 0, 1)];
+static THREE: [Made; 3] = [(0, 2, 2), (2, 0, 1), (1, 0, 1)];
 
 fn are_by_number(first: &[LaneChange<'_>], second: &[LaneChange<'_>]) -> bool {
     first.len() == 3
@@ -76,7 +71,7 @@ fn are_by_number(first: &[LaneChange<'_>], second: &[LaneChange<'_>]) -> bool {
 }
 
 /// Each of 64 lanes made every 64th change.
-static MANY: [Made; 64] = [(1, 0, 64, 15_625); 64];
+static MANY: [Made; 64] = [(0, 64, 15_625); 64];
 
 /// The changes are so many, and are numbered from 1.
 fn are_counted(changes: &[LaneChange<'_>], count: u64) -> bool {
@@ -117,7 +112,7 @@ fn lanes_are_merged<R: AllocGlobal + Abort>(
     indexes: usize,
     count: u64,
 ) -> bool {
-    let lines = lines_of(rt, lanes);
+    let lines = lines_of(rt, SCHEMA, DELS);
     are_merged(rt, &logs_of(rt, lanes, &lines), indexes, count)
 }
 

@@ -1,6 +1,6 @@
 //! How keys and tuples stand to one another.
 use crate::setup::{key_of, tuple_of};
-use key_tuple::{Blank, Fields, Key, Tuple, compare, compare_whole, matches};
+use key_tuple::{Blank, Fields, Key, compare, compare_whole, matches};
 use std::cmp::Ordering;
 use std::process::Abort;
 
@@ -50,21 +50,12 @@ fn tuples_and_keys_agree_so_far(rt: HostRuntime) {
 
 // A tuple stands to a key's first fields so, and they agree so far.
 fn agree<R: AllocGlobal + Abort>(rt: &R, row: &Agreed) -> bool {
-    let (tuple, key, order, agreed) = row;
+    let (tuple, key, order, (fields, bytes)) = row;
     let tuple = tuple_of(rt, tuple);
-    agree_so(rt, &tuple, &tuple_of(rt, key), *order, *agreed)
-}
-
-fn agree_so<R: Abort>(
-    rt: &R,
-    tuple: &Tuple,
-    key: &Tuple,
-    order: Ordering,
-    (fields, bytes): (u8, u16),
-) -> bool {
+    let key = tuple_of(rt, key);
     assert!(rt; tuple.count() <= key.count());
-    let agreed = matches(tuple, key);
-    compare(tuple, key) == order && agreed.fields == fields && agreed.bytes == bytes
+    let agreed = matches(&tuple, &key);
+    compare(&tuple, &key) == *order && agreed.fields == *fields && agreed.bytes == *bytes
 }
 
 // A key begins with no fields, and comes after one empty field.

@@ -1,7 +1,8 @@
 //! The most indexes, the longest keys and values, and escapes.
-use crate::files::{Asking, BAD, LONG, READ, asks, ends};
+use crate::files::{Asking, BAD, LONG, READ, asks, error_of};
 use crate::setup::MEMORY;
 use key_tuple::{MAX_KEY_BYTES, MAX_VALUE_BYTES, Mode};
+use script::{Flaw, ScriptError};
 use std::process::Abort;
 
 /// A schema of so many indexes.
@@ -14,18 +15,30 @@ fn indexes<R: AllocGlobal + Abort>(rt: &R, count: u32) -> String {
 }
 
 /// A schema of so many indexes ends so.
-fn indexes_end<R: AllocGlobal + Abort>(rt: &R, count: u32, end: u8, at: u32) -> bool {
-    ends(rt, false, indexes(rt, count).as_bytes(), end, at)
+fn indexes_end<R: AllocGlobal + Abort>(rt: &R, count: u32, end: Option<ScriptError>) -> bool {
+    error_of(rt, false, indexes(rt, count).as_bytes()) == end
 }
+
+/// That the index behind the most is refused.
+const ONE_MORE: Option<ScriptError> = Some(ScriptError::Flawed {
+    line: 65,
+    flaw: Flaw::BadLine,
+});
 
 #[test]
 fn a_schema_has_64_indexes_at_most(rt: HostRuntime) {
-    assert!(rt; indexes_end(&rt, 64, READ, 0) && indexes_end(&rt, 65, BAD, 65));
+    assert!(rt; indexes_end(&rt, 64, READ) && indexes_end(&rt, 65, ONE_MORE));
 }
 
 /// What stands before a key or the last field of a tuple, how many bytes that has, what stands
 /// behind it, how many bytes follow, and how the lane ends.
-type Lengths = (&'static [u8], usize, &'static [u8], usize, u8);
+type Lengths = (
+    &'static [u8],
+    usize,
+    &'static [u8],
+    usize,
+    Option<ScriptError>,
+);
 
 static LENGTHS: [Lengths; 11] = [
     (b"put t ", MAX_KEY_BYTES, b" ", MAX_VALUE_BYTES, READ),
@@ -54,7 +67,7 @@ fn ends_so<R: AllocGlobal + Abort>(rt: &R, row: &Lengths) -> bool {
     let mut line = Vec::new(rt.alloc());
     add(rt, &mut line, before, b'k', *key);
     add(rt, &mut line, between, b'v', *value);
-    ends(rt, true, &line, *end, 1)
+    error_of(rt, true, &line) == *end
 }
 
 #[test]

@@ -2,7 +2,7 @@
 use crate::edited::{Edit, Written};
 use report_judge::Lie;
 
-const SEEKS: Written = Written {
+static SEEKS: Written = Written {
     schema: "index t 3\n",
     lane: "put t a,x,1 p\nput t a,y,2 s\nput t a,x,2 q\nput t a,y,1 r\nput t ~,+,1 e\n\
         seek t ge a,y\nseek t ge a\nseek t g a,x\nseek t g a,x,1\nseek t g a\nseek t le a,x\n\
