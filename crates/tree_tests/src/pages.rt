@@ -1,26 +1,25 @@
 //! Pages by their numbers: the roots, and new ones.
 ghost use Rattle.std.specs.Prelude.{◌≤◌};
 
-use crate::setup::Grove;
+use crate::setup::{Asked, Grove};
 use buffer_pool::PoolError;
 use std::process::Abort;
 use std::sync::Wait;
 
-/// A page, an index and a level, and the block that has it where there is such a page.
-static ASKED: [(u32, u32, u16, Option<u32>); 6] = [
-    (0, 0, 0, Some(0)),
-    (1, 1, 0, Some(1)),
-    (0, 1, 0, None),
-    (0, 0, 1, None),
-    (2, 0, 0, None),
-    (3, 1, 0, None),
+/// What is asked for, and the block that has it where there is such a page.
+static ASKED: [(Asked, Option<u32>); 6] = [
+    ((0, 0, 0), Some(0)),
+    ((1, 1, 0), Some(1)),
+    ((0, 1, 0), None),
+    ((0, 0, 1), None),
+    ((2, 0, 0), None),
+    ((3, 1, 0), None),
 ];
 
 /// Each of these is found so.
 fn assert_found<R: Abort + Wait>(rt: &R, grove: &mut Grove) {
-    for (place, (page, index, level, block)) in ASKED.iter().enumerate() {
-        let found = grove.block_of(*page, *index, *level, rt);
-        assert!(rt; found == *block, "page {place}");
+    for (asked, block) in ASKED.iter() {
+        assert!(rt; grove.block_of(asked, rt) == *block);
     }
 }
 
@@ -31,10 +30,10 @@ fn assert_pages<R: AllocGlobal + Abort + Wait>(rt: &R, pages: u32, number: Resul
 {
     let mut grove = Grove::open(rt, pages);
     assert_found(rt, &mut grove);
-    let block = grove.root_block(rt);
-    let first = grove.new_number(rt);
-    let again = grove.new_number(rt);
-    assert!(rt; block == 0 && first == number && again == number);
+    assert!(rt; grove.root_block(rt) == 0);
+    for _ in 0..2 {
+        assert!(rt; grove.new_number(rt) == number);
+    }
     assert_found(rt, &mut grove);
 }
 

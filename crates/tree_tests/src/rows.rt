@@ -32,14 +32,11 @@ fn leaf_frame<R: AllocGlobal + Abort>(rt: &R) -> Frame {
     }
 }
 
-fn value<R: AllocGlobal + Abort>(rt: &R, bytes: &[u8]) -> Value {
-    value_of(rt.alloc(), bytes).expect(rt, "a value")
-}
-
 /// Where the key belongs on the leaf, and where its row stands, if it is there.
 fn sought<R: Abort>(rt: &R, frame: &Frame, key: &Key) -> (Spot, Option<Place>)
     ensures free { IfNone result.1 (LacksRow frame.now key.now.tuple result.0) }
     ensures there { IfSome result.1 (λ place. HasRowOf frame.now place key.now.tuple) }
+    ensures page { IsSome frame.now.page }
 {
     let Some(page) = &frame.page else {
         panic!(rt; "no page")
@@ -50,34 +47,28 @@ fn sought<R: Abort>(rt: &R, frame: &Frame, key: &Key) -> (Spot, Option<Place>)
     (spot, place)
 }
 
-/// Whether the clock is there, and the key's row has a value of that length, or is missing.
-fn shows<R: Abort>(rt: &R, frame: &Frame, key: &Key, clock: u64, length: Option<usize>) -> bool {
+/// The clock is there, and the key's row has a value of that length, or is missing.
+fn assert_shows<R: Abort>(rt: &R, frame: &Frame, key: &Key, clock: u64, length: Option<usize>)
+    ensures { IsSome frame.now.page }
+{
     let (_, place) = sought(rt, frame, key);
     let is_so = match place {
         Some(place) => length == Some(value_len(frame, place)),
         None => length.is_none(),
     };
-    is_so && frame.clock == clock
+    assert!(rt; is_so && frame.clock == clock);
 }
 
 /// Puts a row in whose key is missing, and finds it.
-fn put_in<R: AllocGlobal + Abort>(rt: &R, frame: &mut Frame, key: &Key) -> Place
+fn put_in<R: Abort>(rt: &R, frame: &mut Frame, key: &Key, value: &Value) -> Place
     ensures { WasPut frame.new result }
 {
     let (spot, None) = sought(rt, frame, key) else {
         panic!(rt; "it is there")
     };
-    let place = put_row(frame, &spot, key, &value(rt, b"tree")).expect(rt, "room for a row");
+    let place = put_row(frame, &spot, key, value).expect(rt, "room for a row");
     assert!(rt; sought(rt, frame, key).1 == Some(place));
     place
-}
-
-/// The row is there once it is put in, and isn't when it is taken back.
-fn come_and_go_back<R: AllocGlobal + Abort>(rt: &R, frame: &mut Frame, key: &Key) {
-    let place = put_in(rt, frame, key);
-    assert!(rt; shows(rt, frame, key, 5, Some(4)));
-    take_back(frame, place);
-    assert!(rt; shows(rt, frame, key, 5, None));
 }
 
 /// Gives the key's row a longer value.
@@ -93,32 +84,39 @@ fn grow<R: AllocGlobal + Abort>(rt: &R, frame: &mut Frame, key: &Key, longer: &V
         .before
 }
 
-/// The row gets a longer value, and then the leaf is put back, clock and all.
-fn grow_and_shrink<R: AllocGlobal + Abort>(rt: &R, frame: &mut Frame, key: &Key) {
-    let before = grow(rt, frame, key, &value(rt, b"tall tree"));
-    assert!(rt; shows(rt, frame, key, 6, Some(9)) && frame.page.is_some());
+/// A row is put in and taken back. It is put in again, gets a longer value, and the leaf is put back,
+/// clock and all. Then the row is deleted, and the clock is raised.
+fn work_leaf<R: AllocGlobal + Abort>(
+    rt: &R,
+    frame: &mut Frame,
+    key: &Key,
+    value: &Value,
+    longer: &Value,
+) {
+    let place = put_in(rt, frame, key, value);
+    assert_shows(rt, frame, key, 5, Some(4));
+    take_back(frame, place);
+    assert_shows(rt, frame, key, 5, None);
+    put_in(rt, frame, key, value);
+    let before = grow(rt, frame, key, longer);
+    assert_shows(rt, frame, key, 6, Some(9));
     put_back(frame, before);
-    assert!(rt; shows(rt, frame, key, 5, Some(4)));
-}
-
-/// The row isn't there when it is deleted, and the clock is raised.
-fn go<R: Abort>(rt: &R, frame: &mut Frame, key: &Key) {
+    assert_shows(rt, frame, key, 5, Some(4));
     let place = sought(rt, frame, key).1.expect(rt, "a row");
     delete_row(frame, place);
-    assert!(rt; shows(rt, frame, key, 6, None));
+    assert_shows(rt, frame, key, 6, None);
 }
 
-/// All of this on one leaf.
-fn work_leaf<R: AllocGlobal + Abort>(rt: &R) {
+/// All of this on a leaf of its own.
+fn work_new_leaf<R: AllocGlobal + Abort>(rt: &R) {
     let key = key_of(rt.alloc(), b"oak").expect(rt, "a key");
+    let value = value_of(rt.alloc(), b"tree").expect(rt, "a value");
+    let longer = value_of(rt.alloc(), b"tall tree").expect(rt, "a longer value");
     let mut frame = leaf_frame(rt);
-    come_and_go_back(rt, &mut frame, &key);
-    put_in(rt, &mut frame, &key);
-    grow_and_shrink(rt, &mut frame, &key);
-    go(rt, &mut frame, &key);
+    work_leaf(rt, &mut frame, &key, &value, &longer);
 }
 
 #[test]
 fn a_row_is_taken_back_grown_put_back_and_deleted(rt: HostRuntime) {
-    work_leaf(&rt);
+    work_new_leaf(&rt);
 }

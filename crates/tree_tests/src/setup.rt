@@ -25,6 +25,9 @@ pub(crate) struct Grove {
     ghost nothing: { count pass ≡ 0 },
 }
 
+/// A page, and the index and the level that it has to have.
+pub(crate) type Asked = (u32, u32, u16);
+
 /// The head of a leaf of the first index.
 const HEAD: PageHead = PageHead {
     number: 0,
@@ -70,15 +73,10 @@ impl Grove {
         block
     }
 
-    /// The block that has a page of the trees with this index and level in its frame, which is given
-    /// back.
-    pub(crate) fn block_of<R: Wait>(
-        &mut self,
-        page: u32,
-        index: u32,
-        level: u16,
-        wait: &R,
-    ) -> Option<u32> {
+    /// The block that has the page asked for in its frame, where it is one of the trees with this
+    /// index and level. It is given back.
+    pub(crate) fn block_of<R: Wait>(&mut self, asked: &Asked, wait: &R) -> Option<u32> {
+        let (page, index, level) = *asked;
         if page >= self.pages {
             return None;
         }

@@ -3,7 +3,7 @@ use Rattle.tree_tests.proofs.setup.Grove.block_of.Goals as goal
 
 pub page_if-requires-clause-others : goal.page_if-requires-clause-others
 page_if-requires-clause-others g c = let grove = c.args.self.now in
-    none_has_page grove.pass grove.nothing c.args.page
+    none_has_page grove.pass grove.nothing _
 
 pub page_if-requires-clause-tables : goal.page_if-requires-clause-tables
 page_if-requires-clause-tables g c = let grove = c.args.self.now in
