@@ -37,10 +37,7 @@ fn open_learner<R: AllocGlobal + Abort>(rt: &R, fields: u8) -> (Learner, LearnPa
 {
     let info = warm(fields);
     assert!(rt; is_info_of(2, &info));
-    let (infos, counts) = ([info], [2]);
-    let (learner, learn) = Learner::open(rt.alloc(), &infos, &counts, 1).expect(rt, "a learner");
-    assert!(rt; learner.indexes() != 0);
-    (learner, learn)
+    Learner::open(rt.alloc(), &[info], &[2], 1).expect(rt, "a learner")
 }
 
 /// Why a guess leads nowhere.
