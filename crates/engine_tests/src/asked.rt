@@ -1,14 +1,16 @@
 //! What a caller asks of an engine, and what that has to be told.
 use key_tuple::{Key, Mode, Value};
-use map_history::{How, Reply, Told};
+use map_history::{How, Note, Reply, Told};
+use std::alloc::Global;
 use std::process::Abort;
 
-/// A key, or the tuple of a seek, by the lengths of its fields: their bytes are those of the start,
-/// and then `k`.
+/// A key, or the tuple of a seek, of one field or of two: where the first of two ends, and how many
+/// bytes there are in all. These are the four of the start, the highest first, and then `k`.
 #[derive(Clone, Copy)]
 pub(crate) struct Name {
-    pub(crate) start: [u8; 4],
-    pub(crate) lengths: &'static [usize],
+    pub(crate) start: u32,
+    pub(crate) cut: Option<usize>,
+    pub(crate) length: usize,
 }
 
 /// A value of so many bytes: they are those of the start, and then `v`.
@@ -33,8 +35,8 @@ pub(crate) enum Wanted {
     Found(Text, Option<How>),
     /// `Absent`, in this way.
     Absent(How),
-    /// All of this.
-    All(Told),
+    /// This reply at this point, by a descent of an index that has learnt nothing yet.
+    Fresh(Reply, u64),
 }
 
 /// An order with a name, and what it has to be told.
@@ -45,9 +47,44 @@ pub(crate) struct Asked {
     pub(crate) wanted: Wanted,
 }
 
+/// An order that rows are given one after another: the first of them, how much higher the start of
+/// each next one's name is, how many rows there are, and how often the order is given. When all rows
+/// have had it, it begins anew.
+#[derive(Clone, Copy)]
+pub(crate) struct Run {
+    pub(crate) first: Asked,
+    pub(crate) step: u32,
+    pub(crate) rows: u32,
+    pub(crate) times: u32,
+}
+
+/// How many orders the runs have.
+pub(crate) fn count_of(runs: &[Run]) -> u32 {
+    let mut count: u32 = 0;
+    for run in runs {
+        count = count.wrapping_add(run.times);
+    }
+    count
+}
+
+/// The order with this place among those of all runs.
+pub(crate) fn order_at<R: Abort>(rt: &R, runs: &[Run], place: u32) -> Asked {
+    let mut before = place;
+    for run in runs {
+        if before < run.times {
+            let row = before.checked_rem(run.rows).unwrap_or(0);
+            let mut asked = run.first;
+            asked.name.start = asked.name.start.wrapping_add(row.wrapping_mul(run.step));
+            return asked;
+        }
+        before = before.wrapping_sub(run.times);
+    }
+    panic!(rt; "no such order")
+}
+
 /// Puts one more behind what is asked.
-pub(crate) fn add<R: Abort>(rt: &R, asked: &mut Vec<Asked>, one: Asked) {
-    asked.push(one).expect(rt, "memory for what is asked");
+pub(crate) fn add<R: Abort>(rt: &R, runs: &mut Vec<Run>, one: Run) {
+    runs.push(one).expect(rt, "memory for what is asked");
 }
 
 impl Asked {
@@ -61,7 +98,17 @@ impl Asked {
                     && is_text(value, text)
             }
             Wanted::Absent(how) => told.reply == Reply::Absent && told.how == how,
-            Wanted::All(all) => *told == all,
+            Wanted::Fresh(reply, point) => {
+                let point = Some(point);
+                let (how, note) = (How::Cold, Note::No);
+                *told
+                    == Told {
+                        reply,
+                        point,
+                        how,
+                        note,
+                    }
+            }
         }
     }
 }
@@ -71,32 +118,29 @@ fn is_text(bytes: &[u8], text: Text) -> bool {
     bytes.len() == text.1 && bytes.starts_with(text.0)
 }
 
-/// The fields of a name.
-fn fields_of<R: AllocGlobal + Abort>(rt: &R, name: &Name) -> Vec<Vec<u8>> {
-    let mut bytes = [b'k'; 768];
-    bytes[..4].copy_from_slice(&name.start);
-    let mut rest = bytes.as_slice();
-    let mut fields = Vec::new(rt.alloc());
-    for length in name.lengths {
-        let (field, behind) = rest.split_at_checked(*length).expect(rt, "a short field");
-        let field = field.to_vec(rt.alloc()).expect(rt, "a field");
-        fields.push(field).expect(rt, "memory for a field");
-        rest = behind;
-    }
-    fields
+/// So many bytes: those of the start, and then this one.
+fn filled<R: Abort>(rt: &R, alloc: Global, start: &[u8], length: usize, rest: u8) -> Vec<u8> {
+    let mut bytes = Vec::with_capacity(alloc, length).expect(rt, "memory for bytes");
+    bytes.extend_from_slice(start).expect(rt, "a start");
+    bytes.resize(length, rest).expect(rt, "a rest");
+    bytes
 }
 
 /// The key with this name.
-pub(crate) fn key_of<R: AllocGlobal + Abort>(rt: &R, name: &Name) -> Key {
-    let fields = fields_of(rt, name);
-    assert!(rt; !fields.is_empty());
-    Key::try_new(rt.alloc(), fields).expect(rt, "a key")
+pub(crate) fn key_of<R: Abort>(rt: &R, alloc: Global, name: &Name) -> Key {
+    let bytes = filled(rt, alloc, &name.start.to_be_bytes(), name.length, b'k');
+    let end = bytes.len();
+    let key = match name.cut {
+        Some(cut) => {
+            assert!(rt; cut <= end);
+            Key::from_parts(bytes, &[cut, end])
+        }
+        None => Key::from_parts(bytes, &[end]),
+    };
+    key.expect(rt, "a key")
 }
 
 /// The value.
-pub(crate) fn value_of<R: AllocGlobal + Abort>(rt: &R, text: Text) -> Value {
-    let mut bytes = Vec::with_capacity(rt.alloc(), text.1).expect(rt, "memory for a value");
-    bytes.extend_from_slice(text.0).expect(rt, "a start");
-    bytes.resize(text.1, b'v').expect(rt, "a value");
-    Value::try_new(bytes).expect(rt, "a short value")
+pub(crate) fn value_of<R: Abort>(rt: &R, alloc: Global, text: Text) -> Value {
+    Value::try_new(filled(rt, alloc, text.0, text.1, b'v')).expect(rt, "a short value")
 }

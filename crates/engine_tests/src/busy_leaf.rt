@@ -6,16 +6,18 @@ ghost use Rattle.latch_space.specs.Spaces.{IsPassOf};
 ghost use Rattle.forest_law.specs.State.{fields_for};
 ghost use Rattle.buffer_pool.specs.Forests.{IsForest};
 
-use crate::guesses::{assert_hit, first_cause, open_learner};
+use crate::guesses::first_guess;
 use crate::names::{Row, SIZES, key_of};
-use crate::plot::{give_room, hash, put_row};
+use crate::plot::{hash, put_row};
 use buffer_pool::give_back;
 use forest_world::{ForestPass, ForestSpace, open_forest};
 use hash_guess::Cause;
+use index_page::MAX_CHARGE;
 use key_tuple::{Key, Mode};
 use std::process::Abort;
 use std::sync::Wait;
 use tree_descent::descend;
+use tree_growth::make_room;
 
 /// The rows, each with as many bytes as a row may have. They fill a leaf.
 static ROWS: [Row; 5] = [b"a1", b"c1", b"m5", b"m7", b"n1"];
@@ -43,7 +45,16 @@ fn put_rows<R: AllocGlobal + Abort + Wait>(rt: &R, space: &ForestSpace, pass: &m
     for row in ROWS.iter() {
         put_row(rt, space, pass, *row);
     }
-    give_room(rt, space, pass, NEXT);
+    let room = make_room(
+        rt.alloc(),
+        space,
+        pass,
+        0,
+        &key_of(rt, NEXT),
+        MAX_CHARGE,
+        rt,
+    );
+    assert!(rt; room.is_ok());
 }
 
 /// Why a guess by the key leads nowhere while the other pass holds its leaf. One leads to its row
@@ -64,9 +75,14 @@ fn cause_meanwhile<R: AllocGlobal + Abort + Wait>(
     requires none { count other.old ≡ 0 }
 {
     let leaf = descend(space, other, 0, key, Mode::Ge, rt);
-    let cause = first_cause(rt, space, pass, key);
+    let Ok(cause) = first_guess(rt, space, pass, key) else {
+        panic!(rt; "a hit")
+    };
     give_back(space, other, leaf.block);
-    assert_hit(rt, space, pass, key, &leaf);
+    let Err((block, place, found)) = first_guess(rt, space, pass, key) else {
+        panic!(rt; "a miss")
+    };
+    assert!(rt; found && block == leaf.block && Some(place) == leaf.spot.after);
     cause
 }
 
@@ -87,10 +103,10 @@ fn assert_told<R: AllocGlobal + Abort + Wait>(
     requires none { count other.old ≡ 0 }
 {
     let key = key_of(rt, FIRST);
-    let (learner, mut learn) = open_learner(rt);
-    hash(rt, space, pass, &learner, &mut learn, &key);
-    let below = first_cause(rt, space, pass, &key_of(rt, BELOW));
-    assert!(rt; matches!(&below, Cause::Unequal { .. }));
+    hash(rt, space, pass, &key);
+    let Ok(Cause::Unequal { .. }) = first_guess(rt, space, pass, &key_of(rt, BELOW)) else {
+        panic!(rt; "its page shows the key")
+    };
     let busy = cause_meanwhile(rt, space, pass, other, &key);
     assert!(rt; busy == Cause::BlockBusy { holder: 1 });
 }

@@ -1,26 +1,44 @@
 //! The calls one after another, until the list is full.
-use crate::asked::Order;
-use crate::steps::{Step, assert_steps};
+use crate::asked::{Order, Wanted};
+use crate::steps::{Step, assert_told};
 use map_history::Reply;
 
-static STEPS: [Step; 14] = [
-    (b'a', Order::Get, Reply::Absent, 0),
-    (b'a', Order::Del, Reply::Absent, 0),
-    (b'a', Order::Put((b"x", 1)), Reply::Ok, 1),
-    (b'a', Order::Get, Reply::Found, 1),
-    (b'b', Order::Get, Reply::Absent, 1),
-    (b'a', Order::Put((b"y", 1)), Reply::Duplicate, 1),
-    (b'a', Order::Del, Reply::Ok, 2),
-    (b'a', Order::Get, Reply::Absent, 2),
-    (b'a', Order::Put((b"z", 1)), Reply::Ok, 3),
-    (b'b', Order::Put((b"x", 1)), Reply::LogFull(3), 3),
-    (b'a', Order::Del, Reply::LogFull(3), 3),
-    (b'a', Order::Put((b"y", 1)), Reply::Duplicate, 3),
-    (b'b', Order::Del, Reply::Absent, 3),
-    (b'a', Order::Get, Reply::Found, 3),
+/// What is asked of two rows, and at which point that is told. The first one has its last value at the
+/// end.
+static STEPS: [Step; 15] = [
+    (1, 1, Order::Get, Wanted::Fresh(Reply::Absent, 0)),
+    (1, 1, Order::Del, Wanted::Fresh(Reply::Absent, 0)),
+    (1, 1, Order::Put((b"x", 1)), Wanted::Fresh(Reply::Ok, 1)),
+    (1, 1, Order::Get, Wanted::Fresh(Reply::Found, 1)),
+    (2, 1, Order::Get, Wanted::Fresh(Reply::Absent, 1)),
+    (
+        1,
+        1,
+        Order::Put((b"y", 1)),
+        Wanted::Fresh(Reply::Duplicate, 1),
+    ),
+    (1, 1, Order::Del, Wanted::Fresh(Reply::Ok, 2)),
+    (1, 1, Order::Get, Wanted::Fresh(Reply::Absent, 2)),
+    (1, 1, Order::Put((b"z", 1)), Wanted::Fresh(Reply::Ok, 3)),
+    (
+        2,
+        1,
+        Order::Put((b"x", 1)),
+        Wanted::Fresh(Reply::LogFull(3), 3),
+    ),
+    (1, 1, Order::Del, Wanted::Fresh(Reply::LogFull(3), 3)),
+    (
+        1,
+        1,
+        Order::Put((b"y", 1)),
+        Wanted::Fresh(Reply::Duplicate, 3),
+    ),
+    (2, 1, Order::Del, Wanted::Fresh(Reply::Absent, 3)),
+    (1, 1, Order::Get, Wanted::Fresh(Reply::Found, 3)),
+    (1, 1, Order::Get, Wanted::Found((b"z", 1), None)),
 ];
 
 #[test]
 fn a_row_comes_and_goes_until_the_list_is_full(rt: HostRuntime) {
-    assert_steps(&rt, 3, &STEPS, (b"z", 1));
+    assert_told(&rt, 1, 3, &STEPS);
 }

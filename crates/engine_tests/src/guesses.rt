@@ -1,5 +1,5 @@
 //! The first guess by a key, of an index that asks for its first field.
-ghost use Rattle.std.specs.Prelude.{◌≡◌, ◌≤◌, ◌<◌, length};
+ghost use Rattle.std.specs.Prelude.{◌≡◌, ◌≤◌, ◌<◌, length, IfOk};
 ghost use Rattle.latch_space.specs.Passes.{count};
 ghost use Rattle.latch_space.specs.Spaces.{IsPassOf};
 ghost use Rattle.search_info.specs.Passes.{opening, HasUnique, IsLearnPassOf};
@@ -8,11 +8,11 @@ ghost use Rattle.buffer_pool.specs.Forests.{IsForest};
 
 use forest_world::{ForestPass, ForestSpace};
 use hash_guess::{Cause, Guess, guess};
+use index_page::Place;
 use key_tuple::{Key, Mode, Params};
 use learning::{Info, is_info_of};
 use search_info::{LearnPass, Learner};
 use std::process::Abort;
-use tree_descent::Leaf;
 
 /// What the index knows: it asks for the first field, with the first row of each group, its last
 /// search was one for the hash, and the next that goes down has its leaf hashed.
@@ -35,55 +35,37 @@ pub(crate) fn open_learner<R: AllocGlobal + Abort>(rt: &R) -> (Learner, LearnPas
     ensures two { HasUnique result.0 0 2 }
 {
     assert!(rt; is_info_of(2, &INFO));
-    let (infos, fields) = ([INFO], [2]);
-    let (learner, learn) = Learner::open(rt.alloc(), &infos, &fields, 1).expect(rt, "a learner");
+    let (learner, learn) = Learner::open(rt.alloc(), &[INFO], &[2], 1).expect(rt, "a learner");
     assert!(rt; learner.indexes() != 0);
     assert!(rt; learner.unique(0) == 2);
     (learner, learn)
 }
 
-/// Why the first guess by a key leads nowhere.
-pub(crate) fn first_cause<R: AllocGlobal + Abort>(
+/// A block, the place of a row on its page, and whether the row has the key that was sought.
+pub(crate) type Row = (u32, Place, bool);
+
+/// Why the first guess by a key leads nowhere; or the row that it leads to.
+pub(crate) fn first_guess<R: AllocGlobal + Abort>(
     rt: &R,
     space: &ForestSpace,
     pass: &mut ForestPass,
     key: &Key,
-) -> Cause
+) -> Result<Cause, Row>
     requires forest { IsForest space.now }
     requires own { IsPassOf space.now pass.old }
     requires fields { length key.now.tuple ≤ fields_for space.now.terms.shape 0 }
     requires nothing { count pass.old ≡ 0 }
     ensures own { IsPassOf space.now pass.new }
-    ensures nothing { count pass.new ≡ 0 }
+    ensures nothing { IfOk result (λ _. count pass.new ≡ 0) }
 {
     let (learner, mut learn) = open_learner(rt);
     match guess(space, pass, &learner, &mut learn, 0, key, Mode::Ge) {
-        Guess::Miss { cause, .. } => cause,
-        Guess::Hit { .. } => panic!(rt; "a hit"),
-    }
-}
-
-/// The first guess by a key leads to its row on the leaf.
-pub(crate) fn assert_hit<R: AllocGlobal + Abort>(
-    rt: &R,
-    space: &ForestSpace,
-    pass: &mut ForestPass,
-    key: &Key,
-    leaf: &Leaf,
-)
-    requires forest { IsForest space.now }
-    requires own { IsPassOf space.now pass.old }
-    requires fields { length key.now.tuple ≤ fields_for space.now.terms.shape 0 }
-    requires nothing { count pass.old ≡ 0 }
-{
-    let (learner, mut learn) = open_learner(rt);
-    match guess(space, pass, &learner, &mut learn, 0, key, Mode::Ge) {
+        Guess::Miss { cause, .. } => Ok(cause),
         Guess::Hit {
             block,
             place,
             found,
             ..
-        } => assert!(rt; found && block == leaf.block && Some(place) == leaf.spot.after),
-        Guess::Miss { .. } => panic!(rt; "a miss"),
+        } => Err((block, place, found)),
     }
 }

@@ -117,8 +117,8 @@ fn counted_after<R: AllocGlobal + Abort + Wait>(
     count: usize,
 ) -> Counted {
     let rounds = ROUNDS.get(..count).expect(rt, "so many rounds");
-    let asked = asked_in(rt, rounds, 0, order);
-    counted_alone(rt, &sizes_for(fold_bits), 1, &asked)
+    let runs = asked_in(rt, rt.alloc(), rounds, 0, order);
+    counted_alone(rt, &sizes_for(fold_bits), 1, &runs)
 }
 
 /// Whether so many nodes were counted, or some where none are named, and leaves where there are

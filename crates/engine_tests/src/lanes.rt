@@ -3,13 +3,14 @@
 ghost use Rattle.index_engine.specs.Engines.{IsOf};
 ghost use Rattle.engine_tests.specs.Fields.{FirstHasFields};
 
-use crate::asked::Order;
+use crate::asked::{Order, count_of};
 use crate::recount::Counted;
 use crate::rounds::{Round, asked_in};
 use crate::setup::{counted, open, worked};
 use index_engine::{Engine, EnginePass};
 use key_tuple::Mode;
 use map_history::Sizes;
+use std::alloc::Global;
 use std::process::Abort;
 use std::sync::Wait;
 use std::thread::{Threads, join};
@@ -42,144 +43,67 @@ static ROUNDS: [Round; 9] = [
 /// How the rows of all are looked for at the end: each once, and four again and again.
 static LOOKS: [Round; 2] = [(Order::Get, 0, 1, 800, 800), (Order::Get, 0, 8, 4, 200)];
 
-/// Gives the upper half of a pass's numbers away.
-fn split<R: AllocGlobal + Abort>(
+/// A caller is told of each what it has to be in rounds on the rows from a number on.
+fn assert_told<R: Abort + Wait>(
     rt: &R,
+    alloc: Global,
     engine: &Engine,
-    mut pass: EnginePass,
-) -> (EnginePass, EnginePass)
-    requires own { IsOf engine.now pass }
-    ensures own { IsOf engine.now result.0 × IsOf engine.now result.1 }
-{
-    let (low, end) = pass.numbers();
-    assert!(rt; end > low && end - low >= 2);
-    let upper = engine
-        .split(rt.alloc(), &mut pass)
-        .expect(rt, "the upper half");
-    (pass, upper)
-}
-
-/// Puts two neighbours together.
-fn joined<R: Abort>(rt: &R, engine: &Engine, mut one: EnginePass, two: EnginePass) -> EnginePass
-    requires own { IsOf engine.now one × IsOf engine.now two }
-    ensures own { IsOf engine.now result }
-{
-    let (_, middle) = one.numbers();
-    let (next, _) = two.numbers();
-    assert!(rt; middle == next);
-    engine.join(&mut one, two);
-    one
-}
-
-/// The pass, once it was told of each what it has to be in rounds on the rows from a number on.
-fn told<R: AllocGlobal + Abort + Wait>(
-    rt: &R,
-    engine: &Engine,
-    pass: EnginePass,
+    pass: &mut EnginePass,
     rounds: &[Round],
     ahead: u32,
-) -> EnginePass
-    requires own { IsOf engine.now pass }
+)
+    requires own { IsOf engine.now pass.old }
     requires fields { FirstHasFields engine.now 1 }
-    ensures own { IsOf engine.now result }
+    ensures own { IsOf engine.now pass.new }
 {
-    let asked = asked_in(rt, rounds, ahead, Order::Get);
-    let (pass, count) = worked(rt, engine, pass, 1, &asked);
-    assert!(rt; count as usize == asked.len(), "order {count}");
-    pass
+    let runs = asked_in(rt, alloc, rounds, ahead, Order::Get);
+    let count = worked(rt, alloc, engine, pass, 1, &runs);
+    assert!(rt; count == count_of(&runs), "order {count}");
 }
 
-/// The pass of one caller, once it has worked the rounds on the rows from its number on.
-fn one_lane<R: AllocGlobal + Abort + Wait>(rt: &R, engine: &Engine, pass: EnginePass) -> EnginePass
-    requires own { IsOf engine.now pass }
-    requires fields { FirstHasFields engine.now 1 }
-    ensures own { IsOf engine.now result }
-{
-    let (number, _) = pass.numbers();
-    told(rt, engine, pass, &ROUNDS, number)
-}
-
-/// Two callers work the rounds at once.
-fn two_lanes<R: AllocGlobal + Abort + Threads + Wait + Sync>(
+/// The pass, once it was cut in halves so often, and each caller has worked the rounds on the rows from
+/// its number on, all of them at once.
+fn work_lanes<R: Abort + Threads + Wait + Sync>(
     rt: &R,
+    alloc: Global,
     engine: &Engine,
-    pass: EnginePass,
+    mut pass: EnginePass,
+    halvings: u32,
 ) -> EnginePass
     requires own { IsOf engine.now pass }
     requires fields { FirstHasFields engine.now 1 }
     ensures own { IsOf engine.now result }
 {
-    let (one, two) = split(rt, engine, pass);
-    let (one, two) = join(
+    let (low, end) = pass.numbers();
+    if halvings == 0 {
+        assert_told(rt, alloc, engine, &mut pass, &ROUNDS, low);
+        return pass;
+    }
+    let rest = halvings - 1;
+    assert!(rt; end >= 2 && low <= end - 2);
+    let upper = engine.split(alloc, &mut pass).expect(rt, "the upper half");
+    let (mut one, two) = join(
         rt,
         || -> EnginePass
-            requires { IsOf engine.now one × FirstHasFields engine.now 1 }
+            requires { IsOf engine.now pass × FirstHasFields engine.now 1 }
             ensures { IsOf engine.entry.now result }
-        { one_lane(rt, engine, one) },
+        { work_lanes(rt, alloc, engine, pass, rest) },
         || -> EnginePass
-            requires { IsOf engine.now two × FirstHasFields engine.now 1 }
+            requires { IsOf engine.now upper × FirstHasFields engine.now 1 }
             ensures { IsOf engine.entry.now result }
-        { one_lane(rt, engine, two) },
+        { work_lanes(rt, alloc, engine, upper, rest) },
     );
-    joined(rt, engine, one, two)
-}
-
-/// Four do.
-fn four_lanes<R: AllocGlobal + Abort + Threads + Wait + Sync>(
-    rt: &R,
-    engine: &Engine,
-    pass: EnginePass,
-) -> EnginePass
-    requires own { IsOf engine.now pass }
-    requires fields { FirstHasFields engine.now 1 }
-    ensures own { IsOf engine.now result }
-{
-    let (one, two) = split(rt, engine, pass);
-    let (one, two) = join(
-        rt,
-        || -> EnginePass
-            requires { IsOf engine.now one × FirstHasFields engine.now 1 }
-            ensures { IsOf engine.entry.now result }
-        { two_lanes(rt, engine, one) },
-        || -> EnginePass
-            requires { IsOf engine.now two × FirstHasFields engine.now 1 }
-            ensures { IsOf engine.entry.now result }
-        { two_lanes(rt, engine, two) },
-    );
-    joined(rt, engine, one, two)
-}
-
-/// All eight do.
-fn eight_lanes<R: AllocGlobal + Abort + Threads + Wait + Sync>(
-    rt: &R,
-    engine: &Engine,
-    pass: EnginePass,
-) -> EnginePass
-    requires own { IsOf engine.now pass }
-    requires fields { FirstHasFields engine.now 1 }
-    ensures own { IsOf engine.now result }
-{
-    let (one, two) = split(rt, engine, pass);
-    let (one, two) = join(
-        rt,
-        || -> EnginePass
-            requires { IsOf engine.now one × FirstHasFields engine.now 1 }
-            ensures { IsOf engine.entry.now result }
-        { four_lanes(rt, engine, one) },
-        || -> EnginePass
-            requires { IsOf engine.now two × FirstHasFields engine.now 1 }
-            ensures { IsOf engine.entry.now result }
-        { four_lanes(rt, engine, two) },
-    );
-    joined(rt, engine, one, two)
+    assert!(rt; one.numbers().1 == two.numbers().0);
+    engine.join(&mut one, two);
+    one
 }
 
 /// What is hashed when all have worked, and one of them has found each row of all, and has looked
 /// again and again for some.
 fn counted_at_the_end<R: AllocGlobal + Abort + Threads + Wait + Sync>(rt: &R) -> Counted {
     let (engine, pass) = open(rt, &SIZES, 1, 8);
-    let pass = eight_lanes(rt, &engine, pass);
-    let pass = told(rt, &engine, pass, &LOOKS, 0);
+    let mut pass = work_lanes(rt, rt.alloc(), &engine, pass, 3);
+    assert_told(rt, rt.alloc(), &engine, &mut pass, &LOOKS, 0);
     counted(rt, engine, pass, &SIZES)
 }
 

@@ -1,7 +1,7 @@
 //! Pages of rows that went are merged, and their numbers are free again.
-use crate::asked::{Asked, Name, Order, Wanted, add};
-use crate::setup::{asked_alone, smallest};
-use crate::steps::{Numbered, assert_replies, assert_told};
+use crate::asked::{Asked, Name, Order, Run, Wanted};
+use crate::setup::{asked_alone, counted_alone, smallest};
+use crate::steps::{Step, assert_told};
 use map_history::Reply;
 use std::process::Abort;
 use std::sync::Wait;
@@ -9,77 +9,70 @@ use std::sync::Wait;
 /// Puts a row with a value of 1,000 bytes.
 const PUT: Order = Order::Put((b"", 1000));
 
-/// What is asked where forty rows with 1,000 bytes stand on leaves of 8, 8, 8 and 16 and there is no
-/// further page. With four rows on the first leaf it and the next one have room on one page.
-static DELS: [Numbered; 6] = [
-    (2, Order::Del, Reply::Ok),
-    (3, Order::Del, Reply::Ok),
-    (4, Order::Del, Reply::Ok),
-    (41, PUT, Reply::SpaceFull),
-    (5, Order::Del, Reply::Ok),
-    (41, PUT, Reply::Ok),
+/// Forty rows with 1,000 bytes stand on leaves of 8, 8, 8 and 16, and there is no further page. With
+/// four rows on the first leaf it and the next one have room on one page.
+static DELS: [Step; 7] = [
+    (1, 40, PUT, Wanted::Reply(Reply::Ok)),
+    (2, 1, Order::Del, Wanted::Reply(Reply::Ok)),
+    (3, 1, Order::Del, Wanted::Reply(Reply::Ok)),
+    (4, 1, Order::Del, Wanted::Reply(Reply::Ok)),
+    (41, 1, PUT, Wanted::Reply(Reply::SpaceFull)),
+    (5, 1, Order::Del, Wanted::Reply(Reply::Ok)),
+    (41, 1, PUT, Wanted::Reply(Reply::Ok)),
 ];
 
 #[test]
 fn a_light_leaf_is_merged_and_gives_its_page_back(rt: HostRuntime) {
-    assert_replies(&rt, 5, 40, PUT, &DELS);
+    assert_told(&rt, 5, 100, &DELS);
 }
 
-/// What a row is asked whose key has as many bytes as a key may have, and what that is replied.
-fn add_long<R: Abort>(rt: &R, asked: &mut Vec<Asked>, number: u32, order: Order, reply: Reply) {
+/// Puts a row without a value.
+const PUT_EMPTY: Order = Order::Put((b"", 0));
+
+/// What so many rows are asked, from a number on and by a step, whose keys have as many bytes as a key
+/// may have; and what each is replied.
+fn long_run(first: u32, step: u32, rows: u32, order: Order, reply: Reply) -> Run {
     let name = Name {
-        start: number.to_be_bytes(),
-        lengths: &[767],
+        start: first,
+        cut: None,
+        length: 767,
     };
-    let wanted = Wanted::Reply(reply);
-    add(
-        rt,
-        asked,
-        Asked {
+    Run {
+        first: Asked {
             name,
             order,
-            wanted,
+            wanted: Wanted::Reply(reply),
         },
-    );
-}
-
-/// Puts so many rows with long keys in.
-fn add_puts<R: Abort>(rt: &R, asked: &mut Vec<Asked>, rows: u32) {
-    for number in 0..rows {
-        add_long(rt, asked, number, Order::Put((b"", 0)), Reply::Ok);
-    }
-}
-
-/// Deletes every other of so many rows, from the first or from the second on.
-fn add_dels<R: Abort>(rt: &R, asked: &mut Vec<Asked>, rows: u32, rest: u32) {
-    for number in 0..rows {
-        if number % 2 == rest {
-            add_long(rt, asked, number, Order::Del, Reply::Ok);
-        }
+        step,
+        rows,
+        times: rows,
     }
 }
 
 /// How many rows with long keys 64 pages have room for, where they are put one after another.
 fn room<R: AllocGlobal + Abort + Wait>(rt: &R) -> u32 {
-    let mut asked = Vec::new(rt.alloc());
-    add_puts(rt, &mut asked, 2000);
-    let (rows, _) = asked_alone(rt, &smallest(64, 100_000), 1, &asked);
+    let puts = long_run(0, 1, 2000, PUT_EMPTY, Reply::Ok);
+    let (rows, _) = asked_alone(rt, &smallest(64, 100_000), 1, &[puts]);
     rows
 }
 
-/// So many rows are put in, for the next one there is no page, and all go again; ten times, and then
-/// they are put in once more.
-fn filled_often<R: AllocGlobal + Abort>(rt: &R, rows: u32) -> Vec<Asked> {
-    let mut asked = Vec::new(rt.alloc());
+/// So many rows are put in, for the next one there is no page, and all go again, every other one first;
+/// ten times, and then they are put in once more.
+fn filled_often<R: AllocGlobal + Abort>(rt: &R, rows: u32) -> Vec<Run> {
+    let once = [
+        long_run(0, 1, rows, PUT_EMPTY, Reply::Ok),
+        long_run(rows, 1, 1, PUT_EMPTY, Reply::SpaceFull),
+        long_run(0, 2, rows.wrapping_add(1) / 2, Order::Del, Reply::Ok),
+        long_run(1, 2, rows / 2, Order::Del, Reply::Ok),
+    ];
+    let mut runs = Vec::new(rt.alloc());
     for _round in 0..10 {
-        add_puts(rt, &mut asked, rows);
-        add_long(rt, &mut asked, rows, Order::Put((b"", 0)), Reply::SpaceFull);
-        add_dels(rt, &mut asked, rows, 0);
-        add_dels(rt, &mut asked, rows, 1);
+        runs.extend_from_slice(&once)
+            .expect(rt, "memory for a round");
     }
-    add_puts(rt, &mut asked, rows);
-    add_long(rt, &mut asked, rows, Order::Put((b"", 0)), Reply::SpaceFull);
-    asked
+    runs.extend_from_slice(&once[..2])
+        .expect(rt, "memory for the last");
+    runs
 }
 
 /// A leaf has room for 20 rows with long keys, and an inner page for as many pointers; so more than
@@ -88,5 +81,5 @@ fn filled_often<R: AllocGlobal + Abort>(rt: &R, rows: u32) -> Vec<Asked> {
 fn a_tree_of_three_levels_is_emptied_and_filled_again(rt: HostRuntime) {
     let rows = room(&rt);
     assert!(rt; rows > 400 && rows < 2000);
-    assert_told(&rt, 64, 100_000, &filled_often(&rt, rows));
+    counted_alone(&rt, &smallest(64, 100_000), 1, &filled_often(&rt, rows));
 }

@@ -8,7 +8,7 @@ use map_history::Sizes;
 use std::process::Abort;
 
 /// One index with a few pages and one partition.
-pub(crate) const SIZES: Sizes = Sizes {
+pub(crate) static SIZES: Sizes = Sizes {
     blocks: 16,
     pages: 16,
     parts: 1,
@@ -21,16 +21,18 @@ pub(crate) const SIZES: Sizes = Sizes {
 /// The first field of a row's key, and the first byte of its second one.
 pub(crate) type Row = &'static [u8; 2];
 
-/// Both fields, with as many bytes as a key may have; or the first one alone.
-pub(crate) const BOTH: &'static [usize] = &[1, 766];
-
-pub(crate) const FIRST: &'static [usize] = &[1];
-
-/// The name of the row's key, or of a tuple.
-pub(crate) fn name_of(row: Row, lengths: &'static [usize]) -> Name {
+/// The name of the row's key, which has as many bytes as a key may have; or of a tuple that has its
+/// first field alone.
+pub(crate) fn name_of(row: Row, fields: u8) -> Name {
+    let (cut, length) = if fields == 2 {
+        (Some(1), 767)
+    } else {
+        (None, 1)
+    };
     Name {
-        start: [row[0], row[1], b'k', b'k'],
-        lengths,
+        start: u32::from_be_bytes([row[0], row[1], b'k', b'k']),
+        cut,
+        length,
     }
 }
 
@@ -38,7 +40,7 @@ pub(crate) fn name_of(row: Row, lengths: &'static [usize]) -> Name {
 pub(crate) fn key_of<R: AllocGlobal + Abort>(rt: &R, row: Row) -> Key
     ensures { length result.tuple ≡ 2 }
 {
-    let key = asked::key_of(rt, &name_of(row, BOTH));
+    let key = asked::key_of(rt, rt.alloc(), &name_of(row, 2));
     assert!(rt; key.count() == 2);
     key
 }

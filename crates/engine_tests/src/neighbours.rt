@@ -1,7 +1,7 @@
 //! Two leaves beside each other, of which the right one is hashed by the first of two fields, with the
 //! first row of each group: what a seek is told of the hash.
-use crate::asked::{Asked, Name, Order, Wanted, add};
-use crate::names::{BOTH, FIRST, Row, SIZES, name_of};
+use crate::asked::{Asked, Order, Run, Wanted, add};
+use crate::names::{Row, SIZES, name_of};
 use crate::setup::counted_alone;
 use key_tuple::Mode;
 use map_history::{How, Reply};
@@ -12,76 +12,82 @@ use std::sync::Wait;
 /// splits it behind the second.
 static ROWS: [Row; 8] = [b"a1", b"c1", b"m5", b"m7", b"n1", b"o1", b"p1", b"q1"];
 
-/// The value of a row begins as its name does.
-fn put(row: Row) -> Asked {
-    Asked {
-        name: name_of(row, BOTH),
-        order: Order::Put((row.as_slice(), 2048)),
-        wanted: Wanted::Reply(Reply::Ok),
+/// Asks a row, or for a tuple, by so many fields, and so often.
+fn run_of(row: Row, fields: u8, order: Order, wanted: Wanted, times: u32) -> Run {
+    Run {
+        first: Asked {
+            name: name_of(row, fields),
+            order,
+            wanted,
+        },
+        step: 0,
+        rows: 1,
+        times,
     }
 }
 
-/// Seeks the first row that isn't below a tuple, so often, and finds one.
-fn look<R: Abort>(rt: &R, asked: &mut Vec<Asked>, name: Name, times: u32) {
-    let (order, wanted) = (Order::Seek(Mode::Ge), Wanted::Reply(Reply::Found));
-    for _ in 0..times {
+/// The rows are put on their leaves, of which that of `m` gets hashed. The value of a row begins as its
+/// name does. Groups of the last leaf are looked for until the index has learnt that the first field
+/// tells them apart; and then the row with which the leaf of `m` begins, until that leaf is hashed.
+fn until_hashed<R: AllocGlobal + Abort>(rt: &R) -> Vec<Run> {
+    let mut runs = Vec::new(rt.alloc());
+    for row in ROWS.iter() {
+        let put = Order::Put((row.as_slice(), 2048));
         add(
             rt,
-            asked,
-            Asked {
-                name,
-                order,
-                wanted,
-            },
+            &mut runs,
+            run_of(*row, 2, put, Wanted::Reply(Reply::Ok), 1),
         );
     }
+    let (look, found) = (Order::Seek(Mode::Ge), Wanted::Reply(Reply::Found));
+    add(rt, &mut runs, run_of(b"o1", 1, look, found, 40));
+    add(rt, &mut runs, run_of(b"m5", 2, look, found, 130));
+    runs
 }
 
-/// The rows are put on their leaves, of which that of `m` gets hashed. Groups of the last leaf are
-/// looked for until the index has learnt that the first field tells them apart; and then the row with
-/// which the leaf of `m` begins, until that leaf is hashed.
-fn until_hashed<R: AllocGlobal + Abort>(rt: &R) -> Vec<Asked> {
-    let mut asked = Vec::new(rt.alloc());
-    for row in ROWS.iter() {
-        add(rt, &mut asked, put(*row));
-    }
-    look(rt, &mut asked, name_of(b"o1", FIRST), 40);
-    look(rt, &mut asked, name_of(b"m5", BOTH), 130);
-    asked
-}
-
-/// What is asked, how it is found, and which row that is.
-type Case = (Mode, Row, &'static [usize], How, Option<Row>);
+/// What is asked, by how many fields, and what that is told.
+type Case = (Mode, Row, u8, Wanted);
 
 /// Only where the row that the hash leads to is the sought one, and its page alone shows that, it
 /// is a hit: it is the first of its leaf, and there is a leaf to the left.
 static CASES: [Case; 5] = [
-    (Mode::Ge, b"m3", BOTH, How::Unequal, Some(b"m5")),
-    (Mode::Ge, b"m5", BOTH, How::Hit, Some(b"m5")),
-    (Mode::Ge, b"m5", FIRST, How::Unequal, Some(b"m5")),
-    (Mode::Le, b"m7", BOTH, How::Unequal, Some(b"m7")),
-    (Mode::Ge, b"z1", BOTH, How::NoEntry, None),
+    (
+        Mode::Ge,
+        b"m3",
+        2,
+        Wanted::Found((b"m5", 2048), Some(How::Unequal)),
+    ),
+    (
+        Mode::Ge,
+        b"m5",
+        2,
+        Wanted::Found((b"m5", 2048), Some(How::Hit)),
+    ),
+    (
+        Mode::Ge,
+        b"m5",
+        1,
+        Wanted::Found((b"m5", 2048), Some(How::Unequal)),
+    ),
+    (
+        Mode::Le,
+        b"m7",
+        2,
+        Wanted::Found((b"m7", 2048), Some(How::Unequal)),
+    ),
+    (Mode::Ge, b"z1", 2, Wanted::Absent(How::NoEntry)),
 ];
-
-/// The seek of a case, and what it has to be told.
-fn asked_by(case: &Case) -> Asked {
-    let (mode, sought, lengths, how, row) = *case;
-    let wanted = match row {
-        Some(row) => Wanted::Found((row.as_slice(), 2048), Some(how)),
-        None => Wanted::Absent(how),
-    };
-    Asked {
-        name: name_of(sought, lengths),
-        order: Order::Seek(mode),
-        wanted,
-    }
-}
 
 /// A seek is told so, from this start.
 fn assert_case<R: AllocGlobal + Abort + Wait>(rt: &R, case: &Case) {
-    let mut asked = until_hashed(rt);
-    add(rt, &mut asked, asked_by(case));
-    counted_alone(rt, &SIZES, 2, &asked);
+    let (mode, row, fields, wanted) = *case;
+    let mut runs = until_hashed(rt);
+    add(
+        rt,
+        &mut runs,
+        run_of(row, fields, Order::Seek(mode), wanted, 1),
+    );
+    counted_alone(rt, &SIZES, 2, &runs);
 }
 
 #[test]

@@ -33,19 +33,23 @@ struct Due {
     node: Node,
 }
 
-/// The place of the first row.
-fn first(page: &Page) -> Option<Place>
+/// The place of the first row from the left, or from the right.
+fn first(page: &Page, left: bool) -> Option<Place>
     ensures { IfSome result (λ place. IsSome (find_row place page.now.rows)) }
 {
-    page.first()
+    if left { page.first() } else { page.last() }
 }
 
-/// The place of the row after that one.
-fn next(page: &Page, place: Place) -> Option<Place>
+/// The place of the row after that one, from there.
+fn next(page: &Page, place: Place, left: bool) -> Option<Place>
     requires { IsSome (find_row place page.now.rows) }
     ensures { IfSome result (λ place. IsSome (find_row place page.now.rows)) }
 {
-    page.next(place)
+    if left {
+        page.next(place)
+    } else {
+        page.prev(place)
+    }
 }
 
 /// The node of a row, which has the fields that its fold is made of.
@@ -53,8 +57,8 @@ fn node_at<R: Abort>(rt: &R, page: &Page, place: Place, how: &Hashed) -> Node
     requires { IsSome (find_row place page.now.rows) }
 {
     let row = page.row(place);
-    assert!(rt; how.params.asked_fields() <= u16::from(row.count()));
-    assert!(rt; how.bits > 0 && how.bits <= 64);
+    let has_all = how.params.asked_fields() <= u16::from(row.count());
+    assert!(rt; has_all && how.bits > 0 && how.bits <= 64);
     Node {
         fold: fold(how.index, &row, &how.params, how.bits),
         block: how.block,
@@ -62,74 +66,53 @@ fn node_at<R: Abort>(rt: &R, page: &Page, place: Place, how: &Hashed) -> Node
     }
 }
 
-/// The node of each row, in the order of the rows.
-fn nodes_of<R: AllocGlobal + Abort>(rt: &R, page: &Page, how: &Hashed) -> Vec<Node> {
-    let mut nodes = Vec::new(rt.alloc());
-    let mut at = first(page);
-    for _ in 0..page.count() {
-        let place = at.expect(rt, "a row");
-        nodes
-            .push(node_at(rt, page, place, how))
-            .expect(rt, "memory for a node");
-        at = next(page, place);
+/// Whether the last node that is due is one of the same block, with the same fold.
+fn is_run_on(due: &[Due], node: &Node) -> bool {
+    match due.last() {
+        Some(last) => last.node.block == node.block && last.node.fold == node.fold,
+        None => false,
     }
-    nodes
 }
 
-/// The first or the last node of each run with one fold is due: the one that comes first where they
-/// are looked at from the left, or from the right.
-fn add_due<R: Abort>(rt: &R, due: &mut Vec<Due>, nodes: &[Node], how: &Hashed) {
-    let mut fold = None;
-    for before in 0..nodes.len() {
-        let behind = nodes.len().wrapping_sub(before).wrapping_sub(1);
-        let place = if how.params.left { before } else { behind };
-        let node = *nodes.get(place).expect(rt, "a node");
-        if fold != Some(node.fold) {
+/// The first or the last node of each run of rows with one fold is due: the one that comes first where
+/// they are looked at from the left, or from the right.
+fn add_page<R: Abort>(rt: &R, due: &mut Vec<Due>, page: &Page, how: &Hashed) {
+    let left = how.params.left;
+    let mut at = first(page, left);
+    for _ in 0..page.count() {
+        let place = at.expect(rt, "a row");
+        let node = node_at(rt, page, place, how);
+        if !is_run_on(due, &node) {
             let index = how.index;
             due.push(Due { index, node })
                 .expect(rt, "memory for a node");
         }
-        fold = Some(node.fold);
+        at = next(page, place, left);
     }
 }
 
 /// The same of a block, whose leaf is hashed for an index where it is hashed somehow; and whether it
 /// is.
-fn add_frame<R: AllocGlobal + Abort>(
-    rt: &R,
-    due: &mut Vec<Due>,
-    frame: &Frame,
-    block: u32,
-    bits: u8,
-) -> bool {
-    assert!(rt; frame.hashed.is_some() == frame.figures.built.is_some());
+fn add_frame<R: Abort>(rt: &R, due: &mut Vec<Due>, frame: &Frame, block: u32, bits: u8) -> bool {
     let Some(index) = frame.hashed else {
+        assert!(rt; frame.figures.built.is_none());
         return false;
     };
-    let Some(params) = frame.figures.built else {
-        return false;
-    };
+    let params = frame.figures.built.expect(rt, "how it is hashed");
+    let page = frame.page.as_ref().expect(rt, "the page that is hashed");
+    assert!(rt; page.head().level == 0 && page.head().index == index);
     let how = Hashed {
         index,
         params,
         block,
         bits,
     };
-    let Some(page) = &frame.page else {
-        panic!(rt; "no page is hashed")
-    };
-    assert!(rt; page.head().level == 0 && page.head().index == index);
-    add_due(rt, due, &nodes_of(rt, page, &how), &how);
+    add_page(rt, due, page, &how);
     true
 }
 
 /// The same of all blocks, and how many leaves are hashed.
-fn add_all<R: AllocGlobal + Abort>(
-    rt: &R,
-    due: &mut Vec<Due>,
-    objects: &[Object],
-    bits: u8,
-) -> u32 {
+fn add_all<R: Abort>(rt: &R, due: &mut Vec<Due>, objects: &[Object], bits: u8) -> u32 {
     let (mut block, mut leaves): (u32, u32) = (0, 0);
     for object in objects {
         if let Object::Frame(frame) = object {
@@ -152,12 +135,14 @@ fn take_due<R: Abort>(
     sizes: &Sizes,
 ) -> u32 {
     let nodes = sizes.nodes.wrapping_sub(part.spare());
+    let mut are_there = true;
     for one in due {
-        if one.index.checked_rem(sizes.parts) == Some(number) {
-            assert!(rt; part.leave(&one.node));
+        let place = one.index.checked_rem(sizes.parts).expect(rt, "a partition");
+        if place == number && !part.leave(&one.node) {
+            are_there = false;
         }
     }
-    assert!(rt; part.spare() == sizes.nodes);
+    assert!(rt; are_there && part.spare() == sizes.nodes);
     nodes
 }
 

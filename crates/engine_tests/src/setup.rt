@@ -5,11 +5,12 @@ ghost use Rattle.map_history.specs.declared.TheConstants.{MAX_LANES};
 ghost use Rattle.index_engine.specs.Engines.{IsOf};
 ghost use Rattle.engine_tests.specs.Fields.{FirstHasFields};
 
-use crate::asked::{Asked, Order, key_of, value_of};
+use crate::asked::{Asked, Order, Run, count_of, key_of, order_at, value_of};
 use crate::recount::{Counted, recount};
 use index_engine::{Engine, EnginePass};
 use key_tuple::Fields;
 use map_history::{RowBuf, Sizes, Told};
+use std::alloc::Global;
 use std::process::Abort;
 use std::sync::Wait;
 
@@ -42,8 +43,9 @@ pub(crate) fn open<R: AllocGlobal + Abort>(
 }
 
 /// What an order is told by an engine whose keys have so many fields.
-fn ask<R: AllocGlobal + Abort + Wait>(
+fn ask<R: Abort + Wait>(
     rt: &R,
+    alloc: Global,
     engine: &Engine,
     pass: &mut EnginePass,
     out: &mut RowBuf,
@@ -54,7 +56,7 @@ fn ask<R: AllocGlobal + Abort + Wait>(
     requires fields { FirstHasFields engine.now fields }
     ensures own { IsOf engine.now pass.new }
 {
-    let key = key_of(rt, &asked.name);
+    let key = key_of(rt, alloc, &asked.name);
     if let Order::Seek(mode) = asked.order {
         assert!(rt; key.count() <= fields);
         return engine.seek(pass, 0, mode, key.tuple(), out, rt);
@@ -62,7 +64,7 @@ fn ask<R: AllocGlobal + Abort + Wait>(
     assert!(rt; key.count() == fields);
     match asked.order {
         Order::Put(text) | Order::Set(text) => {
-            let value = value_of(rt, text);
+            let value = value_of(rt, alloc, text);
             let told = if matches!(asked.order, Order::Put(_)) {
                 engine.put(pass, 0, &key, &value, rt)
             } else {
@@ -75,29 +77,29 @@ fn ask<R: AllocGlobal + Abort + Wait>(
     }
 }
 
-/// The pass once it has asked all this, and how much of it was told what it has to be, up to the
-/// first that wasn't.
-pub(crate) fn worked<R: AllocGlobal + Abort + Wait>(
+/// How much of this was told what it has to be, up to the first that wasn't.
+pub(crate) fn worked<R: Abort + Wait>(
     rt: &R,
+    alloc: Global,
     engine: &Engine,
-    mut pass: EnginePass,
+    pass: &mut EnginePass,
     fields: u8,
-    asked: &[Asked],
-) -> (EnginePass, u32)
-    requires own { IsOf engine.now pass }
+    runs: &[Run],
+) -> u32
+    requires own { IsOf engine.now pass.old }
     requires fields { FirstHasFields engine.now fields }
-    ensures own { IsOf engine.now result.0 }
+    ensures own { IsOf engine.now pass.new }
 {
-    let mut out = RowBuf::new(rt.alloc()).expect(rt, "a row buffer");
-    let mut count: u32 = 0;
-    for step in asked {
-        let told = ask(rt, engine, &mut pass, &mut out, fields, step);
+    let mut out = RowBuf::new(alloc).expect(rt, "a row buffer");
+    let count = count_of(runs);
+    for place in 0..count {
+        let step = order_at(rt, runs, place);
+        let told = ask(rt, alloc, engine, pass, &mut out, fields, &step);
         if !step.is_told(&told, out.value()) {
-            return (pass, count);
+            return place;
         }
-        count = count.wrapping_add(1);
     }
-    (pass, count)
+    count
 }
 
 /// What is hashed of what lay in an engine of these sizes, whose only pass this is.
@@ -123,12 +125,12 @@ pub(crate) fn asked_alone<R: AllocGlobal + Abort + Wait>(
     rt: &R,
     sizes: &Sizes,
     fields: u8,
-    asked: &[Asked],
+    runs: &[Run],
 ) -> (u32, Counted)
     requires fields { (1 ≤ fields) × (fields ≤ MAX_FIELDS) }
 {
-    let (engine, pass) = open(rt, sizes, fields, 1);
-    let (pass, count) = worked(rt, &engine, pass, fields, asked);
+    let (engine, mut pass) = open(rt, sizes, fields, 1);
+    let count = worked(rt, rt.alloc(), &engine, &mut pass, fields, runs);
     (count, counted(rt, engine, pass, sizes))
 }
 
@@ -137,11 +139,11 @@ pub(crate) fn counted_alone<R: AllocGlobal + Abort + Wait>(
     rt: &R,
     sizes: &Sizes,
     fields: u8,
-    asked: &[Asked],
+    runs: &[Run],
 ) -> Counted
     requires fields { (1 ≤ fields) × (fields ≤ MAX_FIELDS) }
 {
-    let (count, counted) = asked_alone(rt, sizes, fields, asked);
-    assert!(rt; count as usize == asked.len(), "order {count}");
+    let (count, counted) = asked_alone(rt, sizes, fields, runs);
+    assert!(rt; count == count_of(runs), "order {count}");
     counted
 }

@@ -6,8 +6,8 @@ use Rattle.engine_tests.proofs.EmptyLemmas.{none_has_frame, none_has_table}
 use Rattle.engine_tests.proofs.plot.hash.Goals as goal
 
 pub search_key-requires-clause-unique : goal.search_key-requires-clause-unique
-search_key-requires-clause-unique g c = subst (λ n. HasUnique c.args.learner.now 0 n)
-    (sym (ap (λ t. fields_for t.shape 0) c.requires.own.1 ∙ c.requires.two)) c.requires.unique
+search_key-requires-clause-unique g c = subst (λ n. HasUnique c.open_learner-learner.result.0 0 n)
+    (sym (ap (λ t. fields_for t.shape 0) c.requires.own.1 ∙ c.requires.two)) c.open_learner-learner.ensures.two
 
 pub search_key-requires-clause-frames : goal.search_key-requires-clause-frames
 search_key-requires-clause-frames g c = none_has_frame c.args.space.now c.args.pass.now
