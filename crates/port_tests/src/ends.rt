@@ -37,8 +37,10 @@ fn copied<R: AllocGlobal + Abort>(
 #[test]
 fn a_load_has_its_limit(rt: HostRuntime) {
     let mut shelf = three_files(&rt, 9);
-    assert_loads(&rt, &mut shelf, "b", 5, b"seven");
-    assert_refuses(&rt, &mut shelf, "b", 4, ShelfError::TooLong(4));
+    assert!(rt;
+        loads(&rt, &mut shelf, "b", 5, Ok(b"seven"))
+            && loads(&rt, &mut shelf, "b", 4, Err(ShelfError::TooLong(4)))
+    );
 }
 
 // A put that doesn't fit is refused, and leaves the room for one that does.
@@ -49,36 +51,27 @@ fn a_put_has_its_room(rt: HostRuntime) {
     assert!(rt; sink.put(b"two").is_ok() && sink.written() == b"seventwo".as_slice());
 }
 
-/// A load gives these bytes.
-pub(crate) fn assert_loads<F: Shelf, R: AllocGlobal + Abort>(
+/// A load gives these bytes, or ends with this error.
+pub(crate) fn loads<F: Shelf, R: AllocGlobal>(
     rt: &R,
     shelf: &mut F,
     name: &str,
     limit: u64,
-    bytes: &[u8],
-) {
-    let loaded = shelf.load(rt.alloc(), name, limit).expect(rt, "a file");
-    assert!(rt; loaded.as_slice() == bytes);
-}
-
-/// A load ends with this error.
-pub(crate) fn assert_refuses<F: Shelf, R: AllocGlobal + Abort>(
-    rt: &R,
-    shelf: &mut F,
-    name: &str,
-    limit: u64,
-    error: ShelfError,
-) {
+    want: Result<&[u8], ShelfError>,
+) -> bool {
     match shelf.load(rt.alloc(), name, limit) {
-        Ok(_) => panic!(rt; "a file"),
-        Err(found) => assert!(rt; found == error),
+        Ok(loaded) => want == Ok(loaded.as_slice()),
+        Err(error) => want == Err(error),
     }
 }
+
+/// Names, and what stands in the files.
+static FILES: [(&str, &str); 3] = [("a", "one"), ("b", "seven"), ("a", "two")];
 
 // A shelf of three files, of whose loads one fails.
 fn three_files<R: AllocGlobal + Abort>(rt: &R, load: u64) -> MemoryShelf {
     let mut files = Vec::new(rt.alloc());
-    for (name, bytes) in [("a", "one"), ("b", "seven"), ("a", "two")].iter() {
+    for (name, bytes) in FILES.iter() {
         let name = String::from_str(rt.alloc(), name).expect(rt, "a name");
         let bytes = bytes.as_bytes().to_vec(rt.alloc()).expect(rt, "a text");
         files.push((name, bytes)).expect(rt, "memory for a file");

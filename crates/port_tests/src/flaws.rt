@@ -2,7 +2,7 @@
 use crate::said::{RUN, Said};
 
 /// Refused lines of files.
-pub(crate) const LINES: &[Said] = &[
+pub(crate) static LINES: [Said; 24] = [
     (
         1,
         RUN,

@@ -46,9 +46,9 @@ fn assert_said<R: AllocGlobal + Abort>(rt: &R, rows: &[Said]) {
 
 #[test]
 fn each_refusal_is_said_in_words(rt: HostRuntime) {
-    assert_said(&rt, WORDS);
-    assert_said(&rt, ENDS);
-    assert_said(&rt, LINES);
+    assert_said(&rt, &WORDS);
+    assert_said(&rt, &ENDS);
+    assert_said(&rt, &LINES);
 }
 
 /// This is said of too few blocks for so many lanes.

@@ -13,7 +13,7 @@ pub(crate) type Said = (
 );
 
 /// Words that aren't accepted.
-pub(crate) const WORDS: &[Said] = &[
+pub(crate) static WORDS: [Said; 6] = [
     (
         2,
         &[],
@@ -59,7 +59,7 @@ pub(crate) const WORDS: &[Said] = &[
 ];
 
 /// Runs that end so whatever their files have.
-pub(crate) const ENDS: &[Said] = &[
+pub(crate) static ENDS: [Said; 15] = [
     (0, RUN, "ahi run\n", None, ""),
     (
         3,

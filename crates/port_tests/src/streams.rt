@@ -1,5 +1,5 @@
 //! Streams that fail midway, and an output that is written in blocks.
-use crate::ends::{assert_loads, assert_refuses};
+use crate::ends::loads;
 use crate::fake_files::Drips;
 use crate::fakes::Narrow;
 use io_port::{FileShelf, OutSink, ShelfError, Sink};
@@ -11,17 +11,19 @@ const TEXT: &[u8] = b"0123456789";
 /// A put of so many bytes goes past the block, to the writer itself, until less than a block is left.
 const LONG: usize = 65_546;
 
-/// The read that fails, the limit, how the reading ends, and the reads that were made.
-static READINGS: [(u32, u64, Result<(), ShelfError>, u32); 3] = [
-    (99, 10, Ok(()), 5),
+/// The read that fails, the limit, what the load gives or how it ends, and the reads that were made.
+type Reading = (u32, u64, Result<&'static [u8], ShelfError>, u32);
+
+static READINGS: [Reading; 3] = [
+    (99, 10, Ok(TEXT), 5),
     (2, 10, Err(ShelfError::Failed), 2),
     (4, 5, Err(ShelfError::TooLong(5)), 2),
 ];
 
 #[test]
 fn a_reader_is_read_to_its_end_or_fails(rt: HostRuntime) {
-    for (fail_from, limit, end, reads) in READINGS.iter() {
-        assert_reading(&rt, *fail_from, *limit, *end, *reads);
+    for row in READINGS.iter() {
+        assert!(rt; reads_so(&rt, row));
     }
 }
 
@@ -48,26 +50,17 @@ fn the_output_is_written_in_blocks(rt: HostRuntime) {
     }
 }
 
-fn assert_reading<R: AllocGlobal + Abort>(
-    rt: &R,
-    fail_from: u32,
-    limit: u64,
-    end: Result<(), ShelfError>,
-    reads: u32,
-) {
+// After a failure nothing more is asked of the reader.
+fn reads_so<R: AllocGlobal>(rt: &R, row: &Reading) -> bool {
+    let (fail_from, limit, want, reads) = row;
     let count = AtomicU32::new(0);
     let files = Drips {
         text: TEXT,
         reads: &count,
-        fail_from,
+        fail_from: *fail_from,
     };
-    let mut shelf = FileShelf::new(&files);
-    match end {
-        Ok(()) => assert_loads(rt, &mut shelf, "a", limit, TEXT),
-        Err(error) => assert_refuses(rt, &mut shelf, "a", limit, error),
-    }
-    // after a failure nothing more is asked of the reader
-    assert!(rt; count.load(Ordering::SeqCst) == reads);
+    let is_so = loads(rt, &mut FileShelf::new(&files), "a", *limit, *want);
+    is_so && count.load(Ordering::SeqCst) == *reads
 }
 
 // An output over a writer with room for so many bytes.
