@@ -5,7 +5,7 @@ ghost use Rattle.script.specs.Steps.{error_at};
 use std::alloc::{AllocError, AllocFailed};
 
 /// What is wrong with a line, whichever its number.
-#[derive(Debug, Clone, Copy)]
+#[derive(Debug, Clone, Copy, PartialEq, Eq)]
 pub enum Flaw {
     /// It has none of the forms.
     BadLine,
@@ -16,7 +16,7 @@ pub enum Flaw {
 }
 
 /// Why a file isn't read.
-#[derive(Debug, Clone, Copy)]
+#[derive(Debug, Clone, Copy, PartialEq, Eq)]
 pub enum ScriptError {
     /// The first line that isn't in the grammar, and what is wrong with it.
     Flawed { line: u32, flaw: Flaw },
