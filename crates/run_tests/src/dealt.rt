@@ -1,8 +1,8 @@
 //! Lanes dealt by chance to plain maps, a line at a time: such a run's report is legal.
 use crate::drawing::{lane_texts, schema_text, slices_of};
-use crate::setup::MEMORY;
+use crate::setup::{MEMORY, is_legal};
 use crate::tables::{Table, new_tables};
-use report_judge::{COUNTS, Index, Line, draw, judge, read_lanes, read_schema};
+use report_judge::{COUNTS, Index, LIMITS, Line, draw, read_lanes, read_schema};
 use std::process::Abort;
 use std::slice::Iter;
 
@@ -97,30 +97,9 @@ fn add_statistics<R: Abort>(rt: &R, text: &mut String, tables: &[Table<'_>]) {
     }
 }
 
-/// The lanes' lines, worked in an order that the seed draws.
-fn make_deal<'l, 'a, R: AllocGlobal + Abort>(
-    rt: &R,
-    indexes: &[Index<'a>],
-    asked: &'l [Vec<Line<'a>>],
-    seed: u64,
-) -> Deal<'l, 'a> {
-    let tables = new_tables(rt, indexes);
-    let lanes = new_lanes(rt, asked);
-    let mut deal = Deal { tables, lanes };
-    deal.work(rt, count_lines(asked), seed);
-    deal
-}
-
-/// The report of a run of these lanes' lines, whose order the seed draws.
-pub(crate) fn deal_out<R: AllocGlobal + Abort>(
-    rt: &R,
-    indexes: &[Index<'_>],
-    asked: &[Vec<Line<'_>>],
-    seed: u64,
-) -> String {
-    let deal = make_deal(rt, indexes, asked, seed);
-    let mut text = String::new(rt.alloc());
-    text.push_str("ahi run\n").expect(rt, MEMORY);
+/// The report of lanes that are worked.
+fn report_of<R: AllocGlobal + Abort>(rt: &R, deal: &Deal<'_, '_>) -> String {
+    let mut text = String::from_str(rt.alloc(), "ahi run\n").expect(rt, MEMORY);
     add_answers(rt, &mut text, &deal.lanes);
     add_lists(rt, &mut text, &deal.tables);
     add_statistics(rt, &mut text, &deal.tables);
@@ -128,8 +107,27 @@ pub(crate) fn deal_out<R: AllocGlobal + Abort>(
     text
 }
 
+/// The report of a run of these lanes' lines, whose order the seed draws.
+fn deal_out<'l, 'a, R: AllocGlobal + Abort>(
+    rt: &R,
+    indexes: &[Index<'a>],
+    asked: &'l [Vec<Line<'a>>],
+    seed: u64,
+) -> String {
+    let tables = new_tables(rt, indexes);
+    let lanes = new_lanes(rt, asked);
+    let mut deal = Deal { tables, lanes };
+    deal.work(rt, count_lines(asked), seed);
+    report_of(rt, &deal)
+}
+
 /// The same of the lanes' texts.
-fn dealt_report<R: AllocGlobal + Abort>(rt: &R, schema: &str, lanes: &[&str], seed: u64) -> String {
+fn dealt_report<'a, R: AllocGlobal + Abort>(
+    rt: &R,
+    schema: &'a str,
+    lanes: &[&'a str],
+    seed: u64,
+) -> String {
     let mut judged = Ok(());
     let indexes = read_schema(rt.alloc(), &mut judged, schema);
     let asked = read_lanes(rt.alloc(), &mut judged, &indexes, lanes);
@@ -137,18 +135,18 @@ fn dealt_report<R: AllocGlobal + Abort>(rt: &R, schema: &str, lanes: &[&str], se
     deal_out(rt, &indexes, &asked, seed)
 }
 
-/// Whether a run whose order the seed draws is legal.
-fn is_legal<R: AllocGlobal + Abort>(rt: &R, schema: &str, lanes: &[&str], seed: u64) -> bool {
-    let report = dealt_report(rt, schema, lanes, seed);
-    judge(rt.alloc(), schema, lanes, report.as_bytes()) == Ok(())
+/// Whether a run of drawn lanes whose order the seed draws is legal.
+fn is_dealt_legally<R: AllocGlobal + Abort>(rt: &R, seed: u64) -> bool {
+    let schema = schema_text(rt, 3);
+    let texts = lane_texts(rt, 5, 8, 500, 3, 6);
+    let lanes = slices_of(rt, &texts);
+    let report = dealt_report(rt, schema.as_str(), &lanes, seed);
+    is_legal(rt.alloc(), LIMITS, schema.as_str(), &lanes, report.as_str())
 }
 
 #[test]
 fn dealt_lanes_are_legal(rt: HostRuntime) {
-    let schema = schema_text(&rt, 3);
-    let texts = lane_texts(&rt, 5, 8, 500, 3, 6);
-    let lanes = slices_of(&rt, &texts);
     for seed in 0..3 {
-        assert!(rt; is_legal(&rt, schema.as_str(), &lanes, seed));
+        assert!(rt; is_dealt_legally(&rt, seed));
     }
 }

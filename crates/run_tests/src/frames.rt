@@ -8,21 +8,25 @@ use std::process::Abort;
 use std::sync::Wait;
 use std::thread::Threads;
 
-/// The legal report of these lanes over the index `t`, with so many blocks and pages.
-fn report_under<R: AllocGlobal + Abort + Threads + Wait + Sync>(
+/// How many changes there are in the legal report of these lanes over the index `t`, with so many
+/// blocks and pages.
+fn changes_under<R: AllocGlobal + Abort + Threads + Wait + Sync>(
     rt: &R,
     blocks: u64,
     pages: u64,
     lanes: &[&str],
-) -> String {
-    let sizes = format!(in rt.alloc(); "blocks {blocks}\npages {pages}\n").expect(rt, MEMORY);
+) -> u64 {
+    let sized = format!(in rt.alloc(); "blocks {blocks}\npages {pages}\n{SCHEMA}").expect(
+        rt, MEMORY,
+    );
     let limits = Limits { pages, ..LIMITS };
-    legal_within(rt, limits, sizes.as_str(), SCHEMA, lanes)
+    let report = legal_within(rt, limits, sized.as_str(), SCHEMA, lanes);
+    counted(report.as_str(), "changes t ")
 }
 
 /// How many of 2,000 ascending rows with 2,000 bytes are put by sixteen frames and so many pages, where
 /// a get of each follows.
-fn rows_within<R: AllocGlobal + Abort + Threads + Wait + Sync>(rt: &R, pages: u64) -> Option<u64> {
+fn rows_within<R: AllocGlobal + Abort + Threads + Wait + Sync>(rt: &R, pages: u64) -> u64 {
     let numbers = Numbers {
         first: 0,
         factor: 1,
@@ -35,14 +39,14 @@ fn rows_within<R: AllocGlobal + Abort + Threads + Wait + Sync>(rt: &R, pages: u6
         value: 2000,
     };
     let lane = puts_and_gets(rt, numbers, look);
-    counted(report_under(rt, 16, pages, &[lane.as_str()]).as_str())
+    changes_under(rt, 16, pages, &[lane.as_str()])
 }
 
 /// Eight such rows fill a leaf, and four stay on the left of each split: so 499 leaves and a root
 /// have them all, and with one page less the last four find none.
 #[test]
 fn sixteen_frames_are_enough_for_five_hundred_pages(rt: HostRuntime) {
-    assert!(rt; rows_within(&rt, 500) == Some(2000) && rows_within(&rt, 499) == Some(1996));
+    assert!(rt; rows_within(&rt, 500) == 2000 && rows_within(&rt, 499) == 1996);
 }
 
 /// The lane of every eighth number from this one on, below 2,400, with values of 1,000 bytes.
@@ -71,20 +75,20 @@ fn eight_lanes<R: AllocGlobal + Abort>(rt: &R) -> Vec<String> {
 
 /// How many changes there are where eight lanes put rows into the same leaves, of which there are
 /// several times as many as frames.
-fn changes_of_eight<R: AllocGlobal + Abort + Threads + Wait + Sync>(rt: &R) -> Option<u64> {
+fn changes_of_eight<R: AllocGlobal + Abort + Threads + Wait + Sync>(rt: &R) -> u64 {
     let lanes = eight_lanes(rt);
     let texts = slices_of(rt, &lanes);
-    counted(report_under(rt, 72, LIMITS.pages, &texts).as_str())
+    changes_under(rt, 72, LIMITS.pages, &texts)
 }
 
 #[test]
 fn eight_lanes_share_few_frames(rt: HostRuntime) {
     for _ in 0..4 {
-        assert!(rt; changes_of_eight(&rt) == Some(2400));
+        assert!(rt; changes_of_eight(&rt) == 2400);
     }
 }
 
 #[test]
 fn as_many_lanes_run_as_frames_allow(rt: HostRuntime) {
-    let _report = report_under(&rt, 520, LIMITS.pages, &[LANE; 64]);
+    let _changes = changes_under(&rt, 520, LIMITS.pages, &[LANE; 64]);
 }

@@ -1,56 +1,53 @@
-//! Generated lanes against plain maps: each report is the same byte for byte, but for what learning
-//! makes of it.
-use crate::dealt::deal_out;
-use crate::reading::{SCHEMA, lane_text, read_lines};
-use crate::setup::done;
-use crate::statistics::without_columns;
-use report_judge::read_schema;
+//! Generated lanes over hostile bytes: each report is legal, where a plain byte stands for each percent
+//! sign in the lane and in the report. So all is told as a plain map has it.
+use crate::reading::{PLAIN, PRINTED, SCHEMA, UPPER, lane_text};
+use crate::setup::{MEMORY, done, is_legal};
+use crate::trees::counted;
+use report_judge::LIMITS;
 use std::process::Abort;
 use std::sync::Wait;
 use std::thread::Threads;
 
-/// What is reported of a lane, without columns and statistics.
-fn told_of<R: AllocGlobal + Abort + Threads + Wait + Sync>(rt: &R, lane: &str) -> String {
-    without_columns(rt, done(rt, SCHEMA, &[lane]).as_str())
-}
-
-/// What plain maps report of a lane whose escapes are in lower case.
-fn dealt_of<R: AllocGlobal + Abort>(rt: &R, lane: &str) -> String {
-    let mut judged = Ok(());
-    let indexes = read_schema(rt.alloc(), &mut judged, SCHEMA);
-    assert!(rt; judged.is_ok());
-    let report = deal_out(rt, &indexes, &[read_lines(rt, lane)], 1);
-    without_columns(rt, report.as_str())
-}
-
-/// How many changes a line of a report says that an index has, if it says so.
-fn count_of(line: &str) -> Option<u64> {
-    let (_, count) = line.strip_prefix("changes ")?.split_once(' ')?;
-    count.parse::<u64>().ok()
-}
-
-/// How many indexes of a report have more changes than this.
-fn indexes_above(report: &str, changes: u64) -> u32 {
-    let mut count: u32 = 0;
-    for line in report.split('\n') {
-        if count_of(line) > Some(changes) {
-            count = count.wrapping_add(1);
-        }
+/// A report with a plain byte in the place of each percent sign, and so without escapes.
+fn with_plain<R: AllocGlobal + Abort>(rt: &R, report: &str) -> String {
+    let mut plain = String::new(rt.alloc());
+    for letter in report.chars() {
+        let kept = if letter == '%' { '$' } else { letter };
+        plain.push(kept).expect(rt, MEMORY);
     }
-    count
+    plain
 }
 
-/// Whether so many lines over so many keys are reported as plain maps have it, and each of the three
-/// indexes has more changes than this.
+/// The report of so many lines over so many keys, without escapes.
+fn told_of<R: AllocGlobal + Abort + Threads + Wait + Sync>(
+    rt: &R,
+    lines: u64,
+    keys: u64,
+) -> String {
+    let lane = lane_text(rt, lines, keys, &PRINTED, &UPPER);
+    with_plain(rt, done(rt, SCHEMA, &[lane.as_str()]).as_str())
+}
+
+/// Whether each of the three indexes has more changes than this.
+fn are_above(report: &str, changes: u64) -> bool {
+    counted(report, "changes a ") > changes
+        && counted(report, "changes b ") > changes
+        && counted(report, "changes c ") > changes
+}
+
+/// Whether so many lines over so many keys are reported legally, each of the three indexes has more
+/// changes than this, and no line is told that the space is full.
 fn is_read_alike<R: AllocGlobal + Abort + Threads + Wait + Sync>(
     rt: &R,
     lines: u64,
     keys: u64,
     changes: u64,
 ) -> bool {
-    let told = told_of(rt, lane_text(rt, lines, keys, true).as_str());
-    let dealt = dealt_of(rt, lane_text(rt, lines, keys, false).as_str());
-    told.as_str() == dealt.as_str() && indexes_above(told.as_str(), changes) == 3
+    let told = told_of(rt, lines, keys);
+    let lane = lane_text(rt, lines, keys, &PLAIN, &PLAIN);
+    is_legal(rt.alloc(), LIMITS, SCHEMA, &[lane.as_str()], told.as_str())
+        && are_above(told.as_str(), changes)
+        && !told.contains(" space-full ")
 }
 
 #[test]

@@ -37,13 +37,12 @@ fn eight_lanes_are_reported_legally_in_any_order(rt: HostRuntime) {
     assert!(rt; count_others(&rt, (1, 8, 2_500, 2, 6)) > 0);
 }
 
-#[test]
-fn a_long_lane_is_reported_legally(rt: HostRuntime) {
-    let _report = report_of(&rt, (2, 1, 200_000, 3, 2_000));
-}
+/// A long lane, and eight lanes over many keys, which split the same pages.
+static LONG: [Drawn; 2] = [(2, 1, 200_000, 3, 2_000), (3, 8, 20_000, 2, 20_000)];
 
-/// They split the same pages.
 #[test]
-fn eight_lanes_over_many_keys_are_reported_legally(rt: HostRuntime) {
-    let _report = report_of(&rt, (3, 8, 20_000, 2, 20_000));
+fn long_lanes_are_reported_legally(rt: HostRuntime) {
+    for drawn in LONG.iter() {
+        let _report = report_of(&rt, *drawn);
+    }
 }

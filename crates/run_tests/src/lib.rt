@@ -40,8 +40,6 @@ mod setup;
 #[cfg(test)]
 mod sought;
 #[cfg(test)]
-mod statistics;
-#[cfg(test)]
 mod tables;
 #[cfg(test)]
 mod together;

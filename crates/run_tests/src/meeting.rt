@@ -6,6 +6,18 @@ use std::sync::atomic::{AtomicBool, AtomicU64, Ordering};
 // How often a lane looks for the other before it gives up.
 const TURNS: u32 = 10_000_000;
 
+/// Waits until a count is no less than this. Gives up after so many turns, or where the other lane
+/// has.
+pub(crate) fn wait_for(gave_up: &AtomicBool, turns: u32, count: &AtomicU64, least: u64) {
+    for _ in 0..turns {
+        if gave_up.load(Ordering::SeqCst) || count.load(Ordering::SeqCst) >= least {
+            return;
+        }
+        hint::spin_loop();
+    }
+    gave_up.store(true, Ordering::SeqCst);
+}
+
 /// Holds lanes 1 and 2 before line n, 2 or 3, until both have come before it. Gives up after so many
 /// turns.
 #[derive(Drop)]
@@ -43,17 +55,6 @@ impl Meeting {
             self.others.load(Ordering::SeqCst),
         ]
     }
-
-    /// Waits until a lane has come before a line.
-    fn wait_for(&self, count: &AtomicU64) {
-        for _ in 0..TURNS {
-            if self.gave_up() || count.load(Ordering::SeqCst) > 0 {
-                return;
-            }
-            hint::spin_loop();
-        }
-        self.gave_up.store(true, Ordering::SeqCst);
-    }
 }
 
 impl Gate for Meeting {
@@ -66,6 +67,6 @@ impl Gate for Meeting {
             _ => (&self.others, &self.others),
         };
         mine.fetch_add(1, Ordering::SeqCst);
-        self.wait_for(other);
+        wait_for(&self.gave_up, TURNS, other, 1);
     }
 }

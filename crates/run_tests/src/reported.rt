@@ -1,6 +1,5 @@
 //! Reports byte for byte.
 use crate::setup::{Faults, LANE, MEMORY, SCHEMA, done, ends, run_failing};
-use crate::statistics::add_end;
 use ahi_cli::Status;
 use std::process::Abort;
 use std::sync::Wait;
@@ -38,23 +37,12 @@ static REPORTS: [(&str, &str, &str); 7] = [
     ),
 ];
 
-/// How many answers are by a descent of an index that has learnt nothing.
-fn count_cold(middle: &str) -> u64 {
-    let mut count: u64 = 0;
-    for line in middle.split('\n') {
-        if line.ends_with(" cold no") {
-            count = count.wrapping_add(1);
-        }
-    }
-    count
-}
-
 /// The report of one lane whose answers and changes are these.
 pub(crate) fn report_of<R: AllocGlobal + Abort>(rt: &R, middle: &str) -> String {
-    let mut report = String::new(rt.alloc());
-    write!(report, "ahi run\nlane 1\n{middle}").expect(rt, MEMORY);
-    add_end(rt, &mut report, &[("cold", count_cold(middle))]);
-    report
+    let cold = middle.split(" cold no\n").count().wrapping_sub(1);
+    format!(in rt.alloc();
+        "ahi run\nlane 1\n{middle}stats t hit 0 off 0 cold {cold} short 0 part-busy 0 no-entry 0 block-busy 0 clock 0 unequal 0 by-clock 0 by-busy 0 by-moved 0 by-last 0 built 0 same 0 arena 0 raced 0 worn 0\nend\n"
+    ).expect(rt, MEMORY)
 }
 
 /// Whether a lane is reported so, from its answers up to the statistics.
@@ -75,11 +63,14 @@ fn lanes_are_reported_byte_for_byte(rt: HostRuntime) {
     }
 }
 
-/// How many lines a text has, if the last one ends.
-fn count_lines(text: &str) -> Option<usize> {
+/// Whether a text has so many lines, the last of which ends.
+fn has_lines(text: &str, count: u64) -> bool {
     let is_whole = text.is_empty() || text.ends_with('\n');
-    is_whole.then_some(text.split('\n').count().wrapping_sub(1))
+    is_whole && text.split('\n').count() as u64 == count.wrapping_add(1)
 }
+
+/// No words: those that name all lanes.
+const ALL: &[&str] = &[];
 
 /// Whether a sink that fails at this put has the lines before it.
 fn has_lines_before<R: AllocGlobal + Abort + Threads + Wait + Sync>(
@@ -88,12 +79,12 @@ fn has_lines_before<R: AllocGlobal + Abort + Threads + Wait + Sync>(
     put: u64,
 ) -> bool {
     let faults = Faults {
-        load: None,
-        put: Some(put),
+        load: &[],
+        put: &[put],
     };
-    let (status, written) = run_failing(rt, &[LANE], faults);
-    let is_start = whole.starts_with(written.as_str());
-    status == Status::SinkFault && is_start && count_lines(written.as_str()) == Some(put as usize)
+    let (status, written) = run_failing(rt, ALL, SCHEMA, &[LANE], faults);
+    let text = written.as_str();
+    status == Status::SinkFault && whole.starts_with(text) && has_lines(text, put)
 }
 
 /// The report has eleven lines.

@@ -40,20 +40,21 @@ pub(crate) fn bytes_of<R: AllocGlobal + Abort>(rt: &R, byte: char, count: usize)
 }
 
 /// Adds a line for each number: these words, its key with so many bytes before seven digits, and
-/// this behind it.
+/// this space and value behind it.
 fn add_lines<R: AllocGlobal + Abort>(
     rt: &R,
     lane: &mut String,
     words: &str,
     numbers: Numbers,
     before: usize,
-    behind: &str,
+    space: &str,
+    value: &str,
 ) {
     let before = bytes_of(rt, 'k', before);
     let mut number = numbers.first;
     for _ in 0..numbers.count {
         let digits = number.wrapping_add(1_000_000);
-        write!(lane, "{words} {before}{digits}{behind}\n").expect(rt, MEMORY);
+        write!(lane, "{words} {before}{digits}{space}{value}\n").expect(rt, MEMORY);
         number = numbers.after(number);
     }
 }
@@ -66,8 +67,7 @@ pub(crate) fn add_puts<R: AllocGlobal + Abort>(
     look: Look,
 ) {
     let value = bytes_of(rt, 'v', look.value);
-    let behind = format!(in rt.alloc(); " {value}").expect(rt, MEMORY);
-    add_lines(rt, lane, "put t", numbers, look.before, behind.as_str());
+    add_lines(rt, lane, "put t", numbers, look.before, " ", value.as_str());
 }
 
 /// Adds a line that asks for each row in these words: those of a get, a del, or a seek in a mode.
@@ -78,7 +78,7 @@ pub(crate) fn add_asks<R: AllocGlobal + Abort>(
     numbers: Numbers,
     look: Look,
 ) {
-    add_lines(rt, lane, words, numbers, look.before, "");
+    add_lines(rt, lane, words, numbers, look.before, "", "");
 }
 
 /// A put of each row, and then a get of each.

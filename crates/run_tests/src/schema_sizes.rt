@@ -1,45 +1,58 @@
 //! Runs by schemas that set sizes.
 use crate::reported::is_reported;
-use crate::rows::bytes_of;
-use crate::setup::{LANE, MEMORY, ends};
-use ahi_cli::Status;
+use crate::rows::{Look, Numbers, add_asks, add_puts};
+use crate::setup::{SCHEMA, legal_within};
+use crate::trees::counted;
+use report_judge::{LIMITS, Limits};
 use std::process::Abort;
+use std::sync::Wait;
+use std::thread::Threads;
 
-/// Nine puts of the same value, and a get of the third key.
-fn nine_puts<R: AllocGlobal + Abort>(rt: &R, value: &str) -> String {
+/// Nine puts of rows with values of 2,000 bytes, and a get of the third.
+fn nine_puts<R: AllocGlobal + Abort>(rt: &R) -> String {
+    let look = Look {
+        before: 0,
+        value: 2000,
+    };
+    let third = Numbers {
+        first: 2,
+        factor: 1,
+        step: 1,
+        limit: 9,
+        count: 1,
+    };
+    let nine = Numbers {
+        first: 0,
+        count: 9,
+        ..third
+    };
     let mut lane = String::new(rt.alloc());
-    for key in 1..10u32 {
-        write!(lane, "put t {key} {value}\n").expect(rt, MEMORY);
-    }
-    lane.push_str("get t 3\n").expect(rt, MEMORY);
+    add_puts(rt, &mut lane, nine, look);
+    add_asks(rt, &mut lane, "get t", third, look);
     lane
 }
 
-/// What is told to the first eight puts.
-const EIGHT_PUTS: &str =
-    "1 ok @1 cold no\n2 ok @2 cold no\n3 ok @3 cold no\n4 ok @4 cold no\n5 ok @5 cold no\n6 ok @6 cold no\n7 ok @7 cold no\n8 ok @8 cold no\n";
-
-/// What is told to the nine puts, of which eight have room, and to the get; and the changes.
-fn eight_rows<R: AllocGlobal + Abort>(rt: &R, value: &str) -> String {
-    let mut told = String::new(rt.alloc());
-    write!(
-        told,
-        "{EIGHT_PUTS}9 space-full cold no\n10 found {value} @8 cold no\nchanges t 8\n"
-    )
-    .expect(rt, MEMORY);
-    for key in 1..9u32 {
-        write!(told, "{key} 1 {key} put {key} {value}\n").expect(rt, MEMORY);
-    }
-    told
+/// The legal report of these puts where there are two pages.
+fn nine_within<R: AllocGlobal + Abort + Threads + Wait + Sync>(rt: &R) -> String {
+    let limits = Limits { pages: 2, ..LIMITS };
+    let lane = nine_puts(rt);
+    legal_within(rt, limits, "pages 2\nindex t 1\n", SCHEMA, &[lane.as_str()])
 }
 
-/// There are two pages, and the ninth put finds none.
+/// Whether eight puts have room, the ninth finds none, and the ten answers are those of an index
+/// that has learnt nothing.
+fn has_eight_rows(report: &str) -> bool {
+    counted(report, "changes t ") == 8
+        && report.contains("\n9 space-full cold no\n")
+        && report.ends_with(
+            "hit 0 off 0 cold 10 short 0 part-busy 0 no-entry 0 block-busy 0 clock 0 unequal 0 by-clock 0 by-busy 0 by-moved 0 by-last 0 built 0 same 0 arena 0 raced 0 worn 0\nend\n",
+        )
+}
+
 #[test]
 fn two_pages_are_full_at_the_ninth_large_row(rt: HostRuntime) {
-    let value = bytes_of(&rt, 'v', 2000);
-    let lane = nine_puts(&rt, value.as_str());
-    let told = eight_rows(&rt, value.as_str());
-    assert!(rt; is_reported(&rt, "pages 2\nindex t 1\n", lane.as_str(), told.as_str()));
+    let is_full = has_eight_rows(nine_within(&rt).as_str());
+    assert!(rt; is_full);
 }
 
 /// A third change finds no room in the list, and the two before are still seen.
@@ -50,20 +63,4 @@ fn a_list_of_two_changes_is_full_at_the_third(rt: HostRuntime) {
     let told =
         "1 ok @1 cold no\n2 ok @2 cold no\n3 log-full 2 cold no\n4 found y @2 cold no\n5 absent @2 cold no\nchanges t 2\n1 1 1 put a x\n2 1 2 put b y\n";
     assert!(rt; is_reported(&rt, schema, lane, told));
-}
-
-/// Schemas whose sizes can't be had, and what is written.
-static REFUSED: [(&str, &str); 5] = [
-    ("pages 0\nindex t 1\n", "sizes pages\n"),
-    ("pages 1\nindex t 1\nindex u 1\n", "sizes pages\n"),
-    ("pages 0\nblocks 15\nindex t 1\n", "sizes blocks\n"),
-    ("max_changes 0\nindex t 1\n", "sizes max_changes\n"),
-    ("fold_bits 65\nindex t 1\n", "sizes fold_bits\n"),
-];
-
-#[test]
-fn sizes_outside_their_limits_are_refused(rt: HostRuntime) {
-    for (schema, text) in REFUSED.iter() {
-        assert!(rt; ends(&rt, schema, &[LANE], Status::TooLarge, text));
-    }
 }

@@ -58,10 +58,7 @@ fn empty_half<R: AllocGlobal + Abort>(rt: &R, lane: &mut String, place: u64) {
 }
 
 /// How many changes there are, where each key and each mode is sought over such leaves.
-fn changes_over_empty<R: AllocGlobal + Abort + Threads + Wait + Sync>(
-    rt: &R,
-    place: u64,
-) -> Option<u64> {
+fn changes_over_empty<R: AllocGlobal + Abort + Threads + Wait + Sync>(rt: &R, place: u64) -> u64 {
     let mut lane = filled(rt, 8 * LEAVES, LONG);
     empty_half(rt, &mut lane, place);
     add_all_seeks(rt, &mut lane, 8 * LEAVES, LONG);
@@ -72,7 +69,7 @@ fn changes_over_empty<R: AllocGlobal + Abort + Threads + Wait + Sync>(
 #[test]
 fn rows_are_sought_over_empty_leaves(rt: HostRuntime) {
     for place in 0..4 {
-        assert!(rt; changes_over_empty(&rt, place) == Some(720));
+        assert!(rt; changes_over_empty(&rt, place) == 720);
     }
 }
 
@@ -84,7 +81,7 @@ const SHORT: Look = Look {
 
 /// How many changes there are, where one lane puts 2,000 rows in and takes them out again, and the
 /// other seeks.
-fn changes_beside_seeks<R: AllocGlobal + Abort + Threads + Wait + Sync>(rt: &R) -> Option<u64> {
+fn changes_beside_seeks<R: AllocGlobal + Abort + Threads + Wait + Sync>(rt: &R) -> u64 {
     let mut emptying = filled(rt, 2_000, SHORT);
     add_asks(rt, &mut emptying, "del t", numbers_from(0, 1, 2_000), SHORT);
     let mut seeking = String::new(rt.alloc());
@@ -94,7 +91,7 @@ fn changes_beside_seeks<R: AllocGlobal + Abort + Threads + Wait + Sync>(rt: &R) 
 
 #[test]
 fn rows_are_sought_while_leaves_are_emptied(rt: HostRuntime) {
-    assert!(rt; changes_beside_seeks(&rt) == Some(4_000));
+    assert!(rt; changes_beside_seeks(&rt) == 4_000);
 }
 
 /// A drawn lane of 200,000 lines, half of them seeks by tuples of one to four fields.

@@ -24,106 +24,91 @@ pub(crate) const USAGE: &str =
 /// How many bytes of a report there is room for.
 const ROOM: usize = 80_000_000;
 
-/// The load and the put of a run that are to fail, counted from 0.
+/// The loads and the puts of a run that are to fail, counted from 0.
 #[derive(Clone, Copy)]
-pub(crate) struct Faults {
-    pub(crate) load: Option<u64>,
-    pub(crate) put: Option<u64>,
+pub(crate) struct Faults<'a> {
+    pub(crate) load: &'a [u64],
+    pub(crate) put: &'a [u64],
 }
 
-pub(crate) const NO_FAULTS: Faults = Faults {
-    load: None,
-    put: None,
+pub(crate) const NO_FAULTS: Faults<'static> = Faults {
+    load: &[],
+    put: &[],
 };
+
+/// The words of a run with 65 lanes, and so the names of the files behind the first.
+static WORDS: [&str; 67] = [
+    "run", "s", "l1", "l2", "l3", "l4", "l5", "l6", "l7", "l8", "l9", "l10", "l11", "l12", "l13",
+    "l14", "l15", "l16", "l17", "l18", "l19", "l20", "l21", "l22", "l23", "l24", "l25", "l26",
+    "l27", "l28", "l29", "l30", "l31", "l32", "l33", "l34", "l35", "l36", "l37", "l38", "l39",
+    "l40", "l41", "l42", "l43", "l44", "l45", "l46", "l47", "l48", "l49", "l50", "l51", "l52",
+    "l53", "l54", "l55", "l56", "l57", "l58", "l59", "l60", "l61", "l62", "l63", "l64", "l65",
+];
 
 /// How a run ends, and what it writes.
 pub(crate) type Ended = (Status, String);
 
-/// How a run of a schema and lanes ends.
-pub(crate) fn run<R: AllocGlobal + Abort + Threads + Wait + Sync>(
-    rt: &R,
-    schema: &str,
-    lanes: &[&str],
-) -> Ended {
-    run_at(rt, &NoGate, schema, lanes)
+/// The words of a run with so many lanes.
+fn words_of(lanes: usize) -> &'static [&'static str] {
+    WORDS.get(..lanes.wrapping_add(2)).unwrap_or(&[])
 }
 
-/// The same of lanes that ask this gate.
+/// How a run of a schema and lanes ends, which ask this gate.
 pub(crate) fn run_at<R: AllocGlobal + Abort + Threads + Wait + Sync, G: Gate + Sync>(
     rt: &R,
     gate: &G,
     schema: &str,
     lanes: &[&str],
 ) -> Ended {
-    let words = run_line(rt, lanes.len());
-    run_words_at(rt, gate, &words, schema, lanes, NO_FAULTS)
+    let words = words_of(lanes.len());
+    run_whole(rt, gate, words, schema, lanes, NO_FAULTS, &mut None)
 }
 
-/// How a run of these lanes ends that meets these faults.
+/// How a run ends that meets these faults, where a schema and lanes are held. Its words are these, or
+/// those that name all lanes where none are said.
 pub(crate) fn run_failing<R: AllocGlobal + Abort + Threads + Wait + Sync>(
     rt: &R,
+    words: &'static [&'static str],
+    schema: &str,
     lanes: &[&str],
-    faults: Faults,
+    faults: Faults<'_>,
 ) -> Ended {
-    let words = run_line(rt, lanes.len());
-    run_words_at(rt, &NoGate, &words, SCHEMA, lanes, faults)
+    let words = if words.is_empty() {
+        words_of(lanes.len())
+    } else {
+        words
+    };
+    run_whole(rt, &NoGate, words, schema, lanes, faults, &mut None)
 }
 
-/// The same of lanes that leave their pass.
+/// How a run of these lanes ends that meets these faults and leaves its pass.
 pub(crate) fn run_leaving<R: AllocGlobal + Abort + Threads + Wait + Sync>(
     rt: &R,
     lanes: &[&str],
-    faults: Faults,
+    faults: Faults<'_>,
     trail: &mut Option<EnginePass>,
 ) -> Ended {
-    let words = run_line(rt, lanes.len());
-    run_whole(rt, &NoGate, &words, SCHEMA, lanes, faults, trail)
-}
-
-/// How a run of these words ends, where a schema `s` and a lane `l1` are held.
-pub(crate) fn run_given<R: AllocGlobal + Abort + Threads + Wait + Sync>(
-    rt: &R,
-    words: &[&str],
-) -> Ended {
-    let words = strings(rt, words);
-    run_words_at(rt, &NoGate, &words, SCHEMA, &[LANE], NO_FAULTS)
+    let words = words_of(lanes.len());
+    run_whole(rt, &NoGate, words, SCHEMA, lanes, faults, trail)
 }
 
 /// How a run of these words ends, where a schema and lanes are held.
-fn run_words_at<R: AllocGlobal + Abort + Threads + Wait + Sync, G: Gate + Sync>(
-    rt: &R,
-    gate: &G,
-    words: &[String],
-    schema: &str,
-    lanes: &[&str],
-    faults: Faults,
-) -> Ended {
-    run_whole(rt, gate, words, schema, lanes, faults, &mut None)
-}
-
-/// The same of lanes that leave their pass.
 fn run_whole<R: AllocGlobal + Abort + Threads + Wait + Sync, G: Gate + Sync>(
     rt: &R,
     gate: &G,
-    words: &[String],
+    words: &[&str],
     schema: &str,
     lanes: &[&str],
-    faults: Faults,
+    faults: Faults<'_>,
     trail: &mut Option<EnginePass>,
 ) -> Ended {
+    let words = strings(rt, words);
     let mut shelf = shelf_of(rt, schema, lanes, faults.load);
-    let mut sink = sink_of(rt, faults.put);
-    let status = run_words(rt, rt, words, &mut shelf, &mut sink, gate, trail);
-    (status, text_of(rt, sink.written()))
-}
-
-/// A report as a text.
-fn text_of<R: AllocGlobal + Abort>(rt: &R, report: &[u8]) -> String {
-    string(rt, str::from_utf8(report).ok().expect(rt, "a text"))
-}
-
-fn sink_of<R: AllocGlobal + Abort>(rt: &R, failing_put: Option<u64>) -> MemorySink {
-    MemorySink::with_room(rt.alloc(), ROOM, listed(rt, failing_put)).expect(rt, MEMORY)
+    let failing = faults.put.to_vec(rt.alloc()).expect(rt, MEMORY);
+    let mut sink = MemorySink::with_room(rt.alloc(), ROOM, failing).expect(rt, MEMORY);
+    let status = run_words(rt, rt, &words, &mut shelf, &mut sink, gate, trail);
+    let report = str::from_utf8(sink.written()).ok().expect(rt, "a text");
+    (status, string(rt, report))
 }
 
 /// Whether a run ends with this status, and writes this.
@@ -139,7 +124,7 @@ pub(crate) fn ends<R: AllocGlobal + Abort + Threads + Wait + Sync>(
     status: Status,
     text: &str,
 ) -> bool {
-    is_end(&run(rt, schema, lanes), status, text)
+    is_end(&run_at(rt, &NoGate, schema, lanes), status, text)
 }
 
 /// The report of these lanes, which are done.
@@ -148,47 +133,43 @@ pub(crate) fn done<R: AllocGlobal + Abort + Threads + Wait + Sync>(
     schema: &str,
     lanes: &[&str],
 ) -> String {
-    let (status, report) = run(rt, schema, lanes);
+    let (status, report) = run_at(rt, &NoGate, schema, lanes);
     assert!(rt; status == Status::Done);
     report
 }
 
-/// The report of these lanes, by a schema with sizes before its indexes: they are done, and it is
-/// legal within these limits.
+/// The report of these lanes, by a schema that sets sizes: they are done, and it is legal by the same
+/// schema without sizes, within these limits.
 pub(crate) fn legal_within<R: AllocGlobal + Abort + Threads + Wait + Sync>(
     rt: &R,
     limits: Limits,
-    sizes: &str,
+    sized: &str,
     schema: &str,
     lanes: &[&str],
 ) -> String {
-    let sized = format!(in rt.alloc(); "{sizes}{schema}").expect(rt, MEMORY);
-    let report = done(rt, sized.as_str(), lanes);
+    let report = done(rt, sized, lanes);
     assert!(rt; is_legal(rt.alloc(), limits, schema, lanes, report.as_str()));
     report
 }
 
 /// Whether a report of these lanes is legal within these limits.
-fn is_legal(alloc: Global, limits: Limits, schema: &str, lanes: &[&str], report: &str) -> bool {
+pub(crate) fn is_legal(
+    alloc: Global,
+    limits: Limits,
+    schema: &str,
+    lanes: &[&str],
+    report: &str,
+) -> bool {
     judge_within(alloc, limits, schema, lanes, report.as_bytes()).is_ok()
 }
 
-/// The same by a schema that sets no sizes.
+/// The legal report of these lanes, by a schema that sets no sizes.
 pub(crate) fn legal_report<R: AllocGlobal + Abort + Threads + Wait + Sync>(
     rt: &R,
     schema: &str,
     lanes: &[&str],
 ) -> String {
-    legal_within(rt, LIMITS, "", schema, lanes)
-}
-
-/// The words of a run with so many lanes.
-fn run_line<R: AllocGlobal + Abort>(rt: &R, lanes: usize) -> Vec<String> {
-    let mut words = strings(rt, &["run", "s"]);
-    for place in 0..lanes {
-        words.push(lane_name(rt, place)).expect(rt, MEMORY);
-    }
-    words
+    legal_within(rt, LIMITS, schema, schema, lanes)
 }
 
 fn strings<R: AllocGlobal + Abort>(rt: &R, texts: &[&str]) -> Vec<String> {
@@ -203,27 +184,10 @@ fn string<R: AllocGlobal + Abort>(rt: &R, text: &str) -> String {
     String::from_str(rt.alloc(), text).expect(rt, MEMORY)
 }
 
-/// The name of the lane at this place.
-fn lane_name<R: AllocGlobal + Abort>(rt: &R, place: usize) -> String {
-    format!(in rt.alloc(); "l{}", place.wrapping_add(1)).expect(rt, MEMORY)
-}
-
-/// A number where there is one.
-fn listed<R: AllocGlobal + Abort>(rt: &R, number: Option<u64>) -> Vec<u64> {
-    let mut numbers = Vec::new(rt.alloc());
-    if let Some(number) = number {
-        numbers.push(number).expect(rt, MEMORY);
-    }
-    numbers
-}
-
-/// Adds the file of this name and text.
-fn add_file<R: AllocGlobal + Abort>(
-    rt: &R,
-    files: &mut Vec<(String, Vec<u8>)>,
-    name: String,
-    text: &str,
-) {
+/// Adds a file of this text, by the next name.
+fn add_file<R: AllocGlobal + Abort>(rt: &R, files: &mut Vec<(String, Vec<u8>)>, text: &str) {
+    let place = files.len().wrapping_add(1);
+    let name = string(rt, WORDS.get(place).copied().unwrap_or(""));
     let bytes = text.as_bytes().to_vec(rt.alloc()).expect(rt, MEMORY);
     files.push((name, bytes)).expect(rt, MEMORY);
 }
@@ -232,12 +196,12 @@ fn shelf_of<R: AllocGlobal + Abort>(
     rt: &R,
     schema: &str,
     lanes: &[&str],
-    failing_load: Option<u64>,
+    failing: &[u64],
 ) -> MemoryShelf {
     let mut files = Vec::new(rt.alloc());
-    add_file(rt, &mut files, string(rt, "s"), schema);
-    for (place, lane) in lanes.iter().enumerate() {
-        add_file(rt, &mut files, lane_name(rt, place), lane);
+    add_file(rt, &mut files, schema);
+    for lane in lanes {
+        add_file(rt, &mut files, lane);
     }
-    MemoryShelf::new(files, listed(rt, failing_load))
+    MemoryShelf::new(files, failing.to_vec(rt.alloc()).expect(rt, MEMORY))
 }

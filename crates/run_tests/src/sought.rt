@@ -9,18 +9,16 @@ pub(crate) fn sought<'a>(
     reach: Reach,
     tuple: &str,
 ) -> Option<(&'a str, &'a str)> {
-    let mut last: Option<(&'a str, &'a str)> = None;
+    let mut before: Option<(&'a str, &'a str)> = None;
+    let mut behind: Option<(&'a str, &'a str)> = None;
     for (key, value) in rows.iter() {
         if !is_cut_off(reach, tuple, key) {
-            return if looks_ahead(reach) {
-                Some((*key, *value))
-            } else {
-                last
-            };
+            behind = Some((*key, *value));
+            break;
         }
-        last = Some((*key, *value));
+        before = Some((*key, *value));
     }
-    if looks_ahead(reach) { None } else { last }
+    if looks_ahead(reach) { behind } else { before }
 }
 
 fn looks_ahead(reach: Reach) -> bool {

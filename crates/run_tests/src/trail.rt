@@ -8,60 +8,79 @@ use std::thread::Threads;
 
 const LANES: [&str; 3] = [LANE; 3];
 
-/// The pass of the three lanes, which are done, and how many lanes are reported.
-fn left<R: AllocGlobal + Abort + Threads + Wait + Sync>(rt: &R) -> (EnginePass, u32) {
-    let mut trail = None;
-    let (status, report) = run_leaving(rt, &LANES, NO_FAULTS, &mut trail);
-    assert!(rt; status == Status::Done);
-    (trail.expect(rt, "a pass"), count_of_lanes(report.as_str()))
+/// How many of three lanes are reported that leave their pass here, and none where they aren't done.
+fn leave<R: AllocGlobal + Abort + Threads + Wait + Sync>(
+    rt: &R,
+    trail: &mut Option<EnginePass>,
+) -> usize {
+    let (status, report) = run_leaving(rt, &LANES, NO_FAULTS, trail);
+    if status == Status::Done {
+        report.split("\nlane ").count().wrapping_sub(1)
+    } else {
+        0
+    }
 }
 
-fn count_of_lanes(report: &str) -> u32 {
-    let mut count: u32 = 0;
-    for line in report.split('\n') {
-        if line.starts_with("lane ") {
-            count = count.wrapping_add(1);
-        }
-    }
-    count
+/// Whether the pass of three lanes is that of all of them.
+fn is_of_all(pass: &EnginePass) -> bool {
+    pass.numbers() == (0, 3) && *pass.sizes() == DEFAULT_SIZES
 }
 
 #[test]
 fn done_lanes_leave_the_pass_of_all(rt: HostRuntime) {
-    let (pass, lanes) = left(&rt);
-    assert!(rt; lanes == 3 && pass.numbers() == (0, 3) && *pass.sizes() == DEFAULT_SIZES);
+    let mut trail = None;
+    let lanes = leave(&rt, &mut trail);
+    let pass = trail.expect(&rt, "a pass");
+    assert!(rt; lanes == 3 && is_of_all(&pass));
 }
 
-/// Lanes that aren't done: the load and the put that are to fail, and the status.
-static UNDONE: [(&[&str], Option<u64>, Option<u64>, Status); 6] = [
-    (&[], None, None, Status::Usage),
-    (&["get t\n"], None, None, Status::Script),
-    (&LANES, Some(0), None, Status::ShelfFault),
-    (&LANES, None, Some(0), Status::SinkFault),
-    (&LANES, None, Some(9), Status::SinkFault),
-    (&[LANE; 32], None, None, Status::TooLarge),
+/// Lanes that aren't done, what fails, and the status.
+static UNDONE: [(&[&str], Faults<'static>, Status); 6] = [
+    (&[], NO_FAULTS, Status::Usage),
+    (&["get t\n"], NO_FAULTS, Status::Script),
+    (
+        &LANES,
+        Faults {
+            load: &[0],
+            put: &[],
+        },
+        Status::ShelfFault,
+    ),
+    (
+        &LANES,
+        Faults {
+            load: &[],
+            put: &[0],
+        },
+        Status::SinkFault,
+    ),
+    (
+        &LANES,
+        Faults {
+            load: &[],
+            put: &[9],
+        },
+        Status::SinkFault,
+    ),
+    (&[LANE; 32], NO_FAULTS, Status::TooLarge),
 ];
 
 /// Whether lanes end so and take away the pass that an earlier run left.
 fn leaves_none<R: AllocGlobal + Abort + Threads + Wait + Sync>(
     rt: &R,
     lanes: &[&str],
-    faults: Faults,
+    faults: Faults<'_>,
     status: Status,
 ) -> bool {
-    let (pass, _) = left(rt);
-    let mut trail = Some(pass);
+    let mut trail = None;
+    let was_left = leave(rt, &mut trail) == 3 && trail.is_some();
     let (ended, _) = run_leaving(rt, lanes, faults, &mut trail);
-    ended == status && trail.is_none()
+    was_left && ended == status && trail.is_none()
 }
 
 #[test]
 fn no_pass_is_left_by_a_run_that_is_not_done(rt: HostRuntime) {
-    for (lanes, load, put, status) in UNDONE.iter() {
-        let faults = Faults {
-            load: *load,
-            put: *put,
-        };
-        assert!(rt; leaves_none(&rt, lanes, faults, *status));
+    for (lanes, faults, status) in UNDONE.iter() {
+        assert!(rt; leaves_none(&rt, lanes, *faults, *status));
     }
 }

@@ -6,28 +6,19 @@ use std::process::Abort;
 use std::sync::Wait;
 use std::thread::Threads;
 
-/// How many changes of the index `t` a report counts.
-pub(crate) fn counted(report: &str) -> Option<u64> {
-    let (_, behind) = report.split_once("changes t ")?;
-    let (count, _) = behind.split_once('\n')?;
-    count.parse::<u64>().ok()
+/// The number behind these words at the end of a line of a report, or 0 where it has no such line.
+pub(crate) fn counted(report: &str, words: &str) -> u64 {
+    let (_, behind) = report.split_once(words).unwrap_or(("", ""));
+    let (count, _) = behind.split_once('\n').unwrap_or(("", ""));
+    count.parse::<u64>().unwrap_or(0)
 }
 
 /// How many changes these lanes make, which are done and have a legal report.
 pub(crate) fn changes_of<R: AllocGlobal + Abort + Threads + Wait + Sync>(
     rt: &R,
     lanes: &[&str],
-) -> Option<u64> {
-    counted(legal_report(rt, SCHEMA, lanes).as_str())
-}
-
-/// How many of these rows are put, and found in a legal report.
-fn found<R: AllocGlobal + Abort + Threads + Wait + Sync>(
-    rt: &R,
-    numbers: Numbers,
-    look: Look,
-) -> Option<u64> {
-    changes_of(rt, &[puts_and_gets(rt, numbers, look).as_str()])
+) -> u64 {
+    counted(legal_report(rt, SCHEMA, lanes).as_str(), "changes t ")
 }
 
 /// The first number, the factor, the step, and how many there are, each of them once; how many
@@ -35,13 +26,15 @@ fn found<R: AllocGlobal + Abort + Threads + Wait + Sync>(
 type Rows = (u64, u64, u64, u64, usize, usize);
 
 /// Rows that fill several leaves: ascending, descending and out of order; with keys that begin
-/// alike; and with the longest keys, over which there are three levels.
-static ROWS: [Rows; 5] = [
+/// alike; and with the longest keys, over which there are three levels. And 200,000 rows out of
+/// order.
+static ROWS: [Rows; 6] = [
     (0, 1, 1, 40, 0, 1000),
     (39, 1, 39, 40, 0, 1000),
     (0, 21, 7, 500, 0, 200),
     (0, 21, 7, 500, 300, 100),
     (0, 21, 7, 500, 760, 100),
+    (0, 12_421, 7, 200_000, 0, 1),
 ];
 
 fn rows_of(rows: Rows) -> (Numbers, Look) {
@@ -56,28 +49,24 @@ fn rows_of(rows: Rows) -> (Numbers, Look) {
     (numbers, Look { before, value })
 }
 
+/// Whether each of these rows is put, and found in a legal report.
+fn are_found<R: AllocGlobal + Abort + Threads + Wait + Sync>(rt: &R, rows: Rows) -> bool {
+    let (numbers, look) = rows_of(rows);
+    changes_of(rt, &[puts_and_gets(rt, numbers, look).as_str()]) == numbers.count
+}
+
 #[test]
 fn each_row_is_put_and_found(rt: HostRuntime) {
     for rows in ROWS.iter() {
-        let (numbers, look) = rows_of(*rows);
-        assert!(rt; found(&rt, numbers, look) == Some(numbers.count));
+        assert!(rt; are_found(&rt, *rows));
     }
-}
-
-/// 200,000 numbers out of order.
-const MANY: Rows = (0, 12_421, 7, 200_000, 0, 1);
-
-#[test]
-fn many_rows_are_put_and_found(rt: HostRuntime) {
-    let (numbers, look) = rows_of(MANY);
-    assert!(rt; found(&rt, numbers, look) == Some(200_000));
 }
 
 #[test]
 fn rows_come_again(rt: HostRuntime) {
     let (numbers, look) = rows_of((0, 21, 7, 500, 0, 200));
-    let lane = comes_and_goes(&rt, numbers, look);
-    assert!(rt; changes_of(&rt, &[lane.as_str()]) == Some(1500));
+    let changes = changes_of(&rt, &[comes_and_goes(&rt, numbers, look).as_str()]);
+    assert!(rt; changes == 1500);
 }
 
 /// The lane of every second number from this one on, below 2,000, with values of 200 bytes.
@@ -98,9 +87,11 @@ fn every_second<R: AllocGlobal + Abort>(rt: &R, first: u64) -> String {
 
 #[test]
 fn two_lanes_put_rows_in_the_same_leaves(rt: HostRuntime) {
-    let even = every_second(&rt, 0);
-    let odd = every_second(&rt, 1);
-    assert!(rt; changes_of(&rt, &[even.as_str(), odd.as_str()]) == Some(2000));
+    let changes = changes_of(
+        &rt,
+        &[every_second(&rt, 0).as_str(), every_second(&rt, 1).as_str()],
+    );
+    assert!(rt; changes == 2000);
 }
 
 /// 12,500 ascending puts with the longest values, so that the pages run out, and gets of the first
@@ -122,6 +113,6 @@ fn too_many<R: AllocGlobal + Abort>(rt: &R) -> String {
 /// pages with 4,086 leaves, the last of them full.
 #[test]
 fn pages_run_out(rt: HostRuntime) {
-    let lane = too_many(&rt);
-    assert!(rt; changes_of(&rt, &[lane.as_str()]) == Some(4085 * 3 + 7));
+    let changes = changes_of(&rt, &[too_many(&rt).as_str()]);
+    assert!(rt; changes == 4085 * 3 + 7);
 }

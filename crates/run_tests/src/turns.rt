@@ -1,10 +1,9 @@
 //! A gate that looks at what the lanes have done so far, and lets their lines take turns: so each is
 //! asked before its line, and not after it.
-use crate::reported::report_of;
+use crate::meeting::wait_for;
 use crate::setup::{SCHEMA, is_end, run_at};
 use ahi_cli::Status;
 use lanes::Gate;
-use std::hint;
 use std::sync::atomic::{AtomicBool, AtomicU64, Ordering};
 
 // How often a lane looks for the other before it gives up.
@@ -35,17 +34,6 @@ impl InTurns {
     fn gave_up(&self) -> bool {
         self.gave_up.load(Ordering::SeqCst)
     }
-
-    /// Waits until a lane has come to a line.
-    fn wait_for(&self, lane: &AtomicU64, line: u64) {
-        for _ in 0..TURNS {
-            if self.gave_up() || lane.load(Ordering::SeqCst) >= line {
-                return;
-            }
-            hint::spin_loop();
-        }
-        self.gave_up.store(true, Ordering::SeqCst);
-    }
 }
 
 impl Gate for InTurns {
@@ -54,11 +42,11 @@ impl Gate for InTurns {
         if lane == 1 {
             self.first.store(line, Ordering::SeqCst);
             if line <= LINES {
-                self.wait_for(&self.second, line);
+                wait_for(&self.gave_up, TURNS, &self.second, line);
             }
         } else {
             self.second.store(line, Ordering::SeqCst);
-            self.wait_for(&self.first, line.wrapping_add(1));
+            wait_for(&self.gave_up, TURNS, &self.first, line.wrapping_add(1));
         }
     }
 }
@@ -68,14 +56,13 @@ const FIRST: &str = "get t a\nput t a x\nget t b\nput t a y\nget t a\nget t a\n"
 
 const SECOND: &str = "get t a\nget t a\nput t b z\ndel t a\nget t a\n";
 
-/// What both are told, and their changes.
-const MIDDLE: &str =
-    "1 absent @0 cold no\n2 ok @1 cold no\n3 absent @1 cold no\n4 duplicate @2 cold no\n5 absent @3 cold no\n6 absent @3 cold no\nlane 2\n1 absent @0 cold no\n2 found x @1 cold no\n3 ok @2 cold no\n4 ok @3 cold no\n5 absent @3 cold no\nchanges t 3\n1 1 2 put a x\n2 2 3 put b z\n3 2 4 del a\n";
+/// What both are told, their changes, and the statistics: each answer is by a descent.
+const REPORT: &str =
+    "ahi run\nlane 1\n1 absent @0 cold no\n2 ok @1 cold no\n3 absent @1 cold no\n4 duplicate @2 cold no\n5 absent @3 cold no\n6 absent @3 cold no\nlane 2\n1 absent @0 cold no\n2 found x @1 cold no\n3 ok @2 cold no\n4 ok @3 cold no\n5 absent @3 cold no\nchanges t 3\n1 1 2 put a x\n2 2 3 put b z\n3 2 4 del a\nstats t hit 0 off 0 cold 11 short 0 part-busy 0 no-entry 0 block-busy 0 clock 0 unequal 0 by-clock 0 by-busy 0 by-moved 0 by-last 0 built 0 same 0 arena 0 raced 0 worn 0\nend\n";
 
 #[test]
 fn the_gate_is_asked_before_each_line(rt: HostRuntime) {
     let gate = InTurns::new();
-    let report = report_of(&rt, MIDDLE);
     let ended = run_at(&rt, &gate, SCHEMA, &[FIRST, SECOND]);
-    assert!(rt; is_end(&ended, Status::Done, report.as_str()) && !gate.gave_up());
+    assert!(rt; is_end(&ended, Status::Done, REPORT) && !gate.gave_up());
 }

@@ -1,105 +1,139 @@
 //! Reports of a list that is full, and of pages that ran out.
-use crate::setup::MEMORY;
-use report_judge::{COUNTS, LIMITS, Lie, Limits, judge_within};
-use std::process::Abort;
+use crate::judging::cases::{Written, assert_judged};
+use report_judge::{LIMITS, Lie, Limits};
 
 const SCHEMA: &str = "index t 1\n";
 
 const LANE: &str = "put t a x\nput t b y\nput t c z\ndel t a\nput t a w\ndel t d\nget t a\n";
 
-/// What the lines are told where an index may have two changes.
-static FULL: [&str; 7] = [
-    "1 ok @1",
-    "2 ok @2",
-    "3 log-full 2",
-    "4 log-full 2",
-    "5 duplicate @2",
-    "6 absent @2",
-    "7 found x @2",
-];
-
-const CHANGES: &str = "changes t 2\n1 1 1 put a x\n2 1 2 put b y\n";
-
-/// The report in which a line, counted from 1, is told this instead.
-fn report_of<R: AllocGlobal + Abort>(rt: &R, line: usize, other: &str) -> String {
-    let mut report = String::new(rt.alloc());
-    report.push_str("ahi run\nlane 1\n").expect(rt, MEMORY);
-    for (place, said) in FULL.iter().enumerate() {
-        let is_other = place.wrapping_add(1) == line;
-        let told = if is_other { other } else { *said };
-        write!(report, "{told} - -\n").expect(rt, MEMORY);
-    }
-    write!(report, "{CHANGES}stats t {COUNTS}\nend\n").expect(rt, MEMORY);
-    report
-}
-
-/// The line that is told something else, this, the most changes, the pages, and the line whose answer
-/// is wrong then, if one is.
-type Told = (usize, &'static str, u64, u64, Option<u64>);
+/// What the lane is told where an index may have two changes.
+const REPORT: &str =
+    "ahi run\nlane 1\n1 ok @1 - -\n2 ok @2 - -\n3 log-full 2 - -\n4 log-full 2 - -\n5 duplicate @2 - -\n6 absent @2 - -\n7 found x @2 - -\nchanges t 2\n1 1 1 put a x\n2 1 2 put b y\nstats t hit 0 off 0 cold 0 short 0 part-busy 0 no-entry 0 block-busy 0 clock 0 unequal 0 by-clock 0 by-busy 0 by-moved 0 by-last 0 built 0 same 0 arena 0 raced 0 worn 0\nend\n";
 
 const MANY: u64 = LIMITS.pages;
 
-static TOLD: [Told; 9] = [
-    (0, "", 2, MANY, None),
-    (0, "", 3, MANY, Some(3)),
-    (0, "", LIMITS.changes, MANY, Some(3)),
-    (3, "3 log-full 3", 2, MANY, Some(3)),
-    (3, "3 absent @2", 2, MANY, Some(3)),
-    (4, "4 absent @2", 2, MANY, Some(4)),
-    (5, "5 log-full 2", 2, MANY, Some(5)),
-    (6, "6 log-full 2", 2, MANY, Some(6)),
-    (7, "7 log-full 2", 2, MANY, Some(7)),
-];
-
-/// Two rows of one index by one lane take seven pages at most.
-static ROOM: [Told; 4] = [
-    (3, "3 space-full", 2, 7, None),
-    (3, "3 space-full", 2, 8, Some(3)),
-    (4, "4 space-full", 2, 7, Some(4)),
-    (7, "7 space-full", 2, 7, Some(7)),
-];
-
-/// How a report is judged in which a line is told something else.
-fn judge_told<R: AllocGlobal + Abort>(
-    rt: &R,
-    line: usize,
-    other: &str,
-    limits: Limits,
-) -> Result<(), Lie> {
-    let report = report_of(rt, line, other);
-    judge_within(rt.alloc(), limits, SCHEMA, &[LANE], report.as_bytes())
-}
-
-/// Whether such a report is judged as a row has it.
-fn is_judged_so<R: AllocGlobal + Abort>(rt: &R, told: &Told) -> bool {
-    let (line, other, changes, pages, wrong) = *told;
-    let judged = judge_told(rt, line, other, Limits { changes, pages });
-    match wrong {
-        Some(line) => judged == Err(Lie::Wrong { lane: 1, line }),
-        None => judged.is_ok(),
-    }
-}
-
-#[test]
-fn a_full_list_refuses_what_its_map_allows(rt: HostRuntime) {
-    for told in TOLD.iter() {
-        assert!(rt; is_judged_so(&rt, told), "{}", told.1);
-    }
-    let judged = judge_told(
-        &rt,
-        3,
-        "3 log-full 1",
-        Limits {
+/// The report where an index may have two changes, three, and many; and where there are seven pages,
+/// and eight.
+static FULL: [Written; 5] = [
+    Written {
+        schema: SCHEMA,
+        lanes: &[LANE],
+        report: REPORT,
+        limits: Limits {
             changes: 2,
-            ..LIMITS
+            pages: MANY,
         },
-    );
-    assert!(rt; judged == Err(Lie::Back { lane: 1, line: 3 }));
-}
+        cases: &[
+            ("a list that is full", &[], Ok(())),
+            (
+                "a full list of three",
+                &[("3 log-full 2", "3 log-full 3")],
+                Err(Lie::Wrong { lane: 1, line: 3 }),
+            ),
+            (
+                "absent in place of full",
+                &[("3 log-full 2", "3 absent @2")],
+                Err(Lie::Wrong { lane: 1, line: 3 }),
+            ),
+            (
+                "a del that finds no row",
+                &[("4 log-full 2", "4 absent @2")],
+                Err(Lie::Wrong { lane: 1, line: 4 }),
+            ),
+            (
+                "a duplicate that meets a full list",
+                &[("5 duplicate @2", "5 log-full 2")],
+                Err(Lie::Wrong { lane: 1, line: 5 }),
+            ),
+            (
+                "an absent row that meets a full list",
+                &[("6 absent @2", "6 log-full 2")],
+                Err(Lie::Wrong { lane: 1, line: 6 }),
+            ),
+            (
+                "a get that meets a full list",
+                &[("7 found x @2", "7 log-full 2")],
+                Err(Lie::Wrong { lane: 1, line: 7 }),
+            ),
+            (
+                "a list that is full too early",
+                &[("3 log-full 2", "3 log-full 1")],
+                Err(Lie::Back { lane: 1, line: 3 }),
+            ),
+        ],
+    },
+    Written {
+        schema: SCHEMA,
+        lanes: &[LANE],
+        report: REPORT,
+        limits: Limits {
+            changes: 3,
+            pages: MANY,
+        },
+        cases: &[(
+            "a list of three that has room",
+            &[],
+            Err(Lie::Wrong { lane: 1, line: 3 }),
+        )],
+    },
+    Written {
+        schema: SCHEMA,
+        lanes: &[LANE],
+        report: REPORT,
+        limits: Limits {
+            changes: LIMITS.changes,
+            pages: MANY,
+        },
+        cases: &[(
+            "a list of many that has room",
+            &[],
+            Err(Lie::Wrong { lane: 1, line: 3 }),
+        )],
+    },
+    // two rows of one index by one lane take seven pages at most
+    Written {
+        schema: SCHEMA,
+        lanes: &[LANE],
+        report: REPORT,
+        limits: Limits {
+            changes: 2,
+            pages: 7,
+        },
+        cases: &[
+            (
+                "pages that ran out",
+                &[("3 log-full 2", "3 space-full")],
+                Ok(()),
+            ),
+            (
+                "a del that needs a page",
+                &[("4 log-full 2", "4 space-full")],
+                Err(Lie::Wrong { lane: 1, line: 4 }),
+            ),
+            (
+                "a get that needs a page",
+                &[("7 found x @2", "7 space-full")],
+                Err(Lie::Wrong { lane: 1, line: 7 }),
+            ),
+        ],
+    },
+    Written {
+        schema: SCHEMA,
+        lanes: &[LANE],
+        report: REPORT,
+        limits: Limits {
+            changes: 2,
+            pages: 8,
+        },
+        cases: &[(
+            "a page that is left",
+            &[("3 log-full 2", "3 space-full")],
+            Err(Lie::Wrong { lane: 1, line: 3 }),
+        )],
+    },
+];
 
 #[test]
-fn pages_run_out_only_where_they_are_few(rt: HostRuntime) {
-    for told in ROOM.iter() {
-        assert!(rt; is_judged_so(&rt, told), "{}", told.1);
-    }
+fn what_is_full_refuses_what_its_map_allows(rt: HostRuntime) {
+    assert_judged(&rt, &FULL);
 }
