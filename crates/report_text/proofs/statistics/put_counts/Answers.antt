@@ -1,9 +1,13 @@
 use Rattle.std.proofs.Common.{refl, List, [], ℕ}
 use Rattle.map_history.specs.Statistics.{statistics}
 use Rattle.report_text.specs.Words.{count_text}
-use Rattle.report_text.proofs.LineLemmas.{Extends-at_second_exit, joined_more}
+use Rattle.report_text.proofs.LineLemmas.{Extends-at_exit, Extends-at_second_exit, joined_more}
 use Rattle.report_text.proofs.StatisticsLemmas.{statistic_at}
 use Rattle.report_text.proofs.statistics.put_counts.Goals as goal
+
+pub returns-in_err-put_separator-clause-err : goal.returns-in_err-put_separator-clause-err
+returns-in_err-put_separator-clause-err c =
+    Extends-at_exit _ _ _ _ _ c.loop-place.invariant c.in_err-put_separator.ensures.err
 
 pub returns-in_err-put_count-clause-err : goal.returns-in_err-put_count-clause-err
 returns-in_err-put_count-clause-err c =
