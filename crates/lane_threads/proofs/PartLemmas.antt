@@ -1,14 +1,14 @@
 -- Doers that are taken apart one after another.
-use Rattle.std.proofs.Common.{◌≡◌, Some, List, [], ◌∷◌, ◌++◌, map, ap, sym, ◌∙◌}
+use Rattle.std.proofs.Common.{◌≡◌, Some, List, [], ◌∷◌, ◌++◌, map, ap, sym, ◌∙◌, arith}
 use Rattle.std.proofs.lemmas.List.{map-append}
-use Rattle.std.specs.Prelude.{ℕ, Vec}
+use Rattle.std.specs.Prelude.{ℕ, ◌+◌, ◌≤◌, Vec, vec_len, vec_capacity}
 use Rattle.std.specs.declared.alloc.Global.{Global}
 use Rattle.change_log.specs.Log.{Log}
 use Rattle.map_history.specs.declared.counts.Counts.{Counts}
 use Rattle.lane_threads.specs.Engine.{EnginePass}
 use Rattle.lane_threads.specs.declared.doer.DoneLane.{DoneLane}
 use Rattle.lane_threads.specs.declared.doer.LaneDoer.{LaneDoer}
-use Rattle.lane_threads.specs.Doing.{AreParts}
+use Rattle.lane_threads.specs.Doing.{AreParts, HasRoom}
 
 push_map : {X Y : Type 0} (f : X → Y) (xs : List X) (ys ys' : List Y) (x : X) → ys ≡ map f xs → ys' ≡ ys ++ f x ∷ [] → ys' ≡ map f (xs ++ x ∷ [])
 push_map f xs ys ys' x is added = added ∙ (ap (λ zs. zs ++ f x ∷ []) is ∙ sym (map-append f xs (x ∷ [])))
@@ -25,3 +25,11 @@ parts_more doers doer lane passes passes' texts texts' logs logs' counts counts'
   logs_are = push_map (λ (d : DoneLane). d.work.log) parts.done logs logs' lane parts.logs_are noted;
   counts_are = push_map (λ (d : DoneLane). d.work.counts) parts.done counts counts' lane parts.counts_are counted;
 }
+
+-- room for one more
+pub has_room : {X : Type 0} (old new : Vec X Global) → new.items ≡ old.items → vec_len new + 1 ≤ vec_capacity new → HasRoom old new
+has_room old new same fits = (same, omega (arith, fits))
+
+-- what stands behind is one more than before
+pub put_behind : {X : Type 0} (old with_room : Vec X Global) (new : List X) (x : X) → HasRoom old with_room → new ≡ with_room.items ++ x ∷ [] → new ≡ old.items ++ x ∷ []
+put_behind old with_room new x room added = added ∙ ap (λ xs. xs ++ x ∷ []) room.0

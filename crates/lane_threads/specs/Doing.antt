@@ -1,5 +1,5 @@
 -- Lanes before and after they work.
-use Rattle.std.specs.Prelude.{ℕ, ◌≡◌, Some, IfSome, Vec, List, [], ◌∷◌, ◌++◌, map}
+use Rattle.std.specs.Prelude.{ℕ, ◌≡◌, ◌<◌, Some, IfSome, Vec, vec_len, vec_capacity, List, [], ◌∷◌, ◌++◌, map}
 use Rattle.std.specs.List.{AllZip, zip}
 use Rattle.std.specs.declared.alloc.Global.{Global}
 use Rattle.change_log.specs.Log.{Log}
@@ -60,3 +60,14 @@ ArePartsOf doers parts = AreParts doers parts.passes.items parts.answers.items p
 abbrev pub AddsPartsOf : LaneDoer → Parts → Parts → Type 0
 AddsPartsOf doer old new = (doers : List LaneDoer) → ArePartsOf doers old
     → ArePartsOf (doers ++ doer ∷ []) new
+
+-- the list has what it had, and room for one more
+abbrev pub HasRoom : {X : Type 0} → Vec X Global → Vec X Global → Type 0
+HasRoom old new = (new.items ≡ old.items) × (vec_len new < vec_capacity new)
+
+-- each list of parts has
+pub record GetsRoom (old new : Parts) : Type 0 where
+  pub passes : HasRoom old.passes new.passes
+  pub answers : HasRoom old.answers new.answers
+  pub logs : HasRoom old.logs new.logs
+  pub counts : HasRoom old.counts new.counts

@@ -1,6 +1,6 @@
 //! Lanes taken apart after they worked.
-ghost use Rattle.std.specs.Prelude.{◌≡◌, [], IfOk, OnOk};
-ghost use Rattle.lane_threads.specs.Doing.{ArePartsOf, AddsPartsOf};
+ghost use Rattle.std.specs.Prelude.{[], IfOk, OnOk};
+ghost use Rattle.lane_threads.specs.Doing.{ArePartsOf, AddsPartsOf, GetsRoom};
 
 use crate::doer::{DoneLane, LaneDoer};
 use change_log::LaneLog;
@@ -33,25 +33,31 @@ impl<'a> Parts<'a> {
     }
 
     /// Puts the parts of one more lane behind the others. A lane that isn't done makes it
-    /// `NoMemory`, after which some of its parts may be there.
+    /// `NoMemory`.
     fn add(&mut self, doer: LaneDoer<'_, 'a>) -> Result<(), NoMemory>
         ensures { OnOk result (AddsPartsOf doer.entry self.old self.new) }
     {
-        let DoneLane { pass, work } = doer.done().ok_or(NoMemory)?;
-        self.passes.push(pass)?;
-        self.answers.push(work.answers)?;
-        self.logs.push(work.log)?;
-        self.counts.push(work.counts)?;
+        self.reserve_one()?;
+        let Some(lane) = doer.done() else {
+            return Err(NoMemory);
+        };
+        let DoneLane { pass, work } = lane;
+        self.passes.push_reserved(pass);
+        self.answers.push_reserved(work.answers);
+        self.logs.push_reserved(work.log);
+        self.counts.push_reserved(work.counts);
         Ok(())
     }
-}
 
-impl<'e, 'a> LaneDoer<'e, 'a> {
-    fn done(self) -> Option<DoneLane<'a>>
-        ensures { result ≡ self.entry.done }
+    /// Room for the parts of one more lane. With it, nothing that is held can be refused.
+    fn reserve_one(&mut self) -> Result<(), NoMemory>
+        ensures { OnOk result (GetsRoom self.old self.new) }
     {
-        let LaneDoer { ready: _, done } = self;
-        done
+        self.passes.reserve(1)?;
+        self.answers.reserve(1)?;
+        self.logs.reserve(1)?;
+        self.counts.reserve(1)?;
+        Ok(())
     }
 }
 

@@ -1,4 +1,5 @@
 //! A lane before and after it works.
+ghost use Rattle.std.specs.Prelude.{◌≡◌};
 ghost use Rattle.lane_threads.specs.Ready.{IsReady};
 
 use crate::lane::LaneWork;
@@ -26,8 +27,23 @@ pub(crate) struct DoneLane<'a> {
 }
 
 /// What goes to a thread: a lane that can work, and then the same lane done, unless memory lacked.
-#[derive(Drop)]
 pub(crate) struct LaneDoer<'e, 'a> {
     pub(crate) ready: Option<ReadyLane<'e, 'a>>,
     pub(crate) done: Option<DoneLane<'a>>,
+}
+
+impl<'e, 'a> LaneDoer<'e, 'a> {
+    pub(crate) fn done(self) -> Option<DoneLane<'a>>
+        ensures { result ≡ self.entry.done }
+    {
+        let LaneDoer { ready: _, done } = self;
+        done
+    }
+}
+
+// Written out, so that it is dropped by one call.
+impl Drop for LaneDoer<'_, '_> {
+    fn drop(self) {
+        let Self { ready: _, done: _ } = self;
+    }
 }

@@ -33,7 +33,7 @@ pub(crate) fn ready_lanes<'e, 'a>(
         let Some(pass) = given.next() else {
             unreachable!()
         };
-        doers.push(ready(alloc, engine, pass, lines, indexes))?;
+        doers.push_reserved(ready(alloc, engine, pass, lines, indexes));
     }
     Ok(doers)
 }

@@ -1,4 +1,4 @@
-use Rattle.std.proofs.Common.{◌≡◌, ◌+◌, List, ◌++◌, length, drop, suc, ap, sym, ◌∙◌, subst, arith, length-drop}
+use Rattle.std.proofs.Common.{◌≡◌, ◌+◌, List, [], ◌∷◌, ◌++◌, length, drop, suc, ap, sym, ◌∙◌, subst, arith, length-append, length-drop}
 use Rattle.std.specs.Prelude.{Vec}
 use Rattle.std.specs.declared.alloc.Global.{Global}
 use Rattle.std.specs.Vec.Iter.{into_iter_items}
@@ -18,6 +18,8 @@ loop-lines-init c =
     record {
       rest = items;
       count = omega (arith, len, same);
+      made = ap length c.in_ok-doers.ensures.items;
+      room = c.in_ok-doers.ensures.capacity;
       built = λ more rest. subst (λ (ds : List LaneDoer). AreReadyFor c.args.engine.now c.args.passes.items c.args.lanes.now (ds ++ more)) (sym c.in_ok-doers.ensures.items) rest;
     }
 
@@ -49,6 +51,13 @@ ready-requires-clause-lines c =
     let at : AreWorkable c.args.engine.now c.lines-item.result.items = subst (λ (ls : Vec Line Global). AreWorkable c.args.engine.now ls.items) (sym c.lines-item.is) (all_at (λ (ls : Vec Line Global). AreWorkable c.args.engine.now ls.items) c.args.lanes.now c.loop-lines.lines-index c.lines-item.result c.requires.lines c.loop-lines-test.true) in
     subst (AreWorkable c.args.engine.now) (sym c.deref.ensures.value) at
 
+pub push_reserved-requires : goal.push_reserved-requires
+push_reserved-requires c =
+    let made = c.loop-lines.invariant.made in
+    let room = c.loop-lines.invariant.room in
+    let below = c.loop-lines-test.true in
+    omega (arith, made, room, below)
+
 pub loop-lines-preserved : goal.loop-lines-preserved
 loop-lines-preserved c =
     let so_far = c.loop-lines.invariant in
@@ -59,11 +68,18 @@ loop-lines-preserved c =
     let count = so_far.count in
     let shorter = ap length c.in-Some.ensures.items in
     let len = c.in-Some.ensures.cases.1 in
+    let before = so_far.made in
+    let made = ap length c.push_reserved.ensures.items in
+    let room = so_far.room in
+    let kept = c.push_reserved.ensures.capacity in
+    let longer = length-append c.loop-lines.doers.items (c.ready.result ∷ []) in
     record {
       rest = sym at.1 ∙ ap (λ n. drop n c.args.passes.items) next;
       count = omega (arith, count, shorter, len);
-      built = built_more c.args.engine.now c.args.passes.items c.args.lanes.now i c.in-Some.pass (into_iter_items c.next.new.self) c.lines-item.result c.ready.result c.loop-lines.doers.items c.push.new.self.items
-          there c.loop-lines-test.true c.lines-item.is (subst (λ (ls : List Line). IsReadyFor c.args.engine.now c.in-Some.pass ls c.ready.result) c.deref.ensures.value c.ready.ensures) c.in_ok-push.ensures.items so_far.built;
+      made = omega (arith, made, longer, before);
+      room = omega (arith, room, kept);
+      built = built_more c.args.engine.now c.args.passes.items c.args.lanes.now i c.in-Some.pass (into_iter_items c.next.new.self) c.lines-item.result c.ready.result c.loop-lines.doers.items c.push_reserved.new.self.items
+          there c.loop-lines-test.true c.lines-item.is (subst (λ (ls : List Line). IsReadyFor c.args.engine.now c.in-Some.pass ls c.ready.result) c.deref.ensures.value c.ready.ensures) c.push_reserved.ensures.items so_far.built;
     }
 
 pub returns : goal.returns
