@@ -1,5 +1,5 @@
 //! Lanes taken apart after they worked.
-ghost use Rattle.std.specs.Prelude.{[], IfOk, OnOk};
+ghost use Rattle.std.specs.Prelude.{IfOk, OnOk};
 ghost use Rattle.lane_threads.specs.Doing.{ArePartsOf, AddsPartsOf, GetsRoom};
 
 use crate::doer::{DoneLane, LaneDoer};
@@ -20,25 +20,13 @@ pub(crate) struct Parts<'a> {
 }
 
 impl<'a> Parts<'a> {
-    /// The parts of no lane.
-    fn none(alloc: Global) -> Parts<'a>
-        ensures { ArePartsOf [] result }
-    {
-        Parts {
-            passes: Vec::new(alloc),
-            answers: Vec::new(alloc),
-            logs: Vec::new(alloc),
-            counts: Vec::new(alloc),
-        }
-    }
-
     /// Puts the parts of one more lane behind the others. A lane that isn't done makes it
     /// `NoMemory`.
-    fn add(&mut self, doer: LaneDoer<'_, 'a>) -> Result<(), NoMemory>
+    fn add(&mut self, mut doer: LaneDoer<'_, 'a>) -> Result<(), NoMemory>
         ensures { OnOk result (AddsPartsOf doer.entry self.old self.new) }
     {
         self.reserve_one()?;
-        let Some(lane) = doer.done() else {
+        let Some(lane) = doer.done.take() else {
             return Err(NoMemory);
         };
         let DoneLane { pass, work } = lane;
@@ -49,7 +37,7 @@ impl<'a> Parts<'a> {
         Ok(())
     }
 
-    /// Room for the parts of one more lane. With it, nothing that is held can be refused.
+    /// Makes room for the parts of one more lane, so that no push is refused.
     fn reserve_one(&mut self) -> Result<(), NoMemory>
         ensures { OnOk result (GetsRoom self.old self.new) }
     {
@@ -68,7 +56,12 @@ pub(crate) fn take_apart<'e, 'a>(
 ) -> Result<Parts<'a>, NoMemory>
     ensures { IfOk result (ArePartsOf doers.entry.items) }
 {
-    let mut parts = Parts::none(alloc);
+    let mut parts = Parts {
+        passes: Vec::new(alloc),
+        answers: Vec::new(alloc),
+        logs: Vec::new(alloc),
+        counts: Vec::new(alloc),
+    };
     for doer in doers {
         parts.add(doer)?;
     }

@@ -1,5 +1,4 @@
 //! A lane before and after it works.
-ghost use Rattle.std.specs.Prelude.{◌≡◌};
 ghost use Rattle.lane_threads.specs.Ready.{IsReady};
 
 use crate::lane::LaneWork;
@@ -30,15 +29,6 @@ pub(crate) struct DoneLane<'a> {
 pub(crate) struct LaneDoer<'e, 'a> {
     pub(crate) ready: Option<ReadyLane<'e, 'a>>,
     pub(crate) done: Option<DoneLane<'a>>,
-}
-
-impl<'e, 'a> LaneDoer<'e, 'a> {
-    pub(crate) fn done(self) -> Option<DoneLane<'a>>
-        ensures { result ≡ self.entry.done }
-    {
-        let LaneDoer { ready: _, done } = self;
-        done
-    }
 }
 
 // Written out, so that it is dropped by one call.

@@ -16,7 +16,7 @@ loop-doer-init c =
     record {
       rest = items;
       count = omega (arith, len, same);
-      parts = c.none-parts.ensures;
+      parts = record { done = []; all_done = refl; passes_are = c.new.ensures.items; texts_are = c.new-2.ensures.items; logs_are = c.new-3.ensures.items; counts_are = c.new-4.ensures.items };
     }
 
 pub loop-doer-preserved : goal.loop-doer-preserved
