@@ -84,8 +84,8 @@ pub(crate) fn work_lane<'a, R: Wait, G: Gate>(
     ensures ok { IfOk result (λ work. Works pass.old pass.new (line_texts lines.now) work.answers
         work.log work.counts.items) }
 {
-    let mut work = LaneWork::reserve(alloc, lines.len(), indexes)?;
     let mut row = RowBuf::new(alloc)?;
+    let mut work = LaneWork::reserve(alloc, lines.len(), indexes)?;
     for line in lines {
         gate.before(lane, line.line);
         let told = work_line(engine, pass, line, &mut row, wait)?;

@@ -83,10 +83,10 @@ returns-in_err-told-clause-ok g c =
     let p = err_from_is_err_and c.from_residual-in_err-told.result c.from_residual-in_err-told.ensures.1 in
     nothing_promised c.from_residual-in_err-told.result p.0 (λ work. Works c.args.pass.now c.work_line.new.pass (line_texts c.args.lines.now) work.answers work.log work.counts.items) p.1
 
-pub returns-in_err-row-clause-ok : goal.returns-in_err-row-clause-ok
-returns-in_err-row-clause-ok g c =
-    let p = err_from_is_err_and c.from_residual-in_err-row.result c.from_residual-in_err-row.ensures.1 in
-    nothing_promised c.from_residual-in_err-row.result p.0 (λ work. Works c.args.pass.now c.args.pass.now (line_texts c.args.lines.now) work.answers work.log work.counts.items) p.1
+pub returns-in_err-work-clause-ok : goal.returns-in_err-work-clause-ok
+returns-in_err-work-clause-ok g c =
+    let p = err_from_is_err_and c.from_residual-in_err-work.result c.from_residual-in_err-work.ensures.1 in
+    nothing_promised c.from_residual-in_err-work.result p.0 (λ work. Works c.args.pass.now c.args.pass.now (line_texts c.args.lines.now) work.answers work.log work.counts.items) p.1
 
 pub add-requires-clause-answer : goal.add-requires-clause-answer
 add-requires-clause-answer g c = subst IsSome (sym c.in_ok-told.ensures.ok.is_told.is) refl

@@ -17,5 +17,5 @@ pub returns : goal.returns
 returns g c = record {
   same = c.work_lane.ensures.own.0;
   own = c.work_lane.ensures.own.1;
-  works = c.in_ok-work.ensures.ok;
+  works = c.in-Ok.ensures.ok;
 }
