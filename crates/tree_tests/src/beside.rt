@@ -6,6 +6,7 @@ ghost use Rattle.latch_space.specs.Spaces.{IsPassOf};
 ghost use Rattle.forest_law.specs.State.{fields_for};
 ghost use Rattle.buffer_pool.specs.Forests.{IsForest};
 
+use crate::claims::ensure;
 use crate::guesses::{cause_meanwhile, two_causes};
 use crate::held_tree::found_meanwhile;
 use forest_world::{ForestPass, ForestSpace, open_forest};
@@ -59,7 +60,11 @@ fn assert_told<R: AllocGlobal + Abort + Wait>(
     let learnt = is_learnt(&two_causes(rt, space, pass, key, 1));
     let short = is_short(&two_causes(rt, space, pass, key, 2));
     let busy = cause_meanwhile(rt, space, pass, other, key) == Cause::PartBusy { holder: 1 };
-    assert!(rt; block == 0 && learnt && short && busy);
+    ensure(
+        rt,
+        block == 0 && learnt && short && busy,
+        "what a pass is told",
+    );
 }
 
 /// The same of the two passes of an empty space.

@@ -6,6 +6,7 @@ ghost use Rattle.search_info.specs.Passes.{opening, IsLearnPassOf};
 ghost use Rattle.forest_law.specs.State.{fields_for};
 ghost use Rattle.buffer_pool.specs.Forests.{IsForest};
 
+use crate::claims::ensure;
 use forest_world::{ForestPass, ForestSpace};
 use hash_guess::{Cause, Guess, guess};
 use hash_maintain::{give_part_back, try_part};
@@ -36,7 +37,7 @@ fn open_learner<R: AllocGlobal + Abort>(rt: &R, fields: u8) -> (Learner, LearnPa
     ensures one { 0 < length (opening result.0).starts }
 {
     let info = warm(fields);
-    assert!(rt; is_info_of(2, &info));
+    ensure(rt, is_info_of(2, &info), "an info of two fields");
     Learner::open(rt.alloc(), &[info], &[2], 1).expect(rt, "a learner")
 }
 
@@ -60,7 +61,7 @@ fn cause_of<R: Abort>(
 {
     match guess(space, pass, learner, learn, 0, key, Mode::Ge) {
         Guess::Miss { cause, .. } => cause,
-        Guess::Hit { .. } => panic!(rt; "a hit"),
+        Guess::Hit { .. } => rt.panic("a hit"),
     }
 }
 
@@ -101,7 +102,11 @@ pub(crate) fn cause_meanwhile<R: AllocGlobal + Abort>(
     requires nothing { count pass.old ≡ 0 }
     requires none { count other.old ≡ 0 }
 {
-    assert!(rt; try_part(space, other, 0) == Take::Taken);
+    ensure(
+        rt,
+        try_part(space, other, 0) == Take::Taken,
+        "a free partition",
+    );
     let (cause, _) = two_causes(rt, space, pass, key, 1);
     give_part_back(space, other, 0);
     cause

@@ -5,6 +5,8 @@
 #[cfg(test)]
 mod beside;
 #[cfg(test)]
+mod claims;
+#[cfg(test)]
 mod guesses;
 #[cfg(test)]
 mod held_tree;

@@ -1,4 +1,5 @@
 //! A space of trees opens and closes, with memory at hand.
+use crate::claims::ensure;
 use forest_world::open_forest;
 use map_history::Sizes;
 use std::process::Abort;
@@ -25,5 +26,5 @@ fn object_count<R: AllocGlobal + Abort>(rt: &R) -> usize {
 
 #[test]
 fn a_space_has_its_pool_its_trees_its_partitions_and_its_frames(rt: HostRuntime) {
-    assert!(rt; object_count(&rt) == 13);
+    ensure(&rt, object_count(&rt) == 13, "thirteen objects");
 }

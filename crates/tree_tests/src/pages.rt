@@ -1,6 +1,7 @@
 //! Pages by their numbers: the roots, and new ones.
 ghost use Rattle.std.specs.Prelude.{◌≤◌};
 
+use crate::claims::ensure;
 use crate::setup::{Asked, Grove};
 use buffer_pool::PoolError;
 use std::process::Abort;
@@ -16,11 +17,14 @@ static ASKED: [(Asked, Option<u32>); 6] = [
     ((3, 1, 0), None),
 ];
 
-/// Each of these is found so.
-fn assert_found<R: Abort + Wait>(rt: &R, grove: &mut Grove) {
+/// Whether each of these is found so.
+fn are_found<R: Wait>(grove: &mut Grove, wait: &R) -> bool {
     for (asked, block) in ASKED.iter() {
-        assert!(rt; grove.block_of(asked, rt) == *block);
+        if grove.block_of(asked, wait) != *block {
+            return false;
+        }
     }
+    true
 }
 
 /// Where there are so many pages, the roots alone are pages of the trees, and a new page has that
@@ -29,12 +33,17 @@ fn assert_pages<R: AllocGlobal + Abort + Wait>(rt: &R, pages: u32, number: Resul
     requires { (2 ≤ pages) × (pages ≤ 100) }
 {
     let mut grove = Grove::open(rt, pages);
-    assert_found(rt, &mut grove);
-    assert!(rt; grove.root_block(rt) == 0);
-    for _ in 0..2 {
-        assert!(rt; grove.new_number(rt) == number);
-    }
-    assert_found(rt, &mut grove);
+    ensure(
+        rt,
+        are_found(&mut grove, rt) && grove.root_block(rt) == 0,
+        "the roots",
+    );
+    let is_told = grove.new_number(rt) == number && grove.new_number(rt) == number;
+    ensure(
+        rt,
+        is_told && are_found(&mut grove, rt),
+        "this number twice, and the roots",
+    );
 }
 
 #[test]

@@ -2,6 +2,7 @@
 ghost use Rattle.std.specs.Prelude.{IfNone, IfSome, IsSome};
 ghost use Rattle.leaf_rows.specs.Changing.{LacksRow, WasPut, HasRowOf};
 
+use crate::claims::ensure;
 use forest_law::Frame;
 use index_page::{Page, PageHead, Place, Spot};
 use key_tuple::{Fields, Key, Mode, Value};
@@ -38,10 +39,13 @@ fn sought<R: Abort>(rt: &R, frame: &Frame, key: &Key) -> (Spot, Option<Place>)
     ensures there { IfSome result.1 (λ place. HasRowOf frame.now place key.now.tuple) }
     ensures page { IsSome frame.now.page }
 {
-    let Some(page) = &frame.page else {
-        panic!(rt; "no page")
-    };
-    assert!(rt; page.head().level == 0 && page.head().fields == key.count());
+    let page = frame.page.as_ref().expect(rt, "a page");
+    let head = page.head();
+    ensure(
+        rt,
+        head.level == 0 && head.fields == key.count(),
+        "a leaf for the key",
+    );
     let spot = page.search(key, Mode::Ge);
     let place = find_key(page, key, &spot);
     (spot, place)
@@ -56,18 +60,21 @@ fn assert_shows<R: Abort>(rt: &R, frame: &Frame, key: &Key, clock: u64, length: 
         Some(place) => length == Some(value_len(frame, place)),
         None => length.is_none(),
     };
-    assert!(rt; is_so && frame.clock == clock);
+    ensure(rt, is_so && frame.clock == clock, "this row and this clock");
 }
 
 /// Puts a row in whose key is missing, and finds it.
 fn put_in<R: Abort>(rt: &R, frame: &mut Frame, key: &Key, value: &Value) -> Place
     ensures { WasPut frame.new result }
 {
-    let (spot, None) = sought(rt, frame, key) else {
-        panic!(rt; "it is there")
-    };
+    let (spot, there) = sought(rt, frame, key);
+    ensure(rt, there.is_none(), "no such row");
     let place = put_row(frame, &spot, key, value).expect(rt, "room for a row");
-    assert!(rt; sought(rt, frame, key).1 == Some(place));
+    ensure(
+        rt,
+        sought(rt, frame, key).1 == Some(place),
+        "the row at its place",
+    );
     place
 }
 
@@ -77,7 +84,7 @@ fn grow<R: AllocGlobal + Abort>(rt: &R, frame: &mut Frame, key: &Key, longer: &V
 {
     let place = sought(rt, frame, key).1.expect(rt, "a row");
     if longer.as_bytes().len() <= value_len(frame, place) {
-        panic!(rt; "it isn't longer");
+        rt.panic("a longer value")
     }
     grow_value(rt.alloc(), frame, place, longer)
         .expect(rt, "room for a value")

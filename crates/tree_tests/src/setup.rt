@@ -80,8 +80,10 @@ impl Grove {
         if page >= self.pages {
             return None;
         }
-        let block = page_if(&self.space, &mut self.pass, page, index, level, wait)?;
-        give_back(&self.space, &mut self.pass, block);
-        Some(block)
+        let found = page_if(&self.space, &mut self.pass, page, index, level, wait);
+        if let Some(block) = found {
+            give_back(&self.space, &mut self.pass, block);
+        }
+        found
     }
 }
