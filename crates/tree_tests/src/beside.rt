@@ -1,17 +1,10 @@
 //! Two passes of a space of one empty tree: what one of them is told while the other holds something,
 //! and while it holds nothing.
-ghost use Rattle.std.specs.Prelude.{◌≡◌, ◌<◌, ◌≤◌, length};
-ghost use Rattle.latch_space.specs.Passes.{count};
-ghost use Rattle.latch_space.specs.Spaces.{IsPassOf};
-ghost use Rattle.forest_law.specs.State.{fields_for};
-ghost use Rattle.buffer_pool.specs.Forests.{IsForest};
-
 use crate::claims::ensure;
 use crate::guesses::{cause_meanwhile, two_causes};
 use crate::held_tree::found_meanwhile;
-use forest_world::{ForestPass, ForestSpace, open_forest};
+use forest_world::open_forest;
 use hash_guess::Cause;
-use key_tuple::Key;
 use map_history::Sizes;
 use sample_rows::key_of;
 use std::process::Abort;
@@ -40,41 +33,19 @@ fn is_short(causes: &(Cause, Cause)) -> bool {
 }
 
 /// What one pass is told while the other holds the tree, then nothing, and then the partition.
-fn assert_told<R: AllocGlobal + Abort + Wait>(
-    rt: &R,
-    space: &ForestSpace,
-    pass: &mut ForestPass,
-    other: &mut ForestPass,
-    key: &Key,
-)
-    requires forest { IsForest space.now }
-    requires own { IsPassOf space.now pass.old }
-    requires other { IsPassOf space.now other.old }
-    requires index { 0 < space.now.terms.shape.indexes }
-    requires part { 0 < space.now.terms.shape.parts }
-    requires fields { length key.now.tuple ≤ fields_for space.now.terms.shape 0 }
-    requires nothing { count pass.old ≡ 0 }
-    requires none { count other.old ≡ 0 }
-{
-    let block = found_meanwhile(space, pass, other, key, rt);
-    let learnt = is_learnt(&two_causes(rt, space, pass, key, 1));
-    let short = is_short(&two_causes(rt, space, pass, key, 2));
-    let busy = cause_meanwhile(rt, space, pass, other, key) == Cause::PartBusy { holder: 1 };
-    ensure(
-        rt,
-        block == 0 && learnt && short && busy,
-        "what a pass is told",
-    );
-}
-
-/// The same of the two passes of an empty space.
 fn work_beside<R: AllocGlobal + Abort + Wait>(rt: &R) {
     let key = key_of(rt.alloc(), b"oak").expect(rt, "a key");
     let (space, mut pass) = open_forest(rt.alloc(), &SIZES, &[2], 2).expect(rt, "a space");
     let mut other = space
         .split(rt.alloc(), &mut pass)
         .expect(rt, "another pass");
-    assert_told(rt, &space, &mut pass, &mut other, &key);
+    let block = found_meanwhile(&space, &mut pass, &mut other, &key, rt);
+    let learnt = is_learnt(&two_causes(rt, &space, &mut pass, &key, 1));
+    let short = is_short(&two_causes(rt, &space, &mut pass, &key, 2));
+    let meanwhile = cause_meanwhile(rt, &space, &mut pass, &mut other, &key);
+    let busy = meanwhile == Cause::PartBusy { holder: 1 };
+    let is_told = block == 0 && learnt && short && busy;
+    ensure(rt, is_told, "what a pass is told");
 }
 
 #[test]

@@ -31,16 +31,6 @@ fn warm(fields: u8) -> Info {
     }
 }
 
-/// A learner of one index of two fields, which asks for so many first.
-fn open_learner<R: AllocGlobal + Abort>(rt: &R, fields: u8) -> (Learner, LearnPass)
-    ensures own { IsLearnPassOf result.0 result.1 }
-    ensures one { 0 < length (opening result.0).starts }
-{
-    let info = warm(fields);
-    ensure(rt, is_info_of(2, &info), "an info of two fields");
-    Learner::open(rt.alloc(), &[info], &[2], 1).expect(rt, "a learner")
-}
-
 /// Why a guess leads nowhere.
 fn cause_of<R: Abort>(
     rt: &R,
@@ -65,7 +55,8 @@ fn cause_of<R: Abort>(
     }
 }
 
-/// Why two guesses lead nowhere, one after the other, of an index that asks for so many fields.
+/// Why two guesses lead nowhere, one after the other, of an index of two fields that asks for so many
+/// first.
 pub(crate) fn two_causes<R: AllocGlobal + Abort>(
     rt: &R,
     space: &ForestSpace,
@@ -80,7 +71,9 @@ pub(crate) fn two_causes<R: AllocGlobal + Abort>(
     ensures own { IsPassOf space.now pass.new }
     ensures nothing { count pass.new ≡ 0 }
 {
-    let (learner, mut learn) = open_learner(rt, fields);
+    let info = warm(fields);
+    ensure(rt, is_info_of(2, &info), "an info of two fields");
+    let (learner, mut learn) = Learner::open(rt.alloc(), &[info], &[2], 1).expect(rt, "a learner");
     let first = cause_of(rt, space, pass, &learner, &mut learn, key);
     let second = cause_of(rt, space, pass, &learner, &mut learn, key);
     (first, second)

@@ -33,17 +33,12 @@ fn assert_pages<R: AllocGlobal + Abort + Wait>(rt: &R, pages: u32, number: Resul
     requires { (2 ≤ pages) × (pages ≤ 100) }
 {
     let mut grove = Grove::open(rt, pages);
-    ensure(
-        rt,
-        are_found(&mut grove, rt) && grove.root_block(rt) == 0,
-        "the roots",
-    );
-    let is_told = grove.new_number(rt) == number && grove.new_number(rt) == number;
-    ensure(
-        rt,
-        is_told && are_found(&mut grove, rt),
-        "this number twice, and the roots",
-    );
+    let are_so = are_found(&mut grove, rt)
+        && grove.root_block(rt) == 0
+        && grove.new_number(rt) == number
+        && grove.new_number(rt) == number
+        && are_found(&mut grove, rt);
+    ensure(rt, are_so, "the roots, and this number twice");
 }
 
 #[test]
