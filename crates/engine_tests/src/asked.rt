@@ -1,4 +1,5 @@
 //! What a caller asks of an engine, and what that has to be told.
+use crate::claims::ensure;
 use key_tuple::{Key, Mode, Value};
 use map_history::{How, Note, Reply, Told};
 use std::alloc::Global;
@@ -24,6 +25,16 @@ pub(crate) enum Order {
     Del,
     Get,
     Seek(Mode),
+}
+
+impl Order {
+    /// The value that it has, or an empty one.
+    pub(crate) fn text(&self) -> Text {
+        match self {
+            Order::Put(text) | Order::Set(text) => *text,
+            Order::Del | Order::Get | Order::Seek(_) => (b"", 0),
+        }
+    }
 }
 
 /// What an order has to be told.
@@ -132,7 +143,7 @@ pub(crate) fn key_of<R: Abort>(rt: &R, alloc: Global, name: &Name) -> Key {
     let end = bytes.len();
     let key = match name.cut {
         Some(cut) => {
-            assert!(rt; cut <= end);
+            ensure(rt, cut <= end, "a first field within the key");
             Key::from_parts(bytes, &[cut, end])
         }
         None => Key::from_parts(bytes, &[end]),

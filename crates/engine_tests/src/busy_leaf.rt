@@ -6,6 +6,8 @@ ghost use Rattle.latch_space.specs.Spaces.{IsPassOf};
 ghost use Rattle.forest_law.specs.State.{fields_for};
 ghost use Rattle.buffer_pool.specs.Forests.{IsForest};
 
+use crate::claims::ensure;
+use crate::guesses;
 use crate::guesses::first_guess;
 use crate::names::{Row, SIZES, key_of};
 use crate::plot::{hash, put_row};
@@ -16,7 +18,7 @@ use index_page::MAX_CHARGE;
 use key_tuple::{Key, Mode};
 use std::process::Abort;
 use std::sync::Wait;
-use tree_descent::descend;
+use tree_descent::{Leaf, descend};
 use tree_growth::make_room;
 
 /// The rows, each with as many bytes as a row may have. They fill a leaf.
@@ -54,7 +56,17 @@ fn put_rows<R: AllocGlobal + Abort + Wait>(rt: &R, space: &ForestSpace, pass: &m
         MAX_CHARGE,
         rt,
     );
-    assert!(rt; room.is_ok());
+    ensure(rt, room.is_ok(), "room");
+}
+
+/// Whether a guess led to the row that stands behind the leaf's spot, and that row has the key.
+fn is_hit_after(leaf: &Leaf, told: &Result<Cause, guesses::Row>) -> bool {
+    match told {
+        Ok(_) => false,
+        Err((block, place, found)) => {
+            *found && *block == leaf.block && Some(*place) == leaf.spot.after
+        }
+    }
 }
 
 /// Why a guess by the key leads nowhere while the other pass holds its leaf. One leads to its row
@@ -75,14 +87,10 @@ fn cause_meanwhile<R: AllocGlobal + Abort + Wait>(
     requires none { count other.old ≡ 0 }
 {
     let leaf = descend(space, other, 0, key, Mode::Ge, rt);
-    let Ok(cause) = first_guess(rt, space, pass, key) else {
-        panic!(rt; "a hit")
-    };
+    let cause = first_guess(rt, space, pass, key).expect(rt, "a miss, not a hit");
     give_back(space, other, leaf.block);
-    let Err((block, place, found)) = first_guess(rt, space, pass, key) else {
-        panic!(rt; "a miss")
-    };
-    assert!(rt; found && block == leaf.block && Some(place) == leaf.spot.after);
+    let told = first_guess(rt, space, pass, key);
+    ensure(rt, is_hit_after(&leaf, &told), "a hit on the leaf's row");
     cause
 }
 
@@ -104,11 +112,14 @@ fn assert_told<R: AllocGlobal + Abort + Wait>(
 {
     let key = key_of(rt, FIRST);
     hash(rt, space, pass, &key);
-    let Ok(Cause::Unequal { .. }) = first_guess(rt, space, pass, &key_of(rt, BELOW)) else {
-        panic!(rt; "its page shows the key")
-    };
+    let below = first_guess(rt, space, pass, &key_of(rt, BELOW)).expect(rt, "no such key");
+    let is_unequal = matches!(below, Cause::Unequal { .. });
     let busy = cause_meanwhile(rt, space, pass, other, &key);
-    assert!(rt; busy == Cause::BlockBusy { holder: 1 });
+    ensure(
+        rt,
+        is_unequal && busy == Cause::BlockBusy { holder: 1 },
+        "a page that doesn't show the key, and a busy one",
+    );
 }
 
 /// The same in a space of its own.

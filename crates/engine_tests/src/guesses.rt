@@ -6,6 +6,7 @@ ghost use Rattle.search_info.specs.Passes.{opening, HasUnique, IsLearnPassOf};
 ghost use Rattle.forest_law.specs.State.{fields_for};
 ghost use Rattle.buffer_pool.specs.Forests.{IsForest};
 
+use crate::claims::ensure;
 use forest_world::{ForestPass, ForestSpace};
 use hash_guess::{Cause, Guess, guess};
 use index_page::Place;
@@ -34,10 +35,13 @@ pub(crate) fn open_learner<R: AllocGlobal + Abort>(rt: &R) -> (Learner, LearnPas
     ensures one { 0 < length (opening result.0).starts }
     ensures two { HasUnique result.0 0 2 }
 {
-    assert!(rt; is_info_of(2, &INFO));
+    ensure(rt, is_info_of(2, &INFO), "what such an index may know");
     let (learner, learn) = Learner::open(rt.alloc(), &[INFO], &[2], 1).expect(rt, "a learner");
-    assert!(rt; learner.indexes() != 0);
-    assert!(rt; learner.unique(0) == 2);
+    ensure(
+        rt,
+        learner.indexes() != 0 && learner.unique(0) == 2,
+        "an index of two fields",
+    );
     (learner, learn)
 }
 

@@ -1,6 +1,7 @@
 //! Leaves that are hashed, split, changed, merged and evicted, by one caller: a recount after each
 //! round.
 use crate::asked::Order;
+use crate::claims::ensure;
 use crate::recount::Counted;
 use crate::rounds::{Round, asked_in};
 use crate::setup::counted_alone;
@@ -156,5 +157,10 @@ fn leaves_after<R: AllocGlobal + Abort + Wait>(rt: &R, count: usize) -> u32 {
 /// Six leaves are hashed; two of them split and both halves are; and some are merged.
 #[test]
 fn hashed_leaves_split_and_merge(rt: HostRuntime) {
-    assert!(rt; leaves_after(&rt, 2) == 6 && leaves_after(&rt, 3) >= 8 && leaves_after(&rt, 7) < 7);
+    let are_so = leaves_after(&rt, 2) == 6 && leaves_after(&rt, 3) >= 8 && leaves_after(&rt, 7) < 7;
+    ensure(
+        &rt,
+        are_so,
+        "six leaves, then eight or more, and then fewer",
+    );
 }

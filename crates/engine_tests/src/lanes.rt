@@ -4,6 +4,7 @@ ghost use Rattle.index_engine.specs.Engines.{IsOf};
 ghost use Rattle.engine_tests.specs.Fields.{FirstHasFields};
 
 use crate::asked::{Order, count_of};
+use crate::claims::ensure;
 use crate::recount::Counted;
 use crate::rounds::{Round, asked_in};
 use crate::setup::{counted, open, worked};
@@ -61,6 +62,27 @@ fn assert_told<R: Abort + Wait>(
     assert!(rt; count == count_of(&runs), "order {count}");
 }
 
+/// Cuts the pass in halves, and gives the upper one.
+fn upper_half<R: Abort>(rt: &R, alloc: Global, engine: &Engine, pass: &mut EnginePass) -> EnginePass
+    requires own { IsOf engine.now pass.old }
+    ensures own { IsOf engine.now pass.new }
+    ensures upper { IsOf engine.now result }
+{
+    let (low, end) = pass.numbers();
+    ensure(rt, end >= 2 && low <= end - 2, "two numbers");
+    engine.split(alloc, pass).expect(rt, "the upper half")
+}
+
+/// Joins the halves.
+fn rejoin<R: Abort>(rt: &R, engine: &Engine, pass: &mut EnginePass, upper: EnginePass)
+    requires own { IsOf engine.now pass.old }
+    requires upper { IsOf engine.now upper }
+    ensures own { IsOf engine.now pass.new }
+{
+    ensure(rt, pass.numbers().1 == upper.numbers().0, "the halves");
+    engine.join(pass, upper);
+}
+
 /// The pass, once it was cut in halves so often, and each caller has worked the rounds on the rows from
 /// its number on, all of them at once.
 fn work_lanes<R: Abort + Threads + Wait + Sync>(
@@ -74,14 +96,13 @@ fn work_lanes<R: Abort + Threads + Wait + Sync>(
     requires fields { FirstHasFields engine.now 1 }
     ensures own { IsOf engine.now result }
 {
-    let (low, end) = pass.numbers();
     if halvings == 0 {
-        assert_told(rt, alloc, engine, &mut pass, &ROUNDS, low);
+        let ahead = pass.numbers().0;
+        assert_told(rt, alloc, engine, &mut pass, &ROUNDS, ahead);
         return pass;
     }
     let rest = halvings - 1;
-    assert!(rt; end >= 2 && low <= end - 2);
-    let upper = engine.split(alloc, &mut pass).expect(rt, "the upper half");
+    let upper = upper_half(rt, alloc, engine, &mut pass);
     let (mut one, two) = join(
         rt,
         || -> EnginePass
@@ -93,8 +114,7 @@ fn work_lanes<R: Abort + Threads + Wait + Sync>(
             ensures { IsOf engine.entry.now result }
         { work_lanes(rt, alloc, engine, upper, rest) },
     );
-    assert!(rt; one.numbers().1 == two.numbers().0);
-    engine.join(&mut one, two);
+    rejoin(rt, engine, &mut one, two);
     one
 }
 
@@ -111,5 +131,9 @@ fn counted_at_the_end<R: AllocGlobal + Abort + Threads + Wait + Sync>(rt: &R) ->
 #[test]
 fn eight_lanes_leave_an_exact_hash(rt: HostRuntime) {
     let counted = counted_at_the_end(&rt);
-    assert!(rt; counted.leaves > 0 && counted.nodes > 0);
+    ensure(
+        &rt,
+        counted.leaves > 0 && counted.nodes > 0,
+        "hashed leaves, and nodes",
+    );
 }

@@ -8,6 +8,8 @@ mod busy_leaf;
 #[cfg(test)]
 mod calls;
 #[cfg(test)]
+mod claims;
+#[cfg(test)]
 mod guesses;
 #[cfg(test)]
 mod hashed;

@@ -1,4 +1,5 @@
 //! What an opening refuses.
+use crate::claims::ensure;
 use crate::setup::smallest;
 use index_engine::{Engine, EngineError};
 use settings::{Setting, set_size};
@@ -32,7 +33,7 @@ fn is_opened_so<R: AllocGlobal + Abort>(rt: &R, case: &Case) -> bool {
     let (setting, number, lanes, opens) = *case;
     let mut sizes = smallest(3, 1);
     set_size(&mut sizes, setting, number);
-    assert!(rt; 0 < lanes && lanes <= 64);
+    ensure(rt, 0 < lanes && lanes <= 64, "so many lanes");
     match Engine::open(rt.alloc(), &sizes, &[1, 1, 4], lanes) {
         Ok((_, pass)) => opens && *pass.sizes() == sizes,
         Err(EngineError::BadSize(refused)) => !opens && refused == setting,

@@ -1,5 +1,6 @@
 //! Pages of rows that went are merged, and their numbers are free again.
 use crate::asked::{Asked, Name, Order, Run, Wanted};
+use crate::claims::ensure;
 use crate::setup::{asked_alone, counted_alone, smallest};
 use crate::steps::{Step, assert_told};
 use map_history::Reply;
@@ -80,6 +81,6 @@ fn filled_often<R: AllocGlobal + Abort>(rt: &R, rows: u32) -> Vec<Run> {
 #[test]
 fn a_tree_of_three_levels_is_emptied_and_filled_again(rt: HostRuntime) {
     let rows = room(&rt);
-    assert!(rt; rows > 400 && rows < 2000);
+    ensure(&rt, rows > 400 && rows < 2000, "three levels");
     counted_alone(&rt, &smallest(64, 100_000), 1, &filled_often(&rt, rows));
 }

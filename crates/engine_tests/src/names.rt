@@ -3,6 +3,7 @@ ghost use Rattle.std.specs.Prelude.{◌≡◌, length};
 
 use crate::asked;
 use crate::asked::Name;
+use crate::claims::ensure;
 use key_tuple::{Fields, Key};
 use map_history::Sizes;
 use std::process::Abort;
@@ -41,6 +42,6 @@ pub(crate) fn key_of<R: AllocGlobal + Abort>(rt: &R, row: Row) -> Key
     ensures { length result.tuple ≡ 2 }
 {
     let key = asked::key_of(rt, rt.alloc(), &name_of(row, 2));
-    assert!(rt; key.count() == 2);
+    ensure(rt, key.count() == 2, "two fields");
     key
 }

@@ -1,6 +1,7 @@
 //! Two leaves beside each other, of which the right one is hashed by the first of two fields, with the
 //! first row of each group: what a seek is told of the hash.
 use crate::asked::{Asked, Order, Run, Wanted, add};
+use crate::claims::ensure;
 use crate::names::{Row, SIZES, name_of};
 use crate::setup::counted_alone;
 use key_tuple::Mode;
@@ -100,5 +101,9 @@ fn a_row_at_the_edge_of_its_leaf_is_a_hit_for_its_own_key_alone(rt: HostRuntime)
 #[test]
 fn one_leaf_is_hashed_and_has_one_group(rt: HostRuntime) {
     let counted = counted_alone(&rt, &SIZES, 2, &until_hashed(&rt));
-    assert!(rt; counted.leaves == 1 && counted.nodes == 1);
+    ensure(
+        &rt,
+        counted.leaves == 1 && counted.nodes == 1,
+        "one leaf with one group",
+    );
 }

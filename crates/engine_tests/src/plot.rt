@@ -7,6 +7,7 @@ ghost use Rattle.buffer_pool.specs.Forests.{IsForest};
 ghost use Rattle.leaf_changes.specs.Holds.{HoldsFreshAlone};
 
 use crate::asked::value_of;
+use crate::claims::ensure;
 use crate::guesses::open_learner;
 use crate::names::{Row, key_of};
 use buffer_pool::give_back;
@@ -49,7 +50,8 @@ fn put<R: Abort + Wait>(
     let part = call.hold_to_change(pass, &leaf);
     let told = call.put_held(pass, &leaf, most, value);
     call.let_both_go(pass, leaf.block, part);
-    assert!(rt; told.expect(rt, "memory for a row").reply == Reply::Ok);
+    let reply = told.expect(rt, "memory for a row").reply;
+    ensure(rt, reply == Reply::Ok, "a row that is put");
 }
 
 /// Puts the row of a name, in a space of at most 100 changes.
@@ -106,7 +108,7 @@ pub(crate) fn hash<R: AllocGlobal + Abort + Wait>(
     match search_key(space, pass, &learner, &mut learn, 0, key, Mode::Ge, rt) {
         KeySearch::Leaf(searched) => {
             give_back(space, pass, searched.leaf.block);
-            assert!(rt; searched.note == Note::Built);
+            ensure(rt, searched.note == Note::Built, "a leaf that gets hashed");
         }
         KeySearch::Row { .. } => panic!(rt; "it was hashed"),
     }

@@ -2,6 +2,7 @@
 ghost use Rattle.std.specs.Prelude.{IfSome, IsSome};
 ghost use Rattle.index_page.specs.Rows.{find_row};
 
+use crate::claims::ensure;
 use chain_arena::Node;
 use forest_law::{Frame, Object};
 use hash_partition::Partition;
@@ -58,7 +59,11 @@ fn node_at<R: Abort>(rt: &R, page: &Page, place: Place, how: &Hashed) -> Node
 {
     let row = page.row(place);
     let has_all = how.params.asked_fields() <= u16::from(row.count());
-    assert!(rt; has_all && how.bits > 0 && how.bits <= 64);
+    ensure(
+        rt,
+        has_all && how.bits > 0 && how.bits <= 64,
+        "all fields of the fold",
+    );
     Node {
         fold: fold(how.index, &row, &how.params, how.bits),
         block: how.block,
@@ -95,12 +100,20 @@ fn add_page<R: Abort>(rt: &R, due: &mut Vec<Due>, page: &Page, how: &Hashed) {
 /// is.
 fn add_frame<R: Abort>(rt: &R, due: &mut Vec<Due>, frame: &Frame, block: u32, bits: u8) -> bool {
     let Some(index) = frame.hashed else {
-        assert!(rt; frame.figures.built.is_none());
+        ensure(
+            rt,
+            frame.figures.built.is_none(),
+            "a block that isn't hashed",
+        );
         return false;
     };
     let params = frame.figures.built.expect(rt, "how it is hashed");
     let page = frame.page.as_ref().expect(rt, "the page that is hashed");
-    assert!(rt; page.head().level == 0 && page.head().index == index);
+    ensure(
+        rt,
+        page.head().level == 0 && page.head().index == index,
+        "a leaf of the index",
+    );
     let how = Hashed {
         index,
         params,
@@ -142,7 +155,11 @@ fn take_due<R: Abort>(
             are_there = false;
         }
     }
-    assert!(rt; are_there && part.spare() == sizes.nodes);
+    ensure(
+        rt,
+        are_there && part.spare() == sizes.nodes,
+        "the nodes that are due, and no other",
+    );
     nodes
 }
 

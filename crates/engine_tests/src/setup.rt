@@ -5,10 +5,11 @@ ghost use Rattle.map_history.specs.declared.TheConstants.{MAX_LANES};
 ghost use Rattle.index_engine.specs.Engines.{IsOf};
 ghost use Rattle.engine_tests.specs.Fields.{FirstHasFields};
 
-use crate::asked::{Asked, Order, Run, count_of, key_of, order_at, value_of};
+use crate::asked::{Order, Run, count_of, key_of, order_at, value_of};
+use crate::claims::ensure;
 use crate::recount::{Counted, recount};
 use index_engine::{Engine, EnginePass};
-use key_tuple::Fields;
+use key_tuple::{Fields, Key, Value};
 use map_history::{RowBuf, Sizes, Told};
 use std::alloc::Global;
 use std::process::Abort;
@@ -42,39 +43,57 @@ pub(crate) fn open<R: AllocGlobal + Abort>(
     Engine::open(rt.alloc(), sizes, &[fields], lanes).expect(rt, "an engine")
 }
 
-/// What an order is told by an engine whose keys have so many fields.
-fn ask<R: Abort + Wait>(
+/// What an order is told by an engine whose keys have so many fields, with this key, and with this
+/// value where it has one.
+fn answered<R: Abort + Wait>(
+    rt: &R,
+    engine: &Engine,
+    pass: &mut EnginePass,
+    out: &mut RowBuf,
+    fields: u8,
+    key: &Key,
+    order: &Order,
+    value: &Value,
+) -> Told
+    requires own { IsOf engine.now pass.old }
+    requires fields { FirstHasFields engine.now fields }
+    ensures own { IsOf engine.now pass.new }
+{
+    if let Order::Seek(mode) = order {
+        ensure(rt, key.count() <= fields, "no more fields than a key has");
+        return engine.seek(pass, 0, *mode, key.tuple(), out, rt);
+    }
+    ensure(rt, key.count() == fields, "as many fields as a key has");
+    let told = match order {
+        Order::Put(_) => engine.put(pass, 0, key, value, rt),
+        Order::Set(_) => engine.set(pass, 0, key, value, rt),
+        Order::Del => Ok(engine.del(pass, 0, key, rt)),
+        Order::Get | Order::Seek(_) => Ok(engine.get(pass, 0, key, out, rt)),
+    };
+    told.expect(rt, "memory for a value")
+}
+
+/// Whether the order with this place is told what it has to be, by an engine whose keys have so many
+/// fields.
+fn is_told<R: Abort + Wait>(
     rt: &R,
     alloc: Global,
     engine: &Engine,
     pass: &mut EnginePass,
     out: &mut RowBuf,
     fields: u8,
-    asked: &Asked,
-) -> Told
+    runs: &[Run],
+    place: u32,
+) -> bool
     requires own { IsOf engine.now pass.old }
     requires fields { FirstHasFields engine.now fields }
     ensures own { IsOf engine.now pass.new }
 {
+    let asked = order_at(rt, runs, place);
     let key = key_of(rt, alloc, &asked.name);
-    if let Order::Seek(mode) = asked.order {
-        assert!(rt; key.count() <= fields);
-        return engine.seek(pass, 0, mode, key.tuple(), out, rt);
-    }
-    assert!(rt; key.count() == fields);
-    match asked.order {
-        Order::Put(text) | Order::Set(text) => {
-            let value = value_of(rt, alloc, text);
-            let told = if matches!(asked.order, Order::Put(_)) {
-                engine.put(pass, 0, &key, &value, rt)
-            } else {
-                engine.set(pass, 0, &key, &value, rt)
-            };
-            told.expect(rt, "memory for a value")
-        }
-        Order::Del => engine.del(pass, 0, &key, rt),
-        Order::Get | Order::Seek(_) => engine.get(pass, 0, &key, out, rt),
-    }
+    let value = value_of(rt, alloc, asked.order.text());
+    let told = answered(rt, engine, pass, out, fields, &key, &asked.order, &value);
+    asked.is_told(&told, out.value())
 }
 
 /// How much of this was told what it has to be, up to the first that wasn't.
@@ -93,9 +112,7 @@ pub(crate) fn worked<R: Abort + Wait>(
     let mut out = RowBuf::new(alloc).expect(rt, "a row buffer");
     let count = count_of(runs);
     for place in 0..count {
-        let step = order_at(rt, runs, place);
-        let told = ask(rt, alloc, engine, pass, &mut out, fields, &step);
-        if !step.is_told(&told, out.value()) {
+        if !is_told(rt, alloc, engine, pass, &mut out, fields, runs, place) {
             return place;
         }
     }
@@ -112,7 +129,7 @@ pub(crate) fn counted<R: AllocGlobal + Abort>(
     requires own { IsOf engine pass }
 {
     let (low, end) = pass.numbers();
-    assert!(rt; low == 0 && end == engine.lanes());
+    ensure(rt, low == 0 && end == engine.lanes(), "the only pass");
     let objects = engine
         .close(rt.alloc(), pass)
         .expect(rt, "memory for what lay there");
