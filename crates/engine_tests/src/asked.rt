@@ -78,19 +78,19 @@ pub(crate) fn count_of(runs: &[Run]) -> u32 {
     count
 }
 
-/// The order with this place among those of all runs.
-pub(crate) fn order_at<R: Abort>(rt: &R, runs: &[Run], place: u32) -> Asked {
+/// What is asked at this place among the orders of all runs, and the name that it is asked by there.
+pub(crate) fn order_at(runs: &[Run], place: u32) -> Option<(&Asked, Name)> {
     let mut before = place;
     for run in runs {
         if before < run.times {
             let row = before.checked_rem(run.rows).unwrap_or(0);
-            let mut asked = run.first;
-            asked.name.start = asked.name.start.wrapping_add(row.wrapping_mul(run.step));
-            return asked;
+            let mut name = run.first.name;
+            name.start = name.start.wrapping_add(row.wrapping_mul(run.step));
+            return Some((&run.first, name));
         }
         before = before.wrapping_sub(run.times);
     }
-    panic!(rt; "no such order")
+    None
 }
 
 /// Puts one more behind what is asked.

@@ -11,3 +11,12 @@ pub(crate) fn ensure<R: Abort>(rt: &R, claim: bool, wanted: &str)
         rt.panic(wanted)
     }
 }
+
+/// The same of one of many, and tells what that is and which.
+pub(crate) fn ensure_at<R: Abort>(rt: &R, claim: bool, what: &str, place: usize)
+    ensures { IsTrue claim }
+{
+    if !claim {
+        panic!(rt; "{what} {place}")
+    }
+}

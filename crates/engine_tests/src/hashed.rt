@@ -1,7 +1,7 @@
 //! Leaves that are hashed, split, changed, merged and evicted, by one caller: a recount after each
 //! round.
 use crate::asked::Order;
-use crate::claims::ensure;
+use crate::claims::{ensure, ensure_at};
 use crate::recount::Counted;
 use crate::rounds::{Round, asked_in};
 use crate::setup::counted_alone;
@@ -138,7 +138,7 @@ fn assert_case<R: AllocGlobal + Abort + Wait>(rt: &R, case: &Case) {
     for nodes in case.nodes.iter() {
         count = count.wrapping_add(1);
         let counted = counted_after(rt, case.order, case.fold_bits, count);
-        assert!(rt; is_as_wanted(counted, *nodes), "round {count}");
+        ensure_at(rt, is_as_wanted(counted, *nodes), "round", count);
     }
 }
 

@@ -4,7 +4,7 @@ ghost use Rattle.index_engine.specs.Engines.{IsOf};
 ghost use Rattle.engine_tests.specs.Fields.{FirstHasFields};
 
 use crate::asked::{Order, count_of};
-use crate::claims::ensure;
+use crate::claims::{ensure, ensure_at};
 use crate::recount::Counted;
 use crate::rounds::{Round, asked_in};
 use crate::setup::{counted, open, worked};
@@ -59,7 +59,7 @@ fn assert_told<R: Abort + Wait>(
 {
     let runs = asked_in(rt, alloc, rounds, ahead, Order::Get);
     let count = worked(rt, alloc, engine, pass, 1, &runs);
-    assert!(rt; count == count_of(&runs), "order {count}");
+    ensure_at(rt, count == count_of(&runs), "order", count as usize);
 }
 
 /// Cuts the pass in halves, and gives the upper one.

@@ -1,7 +1,8 @@
 //! What an opening refuses.
-use crate::claims::ensure;
+use crate::claims::{ensure, ensure_at};
 use crate::setup::smallest;
-use index_engine::{Engine, EngineError};
+use index_engine::{Engine, EngineError, EnginePass};
+use map_history::Sizes;
 use settings::{Setting, set_size};
 use std::process::Abort;
 
@@ -28,22 +29,32 @@ static SETTINGS: [Case; 15] = [
     (Setting::MaxChanges, 8_388_609, 1, false),
 ];
 
+/// Whether an opening with these sizes gave a pass of them, or was refused by the setting.
+fn is_so(opened: &Result<(Engine, EnginePass), EngineError>, sizes: &Sizes, case: &Case) -> bool {
+    let (setting, _, _, opens) = *case;
+    match opened {
+        Ok((_, pass)) => opens && *pass.sizes() == *sizes,
+        Err(EngineError::BadSize(refused)) => !opens && *refused == setting,
+        Err(EngineError::NoMemory) => false,
+    }
+}
+
 /// Whether these open with such sizes, or are refused by the setting.
 fn is_opened_so<R: AllocGlobal + Abort>(rt: &R, case: &Case) -> bool {
-    let (setting, number, lanes, opens) = *case;
+    let (setting, number, lanes, _) = *case;
     let mut sizes = smallest(3, 1);
     set_size(&mut sizes, setting, number);
     ensure(rt, 0 < lanes && lanes <= 64, "so many lanes");
-    match Engine::open(rt.alloc(), &sizes, &[1, 1, 4], lanes) {
-        Ok((_, pass)) => opens && *pass.sizes() == sizes,
-        Err(EngineError::BadSize(refused)) => !opens && refused == setting,
-        Err(EngineError::NoMemory) => panic!(rt; "no memory"),
-    }
+    is_so(
+        &Engine::open(rt.alloc(), &sizes, &[1, 1, 4], lanes),
+        &sizes,
+        case,
+    )
 }
 
 #[test]
 fn a_setting_past_its_limit_is_named(rt: HostRuntime) {
     for (place, case) in SETTINGS.iter().enumerate() {
-        assert!(rt; is_opened_so(&rt, case), "setting {place}");
+        ensure_at(&rt, is_opened_so(&rt, case), "setting", place);
     }
 }

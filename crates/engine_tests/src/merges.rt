@@ -1,5 +1,5 @@
 //! Pages of rows that went are merged, and their numbers are free again.
-use crate::asked::{Asked, Name, Order, Run, Wanted};
+use crate::asked::{Asked, Name, Order, Run, Wanted, add};
 use crate::claims::ensure;
 use crate::setup::{asked_alone, counted_alone, smallest};
 use crate::steps::{Step, assert_told};
@@ -57,22 +57,23 @@ fn room<R: AllocGlobal + Abort + Wait>(rt: &R) -> u32 {
     rows
 }
 
-/// So many rows are put in, for the next one there is no page, and all go again, every other one first;
-/// ten times, and then they are put in once more.
-fn filled_often<R: AllocGlobal + Abort>(rt: &R, rows: u32) -> Vec<Run> {
-    let once = [
-        long_run(0, 1, rows, PUT_EMPTY, Reply::Ok),
-        long_run(rows, 1, 1, PUT_EMPTY, Reply::SpaceFull),
-        long_run(0, 2, rows.wrapping_add(1) / 2, Order::Del, Reply::Ok),
-        long_run(1, 2, rows / 2, Order::Del, Reply::Ok),
-    ];
-    let mut runs = Vec::new(rt.alloc());
-    for _round in 0..10 {
-        runs.extend_from_slice(&once)
-            .expect(rt, "memory for a round");
+/// The parts of a round, in their order: so many rows are put in, for the next one there is no page, and
+/// all go again, every other one first.
+fn part_at(rows: u32, place: u32) -> Run {
+    match place % 4 {
+        0 => long_run(0, 1, rows, PUT_EMPTY, Reply::Ok),
+        1 => long_run(rows, 1, 1, PUT_EMPTY, Reply::SpaceFull),
+        2 => long_run(0, 2, rows.wrapping_add(1) / 2, Order::Del, Reply::Ok),
+        _ => long_run(1, 2, rows / 2, Order::Del, Reply::Ok),
     }
-    runs.extend_from_slice(&once[..2])
-        .expect(rt, "memory for the last");
+}
+
+/// Ten rounds, and then the rows are put in once more, and for the next one there is no page.
+fn filled_often<R: AllocGlobal + Abort>(rt: &R, rows: u32) -> Vec<Run> {
+    let mut runs = Vec::new(rt.alloc());
+    for place in 0..42 {
+        add(rt, &mut runs, part_at(rows, place));
+    }
     runs
 }
 

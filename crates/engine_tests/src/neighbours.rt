@@ -9,12 +9,76 @@ use map_history::{How, Reply};
 use std::process::Abort;
 use std::sync::Wait;
 
-/// The rows, each with as many bytes as a row may have. So a leaf has room for five, and a sixth one
-/// splits it behind the second.
-static ROWS: [Row; 8] = [b"a1", b"c1", b"m5", b"m7", b"n1", b"o1", b"p1", b"q1"];
+/// A row, or a tuple of so many of its fields, what is asked by that, what that has to be told, and how
+/// often it is asked.
+type Look = (Row, u8, Order, Wanted, u32);
 
-/// Asks a row, or for a tuple, by so many fields, and so often.
-fn run_of(row: Row, fields: u8, order: Order, wanted: Wanted, times: u32) -> Run {
+/// What each put and each look is told.
+const OK: Wanted = Wanted::Reply(Reply::Ok);
+
+const FOUND: Wanted = Wanted::Reply(Reply::Found);
+
+/// The rows are put on their leaves, of which that of `m` gets hashed. Each has as many bytes as a row
+/// may have: so a leaf has room for five, and a sixth one splits it behind the second. The value of a
+/// row begins as its name does. Groups of the last leaf are looked for until the index has learnt that
+/// the first field tells them apart; and then the row with which the leaf of `m` begins, until that
+/// leaf is hashed.
+static UNTIL_HASHED: [Look; 10] = [
+    (b"a1", 2, Order::Put((b"a1", 2048)), OK, 1),
+    (b"c1", 2, Order::Put((b"c1", 2048)), OK, 1),
+    (b"m5", 2, Order::Put((b"m5", 2048)), OK, 1),
+    (b"m7", 2, Order::Put((b"m7", 2048)), OK, 1),
+    (b"n1", 2, Order::Put((b"n1", 2048)), OK, 1),
+    (b"o1", 2, Order::Put((b"o1", 2048)), OK, 1),
+    (b"p1", 2, Order::Put((b"p1", 2048)), OK, 1),
+    (b"q1", 2, Order::Put((b"q1", 2048)), OK, 1),
+    (b"o1", 1, Order::Seek(Mode::Ge), FOUND, 40),
+    (b"m5", 2, Order::Seek(Mode::Ge), FOUND, 130),
+];
+
+/// Only where the row that the hash leads to is the sought one, and its page alone shows that, it
+/// is a hit: it is the first of its leaf, and there is a leaf to the left.
+static CASES: [Look; 5] = [
+    (
+        b"m3",
+        2,
+        Order::Seek(Mode::Ge),
+        Wanted::Found((b"m5", 2048), Some(How::Unequal)),
+        1,
+    ),
+    (
+        b"m5",
+        2,
+        Order::Seek(Mode::Ge),
+        Wanted::Found((b"m5", 2048), Some(How::Hit)),
+        1,
+    ),
+    (
+        b"m5",
+        1,
+        Order::Seek(Mode::Ge),
+        Wanted::Found((b"m5", 2048), Some(How::Unequal)),
+        1,
+    ),
+    (
+        b"m7",
+        2,
+        Order::Seek(Mode::Le),
+        Wanted::Found((b"m7", 2048), Some(How::Unequal)),
+        1,
+    ),
+    (
+        b"z1",
+        2,
+        Order::Seek(Mode::Ge),
+        Wanted::Absent(How::NoEntry),
+        1,
+    ),
+];
+
+/// What that asks.
+fn run_of(look: &Look) -> Run {
+    let (row, fields, order, wanted, times) = *look;
     Run {
         first: Asked {
             name: name_of(row, fields),
@@ -27,67 +91,19 @@ fn run_of(row: Row, fields: u8, order: Order, wanted: Wanted, times: u32) -> Run
     }
 }
 
-/// The rows are put on their leaves, of which that of `m` gets hashed. The value of a row begins as its
-/// name does. Groups of the last leaf are looked for until the index has learnt that the first field
-/// tells them apart; and then the row with which the leaf of `m` begins, until that leaf is hashed.
+/// The rows are put, and looked for until their leaf is hashed.
 fn until_hashed<R: AllocGlobal + Abort>(rt: &R) -> Vec<Run> {
     let mut runs = Vec::new(rt.alloc());
-    for row in ROWS.iter() {
-        let put = Order::Put((row.as_slice(), 2048));
-        add(
-            rt,
-            &mut runs,
-            run_of(*row, 2, put, Wanted::Reply(Reply::Ok), 1),
-        );
+    for look in UNTIL_HASHED.iter() {
+        add(rt, &mut runs, run_of(look));
     }
-    let (look, found) = (Order::Seek(Mode::Ge), Wanted::Reply(Reply::Found));
-    add(rt, &mut runs, run_of(b"o1", 1, look, found, 40));
-    add(rt, &mut runs, run_of(b"m5", 2, look, found, 130));
     runs
 }
 
-/// What is asked, by how many fields, and what that is told.
-type Case = (Mode, Row, u8, Wanted);
-
-/// Only where the row that the hash leads to is the sought one, and its page alone shows that, it
-/// is a hit: it is the first of its leaf, and there is a leaf to the left.
-static CASES: [Case; 5] = [
-    (
-        Mode::Ge,
-        b"m3",
-        2,
-        Wanted::Found((b"m5", 2048), Some(How::Unequal)),
-    ),
-    (
-        Mode::Ge,
-        b"m5",
-        2,
-        Wanted::Found((b"m5", 2048), Some(How::Hit)),
-    ),
-    (
-        Mode::Ge,
-        b"m5",
-        1,
-        Wanted::Found((b"m5", 2048), Some(How::Unequal)),
-    ),
-    (
-        Mode::Le,
-        b"m7",
-        2,
-        Wanted::Found((b"m7", 2048), Some(How::Unequal)),
-    ),
-    (Mode::Ge, b"z1", 2, Wanted::Absent(How::NoEntry)),
-];
-
 /// A seek is told so, from this start.
-fn assert_case<R: AllocGlobal + Abort + Wait>(rt: &R, case: &Case) {
-    let (mode, row, fields, wanted) = *case;
+fn assert_case<R: AllocGlobal + Abort + Wait>(rt: &R, case: &Look) {
     let mut runs = until_hashed(rt);
-    add(
-        rt,
-        &mut runs,
-        run_of(row, fields, Order::Seek(mode), wanted, 1),
-    );
+    add(rt, &mut runs, run_of(case));
     counted_alone(rt, &SIZES, 2, &runs);
 }
 

@@ -6,7 +6,7 @@ ghost use Rattle.index_engine.specs.Engines.{IsOf};
 ghost use Rattle.engine_tests.specs.Fields.{FirstHasFields};
 
 use crate::asked::{Order, Run, count_of, key_of, order_at, value_of};
-use crate::claims::ensure;
+use crate::claims::{ensure, ensure_at};
 use crate::recount::{Counted, recount};
 use index_engine::{Engine, EnginePass};
 use key_tuple::{Fields, Key, Value};
@@ -89,8 +89,8 @@ fn is_told<R: Abort + Wait>(
     requires fields { FirstHasFields engine.now fields }
     ensures own { IsOf engine.now pass.new }
 {
-    let asked = order_at(rt, runs, place);
-    let key = key_of(rt, alloc, &asked.name);
+    let (asked, name) = order_at(runs, place).expect(rt, "no such order");
+    let key = key_of(rt, alloc, &name);
     let value = value_of(rt, alloc, asked.order.text());
     let told = answered(rt, engine, pass, out, fields, &key, &asked.order, &value);
     asked.is_told(&told, out.value())
@@ -161,6 +161,6 @@ pub(crate) fn counted_alone<R: AllocGlobal + Abort + Wait>(
     requires fields { (1 ≤ fields) × (fields ≤ MAX_FIELDS) }
 {
     let (count, counted) = asked_alone(rt, sizes, fields, runs);
-    assert!(rt; count == count_of(runs), "order {count}");
+    ensure_at(rt, count == count_of(runs), "order", count as usize);
     counted
 }
