@@ -131,7 +131,7 @@ fn is_text(bytes: &[u8], text: Text) -> bool {
 
 /// So many bytes: those of the start, and then this one.
 fn filled<R: Abort>(rt: &R, alloc: Global, start: &[u8], length: usize, rest: u8) -> Vec<u8> {
-    let mut bytes = Vec::with_capacity(alloc, length).expect(rt, "memory for bytes");
+    let mut bytes = Vec::new(alloc);
     bytes.extend_from_slice(start).expect(rt, "a start");
     bytes.resize(length, rest).expect(rt, "a rest");
     bytes

@@ -14,7 +14,7 @@ use map_history::Sizes;
 use std::alloc::Global;
 use std::process::Abort;
 use std::sync::Wait;
-use std::thread::{Threads, join};
+use std::thread::{Threads, join_mut};
 
 /// As few blocks as eight callers may have, and pages for all rows.
 static SIZES: Sizes = Sizes {
@@ -73,56 +73,46 @@ fn upper_half<R: Abort>(rt: &R, alloc: Global, engine: &Engine, pass: &mut Engin
     engine.split(alloc, pass).expect(rt, "the upper half")
 }
 
-/// Joins the halves.
-fn rejoin<R: Abort>(rt: &R, engine: &Engine, pass: &mut EnginePass, upper: EnginePass)
-    requires own { IsOf engine.now pass.old }
-    requires upper { IsOf engine.now upper }
-    ensures own { IsOf engine.now pass.new }
-{
-    ensure(rt, pass.numbers().1 == upper.numbers().0, "the halves");
-    engine.join(pass, upper);
-}
-
-/// The pass, once it was cut in halves so often, and each caller has worked the rounds on the rows from
-/// its number on, all of them at once.
+/// Cuts the pass in halves so often, has each caller work the rounds on the rows from its number on, all of
+/// them at once, and joins the halves.
 fn work_lanes<R: Abort + Threads + Wait + Sync>(
     rt: &R,
     alloc: Global,
     engine: &Engine,
-    mut pass: EnginePass,
+    pass: &mut EnginePass,
     halvings: u32,
-) -> EnginePass
-    requires own { IsOf engine.now pass }
+)
+    requires own { IsOf engine.now pass.old }
     requires fields { FirstHasFields engine.now 1 }
-    ensures own { IsOf engine.now result }
+    ensures own { IsOf engine.now pass.new }
 {
     if halvings == 0 {
         let ahead = pass.numbers().0;
-        assert_told(rt, alloc, engine, &mut pass, &ROUNDS, ahead);
-        return pass;
+        assert_told(rt, alloc, engine, pass, &ROUNDS, ahead);
+        return;
     }
     let rest = halvings - 1;
-    let upper = upper_half(rt, alloc, engine, &mut pass);
-    let (mut one, two) = join(
+    let mut upper = upper_half(rt, alloc, engine, pass);
+    join_mut(
         rt,
-        || -> EnginePass
-            requires { IsOf engine.now pass × FirstHasFields engine.now 1 }
-            ensures { IsOf engine.entry.now result }
+        &mut ||
+            requires { IsOf engine.now pass.now × FirstHasFields engine.now 1 }
+            ensures { IsOf engine.entry.now pass.exit.now }
         { work_lanes(rt, alloc, engine, pass, rest) },
-        || -> EnginePass
+        &mut ||
             requires { IsOf engine.now upper × FirstHasFields engine.now 1 }
-            ensures { IsOf engine.entry.now result }
-        { work_lanes(rt, alloc, engine, upper, rest) },
+            ensures { IsOf engine.entry.now upper.exit }
+        { work_lanes(rt, alloc, engine, &mut upper, rest) },
     );
-    rejoin(rt, engine, &mut one, two);
-    one
+    ensure(rt, pass.numbers().1 == upper.numbers().0, "the halves");
+    engine.join(pass, upper);
 }
 
 /// What is hashed when all have worked, and one of them has found each row of all, and has looked
 /// again and again for some.
 fn counted_at_the_end<R: AllocGlobal + Abort + Threads + Wait + Sync>(rt: &R) -> Counted {
-    let (engine, pass) = open(rt, &SIZES, 1, 8);
-    let mut pass = work_lanes(rt, rt.alloc(), &engine, pass, 3);
+    let (engine, mut pass) = open(rt, &SIZES, 1, 8);
+    work_lanes(rt, rt.alloc(), &engine, &mut pass, 3);
     assert_told(rt, rt.alloc(), &engine, &mut pass, &LOOKS, 0);
     counted(rt, engine, pass, &SIZES)
 }

@@ -2,7 +2,7 @@
 use crate::asked::{Asked, Name, Order, Run, Wanted, add};
 use crate::claims::ensure;
 use crate::setup::{asked_alone, counted_alone, smallest};
-use crate::steps::{Step, assert_told};
+use crate::steps::{assert_told, step};
 use map_history::Reply;
 use std::process::Abort;
 use std::sync::Wait;
@@ -12,14 +12,14 @@ const PUT: Order = Order::Put((b"", 1000));
 
 /// Forty rows with 1,000 bytes stand on leaves of 8, 8, 8 and 16, and there is no further page. With
 /// four rows on the first leaf it and the next one have room on one page.
-static DELS: [Step; 7] = [
-    (1, 40, PUT, Wanted::Reply(Reply::Ok)),
-    (2, 1, Order::Del, Wanted::Reply(Reply::Ok)),
-    (3, 1, Order::Del, Wanted::Reply(Reply::Ok)),
-    (4, 1, Order::Del, Wanted::Reply(Reply::Ok)),
-    (41, 1, PUT, Wanted::Reply(Reply::SpaceFull)),
-    (5, 1, Order::Del, Wanted::Reply(Reply::Ok)),
-    (41, 1, PUT, Wanted::Reply(Reply::Ok)),
+static DELS: [Run; 7] = [
+    step!(1, 40, PUT, Wanted::Reply(Reply::Ok)),
+    step!(2, 1, Order::Del, Wanted::Reply(Reply::Ok)),
+    step!(3, 1, Order::Del, Wanted::Reply(Reply::Ok)),
+    step!(4, 1, Order::Del, Wanted::Reply(Reply::Ok)),
+    step!(41, 1, PUT, Wanted::Reply(Reply::SpaceFull)),
+    step!(5, 1, Order::Del, Wanted::Reply(Reply::Ok)),
+    step!(41, 1, PUT, Wanted::Reply(Reply::Ok)),
 ];
 
 #[test]

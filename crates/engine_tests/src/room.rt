@@ -1,6 +1,6 @@
 //! Which put finds no page: so many rows are on each leaf.
-use crate::asked::{Order, Wanted};
-use crate::steps::{Step, assert_told};
+use crate::asked::{Order, Run, Wanted};
+use crate::steps::{assert_told, step};
 use map_history::Reply;
 
 /// Values of 1,000 and of 2,000 bytes.
@@ -16,15 +16,15 @@ const FULL: Wanted = Wanted::Reply(Reply::SpaceFull);
 /// So many pages, the puts that have room, and the next one, which has none. 16 rows with 1,000 bytes
 /// fill a leaf, and ascending ones leave 8 on each leaf but the last. A root that is raised takes a
 /// page, and each split another.
-static PUTS: [(u32, &'static [Step]); 8] = [
-    (1, &[(1, 16, SHORT, OK), (17, 1, SHORT, FULL)]),
-    (2, &[(1, 16, SHORT, OK), (17, 1, SHORT, FULL)]),
-    (3, &[(1, 24, SHORT, OK), (25, 1, SHORT, FULL)]),
-    (4, &[(1, 32, SHORT, OK), (33, 1, SHORT, FULL)]),
-    (5, &[(1, 40, SHORT, OK), (41, 1, SHORT, FULL)]),
-    (6, &[(1, 48, SHORT, OK), (49, 1, SHORT, FULL)]),
-    (1, &[(1, 8, LONG, OK), (9, 1, LONG, FULL)]),
-    (2, &[(1, 8, LONG, OK), (9, 1, LONG, FULL)]),
+static PUTS: [(u32, &'static [Run]); 8] = [
+    (1, &[step!(1, 16, SHORT, OK), step!(17, 1, SHORT, FULL)]),
+    (2, &[step!(1, 16, SHORT, OK), step!(17, 1, SHORT, FULL)]),
+    (3, &[step!(1, 24, SHORT, OK), step!(25, 1, SHORT, FULL)]),
+    (4, &[step!(1, 32, SHORT, OK), step!(33, 1, SHORT, FULL)]),
+    (5, &[step!(1, 40, SHORT, OK), step!(41, 1, SHORT, FULL)]),
+    (6, &[step!(1, 48, SHORT, OK), step!(49, 1, SHORT, FULL)]),
+    (1, &[step!(1, 8, LONG, OK), step!(9, 1, LONG, FULL)]),
+    (2, &[step!(1, 8, LONG, OK), step!(9, 1, LONG, FULL)]),
 ];
 
 #[test]
@@ -35,16 +35,16 @@ fn leaves_are_as_full_as_they_can_be(rt: HostRuntime) {
 }
 
 /// Eight rows with 2,000 bytes fill the only leaf: the ninth finds no page.
-static AFTER: [Step; 9] = [
-    (1, 8, LONG, OK),
-    (9, 1, LONG, FULL),
-    (1, 1, Order::Get, Wanted::Reply(Reply::Found)),
-    (9, 1, Order::Get, Wanted::Reply(Reply::Absent)),
-    (9, 1, Order::Put((b"v", 1)), OK),
-    (10, 1, LONG, FULL),
-    (2, 1, Order::Del, OK),
-    (10, 1, Order::Put((b"", 1900)), OK),
-    (10, 1, Order::Get, Wanted::Reply(Reply::Found)),
+static AFTER: [Run; 9] = [
+    step!(1, 8, LONG, OK),
+    step!(9, 1, LONG, FULL),
+    step!(1, 1, Order::Get, Wanted::Reply(Reply::Found)),
+    step!(9, 1, Order::Get, Wanted::Reply(Reply::Absent)),
+    step!(9, 1, Order::Put((b"v", 1)), OK),
+    step!(10, 1, LONG, FULL),
+    step!(2, 1, Order::Del, OK),
+    step!(10, 1, Order::Put((b"", 1900)), OK),
+    step!(10, 1, Order::Get, Wanted::Reply(Reply::Found)),
 ];
 
 #[test]

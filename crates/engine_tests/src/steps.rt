@@ -1,47 +1,38 @@
 //! Tables of what a caller asks, one order after another, and of what each is told.
-use crate::asked::{Asked, Name, Order, Run, Wanted, add};
+use crate::asked::Run;
 use crate::setup::{counted_alone, smallest};
 use std::process::Abort;
 use std::sync::Wait;
 
-/// The number of a row, how many rows from this one on are asked, what is asked of each, and what that
-/// has to be told.
-pub(crate) type Step = (u32, u32, Order, Wanted);
-
-/// The key of such a row has four bytes.
-fn run_of((number, rows, order, wanted): Step) -> Run {
-    let name = Name {
-        start: number,
-        cut: None,
-        length: 4,
+/// One order of a table: the number of a row, how many rows from this one on are asked, what is asked of
+/// each, and what that has to be told. The key of such a row has four bytes.
+macro_rules! step {
+    ($number:expr, $rows:expr, $order:expr, $wanted:expr $(,)?) => {
+        crate::asked::Run {
+            first: crate::asked::Asked {
+                name: crate::asked::Name {
+                    start: $number,
+                    cut: None,
+                    length: 4,
+                },
+                order: $order,
+                wanted: $wanted,
+            },
+            step: 1,
+            rows: $rows,
+            times: $rows,
+        }
     };
-    Run {
-        first: Asked {
-            name,
-            order,
-            wanted,
-        },
-        step: 1,
-        rows,
-        times: rows,
-    }
 }
 
-/// The steps one after another.
-fn asked_in<R: AllocGlobal + Abort>(rt: &R, steps: &[Step]) -> Vec<Run> {
-    let mut runs = Vec::new(rt.alloc());
-    for step in steps {
-        add(rt, &mut runs, run_of(*step));
-    }
-    runs
-}
+pub(crate) use step;
 
 /// Each step is told what it has to be, by an engine of one index with so many pages and changes.
 pub(crate) fn assert_told<R: AllocGlobal + Abort + Wait>(
     rt: &R,
     pages: u32,
     changes: u32,
-    steps: &[Step],
+    steps: &[Run],
 ) {
-    counted_alone(rt, &smallest(pages, changes), 1, &asked_in(rt, steps));
+    counted_alone(rt, &smallest(pages, changes), 1, steps);
 }
