@@ -73,8 +73,8 @@ fn upper_half<R: Abort>(rt: &R, alloc: Global, engine: &Engine, pass: &mut Engin
     engine.split(alloc, pass).expect(rt, "the upper half")
 }
 
-/// Cuts the pass in halves so often, has each caller work the rounds on the rows from its number on, all of
-/// them at once, and joins the halves.
+/// Cuts the pass in halves so often, has each caller work the rounds on the rows from its number on,
+/// all of them at once, and joins the halves.
 fn work_lanes<R: Abort + Threads + Wait + Sync>(
     rt: &R,
     alloc: Global,

@@ -57,8 +57,8 @@ fn room<R: AllocGlobal + Abort + Wait>(rt: &R) -> u32 {
     rows
 }
 
-/// The parts of a round, in their order: so many rows are put in, for the next one there is no page, and
-/// all go again, every other one first.
+/// The parts of a round, in their order: so many rows are put in, for the next one there is no page,
+/// and all go again, every other one first.
 fn part_at(rows: u32, place: u32) -> Run {
     match place % 4 {
         0 => long_run(0, 1, rows, PUT_EMPTY, Reply::Ok),

@@ -110,6 +110,6 @@ pub(crate) fn hash<R: AllocGlobal + Abort + Wait>(
             give_back(space, pass, searched.leaf.block);
             ensure(rt, searched.note == Note::Built, "a leaf that gets hashed");
         }
-        KeySearch::Row { .. } => panic!(rt; "it was hashed"),
+        KeySearch::Row { .. } => rt.panic("it was hashed"),
     }
 }

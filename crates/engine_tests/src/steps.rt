@@ -4,8 +4,8 @@ use crate::setup::{counted_alone, smallest};
 use std::process::Abort;
 use std::sync::Wait;
 
-/// One order of a table: the number of a row, how many rows from this one on are asked, what is asked of
-/// each, and what that has to be told. The key of such a row has four bytes.
+/// One order of a table: the number of a row, how many rows from this one on are asked, what is asked
+/// of each, and what that has to be told. The key of such a row has four bytes.
 macro_rules! step {
     ($number:expr, $rows:expr, $order:expr, $wanted:expr $(,)?) => {
         crate::asked::Run {
