@@ -63,30 +63,36 @@ module _ {Sh O C A : Type 0} (p p₀ : PassOf Sh O C A) (is : p ≡ p₀) (s t :
         → ((t.table_id ≡ table) × (t.me.0.terms ≡ terms)) × (t.me.0 ≡ right_part (view p₀)) × (length hand ≡ 0)
     right_given table terms same same' own = ((same ∙ (same' ∙ own.0), ap (λ (z : Knows Sh O C A). z.terms) right_is ∙ own.1), right_is ∙ ap (λ (z : PassOf Sh O C A). right_part (view z)) is, ap length none)
 
-pub split_seat-seat-requires : goal.split_seat-seat-requires
-split_seat-seat-requires g c = ((own_from c.pass.inside.parts c.args.pass.now c.pass.view_is c.args.self.now c.requires.own).0, some_words c.args.self.now, splits _ _ _ _ _ _ _ _ _ _ (two_from c.pass.inside.parts c.args.pass.now c.pass.view_is c.requires.two))
+pub cut_seat-seat-requires-clause-own : goal.cut_seat-seat-requires-clause-own
+cut_seat-seat-requires-clause-own g c = (own_from c.pass.inside.parts c.args.pass.now c.pass.view_is c.args.self.now c.requires.own).0
+
+pub cut_seat-seat-requires-clause-word : goal.cut_seat-seat-requires-clause-word
+cut_seat-seat-requires-clause-word g c = some_words c.args.self.now
+
+pub cut_seat-seat-requires-clause-rule : goal.cut_seat-seat-requires-clause-rule
+cut_seat-seat-requires-clause-rule g c = splits _ _ _ _ _ _ _ _ _ _ (two_from c.pass.inside.parts c.args.pass.now c.pass.view_is c.requires.two)
 
 pub invariant_of-upper : goal.invariant_of-upper
 invariant_of-upper g c =
-    let f = right_fields c.pass.inside.parts c.args.pass.now c.pass.view_is c.split_seat-seat.result c.see-2.new.seat c.see-2.ensures.kept c.split_seat-seat.ensures.4 c.in-Ok.hand.items c.in-Ok.ensures.items c.requires.two in
+    let f = right_fields c.pass.inside.parts c.args.pass.now c.pass.view_is c.cut_seat-seat.result c.see-2.new.seat c.see-2.ensures.kept c.cut_seat-seat.ensures.right.1 c.in-Ok.hand.items c.in-Ok.ensures.items c.requires.two in
     record { numbers = f.numbers; out = f.out; holding = f.holding; once = f.once; all = f.all; room = c.in-Ok.ensures.capacity }
 
 pub invariant_of-parts : goal.invariant_of-parts
 invariant_of-parts g c =
-    let f = left_fields c.pass.inside.parts c.args.pass.now c.pass.view_is c.split_seat-seat.new.seat c.see.new.seat c.see.ensures.kept c.split_seat-seat.ensures.2 c.requires.two in
+    let f = left_fields c.pass.inside.parts c.args.pass.now c.pass.view_is c.cut_seat-seat.new.seat c.see.new.seat c.see.ensures.kept c.cut_seat-seat.ensures.left c.requires.two in
     record { numbers = f.numbers; out = f.out; holding = f.holding; once = f.once; all = f.all; room = c.pass.inside.parts.room }
 
 pub see-requires-clause-own : goal.see-requires-clause-own
-see-requires-clause-own g c = table_after c.pass.inside.parts c.args.pass.now c.pass.view_is c.args.self.now c.split_seat-seat.new.seat c.requires.own c.split_seat-seat.ensures.0
+see-requires-clause-own g c = table_after c.pass.inside.parts c.args.pass.now c.pass.view_is c.args.self.now c.cut_seat-seat.new.seat c.requires.own c.cut_seat-seat.ensures.own.0
 
 pub see-requires-clause-live : goal.see-requires-clause-live
-see-requires-clause-live g c = left_live c.pass.inside.parts.seat.me.0 c.split_seat-seat.new.seat.me.0 (two_from c.pass.inside.parts c.args.pass.now c.pass.view_is c.requires.two) (ap (λ z. z.0) c.split_seat-seat.ensures.2)
+see-requires-clause-live g c = left_live c.pass.inside.parts.seat.me.0 c.cut_seat-seat.new.seat.me.0 (two_from c.pass.inside.parts c.args.pass.now c.pass.view_is c.requires.two) (ap (λ z. z.0) c.cut_seat-seat.ensures.left)
 
 pub see-requires-2-clause-own : goal.see-requires-2-clause-own
-see-requires-2-clause-own g c = table_after c.pass.inside.parts c.args.pass.now c.pass.view_is c.args.self.now c.split_seat-seat.result c.requires.own c.split_seat-seat.ensures.3
+see-requires-2-clause-own g c = table_after c.pass.inside.parts c.args.pass.now c.pass.view_is c.args.self.now c.cut_seat-seat.result c.requires.own c.cut_seat-seat.ensures.right.0
 
 pub see-requires-2-clause-live : goal.see-requires-2-clause-live
-see-requires-2-clause-live g c = right_live c.pass.inside.parts.seat.me.0 c.split_seat-seat.result.me.0 (two_from c.pass.inside.parts c.args.pass.now c.pass.view_is c.requires.two) (ap (λ z. z.0) c.split_seat-seat.ensures.4)
+see-requires-2-clause-live g c = right_live c.pass.inside.parts.seat.me.0 c.cut_seat-seat.result.me.0 (two_from c.pass.inside.parts c.args.pass.now c.pass.view_is c.requires.two) (ap (λ z. z.0) c.cut_seat-seat.ensures.right.1)
 
 pub invariant_of-result : goal.invariant_of-result
 invariant_of-result g c = c.see-2.ensures.fits
@@ -96,14 +102,14 @@ invariant_of-pass g c = c.see.ensures.fits
 
 pub returns-clause-own : goal.returns-clause-own
 returns-clause-own g c = own_after c.pass.inside.parts c.args.pass.now c.pass.view_is c.args.self.now c.see.new.seat c.requires.own
-    (same_seat c.pass.inside.parts.seat c.split_seat-seat.new.seat c.see.new.seat (c.split_seat-seat.ensures.0, c.split_seat-seat.ensures.1) c.see.ensures.own) (left_terms c.pass.inside.parts c.args.pass.now c.pass.view_is c.split_seat-seat.new.seat c.see.new.seat c.see.ensures.kept c.split_seat-seat.ensures.2)
+    (same_seat c.pass.inside.parts.seat c.cut_seat-seat.new.seat c.see.new.seat (c.cut_seat-seat.ensures.own.0, c.cut_seat-seat.ensures.own.1) c.see.ensures.own) (left_terms c.pass.inside.parts c.args.pass.now c.pass.view_is c.cut_seat-seat.new.seat c.see.new.seat c.see.ensures.kept c.cut_seat-seat.ensures.left)
 
 pub returns-clause-kept : goal.returns-clause-kept
-returns-clause-kept g c = left_keeps c.pass.inside.parts c.args.pass.now c.pass.view_is c.split_seat-seat.new.seat c.see.new.seat c.see.ensures.kept c.split_seat-seat.ensures.2
+returns-clause-kept g c = left_keeps c.pass.inside.parts c.args.pass.now c.pass.view_is c.cut_seat-seat.new.seat c.see.new.seat c.see.ensures.kept c.cut_seat-seat.ensures.left
 
 pub returns-clause-given : goal.returns-clause-given
-returns-clause-given g c = right_given c.pass.inside.parts c.args.pass.now c.pass.view_is c.split_seat-seat.result c.see-2.new.seat c.see-2.ensures.kept c.split_seat-seat.ensures.4 c.in-Ok.hand.items c.in-Ok.ensures.items
-    c.args.self.now.table.shared.table_id c.args.self.now.terms c.see-2.ensures.own.0 c.split_seat-seat.ensures.3 (own_from c.pass.inside.parts c.args.pass.now c.pass.view_is c.args.self.now c.requires.own)
+returns-clause-given g c = right_given c.pass.inside.parts c.args.pass.now c.pass.view_is c.cut_seat-seat.result c.see-2.new.seat c.see-2.ensures.kept c.cut_seat-seat.ensures.right.1 c.in-Ok.hand.items c.in-Ok.ensures.items
+    c.args.self.now.table.shared.table_id c.args.self.now.terms c.see-2.ensures.own.0 c.cut_seat-seat.ensures.right.0 (own_from c.pass.inside.parts c.args.pass.now c.pass.view_is c.args.self.now c.requires.own)
 
 pub returns-clause-fits : goal.returns-clause-fits
 returns-clause-fits g c = (c.see.ensures.fits, c.see-2.ensures.fits)

@@ -4,7 +4,7 @@ use Rattle.latch_space.specs.Passes.{values}
 use Rattle.latch_space.proofs.fitted.Pass.look.Goals as goal
 
 pub look-requires : goal.look-requires
-look-requires g c = rw c.self.view_is c.requires
+look-requires g c = record { shown = rw c.self.view_is c.requires }
 
 pub returns : goal.returns
 returns g c = ap (λ z. get_elem? (values z) c.args.object) (sym c.self.view_is) ∙ c.look.ensures

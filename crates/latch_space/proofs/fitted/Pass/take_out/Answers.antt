@@ -5,7 +5,7 @@ use Rattle.latch_space.proofs.Seats.{fitted_from}
 use Rattle.latch_space.proofs.fitted.Pass.take_out.Goals as goal
 
 pub take_out-requires : goal.take_out-requires
-take_out-requires g c = rw c.self.view_is c.requires
+take_out-requires g c = record { shown = rw c.self.view_is c.requires }
 
 pub invariant_of-self : goal.invariant_of-self
 invariant_of-self g c = fitted_from g.W.World.lawful g.W.World.answers g.W.World.refers _ _ (ap (λ z. z.me.0) c.take_out.ensures.seat.0) c.self.invariant

@@ -128,75 +128,83 @@ pub place_of-i-requires : goal.place_of-i-requires
 place_of-i-requires g c = ap (has c.args.object) c.as_slice.ensures.value ∙ has_known c.pass.inside.parts c.args.pass.now c.pass.view_is c.args.object c.requires.known.0 c.requires.known.2
 
 pub turn_by-requires : goal.turn_by-requires
-turn_by-requires g c = may_turn c.pass.inside.parts c.place_of-i.result c.args.object c.as_slice.result.now c.as_slice.ensures.value c.place_of-i.ensures
+turn_by-requires g c = record { few = may_turn c.pass.inside.parts c.place_of-i.result c.args.object c.as_slice.result.now c.as_slice.ensures.value c.place_of-i.ensures }
 
 pub remove-slot-requires : goal.remove-slot-requires
 remove-slot-requires g c = may_remove c.pass.inside.parts c.place_of-i.result c.args.object c.as_slice.result.now c.as_slice.ensures.value c.place_of-i.ensures
 
-pub exchange-empty-requires : goal.exchange-empty-requires
-exchange-empty-requires g c = (
-  table_after c.pass.inside.parts c.args.pass.now c.pass.view_is c.args.self.now c.turn_by.new.seat c.requires.own c.turn_by.ensures.own.0,
-  front_there c.pass.inside.parts c.place_of-i.result c.args.object c.remove-slot.result
-      (taken_at c.pass.inside.parts c.place_of-i.result c.args.object c.as_slice.result.now c.as_slice.ensures.value c.place_of-i.ensures c.remove-slot.result c.remove-slot.ensures.value)
-      c.turn_by.new.seat c.turn_by.ensures.turned,
-)
+pub swap_slot-empty-requires-clause-own : goal.swap_slot-empty-requires-clause-own
+swap_slot-empty-requires-clause-own g c = table_after c.pass.inside.parts c.args.pass.now c.pass.view_is c.args.self.now c.turn_by.new.seat c.requires.own c.turn_by.ensures.own.0
+
+pub swap_slot-empty-requires-clause-last : goal.swap_slot-empty-requires-clause-last
+swap_slot-empty-requires-clause-last g c = front_there c.pass.inside.parts c.place_of-i.result c.args.object c.remove-slot.result
+    (taken_at c.pass.inside.parts c.place_of-i.result c.args.object c.as_slice.result.now c.as_slice.ensures.value c.place_of-i.ensures c.remove-slot.result c.remove-slot.ensures.value)
+    c.turn_by.new.seat c.turn_by.ensures.turned
 
 pub end-requires : goal.end-requires
 end-requires g c = was_empty c.pass.inside.parts c.place_of-i.result c.args.object c.remove-slot.result
     (taken_at c.pass.inside.parts c.place_of-i.result c.args.object c.as_slice.result.now c.as_slice.ensures.value c.place_of-i.ensures c.remove-slot.result c.remove-slot.ensures.value)
-    c.turn_by.new.seat c.turn_by.ensures.turned c.exchange-empty.result c.exchange-empty.ensures.2
+    c.turn_by.new.seat c.turn_by.ensures.turned c.swap_slot-empty.result c.swap_slot-empty.ensures.found
 
-pub store-requires : goal.store-requires
-store-requires g c =
+pub write_word-requires-clause-own : goal.write_word-requires-clause-own
+write_word-requires-clause-own g c =
+    let own = own_from c.pass.inside.parts c.args.pass.now c.pass.view_is c.args.self.now c.requires.own in
+    c.swap_slot-empty.ensures.own.0 ∙ (c.turn_by.ensures.own.0 ∙ own.0)
+
+pub write_word-requires-clause-word : goal.write_word-requires-clause-word
+write_word-requires-clause-word g c =
     let own = own_from c.pass.inside.parts c.args.pass.now c.pass.view_is c.args.self.now c.requires.own in
     let taken = taken_at c.pass.inside.parts c.place_of-i.result c.args.object c.as_slice.result.now c.as_slice.ensures.value c.place_of-i.ensures c.remove-slot.result c.remove-slot.ensures.value in
+    word_of c.pass.inside.parts c.args.self.now own.1 c.remove-slot.result.object taken.within
+
+pub write_word-requires-clause-rule : goal.write_word-requires-clause-rule
+write_word-requires-clause-rule g c =
+    let taken = taken_at c.pass.inside.parts c.place_of-i.result c.args.object c.as_slice.result.now c.as_slice.ensures.value c.place_of-i.ensures c.remove-slot.result c.remove-slot.ensures.value in
     let may = view_from c.pass.inside.parts c.args.pass.now c.pass.view_is (λ v. MayRelease g.W.World.lawful g.W.World.answers g.W.World.refers v c.args.object) c.requires.rule in
-    let r = ready c.pass.inside.parts c.place_of-i.result c.args.object c.remove-slot.result taken c.turn_by.new.seat c.turn_by.ensures.turned c.exchange-empty.new.seat c.new-boxed.result c.turn_by.ensures.own.2 c.exchange-empty.ensures.3 c.requires.known.0 (held_still c.pass.inside.parts c.args.pass.now c.pass.view_is c.args.object c.requires.known.0 c.requires.known.1)
-    g.W.World.lawful g.W.World.answers g.W.World.refers c.new-boxed.ensures (shown_still c.pass.inside.parts c.args.pass.now c.pass.view_is c.args.object c.requires.known.0 c.requires.known.2) may in (
-      c.exchange-empty.ensures.0 ∙ (c.turn_by.ensures.own.0 ∙ own.0),
-      word_of c.pass.inside.parts c.args.self.now own.1 c.remove-slot.result.object taken.within,
-      releases _ _ _ _ _ _ _ _ record { taken = g.W.World.taken; answers_stay = g.W.World.answers_stay; follows_keeps = g.W.World.follows_keeps; refers_stay = g.W.World.refers_stay; refers_new = g.W.World.refers_new; refers_held = g.W.World.refers_held } _ _ _ c.exchange-empty.new.seat.me c.remove-slot.result.object c.requires.known.0 (rest c.turn_by.new.seat.me.1) r.live r.slots r.holds r.rule,
-    )
+    let r = ready c.pass.inside.parts c.place_of-i.result c.args.object c.remove-slot.result taken c.turn_by.new.seat c.turn_by.ensures.turned c.swap_slot-empty.new.seat c.new-boxed.result c.turn_by.ensures.own.2 c.swap_slot-empty.ensures.after c.requires.known.0 (held_still c.pass.inside.parts c.args.pass.now c.pass.view_is c.args.object c.requires.known.0 c.requires.known.1)
+    g.W.World.lawful g.W.World.answers g.W.World.refers c.new-boxed.ensures (shown_still c.pass.inside.parts c.args.pass.now c.pass.view_is c.args.object c.requires.known.0 c.requires.known.2) may in releases _ _ _ _ _ _ _ _ record { taken = g.W.World.taken; answers_stay = g.W.World.answers_stay; follows_keeps = g.W.World.follows_keeps; refers_stay = g.W.World.refers_stay; refers_new = g.W.World.refers_new; refers_held = g.W.World.refers_held } _ _ _ c.swap_slot-empty.new.seat.me c.remove-slot.result.object c.requires.known.0 (rest c.turn_by.new.seat.me.1) r.live r.slots r.holds r.rule
 
 pub turn_by-requires-2 : goal.turn_by-requires-2
-turn_by-requires-2 g c = may_turn_behind c.pass.inside.parts c.place_of-i.result c.args.object c.remove-slot.result
-    (taken_at c.pass.inside.parts c.place_of-i.result c.args.object c.as_slice.result.now c.as_slice.ensures.value c.place_of-i.ensures c.remove-slot.result c.remove-slot.ensures.value) c.requires.known.0 c.store.new.seat c.store.new.seat
-    (gone_from c.pass.inside.parts c.place_of-i.result c.args.object c.remove-slot.result
-    (taken_at c.pass.inside.parts c.place_of-i.result c.args.object c.as_slice.result.now c.as_slice.ensures.value c.place_of-i.ensures c.remove-slot.result c.remove-slot.ensures.value)
-    c.turn_by.new.seat c.turn_by.ensures.turned c.exchange-empty.new.seat c.new-boxed.result c.turn_by.ensures.own.2 c.exchange-empty.ensures.3 c.requires.known.0 (held_still c.pass.inside.parts c.args.pass.now c.pass.view_is c.args.object c.requires.known.0 c.requires.known.1) c.store.new.seat c.store.ensures.2.0) refl
-    (c.len.result - c.place_of-i.result)
-    (behind_is c.pass.inside.parts c.place_of-i.result c.args.object c.remove-slot.result
-    (taken_at c.pass.inside.parts c.place_of-i.result c.args.object c.as_slice.result.now c.as_slice.ensures.value c.place_of-i.ensures c.remove-slot.result c.remove-slot.ensures.value)
-    c.len.result (vec_len c.remove-slot.new.self) c.len.ensures c.remove-slot.ensures.len)
+turn_by-requires-2 g c = record {
+  few = may_turn_behind c.pass.inside.parts c.place_of-i.result c.args.object c.remove-slot.result
+      (taken_at c.pass.inside.parts c.place_of-i.result c.args.object c.as_slice.result.now c.as_slice.ensures.value c.place_of-i.ensures c.remove-slot.result c.remove-slot.ensures.value) c.requires.known.0 c.write_word.new.seat c.write_word.new.seat
+      (gone_from c.pass.inside.parts c.place_of-i.result c.args.object c.remove-slot.result
+      (taken_at c.pass.inside.parts c.place_of-i.result c.args.object c.as_slice.result.now c.as_slice.ensures.value c.place_of-i.ensures c.remove-slot.result c.remove-slot.ensures.value)
+      c.turn_by.new.seat c.turn_by.ensures.turned c.swap_slot-empty.new.seat c.new-boxed.result c.turn_by.ensures.own.2 c.swap_slot-empty.ensures.after c.requires.known.0 (held_still c.pass.inside.parts c.args.pass.now c.pass.view_is c.args.object c.requires.known.0 c.requires.known.1) c.write_word.new.seat c.write_word.ensures.told.0) refl
+      (c.len.result - c.place_of-i.result)
+      (behind_is c.pass.inside.parts c.place_of-i.result c.args.object c.remove-slot.result
+      (taken_at c.pass.inside.parts c.place_of-i.result c.args.object c.as_slice.result.now c.as_slice.ensures.value c.place_of-i.ensures c.remove-slot.result c.remove-slot.ensures.value)
+      c.len.result (vec_len c.remove-slot.new.self) c.len.ensures c.remove-slot.ensures.len);
+}
 
 pub invariant_of-parts : goal.invariant_of-parts
 invariant_of-parts g c =
     let taken = (taken_at c.pass.inside.parts c.place_of-i.result c.args.object c.as_slice.result.now c.as_slice.ensures.value c.place_of-i.ensures c.remove-slot.result c.remove-slot.ensures.value) in
-    let f = fields_after c.pass.inside.parts c.place_of-i.result c.args.object c.remove-slot.result taken c.requires.known.0 c.store.new.seat c.turn_by-2.new.seat
-    (gone_from c.pass.inside.parts c.place_of-i.result c.args.object c.remove-slot.result taken c.turn_by.new.seat c.turn_by.ensures.turned c.exchange-empty.new.seat c.new-boxed.result c.turn_by.ensures.own.2 c.exchange-empty.ensures.3 c.requires.known.0 (held_still c.pass.inside.parts c.args.pass.now c.pass.view_is c.args.object c.requires.known.0 c.requires.known.1) c.store.new.seat c.store.ensures.2.0) c.turn_by-2.ensures.own.2
+    let f = fields_after c.pass.inside.parts c.place_of-i.result c.args.object c.remove-slot.result taken c.requires.known.0 c.write_word.new.seat c.turn_by-2.new.seat
+    (gone_from c.pass.inside.parts c.place_of-i.result c.args.object c.remove-slot.result taken c.turn_by.new.seat c.turn_by.ensures.turned c.swap_slot-empty.new.seat c.new-boxed.result c.turn_by.ensures.own.2 c.swap_slot-empty.ensures.after c.requires.known.0 (held_still c.pass.inside.parts c.args.pass.now c.pass.view_is c.args.object c.requires.known.0 c.requires.known.1) c.write_word.new.seat c.write_word.ensures.told.0) c.turn_by-2.ensures.own.2
     (c.len.result - c.place_of-i.result) c.remove-slot.new.self.items (behind_is c.pass.inside.parts c.place_of-i.result c.args.object c.remove-slot.result taken c.len.result (vec_len c.remove-slot.new.self) c.len.ensures c.remove-slot.ensures.len) c.turn_by-2.ensures.turned c.remove-slot.ensures.items in
     record { numbers = f.numbers; out = f.out; holding = f.holding; once = f.once; all = f.all; room = room_stays c.pass.inside.parts c.remove-slot.new.self.cap c.remove-slot.ensures.capacity }
 
 pub returns-clause-did : goal.returns-clause-did
 returns-clause-did g c =
     let taken = (taken_at c.pass.inside.parts c.place_of-i.result c.args.object c.as_slice.result.now c.as_slice.ensures.value c.place_of-i.ensures c.remove-slot.result c.remove-slot.ensures.value) in
-    let d = did_release c.pass.inside.parts c.place_of-i.result c.args.object c.remove-slot.result taken c.requires.known.0 c.store.new.seat c.turn_by-2.new.seat
-    (gone_from c.pass.inside.parts c.place_of-i.result c.args.object c.remove-slot.result taken c.turn_by.new.seat c.turn_by.ensures.turned c.exchange-empty.new.seat c.new-boxed.result c.turn_by.ensures.own.2 c.exchange-empty.ensures.3 c.requires.known.0 (held_still c.pass.inside.parts c.args.pass.now c.pass.view_is c.args.object c.requires.known.0 c.requires.known.1) c.store.new.seat c.store.ensures.2.0) c.turn_by-2.ensures.own.2
+    let d = did_release c.pass.inside.parts c.place_of-i.result c.args.object c.remove-slot.result taken c.requires.known.0 c.write_word.new.seat c.turn_by-2.new.seat
+    (gone_from c.pass.inside.parts c.place_of-i.result c.args.object c.remove-slot.result taken c.turn_by.new.seat c.turn_by.ensures.turned c.swap_slot-empty.new.seat c.new-boxed.result c.turn_by.ensures.own.2 c.swap_slot-empty.ensures.after c.requires.known.0 (held_still c.pass.inside.parts c.args.pass.now c.pass.view_is c.args.object c.requires.known.0 c.requires.known.1) c.write_word.new.seat c.write_word.ensures.told.0) c.turn_by-2.ensures.own.2
     c.args.pass.now c.remove-slot.new.self.items (vec_len c.remove-slot.new.self) c.pass.view_is (held_still c.pass.inside.parts c.args.pass.now c.pass.view_is c.args.object c.requires.known.0 c.requires.known.1) c.remove-slot.ensures.items c.remove-slot.new.self.ok.0 c.remove-slot.ensures.len in
     record { holding = d.at; held = d.held; view = d.now; values = d.vals; gave = record { lacks = d.lacks; others = d.others; count = d.less } }
 
 pub returns-clause-own : goal.returns-clause-own
 returns-clause-own g c = own_after c.pass.inside.parts c.args.pass.now c.pass.view_is c.args.self.now c.turn_by-2.new.seat c.requires.own
-    (same_seat c.pass.inside.parts.seat c.store.new.seat c.turn_by-2.new.seat
-    (same_seat c.pass.inside.parts.seat c.exchange-empty.new.seat c.store.new.seat
-    (same_seat c.pass.inside.parts.seat c.turn_by.new.seat c.exchange-empty.new.seat (c.turn_by.ensures.own.0, c.turn_by.ensures.own.1) (c.exchange-empty.ensures.0, c.exchange-empty.ensures.1))
-    (c.store.ensures.0, c.store.ensures.1))
+    (same_seat c.pass.inside.parts.seat c.write_word.new.seat c.turn_by-2.new.seat
+    (same_seat c.pass.inside.parts.seat c.swap_slot-empty.new.seat c.write_word.new.seat
+    (same_seat c.pass.inside.parts.seat c.turn_by.new.seat c.swap_slot-empty.new.seat (c.turn_by.ensures.own.0, c.turn_by.ensures.own.1) (c.swap_slot-empty.ensures.own.0, c.swap_slot-empty.ensures.own.1))
+    (c.write_word.ensures.own.0, c.write_word.ensures.own.1))
     (c.turn_by-2.ensures.own.0, c.turn_by-2.ensures.own.1))
     (terms_after c.pass.inside.parts c.place_of-i.result c.args.object c.remove-slot.result
-    (taken_at c.pass.inside.parts c.place_of-i.result c.args.object c.as_slice.result.now c.as_slice.ensures.value c.place_of-i.ensures c.remove-slot.result c.remove-slot.ensures.value) c.requires.known.0 c.store.new.seat c.turn_by-2.new.seat
+    (taken_at c.pass.inside.parts c.place_of-i.result c.args.object c.as_slice.result.now c.as_slice.ensures.value c.place_of-i.ensures c.remove-slot.result c.remove-slot.ensures.value) c.requires.known.0 c.write_word.new.seat c.turn_by-2.new.seat
     (gone_from c.pass.inside.parts c.place_of-i.result c.args.object c.remove-slot.result
     (taken_at c.pass.inside.parts c.place_of-i.result c.args.object c.as_slice.result.now c.as_slice.ensures.value c.place_of-i.ensures c.remove-slot.result c.remove-slot.ensures.value)
-    c.turn_by.new.seat c.turn_by.ensures.turned c.exchange-empty.new.seat c.new-boxed.result c.turn_by.ensures.own.2 c.exchange-empty.ensures.3 c.requires.known.0 (held_still c.pass.inside.parts c.args.pass.now c.pass.view_is c.args.object c.requires.known.0 c.requires.known.1) c.store.new.seat c.store.ensures.2.0)
+    c.turn_by.new.seat c.turn_by.ensures.turned c.swap_slot-empty.new.seat c.new-boxed.result c.turn_by.ensures.own.2 c.swap_slot-empty.ensures.after c.requires.known.0 (held_still c.pass.inside.parts c.args.pass.now c.pass.view_is c.args.object c.requires.known.0 c.requires.known.1) c.write_word.new.seat c.write_word.ensures.told.0)
     c.turn_by-2.ensures.own.2)
 
 pub overflow_sub-rest : goal.overflow_sub-rest
@@ -205,7 +213,7 @@ overflow_sub-rest g c = no_less c.pass.inside.parts c.place_of-i.result c.args.o
     c.len.result (vec_len c.remove-slot.new.self) c.len.ensures c.remove-slot.ensures.len
 
 pub invariant_of-pass : goal.invariant_of-pass
-invariant_of-pass g c = fitted_from g.W.World.lawful g.W.World.answers g.W.World.refers c.store.new.seat.me.0 c.turn_by-2.new.seat.me.0 c.turn_by-2.ensures.own.2 c.store.ensures.2.1
+invariant_of-pass g c = fitted_from g.W.World.lawful g.W.World.answers g.W.World.refers c.write_word.new.seat.me.0 c.turn_by-2.new.seat.me.0 c.turn_by-2.ensures.own.2 c.write_word.ensures.told.1
 
 pub returns-clause-fits : goal.returns-clause-fits
-returns-clause-fits g c = fitted_from g.W.World.lawful g.W.World.answers g.W.World.refers c.store.new.seat.me.0 c.turn_by-2.new.seat.me.0 c.turn_by-2.ensures.own.2 c.store.ensures.2.1
+returns-clause-fits g c = fitted_from g.W.World.lawful g.W.World.answers g.W.World.refers c.write_word.new.seat.me.0 c.turn_by-2.new.seat.me.0 c.turn_by-2.ensures.own.2 c.write_word.ensures.told.1
