@@ -17,8 +17,9 @@ pub fn merge<'a>(
 ) -> Result<Vec<Vec<LaneChange<'a>>>, NoMemory>
     ensures { IfOk result (λ all. AreMerges indexes logs.now (note_lists all.items)) }
 {
-    let lists = spread(alloc, logs, indexes)?;
-    Ok(sort_each(alloc, lists)?)
+    let mut lists = spread(alloc, logs, indexes)?;
+    sort_each(&mut lists)?;
+    Ok(lists)
 }
 
 /// The changes of each index, in the order of the logs.
@@ -47,19 +48,14 @@ fn empty_lists<'a>(alloc: Global, count: usize) -> Result<Vec<Vec<LaneChange<'a>
 }
 
 /// Each list by ascending number.
-fn sort_each<'a>(
-    alloc: Global,
-    lists: Vec<Vec<LaneChange<'a>>>,
-) -> Result<Vec<Vec<LaneChange<'a>>>, AllocError>
-    ensures { IfOk result (λ sorted.
-        AllZip IsSorted (note_lists lists.entry.items) (note_lists sorted.items)) }
+fn sort_each(lists: &mut Vec<Vec<LaneChange<'_>>>) -> Result<(), AllocError>
+    ensures { OnOk result
+        (AllZip IsSorted (note_lists lists.old.items) (note_lists lists.new.items)) }
 {
-    let mut sorted = Vec::with_capacity(alloc, lists.len())?;
-    for mut list in lists {
-        sort(&mut list)?;
-        sorted.push(list)?;
+    for i in 0..lists.len() {
+        sort(&mut lists[i])?;
     }
-    Ok(sorted)
+    Ok(())
 }
 
 fn sort(list: &mut Vec<LaneChange<'_>>) -> Result<(), AllocError>
