@@ -1,10 +1,9 @@
 //! All lanes at once.
 ghost use Rattle.std.specs.List.{AllZip};
-ghost use Rattle.std.specs.Thread.{IsSync};
 
 use crate::{Doer, Gate};
 use std::sync::Wait;
-use std::thread::{Threads, join_mut};
+use std::thread::{Threads, for_each_mut};
 
 /// Lets each doer work once, in a thread of its own where one can be made, and gives them back in
 /// order.
@@ -20,7 +19,7 @@ pub fn run_lanes<R: Threads + Sync, W: Wait + Sync, D: Doer, G: Gate + Sync>(
     doers
 }
 
-// Halves of halves, down to one doer.
+/// As many threads as doers: `for_each_mut` parts the doers into halves of halves, down to one.
 fn work_all<R: Threads + Sync, W: Wait + Sync, D: Doer, G: Gate + Sync>(
     rt: &R,
     wait: &W,
@@ -29,23 +28,18 @@ fn work_all<R: Threads + Sync, W: Wait + Sync, D: Doer, G: Gate + Sync>(
 )
     ensures { AllZip D.worked doers.old doers.new }
 {
-    if let [doer] = doers {
-        doer.work(rt, wait, gate);
+    let threads = doers.len();
+    if threads == 0 {
         return;
     }
-    if doers.is_empty() {
-        return;
-    }
-    let (front, back) = doers.split_at_mut(doers.len() / 2);
-    join_mut(
+    for_each_mut(
         rt,
-        &mut ||
-            requires { IsSync R.row × IsSync W.row × IsSync G.row }
-            ensures { AllZip D.worked front.entry.now front.exit.now }
-        { work_all(rt, wait, gate, front) },
-        &mut ||
-            requires { IsSync R.row × IsSync W.row × IsSync G.row }
-            ensures { AllZip D.worked back.entry.now back.exit.now }
-        { work_all(rt, wait, gate, back) },
+        doers,
+        threads,
+        &|_: usize, doer: &mut D|
+            ensures { D.worked doer.entry.now doer.exit.now }
+        {
+            doer.work(rt, wait, gate);
+        },
     );
 }

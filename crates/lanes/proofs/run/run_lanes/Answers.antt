@@ -1,4 +1,4 @@
-use Rattle.lanes.proofs.Halves.{AllZip-lent}
+use Rattle.lanes.proofs.Doers.{AllZip-lent}
 use Rattle.lanes.proofs.run.run_lanes.Goals as goal
 
 pub returns : goal.returns
