@@ -8,7 +8,7 @@ use Rattle.map_history.specs.declared.counts.Counts.{Counts}
 use Rattle.lane_threads.specs.Engine.{EnginePass}
 use Rattle.lane_threads.specs.declared.doer.DoneLane.{DoneLane}
 use Rattle.lane_threads.specs.declared.doer.LaneDoer.{LaneDoer}
-use Rattle.lane_threads.specs.Doing.{AreParts, HasRoom}
+use Rattle.lane_threads.specs.Doing.{AreParts, HasRoomBehind}
 
 push_map : {X Y : Type 0} (f : X → Y) (xs : List X) (ys ys' : List Y) (x : X) → ys ≡ map f xs → ys' ≡ ys ++ f x ∷ [] → ys' ≡ map f (xs ++ x ∷ [])
 push_map f xs ys ys' x is added = added ∙ (ap (λ zs. zs ++ f x ∷ []) is ∙ sym (map-append f xs (x ∷ [])))
@@ -27,9 +27,9 @@ parts_more doers doer lane passes passes' texts texts' logs logs' counts counts'
 }
 
 -- room for one more
-pub has_room : {X : Type 0} (old new : Vec X Global) → new.items ≡ old.items → vec_len new + 1 ≤ vec_capacity new → HasRoom old new
+pub has_room : {X : Type 0} (old new : Vec X Global) → new.items ≡ old.items → vec_len new + 1 ≤ vec_capacity new → HasRoomBehind old new
 has_room old new same fits = (same, omega (arith, fits))
 
 -- what stands behind is one more than before
-pub put_behind : {X : Type 0} (old with_room : Vec X Global) (new : List X) (x : X) → HasRoom old with_room → new ≡ with_room.items ++ x ∷ [] → new ≡ old.items ++ x ∷ []
+pub put_behind : {X : Type 0} (old with_room : Vec X Global) (new : List X) (x : X) → HasRoomBehind old with_room → new ≡ with_room.items ++ x ∷ [] → new ≡ old.items ++ x ∷ []
 put_behind old with_room new x room added = added ∙ ap (λ xs. xs ++ x ∷ []) room.0

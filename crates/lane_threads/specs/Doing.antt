@@ -62,12 +62,12 @@ AddsPartsOf doer old new = (doers : List LaneDoer) → ArePartsOf doers old
     → ArePartsOf (doers ++ doer ∷ []) new
 
 -- the list has what it had, and room for one more
-abbrev pub HasRoom : {X : Type 0} → Vec X Global → Vec X Global → Type 0
-HasRoom old new = (new.items ≡ old.items) × (vec_len new < vec_capacity new)
+abbrev pub HasRoomBehind : {X : Type 0} → Vec X Global → Vec X Global → Type 0
+HasRoomBehind old new = (new.items ≡ old.items) × (vec_len new < vec_capacity new)
 
 -- each list of parts has
 pub record GetsRoom (old new : Parts) : Type 0 where
-  pub passes : HasRoom old.passes new.passes
-  pub answers : HasRoom old.answers new.answers
-  pub logs : HasRoom old.logs new.logs
-  pub counts : HasRoom old.counts new.counts
+  pub passes : HasRoomBehind old.passes new.passes
+  pub answers : HasRoomBehind old.answers new.answers
+  pub logs : HasRoomBehind old.logs new.logs
+  pub counts : HasRoomBehind old.counts new.counts
