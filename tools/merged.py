@@ -20,25 +20,24 @@ import shutil
 import sys
 
 import crates_txt
+from reached import KINDS, MADE, Kept, reached
 
 PROGRAM = "ahi"
 # The larger crates, and what they are made of.
 PARTS = {
-    "ahi_orders": ["settings", "report_examples", "report_laws"],
-    "ahi_ports": ["io_port", "first_line"],
+    "ahi_ports": ["io_port", "first_line", "lanes"],
+    "ahi_texts": ["settings", "script", "refusal_text"],
     "ahi_chains": ["chain_arena", "hash_partition"],
     "ahi_laws": ["clock_law", "index_law", "forest_law", "call_law"],
     "ahi_moves": ["tree_restructure", "tree_facts"],
-    "ahi_rows": ["tree_merging", "leaf_rows"],
+    "ahi_rows": ["guess_check", "tree_merging", "leaf_rows"],
     "ahi_pool": ["forest_world", "hash_maintain", "buffer_pool", "engine_law"],
-    "ahi_searches": ["leaf_search", "tree_neighbours", "index_seeks"],
-    "ahi_changes": ["tree_growth", "tree_shrinking", "leaf_changes"],
+    "ahi_searches": ["hash_guess", "leaf_search", "tree_neighbours", "index_seeks"],
+    "ahi_changes": ["tree_growth", "tree_shrinking"],
     "ahi_reports": ["change_log", "column_counts", "report_text"],
     "ahi_lanes": ["lane_law", "report_print"],
     "ahi": ["index_engine", "lane_threads", "ahi_cli", "ahi"],
 }
-# What stands before the names of modules that the kit makes of code.
-MADE = "declared|contracts|lemmas"
 TACTIC = "#![tactic(auto)]\n"
 
 
@@ -88,17 +87,9 @@ def write(path, text):
         file.write(text)
 
 
-def files_of(crate, kind):
-    """The paths of a crate's files of this kind, and their texts."""
-    top = os.path.join(crate.folder, kind)
-    for folder, _, names in os.walk(top):
-        for name in names:
-            with open(os.path.join(folder, name), encoding="utf-8") as file:
-                yield os.path.relpath(file.name, top), file.read()
-
-
-def write_code(merger, crate, to):
-    for path, text in files_of(crate, "src"):
+def write_code(merger, kept, to):
+    crate = kept.crate
+    for path, text in kept.files("src"):
         text = merger.code(text, crate.name)
         if crate.name == PROGRAM:
             write(os.path.join(to, path), text)
@@ -107,10 +98,11 @@ def write_code(merger, crate, to):
             write(os.path.join(to, crate.name, path), text.replace(TACTIC, ""))
 
 
-def write_proofs(merger, crate, kind, to):
+def write_proofs(merger, kept, kind, to):
     """Writes definitions or proofs. Those of functions lie in folders by the names of modules."""
+    crate = kept.crate
     own = folder_of(crate.name)
-    for path, text in files_of(crate, kind):
+    for path, text in kept.files(kind):
         if path == "Lib.antt":
             # what is private to a crate is private to its part
             path, text = f"{own}.antt", re.sub(r"^mod ", "pub mod ", text, flags=re.M)
@@ -138,21 +130,21 @@ def write_roots(names, to):
         write(os.path.join(to, kind, "Lib.antt"), "".join(f"pub mod {it}\n" for it in made))
 
 
-def write_alone(merger, crate, to):
-    """Writes a crate that stands on larger ones and is part of none."""
-    for kind in ("src", "specs", "proofs"):
-        for path, text in files_of(crate, kind):
-            text = merger.code(text, crate.name) if kind == "src" else merger.proof(text)
+def write_alone(merger, kept, to):
+    """Writes a crate that is part of no larger one."""
+    for kind in KINDS:
+        for path, text in kept.files(kind):
+            text = merger.code(text, kept.crate.name) if kind == "src" else merger.proof(text)
             write(os.path.join(to, kind, path), text)
 
 
-def write_part(merger, crates, to):
+def write_part(merger, parts, to):
     """Writes one of the larger crates."""
-    for crate in crates:
-        write_code(merger, crate, os.path.join(to, "src"))
+    for kept in parts:
+        write_code(merger, kept, os.path.join(to, "src"))
         for kind in ("specs", "proofs"):
-            write_proofs(merger, crate, kind, os.path.join(to, kind))
-    write_roots([it.name for it in crates], to)
+            write_proofs(merger, kept, kind, os.path.join(to, kind))
+    write_roots([it.crate.name for it in parts], to)
 
 
 def in_order(made):
@@ -168,25 +160,25 @@ def in_order(made):
 
 
 def write_all(top):
-    """Writes the larger crates, and those that stand on them, each to a folder of its own, and answers
-    what the program is made of then."""
+    """Writes what the program stands on to a folder, some of it as larger crates, and answers what the
+    program is made of then."""
     crates = crates_txt.read()
+    crates = {it: crates[it] for it in [*crates_txt.below(crates, PROGRAM), PROGRAM]}
+    files = reached(crates, PROGRAM)
     merger = Merger()
     shutil.rmtree(top, ignore_errors=True)
     made = {}
-    for name in [*crates_txt.below(crates, PROGRAM), PROGRAM]:
+    for name in crates:
         part = merger.part_of.get(name, name)
-        if part in made:
+        if part in made or name not in files:
             continue
-        own = [crates[it] for it in PARTS.get(part, [name])]
+        own = [Kept(crates[it], files[it]) for it in PARTS.get(part, [name])]
         to = os.path.join(top, part)
         if part in PARTS:
             write_part(merger, own, to)
-        elif merger.part_of.keys() & set(own[0].stands_on):
-            write_alone(merger, own[0], to)
         else:
-            to = own[0].folder
-        below = (merger.part_of.get(it, it) for crate in own for it in crate.stands_on)
-        stands_on = [it for it in dict.fromkeys(below) if it != part]
+            write_alone(merger, own[0], to)
+        left = [it for kept in own for it in kept.crate.stands_on if it in files or it not in crates]
+        stands_on = [it for it in dict.fromkeys(merger.part_of.get(it, it) for it in left) if it != part]
         made[part] = crates_txt.Crate(part, "", stands_on, to)
     return in_order(made)
