@@ -1,7 +1,7 @@
 """Crates of the program as modules of larger ones. A library holds what can be cited of each type that
 its public functions mention, and of all that these types hold: 44 MB for `forest_world`, whose code is
 5 kB. Each crate above that reads and writes it once more. So tools/build has some crates that stand on
-one another proved as one.
+one another proved as one. Files that the program doesn't stand on are left out (tools/reached.py).
 
 What changes in a file are paths alone. Of a crate `low` among those of `ahi_pool`
 
@@ -32,7 +32,7 @@ PARTS = {
     "ahi_moves": ["tree_restructure", "tree_facts"],
     "ahi_rows": ["guess_check", "tree_merging", "leaf_rows"],
     "ahi_pool": ["forest_world", "hash_maintain", "buffer_pool", "engine_law"],
-    "ahi_searches": ["hash_guess", "leaf_search", "tree_neighbours", "index_seeks"],
+    "ahi_searches": ["leaf_search", "tree_neighbours", "index_seeks"],
     "ahi_changes": ["tree_growth", "tree_shrinking"],
     "ahi_reports": ["change_log", "column_counts", "report_text"],
     "ahi_lanes": ["lane_law", "report_print"],

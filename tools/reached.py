@@ -1,10 +1,10 @@
 """Which files of the crates the program stands on: those that its own files name, and those that these
-name in turn, whether code, definitions or proofs. Laws for readers, and what only tests use, are left:
-the gate proves them too, a first use doesn't.
+name in turn, whether code, definitions or proofs. Laws for readers and what only tests use are left out:
+the gate proves them, and a first use doesn't.
 
-What a file names is read off its text. A file of code names the modules of its `use` lines and paths,
-and it has the answers of its functions with it. One that has methods of a type that stands elsewhere
-comes with its crate."""
+What a file names is read off its text: a file of code names the modules of its `use` lines and of its
+paths, and what the answers of its functions' proofs name. A file with methods of a type that stands in
+another comes with its crate."""
 
 import collections
 import os
@@ -39,9 +39,15 @@ def subject(head):
     return re.search(r"\w+", it[place:])[0]
 
 
+def has_methods_of_others(text):
+    """Whether a file of code has methods of a type that stands in another."""
+    own = set(TYPE.findall(text))
+    return any(subject(it) not in own for it in METHODS.findall(text))
+
+
 class Texts:
-    """A crate's files: each module of code, of definitions and of proofs by its name, and the answers of
-    the functions of a module."""
+    """A crate's files by kind and name, the answers of the functions of each module, the modules that come
+    with any other (`first`), and in which module each name stands that the crate gives (`homes`)."""
 
     def __init__(self, crate):
         self.files = {kind: {} for kind in KINDS}
@@ -53,9 +59,11 @@ class Texts:
                     self.answers[self.module_of(first)].append(text)
                 else:
                     self.files[kind][first.split(".")[0]] = text
+        code = self.files["src"]
         self.root = self.module_of("")
+        self.first = [self.root, *(it for it, text in code.items() if has_methods_of_others(text))]
         self.homes = {}
-        for module, several, one in HANDED_ON.findall(self.files["src"][self.root]):
+        for module, several, one in HANDED_ON.findall(code[self.root]):
             self.homes.update((name, module) for name in re.findall(r"\w+", several or one))
 
     def module_of(self, folder):
@@ -63,13 +71,6 @@ class Texts:
         if folder in self.files["src"]:
             return folder
         return "main" if "main" in self.files["src"] else "lib"
-
-    def with_methods_of_others(self):
-        """The modules that have methods of types that stand in other files."""
-        for name, text in self.files["src"].items():
-            own = set(TYPE.findall(text))
-            if any(subject(it) not in own for it in METHODS.findall(text)):
-                yield name
 
 
 class Reach:
@@ -106,8 +107,7 @@ class Reach:
         text = texts.files[kind][name]
         yield from self.cited(crate, text)
         if kind == "src":
-            yield crate, kind, texts.root
-            yield from ((crate, kind, it) for it in texts.with_methods_of_others())
+            yield from ((crate, kind, it) for it in texts.first)
             for answer in texts.answers[name]:
                 yield from self.cited(crate, answer)
             yield from self.named(crate, text)
