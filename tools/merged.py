@@ -32,7 +32,7 @@ PARTS = {
     "ahi_moves": ["tree_restructure", "tree_facts"],
     "ahi_rows": ["guess_check", "tree_merging", "leaf_rows"],
     "ahi_pool": ["forest_world", "hash_maintain", "buffer_pool", "engine_law"],
-    "ahi_searches": ["leaf_search", "tree_neighbours", "index_seeks"],
+    "ahi_searches": ["hash_guess", "leaf_search", "tree_neighbours", "index_seeks"],
     "ahi_changes": ["tree_growth", "tree_shrinking"],
     "ahi_reports": ["change_log", "column_counts", "report_text"],
     "ahi_lanes": ["lane_law", "report_print"],
