@@ -6,6 +6,8 @@ pub mod Figures
 pub mod Limits
 pub mod Parts
 pub mod Buffer
+pub mod FieldsWithRoom
+pub mod KeyRoom
 pub mod Laws
 pub mod Fold
 pub mod FoldLaws

@@ -1,7 +1,7 @@
 //! Fields in one buffer with the offsets of their ends.
 ghost use Rattle.std.specs.Prelude.{◌≡◌, ◌+◌, ◌<◌, ◌≤◌, [], ◌∷◌, ◌++◌, length, IfOk, IsOk, OnOk, OnErr, slice_index, slice_index_or};
 ghost use Rattle.key_tuple.specs.Order.{byte_count};
-ghost use Rattle.key_tuple.specs.Limits.{FIELD_ROOM};
+ghost use Rattle.key_tuple.specs.Limits.{FIELD_ROOM, IsWithinLimits, MAX_KEY_BYTES};
 ghost use Rattle.key_tuple.specs.Parts.{parts, RiseTo};
 
 use crate::FIELD_ROOM;
@@ -85,6 +85,20 @@ impl FieldBuffer {
         self.ends[usize::from(self.count)] = self.bytes.len() as u16;
         self.count += 1;
         Ok(())
+    }
+
+    /// Puts these fields in the place of those before, where there is room for each key. It takes
+    /// no memory.
+    pub fn refill<A: Fields>(&mut self, from: &A)
+        requires limits { IsWithinLimits (A.fields_of from.now) }
+        requires room { MAX_KEY_BYTES ≤ self.old.room }
+        ensures fields { self.new.fields ≡ A.fields_of from.now }
+        ensures room { self.old.room ≤ self.new.room }
+    {
+        self.clear();
+        for i in 0..from.count() {
+            let _room_holds = self.push(from.field(i));
+        }
     }
 }
 

@@ -1,23 +1,36 @@
 //! A key: a tuple with at least one field.
-ghost use Rattle.std.specs.Prelude.{◌≡◌, ◌<◌, ◌⊎◌, length, map, IfOk, IfErr, IfSome, Some};
-ghost use Rattle.key_tuple.specs.Limits.{IsWithinLimits, refusal_of};
+ghost use Rattle.std.specs.Prelude.{◌≡◌, ◌<◌, ◌≤◌, ◌⊎◌, [], length, map, replicate, IfOk, IfErr, IfSome, Some};
+ghost use Rattle.key_tuple.specs.Limits.{MAX_FIELDS, MAX_KEY_BYTES, refusal_of};
+ghost use Rattle.key_tuple.specs.Order.{byte_count};
 ghost use Rattle.key_tuple.specs.Parts.{parts, RiseTo};
 
-use crate::error::KeyError;
+use crate::error::{KeyError, NoMemory};
 use crate::fields::Fields;
 use crate::order::compare_whole;
 use crate::tuple::Tuple;
 use std::alloc::{AllocError, Global};
 use std::cmp::Ordering;
 use std::hash::{Hash, Hasher};
+use std::marker::Model;
 
-/// A whole key. Its fields are those of `tuple`; `room` is the number of fields that its buffer was
-/// made to be refilled with, 0 for a key that isn't refilled, and plays no part in comparisons.
+/// A whole key. It is seen as its fields, `tuple`, and `room`: the number of fields that it was made
+/// to be refilled with, 0 for a key that isn't refilled. `room` plays no part in comparisons.
 #[derive(Drop)]
 pub struct Key {
     tuple: Tuple,
     room: u8,
-    ghost some: { 0 < length tuple },
+}
+
+impl Model for Key {
+    ghost use Rattle.key_tuple.specs.FieldsWithRoom.{FieldsWithRoom};
+
+    ghost Value = { FieldsWithRoom };
+
+    ghost use Rattle.key_tuple.specs.KeyRoom.{IsKey};
+
+    ghost view = { λ k. record { tuple = k.tuple.fields; room = k.room } };
+
+    ghost invariant = { IsKey };
 }
 
 impl Key {
@@ -49,9 +62,36 @@ impl Key {
         Ok(Key { tuple, room: 0 })
     }
 
+    /// A key of so many empty fields, which can be refilled with as many: it has room for the
+    /// largest key.
+    pub fn with_room(alloc: Global, fields: u8) -> Result<Key, NoMemory>
+        requires some { 1 ≤ fields }
+        requires few { fields ≤ MAX_FIELDS }
+        ensures empty { IfOk result (λ k. k.tuple ≡ replicate fields []) }
+        ensures room { IfOk result (λ k. k.room ≡ fields) }
+    {
+        let tuple = Tuple::with_room(alloc, fields)?;
+        Ok(Key {
+            tuple,
+            room: fields,
+        })
+    }
+
+    /// Puts these fields in the place of those before, in a key that `with_room` made for as many.
+    /// It takes no memory.
+    pub fn refill<A: Fields>(&mut self, from: &A)
+        requires some { 1 ≤ length (A.fields_of from.now) }
+        requires few { length (A.fields_of from.now) ≤ self.old.room }
+        requires short { byte_count (A.fields_of from.now) ≤ MAX_KEY_BYTES }
+        ensures fields { self.new.tuple ≡ A.fields_of from.now }
+        ensures room { self.new.room ≡ self.old.room }
+    {
+        self.tuple.refill(from);
+    }
+
     /// The key's fields as a tuple.
     pub fn tuple(&self) -> &Tuple
-        ensures fields { result.now ≡ self.now.tuple }
+        ensures fields { result.now.fields ≡ self.now.tuple }
         ensures some { 0 < length self.now.tuple }
     {
         &self.tuple

@@ -36,7 +36,7 @@ pub fn pointer_size(key: &Key) -> u16
 
 /// The fields, each with its length.
 fn fields_size(tuple: &Tuple) -> u16
-    ensures size { result ≡ sum_by field_size tuple.now }
+    ensures size { result ≡ sum_by field_size tuple.now.fields }
     ensures most { result ≤ 2 * MAX_FIELDS + MAX_KEY_BYTES }
 {
     tuple.is_within_limits();

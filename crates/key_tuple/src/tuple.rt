@@ -1,12 +1,12 @@
 //! A tuple: the first fields of a key, perhaps none.
-ghost use Rattle.std.specs.Prelude.{◌≡◌, ◌≤◌, ◌⊎◌, length, map, IfOk, IfErr, IfSome, Some};
+ghost use Rattle.std.specs.Prelude.{◌≡◌, ◌≤◌, ◌⊎◌, [], length, map, replicate, IfOk, IfErr, IfSome, Some};
 ghost use Rattle.key_tuple.specs.Order.{byte_count};
 ghost use Rattle.key_tuple.specs.Limits.{IsWithinLimits, refusal_of, MAX_FIELDS, MAX_KEY_BYTES};
 ghost use Rattle.key_tuple.specs.Parts.{parts, RiseTo};
 
 use crate::buffer::FieldBuffer;
 use crate::error::KeyError;
-use crate::fields::Fields;
+use crate::fields::{Blank, Fields};
 use crate::order::compare_whole;
 use crate::{MAX_FIELDS, MAX_KEY_BYTES};
 use std::alloc::{AllocError, Global};
@@ -14,19 +14,20 @@ use std::cmp::Ordering;
 use std::hash::{Hash, Hasher};
 use std::marker::Model;
 
-/// Up to [`MAX_FIELDS`] fields of up to [`MAX_KEY_BYTES`] bytes together, seen as the list of them.
+/// Up to [`MAX_FIELDS`] fields of up to [`MAX_KEY_BYTES`] bytes together, seen as the list of them
+/// and the bytes that its buffer takes before it has to grow.
 #[derive(Drop)]
 pub struct Tuple {
     buffer: FieldBuffer,
 }
 
 impl Model for Tuple {
-    ghost use Rattle.key_tuple.specs.Order.{FieldList};
+    ghost use Rattle.key_tuple.specs.Parts.{Buffered};
     ghost use Rattle.key_tuple.specs.Limits.{IsWithinLimits};
 
-    ghost Value = { FieldList };
+    ghost Value = { Buffered };
 
-    ghost view = { λ t. t.buffer.fields };
+    ghost view = { λ t. t.buffer };
 
     ghost invariant = { λ t. IsWithinLimits t.buffer.fields };
 }
@@ -34,7 +35,7 @@ impl Model for Tuple {
 impl Tuple {
     /// The tuple of these fields. Refuses too many fields first, then too many bytes.
     pub fn try_new(alloc: Global, fields: Vec<Vec<u8>>) -> Result<Tuple, KeyError>
-        ensures ok { IfOk result (λ t. t ≡ map (λ f. f.items) fields.items) }
+        ensures ok { IfOk result (λ t. t.fields ≡ map (λ f. f.items) fields.items) }
         ensures refused { IfSome (refusal_of (map (λ f. f.items) fields.items))
             (λ e. (result ≡ Err e) ⊎ (result ≡ Err KeyError.NoMemory)) }
         ensures cause { IfErr result (λ e. (refusal_of (map (λ f. f.items) fields.items) ≡ Some e)
@@ -56,7 +57,7 @@ impl Tuple {
     /// and copies nothing.
     pub fn from_parts(bytes: Vec<u8>, ends: &[usize]) -> Result<Tuple, KeyError>
         requires rise { RiseTo 0 ends.now (length bytes.items) }
-        ensures ok { IfOk result (λ t. t ≡ parts bytes.items 0 ends.now) }
+        ensures ok { IfOk result (λ t. t.fields ≡ parts bytes.items 0 ends.now) }
         ensures refused { IfSome (refusal_of (parts bytes.items 0 ends.now)) (λ e. result ≡ Err e) }
         ensures cause { IfErr result (λ e. refusal_of (parts bytes.items 0 ends.now) ≡ Some e) }
     {
@@ -71,16 +72,37 @@ impl Tuple {
         })
     }
 
+    /// So many empty fields, with room for the largest key.
+    pub(crate) fn with_room(alloc: Global, fields: u8) -> Result<Tuple, AllocError>
+        requires { fields ≤ MAX_FIELDS }
+        ensures fields { IfOk result (λ t. t.fields ≡ replicate fields []) }
+        ensures room { IfOk result (λ t. MAX_KEY_BYTES ≤ t.room) }
+    {
+        let mut buffer = FieldBuffer::with_capacity(alloc, MAX_KEY_BYTES)?;
+        buffer.refill(&Blank { count: fields });
+        Ok(Tuple { buffer })
+    }
+
+    /// Puts these fields in the place of those before. It takes no memory.
+    pub(crate) fn refill<A: Fields>(&mut self, from: &A)
+        requires limits { IsWithinLimits (A.fields_of from.now) }
+        requires room { MAX_KEY_BYTES ≤ self.old.room }
+        ensures fields { self.new.fields ≡ A.fields_of from.now }
+        ensures room { self.old.room ≤ self.new.room }
+    {
+        self.buffer.refill(from);
+    }
+
     /// The tuple is within the limits.
     pub fn is_within_limits(&self)
-        ensures { IsWithinLimits self.now }
+        ensures { IsWithinLimits self.now.fields }
     {
         let _ = &self.buffer;
     }
 }
 
 impl Clone for Tuple {
-    ghost is_clone = { λ t c. c ≡ t };
+    ghost is_clone = { λ t c. c.fields ≡ t.fields };
 
     fn clone(&self) -> Result<Tuple, AllocError> {
         Ok(Tuple {
@@ -90,14 +112,14 @@ impl Clone for Tuple {
 }
 
 impl PartialEq for Tuple {
-    ghost use Rattle.std.specs.Ordering.{eq_by_cmp};
+    ghost use Rattle.std.specs.Ordering.{eq_by_cmp, on};
+    ghost use Rattle.std.specs.Cmp.{partial_equiv_from_equiv, on_equiv};
     ghost use Rattle.key_tuple.specs.Order.{key_cmp};
     ghost use Rattle.list_facts.proofs.ByteLists.{byte_lists_equiv};
-    ghost use Rattle.std.specs.Cmp.{partial_equiv_from_equiv};
 
-    ghost eq = { eq_by_cmp key_cmp };
+    ghost eq = { on (λ t. t.fields) (eq_by_cmp key_cmp) };
 
-    ghost laws = { partial_equiv_from_equiv byte_lists_equiv };
+    ghost laws = { partial_equiv_from_equiv (on_equiv (λ t. t.fields) byte_lists_equiv) };
 
     fn eq(&self, other: &Tuple) -> bool {
         compare_whole(self, other) == Ordering::Equal
@@ -105,22 +127,23 @@ impl PartialEq for Tuple {
 }
 
 impl Eq for Tuple {
+    ghost use Rattle.std.specs.Cmp.{on_equiv};
     ghost use Rattle.list_facts.proofs.ByteLists.{byte_lists_equiv};
 
-    ghost laws = { byte_lists_equiv };
+    ghost laws = { on_equiv (λ t. t.fields) byte_lists_equiv };
 }
 
 impl PartialOrd for Tuple {
-    ghost use Rattle.std.specs.Ordering.{as_partial_cmp};
-    ghost use Rattle.std.specs.Cmp.{partial_order_from_agreeing_total};
     ghost use Rattle.std.specs.Prelude.{refl};
+    ghost use Rattle.std.specs.Ordering.{as_partial_cmp, on};
+    ghost use Rattle.std.specs.Cmp.{partial_order_from_agreeing_total, on_total};
     ghost use Rattle.key_tuple.specs.Order.{key_cmp};
     ghost use Rattle.list_facts.proofs.ByteLists.{byte_lists_total};
 
-    ghost partial_cmp = { as_partial_cmp key_cmp };
+    ghost partial_cmp = { as_partial_cmp (on (λ t. t.fields) key_cmp) };
 
-    ghost laws = { partial_order_from_agreeing_total key_cmp byte_lists_total
-        (λ _ _. refl) (λ _ _. refl) };
+    ghost laws = { partial_order_from_agreeing_total (on (λ t. t.fields) key_cmp)
+        (on_total (λ t. t.fields) byte_lists_total) (λ _ _. refl) (λ _ _. refl) };
 
     fn partial_cmp(&self, other: &Tuple) -> Option<Ordering> {
         Some(compare_whole(self, other))
@@ -128,13 +151,15 @@ impl PartialOrd for Tuple {
 }
 
 impl Ord for Tuple {
+    ghost use Rattle.std.specs.Prelude.{refl};
+    ghost use Rattle.std.specs.Ordering.{on};
+    ghost use Rattle.std.specs.Cmp.{on_total};
     ghost use Rattle.key_tuple.specs.Order.{key_cmp};
     ghost use Rattle.list_facts.proofs.ByteLists.{byte_lists_total};
-    ghost use Rattle.std.specs.Prelude.{refl};
 
-    ghost cmp = { key_cmp };
+    ghost cmp = { on (λ t. t.fields) key_cmp };
 
-    ghost total = { byte_lists_total };
+    ghost total = { on_total (λ t. t.fields) byte_lists_total };
 
     ghost matches_partial_cmp = { λ _ _. refl };
 
@@ -146,12 +171,13 @@ impl Ord for Tuple {
 }
 
 impl Hash for Tuple {
+    ghost use Rattle.std.specs.Hash.{on_Alike};
     ghost use Rattle.list_facts.proofs.ByteLists.{byte_lists_alike};
     ghost use Rattle.key_tuple.specs.Hashed.{hash_writes};
 
-    ghost hash_input = { hash_writes };
+    ghost hash_input = { λ t. hash_writes t.fields };
 
-    ghost respects_eq = { byte_lists_alike.fed };
+    ghost respects_eq = { (on_Alike (λ t. t.fields) byte_lists_alike).fed };
 
     fn hash<H: Hasher>(&self, state: &mut H) {
         state.write_usize(usize::from(self.count()));
@@ -162,7 +188,7 @@ impl Hash for Tuple {
 }
 
 impl Fields for Tuple {
-    ghost fields_of = { λ t. t };
+    ghost fields_of = { λ t. t.fields };
 
     fn count(&self) -> u8 {
         self.buffer.count()

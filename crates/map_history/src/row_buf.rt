@@ -50,7 +50,7 @@ impl RowBuf {
         ensures key { self.new.key ≡ A.fields_of key.now }
         ensures value { self.new.value ≡ value.now }
     {
-        fill_key(&mut self.key, key);
+        self.key.refill(key);
         self.value.clear();
         let _room_holds = self.value.extend_from_slice(value);
     }
@@ -72,18 +72,5 @@ impl Fields for RowBuf {
 
     fn field(&self, i: u8) -> &[u8] {
         self.key.field(i)
-    }
-}
-
-/// Puts these fields in the place of those before, in a buffer with room for each key.
-fn fill_key<A: Fields>(buffer: &mut FieldBuffer, key: &A)
-    requires key { IsWithinLimits (A.fields_of key.now) }
-    requires room { MAX_KEY_BYTES ≤ buffer.old.room }
-    ensures fields { buffer.new.fields ≡ A.fields_of key.now }
-    ensures room { buffer.old.room ≤ buffer.new.room }
-{
-    buffer.clear();
-    for i in 0..key.count() {
-        let _room_holds = buffer.push(key.field(i));
     }
 }

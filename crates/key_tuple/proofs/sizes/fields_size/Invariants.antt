@@ -4,4 +4,4 @@ use Rattle.key_tuple.proofs.sizes.fields_size.Given as goal
 
 -- the fields so far
 abbrev pub invariant-loop-i : goal.invariant-loop-i
-invariant-loop-i l = l.size ≡ sum_by field_size (take l.i l.tuple)
+invariant-loop-i l = l.size ≡ sum_by field_size (take l.i l.tuple.fields)

@@ -8,8 +8,8 @@ use Rattle.key_tuple.proofs.key.Key.from_parts.Goals as goal
 
 pub invariant_of-result : goal.invariant_of-result
 invariant_of-result c =
-    let count : length c.in_ok-tuple.tuple ≡ length c.args.ends.now = ap length c.in_ok-tuple.ensures.ok ∙ length-parts c.args.bytes.items 0 c.args.ends.now in
-    record { some = omega (arith, c.requires.some) }
+    let count : length c.in_ok-tuple.tuple.fields ≡ length c.args.ends.now = ap length c.in_ok-tuple.ensures.ok ∙ length-parts c.args.bytes.items 0 c.args.ends.now in
+    record { some = omega (arith, c.requires.some); few = omega arith; roomy = λ more. absurd (omega (arith, more)) }
 
 pub returns-clause-refused : goal.returns-clause-refused
 returns-clause-refused c = nothing_told (refusal_of (parts c.args.bytes.items 0 c.args.ends.now)) c.in_ok-tuple.tuple _

@@ -4,4 +4,4 @@ use Rattle.key_tuple.proofs.tuple.TupleHash.hash.Given as goal
 
 -- the fields so far are fed
 abbrev pub invariant-loop-i : goal.invariant-loop-i
-invariant-loop-i g l = l.state ≡ fold g.H.Hasher.write l.initial.state (flat_map (slice u8) (take l.i l.self))
+invariant-loop-i g l = l.state ≡ fold g.H.Hasher.write l.initial.state (flat_map (slice u8) (take l.i l.self.fields))
