@@ -68,12 +68,12 @@ impl Engine {
     ) -> Told
         requires own { IsOf self.now pass.old }
         requires index { index < indexes_of self.now }
-        requires tuple { FitsTuple self.now index tuple.now }
+        requires tuple { FitsTuple self.now index tuple.now.fields }
         ensures own { IsSame pass.old pass.new × IsOf self.now pass.new }
-        ensures told { TellsOfSeek (known pass.old) (known pass.new) index mode tuple.now result
+        ensures told { TellsOfSeek (known pass.old) (known pass.new) index mode tuple.now.fields result
             out.new }
         ensures tried { TriesAfter (lessons_of pass.old) index result.how (lessons_of pass.new) }
-        ensures searched { SoughtFor pass.old index mode tuple.now (columns_told result) pass.new }
+        ensures searched { SoughtFor pass.old index mode tuple.now.fields (columns_told result) pass.new }
     {
         let (world, learn) = (&mut pass.world, &mut pass.learn);
         seek_row(

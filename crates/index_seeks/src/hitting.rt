@@ -24,11 +24,11 @@ impl<R> SeekCall<'_, R> {
         out: &mut RowBuf,
     ) -> Told
         requires own { IsPassOf self.now.space.now pass.old }
-        requires held { HoldsHitAlone pass.old self.now.index self.now.mode self.now.tuple.now
+        requires held { HoldsHitAlone pass.old self.now.index self.now.mode self.now.tuple.now.fields
             block place }
         ensures own { IsSamePass pass.old pass.new × IsPassOf self.now.space.now pass.new }
         ensures nothing { count pass.new ≡ 0 }
-        ensures told { AnswersHit pass.old block self.now.index self.now.mode self.now.tuple.now
+        ensures told { AnswersHit pass.old block self.now.index self.now.mode self.now.tuple.now.fields
             result out.new pass.new }
         ensures columns { columns_told result ≡ columns_by self.now.found }
     {

@@ -38,12 +38,12 @@ impl<R> SeekCall<'_, R> {
         bound: Option<u64>,
     ) -> Stand
         requires own { IsPassOf self.now.space.now pass.old }
-        requires stands { StandsOn pass.old block self.now.index self.now.mode self.now.tuple.now
+        requires stands { StandsOn pass.old block self.now.index self.now.mode self.now.tuple.now.fields
             bound }
         ensures own { IsSamePass pass.old pass.new × IsPassOf self.now.space.now pass.new }
         ensures kept { SameHands pass.old pass.new }
         ensures then { StandsThen pass.old pass.new block self.now.index self.now.mode
-            self.now.tuple.now result out.new }
+            self.now.tuple.now.fields result out.new }
         ensures columns { TellsColumns (columns_by self.now.found) result }
     {
         if self.take_row_of(pass, block, out) {
@@ -61,7 +61,7 @@ impl<R> SeekCall<'_, R> {
         requires held { HoldsPage (view pass.now) block self.now.index 0 }
         requires known { IsKnown pass.now }
         ensures { (h : HoldsPage (view pass.now) block self.now.index 0) → TellsRow self.now.mode
-            self.now.tuple.now h.is.page.rows result out.new }
+            self.now.tuple.now.fields h.is.page.rows result out.new }
     {
         let page = page_of(frame(self.space, pass, block));
         take_row(
@@ -82,12 +82,12 @@ impl<R> SeekCall<'_, R> {
         bound: Option<u64>,
     ) -> Option<Told>
         requires own { IsPassOf self.now.space.now pass.old }
-        requires can { CanTell (view pass.old) self.now.index self.now.mode self.now.tuple.now bound
+        requires can { CanTell (view pass.old) self.now.index self.now.mode self.now.tuple.now.fields bound
             reply row.now }
         ensures own { IsSamePass pass.old pass.new × IsPassOf self.now.space.now pass.new }
         ensures kept { SameHands pass.old pass.new }
         ensures did { SaysIf (view pass.old) (view pass.new) self.now.index
-            (Seek self.now.mode self.now.tuple.now) result row.now }
+            (Seek self.now.mode self.now.tuple.now.fields) result row.now }
         ensures speaks { bound ≡ None → IsSome result }
         ensures columns { IfSome result (λ told. columns_told told
             ≡ columns_by self.now.found) }
@@ -129,7 +129,7 @@ impl<R> SeekCall<'_, R> {
         ensures kept { SameHands pass.old pass.new }
         ensures looked { OnlyLooks (view pass.old) (view pass.new) self.now.index }
         ensures past { CountsPast (view pass.old) (view pass.new) self.now.index self.now.mode
-            self.now.tuple.now bound result }
+            self.now.tuple.now.fields bound result }
     {
         let point = self.space.read_point(pass, self.index, &Say::Look);
         if speaks_at(bound, point) {
@@ -170,8 +170,8 @@ pub(crate) fn take_row(
     out: &mut RowBuf,
 ) -> bool
     requires leaf { page.now.head.level ≡ 0 }
-    requires finds { Finds mode tuple.now page.now.rows spot.now }
-    ensures row { TellsRow mode tuple.now page.now.rows result out.new }
+    requires finds { Finds mode tuple.now.fields page.now.rows spot.now }
+    ensures row { TellsRow mode tuple.now.fields page.now.rows result out.new }
     ensures none { result ≡ false → row_on (side_of mode) spot.now ≡ None }
 {
     let _ = tuple;

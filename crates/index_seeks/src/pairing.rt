@@ -33,13 +33,13 @@ pub(crate) fn find_pair<R: Wait>(
     requires learner { IsLearnPassOf learner.now learn.old }
     requires index { index < space.now.terms.shape.indexes }
     requires unique { HasUnique learner.now index (fields_for space.now.terms.shape index) }
-    requires fields { length tuple.now ≤ fields_for space.now.terms.shape index }
+    requires fields { length tuple.now.fields ≤ fields_for space.now.terms.shape index }
     requires nothing { count pass.old ≡ 0 }
     ensures own { IsSamePass pass.old pass.new × IsPassOf space.now pass.new }
     ensures learner { IsSameLearnPass learn.old learn.new × IsLearnPassOf learner.now learn.new }
-    ensures found { FindsPair pass.old (knowledge learn.old) index mode tuple.now result.0 result.1
+    ensures found { FindsPair pass.old (knowledge learn.old) index mode tuple.now.fields result.0 result.1
         pass.new (knowledge learn.new) }
-    ensures held { HoldsLeafPair pass.new index mode tuple.now result.0.leaf result.0.other }
+    ensures held { HoldsLeafPair pass.new index mode tuple.now.fields result.0.leaf result.0.other }
 {
     tuple.is_within_limits();
     let pair = descend_pair(space, pass, index, tuple, mode, wait);

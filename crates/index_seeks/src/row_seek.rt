@@ -39,14 +39,14 @@ pub fn seek_row<R: Wait>(
     requires learner { IsLearnPassOf learner.now learn.old }
     requires index { index < space.now.terms.shape.indexes }
     requires unique { HasUnique learner.now index (fields_for space.now.terms.shape index) }
-    requires fields { length tuple.now ≤ fields_for space.now.terms.shape index }
+    requires fields { length tuple.now.fields ≤ fields_for space.now.terms.shape index }
     requires nothing { count pass.old ≡ 0 }
     ensures own { IsSamePass pass.old pass.new × IsPassOf space.now pass.new }
     ensures learner { IsSameLearnPass learn.old learn.new × IsLearnPassOf learner.now learn.new }
     ensures nothing { count pass.new ≡ 0 }
-    ensures told { TellsOfSeek (view pass.old) (view pass.new) index mode tuple.now result out.new }
+    ensures told { TellsOfSeek (view pass.old) (view pass.new) index mode tuple.now.fields result out.new }
     ensures tried { TriesAfter (knowledge learn.old) index result.how (knowledge learn.new) }
-    ensures searched { SeekTrace pass.old (knowledge learn.old) index mode tuple.now
+    ensures searched { SeekTrace pass.old (knowledge learn.old) index mode tuple.now.fields
         (columns_told result) (knowledge learn.new) }
 {
     match guess(space, pass, learner, learn, index, tuple, mode) {
@@ -80,11 +80,11 @@ fn seek_call<'a, R>(
 ) -> SeekCall<'a, R>
     requires forest { IsForest space.now }
     requires index { index < space.now.terms.shape.indexes }
-    requires fields { length tuple.now ≤ fields_for space.now.terms.shape index }
+    requires fields { length tuple.now.fields ≤ fields_for space.now.terms.shape index }
     requires stands { may_stand (record { how = how; note = note }) ≡ true }
     ensures space { result.space.now ≡ space.now }
     ensures about { (result.index ≡ index) × (result.mode ≡ mode)
-        × (result.tuple.now ≡ tuple.now) }
+        × (result.tuple.now.fields ≡ tuple.now.fields) }
     ensures found { (result.found.how ≡ how) × (result.found.note ≡ note) }
 {
     let found = Found { how, note };

@@ -20,7 +20,7 @@ pub(crate) struct SeekCall<'a, R> {
     pub(crate) wait: &'a R,
     ghost forest: { IsForest space.now },
     ghost there: { index < space.now.terms.shape.indexes },
-    ghost fits: { length tuple.now ≤ fields_for space.now.terms.shape index },
+    ghost fits: { length tuple.now.fields ≤ fields_for space.now.terms.shape index },
 }
 
 /// A leaf in hand that has no row for the mode, when the list had so many changes.

@@ -24,12 +24,12 @@ impl<R: Wait> SeekCall<'_, R> {
     /// Then it begins again at the root until it is answered.
     pub(crate) fn seek(&self, pass: &mut ForestPass, pair: &LeafPair, out: &mut RowBuf) -> Told
         requires own { IsPassOf self.now.space.now pass.old }
-        requires held { HoldsLeafPair pass.old self.now.index self.now.mode self.now.tuple.now
+        requires held { HoldsLeafPair pass.old self.now.index self.now.mode self.now.tuple.now.fields
             pair.now.leaf pair.now.other }
         ensures own { IsSamePass pass.old pass.new × IsPassOf self.now.space.now pass.new }
         ensures nothing { count pass.new ≡ 0 }
         ensures told { SeeksFrom (shape_of_pass pass.old) (view pass.old) (view pass.new)
-            pair.now.leaf.block self.now.index self.now.mode self.now.tuple.now result out.new }
+            pair.now.leaf.block self.now.index self.now.mode self.now.tuple.now.fields result out.new }
         ensures columns { columns_told result ≡ columns_by self.now.found }
     {
         match self.look_on(pass, pair, out) {
@@ -46,7 +46,7 @@ impl<R: Wait> SeekCall<'_, R> {
         ensures own { IsSamePass pass.old pass.new × IsPassOf self.now.space.now pass.new }
         ensures nothing { count pass.new ≡ 0 }
         ensures told { TellsByWay (view pass.old) (view pass.new) self.now.index self.now.mode
-            self.now.tuple.now result out.new }
+            self.now.tuple.now.fields result out.new }
         ensures columns { columns_told result ≡ columns_by self.now.found }
     {
         let backoff = Backoff::new();
@@ -66,7 +66,7 @@ impl<R: Wait> SeekCall<'_, R> {
         ensures own { IsSamePass pass.old pass.new × IsPassOf self.now.space.now pass.new }
         ensures nothing { count pass.new ≡ 0 }
         ensures tried { TriesSeek (view pass.old) (view pass.new) self.now.index self.now.mode
-            self.now.tuple.now result out.new }
+            self.now.tuple.now.fields result out.new }
         ensures columns { IfSome result (λ told. columns_told told
             ≡ columns_by self.now.found) }
     {
@@ -78,12 +78,12 @@ impl<R: Wait> SeekCall<'_, R> {
     /// seek is to begin again.
     fn look_on(&self, pass: &mut ForestPass, pair: &LeafPair, out: &mut RowBuf) -> Option<Told>
         requires own { IsPassOf self.now.space.now pass.old }
-        requires held { HoldsLeafPair pass.old self.now.index self.now.mode self.now.tuple.now
+        requires held { HoldsLeafPair pass.old self.now.index self.now.mode self.now.tuple.now.fields
             pair.now.leaf pair.now.other }
         ensures own { IsSamePass pass.old pass.new × IsPassOf self.now.space.now pass.new }
         ensures nothing { count pass.new ≡ 0 }
         ensures ends { EndsFromLeaf (shape_of_pass pass.old) (view pass.old) (view pass.new)
-            pair.now.leaf.block self.now.index self.now.mode self.now.tuple.now result out.new }
+            pair.now.leaf.block self.now.index self.now.mode self.now.tuple.now.fields result out.new }
         ensures columns { IfSome result (λ told. columns_told told
             ≡ columns_by self.now.found) }
     {
@@ -98,9 +98,9 @@ impl<R: Wait> SeekCall<'_, R> {
         requires own { IsPassOf self.now.space.now pass.old }
         requires nothing { count pass.old ≡ 0 }
         ensures own { IsSamePass pass.old pass.new × IsPassOf self.now.space.now pass.new }
-        ensures went { DescendsPair pass.old self.now.index self.now.mode self.now.tuple.now result
+        ensures went { DescendsPair pass.old self.now.index self.now.mode self.now.tuple.now.fields result
             pass.new }
-        ensures held { HoldsLeafPair pass.new self.now.index self.now.mode self.now.tuple.now result.leaf
+        ensures held { HoldsLeafPair pass.new self.now.index self.now.mode self.now.tuple.now.fields result.leaf
             result.other }
     {
         descend_pair(
@@ -111,12 +111,12 @@ impl<R: Wait> SeekCall<'_, R> {
     /// Answers by the leaf alone, which has the row or is the last one.
     fn end_on(&self, pass: &mut ForestPass, leaf: &Leaf, out: &mut RowBuf) -> Option<Told>
         requires own { IsPassOf self.now.space.now pass.old }
-        requires held { HoldsLast pass.old self.now.index self.now.mode self.now.tuple.now
+        requires held { HoldsLast pass.old self.now.index self.now.mode self.now.tuple.now.fields
             leaf.now }
         ensures own { IsSamePass pass.old pass.new × IsPassOf self.now.space.now pass.new }
         ensures nothing { count pass.new ≡ 0 }
         ensures ends { EndsFromLeaf (shape_of_pass pass.old) (view pass.old) (view pass.new)
-            leaf.now.block self.now.index self.now.mode self.now.tuple.now result out.new }
+            leaf.now.block self.now.index self.now.mode self.now.tuple.now.fields result out.new }
         ensures columns { IfSome result (λ told. columns_told told
             ≡ columns_by self.now.found) }
     {
@@ -136,12 +136,12 @@ impl<R: Wait> SeekCall<'_, R> {
         out: &mut RowBuf,
     ) -> Option<Told>
         requires own { IsPassOf self.now.space.now pass.old }
-        requires held { HoldsBothLeaves pass.old self.now.index self.now.mode self.now.tuple.now
+        requires held { HoldsBothLeaves pass.old self.now.index self.now.mode self.now.tuple.now.fields
             leaf.now other }
         ensures own { IsSamePass pass.old pass.new × IsPassOf self.now.space.now pass.new }
         ensures nothing { count pass.new ≡ 0 }
         ensures ends { EndsFromLeaf (shape_of_pass pass.old) (view pass.old) (view pass.new)
-            leaf.now.block self.now.index self.now.mode self.now.tuple.now result out.new }
+            leaf.now.block self.now.index self.now.mode self.now.tuple.now.fields result out.new }
         ensures columns { IfSome result (λ told. columns_told told
             ≡ columns_by self.now.found) }
     {

@@ -19,11 +19,11 @@ impl<R: Wait> SeekCall<'_, R> {
     /// nothing, where the list has changed meanwhile, or another pass holds a leaf to the left.
     pub(crate) fn walk(&self, pass: &mut ForestPass, from: Walk, out: &mut RowBuf) -> Option<Told>
         requires own { IsPassOf self.now.space.now pass.old }
-        requires walks { WalksAt pass.old self.now.index self.now.mode self.now.tuple.now from }
+        requires walks { WalksAt pass.old self.now.index self.now.mode self.now.tuple.now.fields from }
         ensures own { IsSamePass pass.old pass.new × IsPassOf self.now.space.now pass.new }
         ensures nothing { count pass.new ≡ 0 }
         ensures ends { EndsSeek (shape_of_pass pass.old) (view pass.old) (view pass.new)
-            self.now.index self.now.mode self.now.tuple.now result out.new }
+            self.now.index self.now.mode self.now.tuple.now.fields result out.new }
         ensures columns { IfSome result (λ told. columns_told told
             ≡ columns_by self.now.found) }
     {
@@ -40,9 +40,9 @@ impl<R: Wait> SeekCall<'_, R> {
     /// Goes on by one leaf, and holds that alone then.
     fn step(&self, pass: &mut ForestPass, from: Walk, out: &mut RowBuf) -> Stand
         requires own { IsPassOf self.now.space.now pass.old }
-        requires walks { WalksAt pass.old self.now.index self.now.mode self.now.tuple.now from }
+        requires walks { WalksAt pass.old self.now.index self.now.mode self.now.tuple.now.fields from }
         ensures own { IsSamePass pass.old pass.new × IsPassOf self.now.space.now pass.new }
-        ensures then { WalksThen pass.old pass.new self.now.index self.now.mode self.now.tuple.now
+        ensures then { WalksThen pass.old pass.new self.now.index self.now.mode self.now.tuple.now.fields
             result out.new }
         ensures columns { TellsColumns (columns_by self.now.found) result }
     {
@@ -68,10 +68,10 @@ impl<R: Wait> SeekCall<'_, R> {
     fn step_onto(&self, pass: &mut ForestPass, block: u32, point: u64, out: &mut RowBuf) -> Stand
         requires own { IsPassOf self.now.space.now pass.old }
         requires only { HoldsLeavesAlone pass.old (block ∷ []) }
-        requires stands { StandsOn pass.old block self.now.index self.now.mode self.now.tuple.now
+        requires stands { StandsOn pass.old block self.now.index self.now.mode self.now.tuple.now.fields
             (Some point) }
         ensures own { IsSamePass pass.old pass.new × IsPassOf self.now.space.now pass.new }
-        ensures then { WalksThen pass.old pass.new self.now.index self.now.mode self.now.tuple.now
+        ensures then { WalksThen pass.old pass.new self.now.index self.now.mode self.now.tuple.now.fields
             result out.new }
         ensures columns { TellsColumns (columns_by self.now.found) result }
     {

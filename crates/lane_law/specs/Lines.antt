@@ -23,7 +23,7 @@ IsOpOf fields (op.Get index key) = IsKeyOf fields index key.tuple
 IsOpOf fields (op.Put index key value) = IsKeyOf fields index key.tuple
 IsOpOf fields (op.Set index key value) = IsKeyOf fields index key.tuple
 IsOpOf fields (op.Del index key) = IsKeyOf fields index key.tuple
-IsOpOf fields (op.Seek index mode tuple) = IsTupleOf fields index tuple
+IsOpOf fields (op.Seek index mode tuple) = IsTupleOf fields index tuple.fields
 IsOpOf fields (op.Scan index from to limit) = ⊥
 
 -- lines that all ask so

@@ -19,7 +19,7 @@ IsWorkableOp engine (op.Set index key value) = (index < indexes_of engine)
 IsWorkableOp engine (op.Del index key) = (index < indexes_of engine)
     × FitsKey engine index key.tuple
 IsWorkableOp engine (op.Seek index mode tuple) = (index < indexes_of engine)
-    × FitsTuple engine index tuple
+    × FitsTuple engine index tuple.fields
 IsWorkableOp engine (op.Scan index from to limit) = ⊥
 
 -- a line whose operation is that

@@ -1,6 +1,6 @@
 -- What an operation asks, in plain lists.
 use Rattle.std.specs.Prelude.{ℕ, Bool, true, false, Option, Some, None}
-use Rattle.std.specs.Option.{option_copied}
+use Rattle.std.specs.Option.{option_map}
 use Rattle.key_tuple.specs.Order.{FieldList}
 use Rattle.key_tuple.specs.declared.mode.Mode.{Mode}
 use Rattle.map_history.specs.Map.{MapChange}
@@ -35,8 +35,11 @@ operation_of (op.Set index key value) = record {
   ask = Make (map.Set key.tuple value);
 }
 operation_of (op.Del index key) = record { index = index; ask = Make (map.Del key.tuple) }
-operation_of (op.Seek index mode tuple) = record { index = index; ask = Seek mode tuple }
-operation_of (op.Scan index from to limit) = record { index = index; ask = Scan from to limit }
+operation_of (op.Seek index mode tuple) = record { index = index; ask = Seek mode tuple.fields }
+operation_of (op.Scan index from to limit) = record {
+  index = index;
+  ask = Scan from.fields (option_map (λ t. t.fields) to) limit;
+}
 
 -- and what a lent one asks
 abbrev pub operation_by : OpRef → Operation
@@ -50,10 +53,13 @@ operation_by (by.Set index key value) = record {
   ask = Make (map.Set key.now.tuple value.now);
 }
 operation_by (by.Del index key) = record { index = index; ask = Make (map.Del key.now.tuple) }
-operation_by (by.Seek index mode tuple) = record { index = index; ask = Seek mode tuple.now }
+operation_by (by.Seek index mode tuple) = record {
+  index = index;
+  ask = Seek mode tuple.now.fields;
+}
 operation_by (by.Scan index from to limit) = record {
   index = index;
-  ask = Scan from.now (option_copied to) limit;
+  ask = Scan from.now.fields (option_map (λ t. t.now.fields) to) limit;
 }
 
 -- the change that a value of the program stands for

@@ -70,7 +70,7 @@ fn set_or_del(map: &BTreeMap<Key, Value>, key: &Key) -> Reply
 }
 
 fn seek(map: &BTreeMap<Key, Value>, mode: Mode, tuple: &Tuple, out: &mut RowBuf) -> Reply
-    ensures said { Says (pairs map.now) (asked.Seek mode tuple.now) result out.new }
+    ensures said { Says (pairs map.now) (asked.Seek mode tuple.now.fields) result out.new }
     ensures kept { result ≢ Reply.Found → out.new ≡ out.old }
 {
     let row = match mode {
@@ -95,7 +95,7 @@ fn found(key: &Key, value: &Value, out: &mut RowBuf) -> Reply
 
 /// The first row past the mode's cut.
 fn first_past<'a>(map: &'a BTreeMap<Key, Value>, mode: Mode, tuple: &Tuple) -> Option<Entry<'a>>
-    ensures { option_map pair_by result ≡ first_after (cut_of mode tuple.now) (pairs map.now) }
+    ensures { option_map pair_by result ≡ first_after (cut_of mode tuple.now.fields) (pairs map.now) }
 {
     for (key, value) in map {
         if is_past(mode, tuple, key) {
@@ -107,7 +107,7 @@ fn first_past<'a>(map: &'a BTreeMap<Key, Value>, mode: Mode, tuple: &Tuple) -> O
 
 /// The last row that isn't past the mode's cut.
 fn last_short<'a>(map: &'a BTreeMap<Key, Value>, mode: Mode, tuple: &Tuple) -> Option<Entry<'a>>
-    ensures { option_map pair_by result ≡ last_before (cut_of mode tuple.now) (pairs map.now) }
+    ensures { option_map pair_by result ≡ last_before (cut_of mode tuple.now.fields) (pairs map.now) }
 {
     let mut rows = map.iter();
     while let Some((key, value)) = rows.next_back() {
@@ -120,7 +120,7 @@ fn last_short<'a>(map: &'a BTreeMap<Key, Value>, mode: Mode, tuple: &Tuple) -> O
 
 /// The key is past the mode's cut.
 fn is_past(mode: Mode, tuple: &Tuple, key: &Key) -> bool
-    ensures { result ≡ cut_of mode tuple.now (At key.now.tuple) }
+    ensures { result ≡ cut_of mode tuple.now.fields (At key.now.tuple) }
 {
     let order = stand(tuple, key);
     match mode {
@@ -131,7 +131,7 @@ fn is_past(mode: Mode, tuple: &Tuple, key: &Key) -> bool
 
 /// How a tuple of any length stands to a key.
 fn stand(tuple: &Tuple, key: &Key) -> Ordering
-    ensures { result ≡ tuple_cmp tuple.now key.now.tuple }
+    ensures { result ≡ tuple_cmp tuple.now.fields key.now.tuple }
 {
     if tuple.count() <= key.count() {
         compare(tuple, key)

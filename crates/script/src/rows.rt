@@ -56,7 +56,7 @@ pub fn read_row(alloc: Global, count: u8, words: Pieces<'_>) -> Result<(Key, Val
 /// tuple's length.
 pub fn read_search(alloc: Global, count: u8, words: Pieces<'_>) -> Result<(Mode, Tuple), Refusal>
     requires { count ≤ MAX_FIELDS }
-    ensures { Gives (λ s. (s.0, s.1)) result (search_parts count (pieces_left words.entry)) }
+    ensures { Gives (λ s. (s.0, s.1.fields)) result (search_parts count (pieces_left words.entry)) }
 {
     let Some((mode, tuple)) = two_words(words) else {
         return Err(Refusal::Flawed(Flaw::BadLine));
@@ -119,7 +119,7 @@ fn key_within(text: KeyText) -> Result<Key, Refusal>
 fn tuple_within(text: KeyText) -> Result<Tuple, Refusal>
     requires few { length text.ends.items ≤ MAX_FIELDS }
     requires rise { RiseTo 0 text.ends.items (length text.bytes.items) }
-    ensures { Gives (λ t. t) result (short_key (text_fields text)) }
+    ensures { Gives (λ t. t.fields) result (short_key (text_fields text)) }
 {
     let KeyText { bytes, ends } = text;
     match Tuple::from_parts(bytes, &ends) {

@@ -28,15 +28,15 @@ learn_leaf-note-requires-clause-unique g c =
 pub learn_leaf-note-requires-clause-figures : goal.learn_leaf-note-requires-clause-figures
 learn_leaf-note-requires-clause-figures g c = let p = c.args.pass.now in
     let q = c.descend_pair-pair.new.pass in let i = c.args.index in
-    pair_figures p q i c.args.mode c.args.tuple.now c.descend_pair-pair.result
+    pair_figures p q i c.args.mode c.args.tuple.now.fields c.descend_pair-pair.result
     c.descend_pair-pair.ensures.went (fields_for (shape_of_pass q) i)
     c.is_within_limits.ensures.short
-    (subst (λ t. length c.args.tuple.now ≤ fields_for t.shape i)
+    (subst (λ t. length c.args.tuple.now.fields ≤ fields_for t.shape i)
     (sym c.descend_pair-pair.ensures.own.1.1) c.requires.fields)
 
 pub learn_leaf-note-requires-clause-leaf : goal.learn_leaf-note-requires-clause-leaf
 learn_leaf-note-requires-clause-leaf g c = pair_leaf c.args.pass.now c.descend_pair-pair.new.pass
-    c.args.index c.args.mode c.args.tuple.now c.descend_pair-pair.result
+    c.args.index c.args.mode c.args.tuple.now.fields c.descend_pair-pair.result
     c.descend_pair-pair.ensures.went
 
 pub learn_leaf-note-requires-clause-known : goal.learn_leaf-note-requires-clause-known
@@ -45,7 +45,7 @@ learn_leaf-note-requires-clause-known g c = c.descend_pair-pair.ensures.went.sil
 pub learn_leaf-note-requires-clause-tables : goal.learn_leaf-note-requires-clause-tables
 learn_leaf-note-requires-clause-tables g c = let p = c.args.pass.now in
     let objects = objects_of c.args.space.now p c.requires.own.0 c.requires.own.1 in
-    (went_only p c.descend_pair-pair.new.pass c.args.index c.args.mode c.args.tuple.now
+    (went_only p c.descend_pair-pair.new.pass c.args.index c.args.mode c.args.tuple.now.fields
     c.descend_pair-pair.result c.descend_pair-pair.ensures.went
     (none_held p objects c.requires.nothing)).tables
 
@@ -54,7 +54,7 @@ learn_leaf-note-requires-clause-room g c = let p = c.args.pass.now in
     let objects = objects_of c.args.space.now p c.requires.own.0 c.requires.own.1 in
     let pair = c.descend_pair-pair.result in
     let counted = (went_only p c.descend_pair-pair.new.pass c.args.index c.args.mode
-    c.args.tuple.now pair c.descend_pair-pair.ensures.went
+    c.args.tuple.now.fields pair c.descend_pair-pair.ensures.went
     (none_held p objects c.requires.nothing)).count in
     let few = few_held pair in omega (arith, counted, few)
 
@@ -69,7 +69,7 @@ pub returns-clause-held : goal.returns-clause-held
 returns-clause-held g c = let p = c.args.pass.now in let q = c.descend_pair-pair.new.pass in
     let objects = objects_of c.args.space.now p c.requires.own.0 c.requires.own.1 in
     let pair = c.descend_pair-pair.result in let went = c.descend_pair-pair.ensures.went in
-    let i = c.args.index in let tuple = c.args.tuple.now in
+    let i = c.args.index in let tuple = c.args.tuple.now.fields in
     learnt_pair q c.learn_leaf-note.new.pass (knowledge c.args.learn.now)
     (knowledge c.learn_leaf-note.new.learn) i pair (figures_at pair.leaf.spot)
     c.learn_leaf-note.result c.learn_leaf-note.ensures.taught c.args.mode tuple

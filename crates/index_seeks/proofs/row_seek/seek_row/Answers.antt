@@ -37,7 +37,7 @@ guess-requires-clause-tables g c = let p = c.args.pass.now in
 
 pub guess-requires-clause-fields : goal.guess-requires-clause-fields
 guess-requires-clause-fields g c = subst
-    (λ t. length c.args.tuple.now ≤ fields_for t.shape c.args.index) (sym c.requires.own.1.1)
+    (λ t. length c.args.tuple.now.fields ≤ fields_for t.shape c.args.index) (sym c.requires.own.1.1)
     c.requires.fields
 
 pub guess-requires-clause-index : goal.guess-requires-clause-index
@@ -52,12 +52,12 @@ seek_call-requires-clause-stands g c =
 pub end_on_hit-requires-clause-held : goal.end_on_hit-requires-clause-held
 end_on_hit-requires-clause-held g c = let p = c.args.pass.now in
     let q = c.guess.new.pass in let i = c.args.index in
-    let mode = c.args.mode in let tuple = c.args.tuple.now in let hit = c.in-Hit in
+    let mode = c.args.mode in let tuple = c.args.tuple.now.fields in let hit = c.in-Hit in
     let guessed = subst (λ z. Guesses p (knowledge c.args.learn.now) i mode tuple z q
     (knowledge c.guess.new.learn)) hit.is c.guess.ensures.did in
     let about = c.seek_call.ensures.about in let call = c.seek_call.result in
     about_seek (λ n m t. HoldsHitAlone q n m t hit.block hit.place) i call.index mode call.mode tuple
-    call.tuple.now (sym about.0) (sym about.1) (sym about.2)
+    call.tuple.now.fields (sym about.0) (sym about.1) (sym about.2)
     (hit_alone p q i mode tuple guessed.info hit.block hit.place hit.found
     (none_held p (objects_of c.args.space.now p c.requires.own.0 c.requires.own.1)
     c.requires.nothing) guessed.hits)
@@ -65,7 +65,7 @@ end_on_hit-requires-clause-held g c = let p = c.args.pass.now in
 pub returns-in-Hit-clause-told : goal.returns-in-Hit-clause-told
 returns-in-Hit-clause-told g c = let p = c.args.pass.now in
     let q = c.guess.new.pass in let r = c.end_on_hit.new.pass in let i = c.args.index in
-    let mode = c.args.mode in let tuple = c.args.tuple.now in let hit = c.in-Hit in
+    let mode = c.args.mode in let tuple = c.args.tuple.now.fields in let hit = c.in-Hit in
     let guessed = subst (λ z. Guesses p (knowledge c.args.learn.now) i mode tuple z q
     (knowledge c.guess.new.learn)) hit.is c.guess.ensures.did in
     let about = c.seek_call.ensures.about in let call = c.seek_call.result in
@@ -73,13 +73,13 @@ returns-in-Hit-clause-told g c = let p = c.args.pass.now in
     hit_seeks p q r i mode tuple guessed.info hit.block hit.place hit.found guessed.hits told out
     (ap (λ (z : Columns). z.how) c.end_on_hit.ensures.columns ∙ c.seek_call.ensures.found.0)
     (about_seek (λ n m t. AnswersHit q hit.block n m t told out r) call.index i call.mode mode
-    call.tuple.now tuple about.0 about.1 about.2 c.end_on_hit.ensures.told)
+    call.tuple.now.fields tuple about.0 about.1 about.2 c.end_on_hit.ensures.told)
 
 pub returns-in-Hit-clause-tried : goal.returns-in-Hit-clause-tried
 returns-in-Hit-clause-tried g c = let p = c.args.pass.now in
     let q = c.guess.new.pass in let i = c.args.index in let l = knowledge c.args.learn.now in
     let m = knowledge c.guess.new.learn in let hit = c.in-Hit in
-    let guessed = subst (λ z. Guesses p l i c.args.mode c.args.tuple.now z q m) hit.is
+    let guessed = subst (λ z. Guesses p l i c.args.mode c.args.tuple.now.fields z q m) hit.is
     c.guess.ensures.did in
     let by = ap (λ (z : Columns). z.how) c.end_on_hit.ensures.columns
     ∙ c.seek_call.ensures.found.0 in
@@ -89,7 +89,7 @@ returns-in-Hit-clause-tried g c = let p = c.args.pass.now in
 pub find_pair-note-requires-clause-nothing : goal.find_pair-note-requires-clause-nothing
 find_pair-note-requires-clause-nothing g c = let p = c.args.pass.now in
     let guessed = subst (λ z. Guesses p (knowledge c.args.learn.now) c.args.index c.args.mode
-    c.args.tuple.now z c.guess.new.pass (knowledge c.guess.new.learn)) c.in-Miss.is
+    c.args.tuple.now.fields z c.guess.new.pass (knowledge c.guess.new.learn)) c.in-Miss.is
     c.guess.ensures.did in
     guessed.keeps.count ∙ c.requires.nothing
 
@@ -107,14 +107,14 @@ seek-requires-clause-held g c = let r = c.find_pair-note.new.pass in
     let about = c.seek_call-in-Miss.ensures.about in let call = c.seek_call-in-Miss.result in
     let pair = c.find_pair-note.result.0 in
     about_seek (λ n m t. HoldsLeafPair r n m t pair.leaf pair.other) c.args.index call.index c.args.mode
-    call.mode c.args.tuple.now call.tuple.now (sym about.0) (sym about.1) (sym about.2)
+    call.mode c.args.tuple.now.fields call.tuple.now.fields (sym about.0) (sym about.1) (sym about.2)
     c.find_pair-note.ensures.held
 
 pub returns-in-Miss-clause-told : goal.returns-in-Miss-clause-told
 returns-in-Miss-clause-told g c =
     let p = c.args.pass.now in let q = c.guess.new.pass in
     let r = c.find_pair-note.new.pass in let s = c.seek.new.pass in let i = c.args.index in
-    let mode = c.args.mode in let tuple = c.args.tuple.now in let l = knowledge c.args.learn.now in
+    let mode = c.args.mode in let tuple = c.args.tuple.now.fields in let l = knowledge c.args.learn.now in
     let n = knowledge c.guess.new.learn in let m = knowledge c.find_pair-note.new.learn in
     let guessed = subst (λ z. Guesses p l i mode tuple z q n) c.in-Miss.is c.guess.ensures.did in
     let pair = c.find_pair-note.result.0 in let about = c.seek_call-in-Miss.ensures.about in
@@ -124,14 +124,14 @@ returns-in-Miss-clause-told g c =
     miss_told p q r s l n m i mode tuple c.in-Miss.cause c.in-Miss.learn guessed pair
     c.find_pair-note.result.1 c.find_pair-note.ensures.found c.seek.result c.seek.new.out how_is
     (about_seek (λ k m t. SeeksFrom (shape_of_pass r) (view r) (view s) pair.leaf.block k m t
-    c.seek.result c.seek.new.out) call.index i call.mode mode call.tuple.now tuple about.0 about.1
+    c.seek.result c.seek.new.out) call.index i call.mode mode call.tuple.now.fields tuple about.0 about.1
     about.2 c.seek.ensures.told)
 
 pub returns-in-Miss-clause-tried : goal.returns-in-Miss-clause-tried
 returns-in-Miss-clause-tried g c =
     let p = c.args.pass.now in let q = c.guess.new.pass in
     let r = c.find_pair-note.new.pass in let s = c.seek.new.pass in let i = c.args.index in
-    let mode = c.args.mode in let tuple = c.args.tuple.now in let l = knowledge c.args.learn.now in
+    let mode = c.args.mode in let tuple = c.args.tuple.now.fields in let l = knowledge c.args.learn.now in
     let n = knowledge c.guess.new.learn in let m = knowledge c.find_pair-note.new.learn in
     let guessed = subst (λ z. Guesses p l i mode tuple z q n) c.in-Miss.is c.guess.ensures.did in
     let pair = c.find_pair-note.result.0 in let about = c.seek_call-in-Miss.ensures.about in
@@ -153,7 +153,7 @@ returns-in-Hit-clause-searched g c = let p = c.args.pass.now in
       found = hit.found;
       learn = hit.learn;
       guess = subst (λ z. Guesses p (knowledge c.args.learn.now) c.args.index c.args.mode
-          c.args.tuple.now z q (knowledge c.guess.new.learn)) hit.is c.guess.ensures.did;
+          c.args.tuple.now.fields z q (knowledge c.guess.new.learn)) hit.is c.guess.ensures.did;
       told = c.end_on_hit.ensures.columns ∙ (λ j. record { how = call.0 j; note = note j });
     })
 
@@ -168,7 +168,7 @@ returns-in-Miss-clause-searched g c = let p = c.args.pass.now in
       cause = miss.cause;
       learn = miss.learn;
       guess = subst (λ z. Guesses p (knowledge c.args.learn.now) c.args.index c.args.mode
-          c.args.tuple.now z q (knowledge c.guess.new.learn)) miss.is c.guess.ensures.did;
+          c.args.tuple.now.fields z q (knowledge c.guess.new.learn)) miss.is c.guess.ensures.did;
       after = c.find_pair-note.new.pass;
       pair = c.find_pair-note.result.0;
       note = c.find_pair-note.result.1;

@@ -13,12 +13,12 @@ is_first p row rows past = ap (λ (b : Bool). cond b (Some row) (first_after p r
 
 pub loop-key-preserved : goal.loop-key-preserved
 loop-key-preserved c =
-    let cut = cut_of c.args.mode c.args.tuple.now in
+    let cut = cut_of c.args.mode c.args.tuple.now.fields in
     c.loop-key.invariant ∙ ap (λ rows. first_after cut (map pair_of rows)) c.in-Some.ensures.steps
     ∙ stays_behind cut (pair_by (c.in-Some.key, c.in-Some.value)) (map pair_of c.next.new.self) c.if-is_past.ensures
 
 pub returns-then-is_past : goal.returns-then-is_past
 returns-then-is_past c =
-    let cut = cut_of c.args.mode c.args.tuple.now in
+    let cut = cut_of c.args.mode c.args.tuple.now.fields in
     sym (c.loop-key.invariant ∙ ap (λ rows. first_after cut (map pair_of rows)) c.in-Some.ensures.steps
     ∙ is_first cut (pair_by (c.in-Some.key, c.in-Some.value)) (map pair_of c.next.new.self) c.if-is_past.ensures)

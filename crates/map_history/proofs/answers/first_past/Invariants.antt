@@ -6,4 +6,4 @@ use Rattle.map_history.proofs.answers.first_past.Given as goal
 
 -- the first row that passes is among those that are left
 abbrev pub invariant-loop-key : goal.invariant-loop-key
-invariant-loop-key l = first_after (cut_of l.mode l.tuple) (pairs l.map) ≡ first_after (cut_of l.mode l.tuple) (map pair_of l.key-iterator)
+invariant-loop-key l = first_after (cut_of l.mode l.tuple.fields) (pairs l.map) ≡ first_after (cut_of l.mode l.tuple.fields) (map pair_of l.key-iterator)

@@ -9,7 +9,7 @@ use Rattle.map_history.proofs.answers.last_short.Goals as goal
 
 pub returns-then-not-is_past : goal.returns-then-not-is_past
 returns-then-not-is_past c =
-    let cut = cut_of c.args.mode c.args.tuple.now in
+    let cut = cut_of c.args.mode c.args.tuple.now.fields in
     let rest = map pair_of c.next_back.new.self in
     let row = pair_by (c.in-Some.key, c.in-Some.value) in
     let left = ap (map pair_of) c.in-Some.ensures.steps ∙ map-append pair_of c.next_back.new.self ((c.in-Some.key.now, c.in-Some.value.now) ∷ []) in
@@ -17,7 +17,7 @@ returns-then-not-is_past c =
 
 pub loop-key-preserved : goal.loop-key-preserved
 loop-key-preserved c =
-    let cut = cut_of c.args.mode c.args.tuple.now in
+    let cut = cut_of c.args.mode c.args.tuple.now.fields in
     let rest = map pair_of c.next_back.new.self in
     let row = pair_by (c.in-Some.key, c.in-Some.value) in
     let left = ap (map pair_of) c.in-Some.ensures.steps ∙ map-append pair_of c.next_back.new.self ((c.in-Some.key.now, c.in-Some.value.now) ∷ []) in

@@ -11,4 +11,4 @@ tuple_cmp-longer (t ∷ ts) [] e = refl
 tuple_cmp-longer (t ∷ ts) (k ∷ ks) e = ap (ordering_then (slice_cmp nat_cmp t k)) (tuple_cmp-longer ts ks (omega arith))
 
 pub returns-else-count : goal.returns-else-count
-returns-else-count c = c.compare_whole.ensures ∙ sym (tuple_cmp-longer c.args.tuple.now c.args.key.now.tuple (omega (arith, c.count.ensures, c.count-2.ensures)))
+returns-else-count c = c.compare_whole.ensures ∙ sym (tuple_cmp-longer c.args.tuple.now.fields c.args.key.now.tuple (omega (arith, c.count.ensures, c.count-2.ensures)))

@@ -15,7 +15,7 @@ returns-then-speaks_at-clause-past g c = let call = c.args.self.now in let p = c
     let indexes = ap (λ z. z.indexes) c.requires.own.1 in let below = call.there in
     let lists = call.forest.lists in
     let room = sees_each p call.index (omega (arith, indexes, lists, below)) in
-    counts_past (view p) (view c.read_point-point.new.pass) call.index call.mode call.tuple.now
+    counts_past (view p) (view c.read_point-point.new.pass) call.index call.mode call.tuple.now.fields
     c.args.bound Look c.read_point-point.result c.read_point-point.ensures.did room
     (sym c.speaks_at.ensures ∙ c.if-speaks_at.true)
 

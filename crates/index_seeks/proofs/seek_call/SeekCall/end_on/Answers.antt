@@ -41,7 +41,7 @@ take_row-found-requires-clause-finds g c = let last = c.requires.held in
     (c.frame.ensures last.frame last.frame
     (frame_has c.args.pass.now last.only.known c.args.leaf.now.block last.frame last.knows))
     last.is.page.is.paged c.page_of-page.ensures in
-    subst (λ (z : PageRows). Finds call.mode call.tuple.now z.rows c.args.leaf.now.spot) (sym is)
+    subst (λ (z : PageRows). Finds call.mode call.tuple.now.fields z.rows c.args.leaf.now.spot) (sym is)
     last.is.finds
 
 pub tell-told-requires-clause-can : goal.tell-told-requires-clause-can
@@ -53,10 +53,10 @@ tell-told-requires-clause-can g c = let last = c.requires.held in let call = c.a
     (c.frame.ensures last.frame last.frame
     (frame_has p last.only.known c.args.leaf.now.block last.frame last.knows))
     last.is.page.is.paged c.page_of-page.ensures in
-    subst (λ r. CanTell (view p) call.index call.mode call.tuple.now None r row)
+    subst (λ r. CanTell (view p) call.index call.mode call.tuple.now.fields None r row)
     (sym c.reply_if.ensures)
-    (last_tells p call.index call.mode call.tuple.now c.args.leaf.now last found row
-    (subst (λ (z : PageRows). TellsRow call.mode call.tuple.now z.rows found row) is
+    (last_tells p call.index call.mode call.tuple.now.fields c.args.leaf.now last found row
+    (subst (λ (z : PageRows). TellsRow call.mode call.tuple.now.fields z.rows found row) is
     c.take_row-found.ensures.row) c.take_row-found.ensures.none)
 
 pub leave-requires-clause-held : goal.leave-requires-clause-held
@@ -80,7 +80,7 @@ returns-clause-ends g c = let call = c.args.self.now in let p = c.args.pass.now 
     let terms = c.tell-told.ensures.own.1.1 ∙ sym c.requires.own.1 in
     said_then_first (shape_of_pass p) call.index c.tell-told.new.pass c.leave.new.pass
     c.args.leaf.now.block (ap (λ (t : Terms Shape). t.shape) terms) c.leave.ensures.gave call.mode
-    call.tuple.now c.tell-told.result c.take_row-found.new.out (view p) c.tell-told.ensures.did
+    call.tuple.now.fields c.tell-told.result c.take_row-found.new.out (view p) c.tell-told.ensures.did
     last.frame last.is.page.is.page.head.number
     (page_number last.frame call.index 0 last.is.page.is) last.knows
     (knows_same p c.tell-told.new.pass c.args.leaf.now.block last.frame

@@ -53,7 +53,7 @@ tell-requires-clause-can g c = let held = c.requires.held in let hit = held.hit 
     (c.frame.ensures hit.frame hit.frame
     (frame_has c.args.pass.now held.only.known c.args.block hit.frame hit.knows))
     hit.is.paged c.page_of-page.ensures in
-    hit_tells (view c.args.pass.now) call.index call.mode call.tuple.now c.args.block c.args.place
+    hit_tells (view c.args.pass.now) call.index call.mode call.tuple.now.fields c.args.block c.args.place
     held.found hit c.row-row.result.row
     (ap (λ (z : PageRows). find_row c.args.place z.rows) (sym is) ∙ c.row-row.ensures.row)
     c.fill.new.self (sym c.fill.ensures.key)
@@ -79,7 +79,7 @@ returns-clause-told g c = let p = c.args.pass.now in let q = c.tell.new.pass in
     let call = c.args.self.now in let held = c.requires.held in let hit = held.hit in
     let b = c.args.block in let terms = c.tell.ensures.own.1.1 ∙ sym c.requires.own.1 in record {
       between = q;
-      says = subst (λ o. SaysIf (view p) (view q) call.index (Seek call.mode call.tuple.now) o
+      says = subst (λ o. SaysIf (view p) (view q) call.index (Seek call.mode call.tuple.now.fields) o
           c.fill.new.self) c.in-Some.is c.tell.ensures.did;
       gave = c.leave.ensures.gave;
       page = gave_page q c.leave.new.pass b call.index hit.frame

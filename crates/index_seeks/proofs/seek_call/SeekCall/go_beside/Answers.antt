@@ -14,7 +14,7 @@ use Rattle.index_seeks.proofs.seek_call.SeekCall.go_beside.Goals as goal
 
 pub stand_on-stand-requires-clause-stands : goal.stand_on-stand-requires-clause-stands
 stand_on-stand-requires-clause-stands g c = let call = c.args.self.now in
-    both_stands c.args.pass.now call.index call.mode call.tuple.now c.args.leaf.now c.args.other
+    both_stands c.args.pass.now call.index call.mode call.tuple.now.fields c.args.leaf.now c.args.other
     c.requires.held
 
 pub leave-requires-clause-held : goal.leave-requires-clause-held
@@ -33,14 +33,14 @@ walk-requires-clause-walks g c = let call = c.args.self.now in let p = c.args.pa
     let terms = c.stand_on-stand.ensures.own.1.1 ∙ sym c.requires.own.1 in
     let kept = c.stand_on-stand.ensures.kept in let gave = c.leave.ensures.gave in
     let on = subst
-    (λ s. StandsThen p q m call.index call.mode call.tuple.now s c.stand_on-stand.new.out)
+    (λ s. StandsThen p q m call.index call.mode call.tuple.now.fields s c.stand_on-stand.new.out)
     c.in-On.is c.stand_on-stand.ensures.then in
-    walks_at r call.index call.mode call.tuple.now c.in-On.walk m on.0
+    walks_at r call.index call.mode call.tuple.now.fields c.in-On.walk m on.0
     (only_gave q r b (m ∷ []) (only_same p q (b ∷ m ∷ []) both.only kept terms) gave)
     (page_gave q r call.index b m both.beside.other gave
     (page_same p q call.index m kept terms
-    (both_stands p call.index call.mode call.tuple.now c.args.leaf.now m both).holds))
-    (past_gave q r b m call.index c.in-On.walk.point call.mode call.tuple.now both.beside.other
+    (both_stands p call.index call.mode call.tuple.now.fields c.args.leaf.now m both).holds))
+    (past_gave q r b m call.index c.in-On.walk.point call.mode call.tuple.now.fields both.beside.other
     gave on.2)
 
 pub returns-in-On-clause-ends : goal.returns-in-On-clause-ends
@@ -51,12 +51,12 @@ returns-in-On-clause-ends g c = let call = c.args.self.now in let p = c.args.pas
     let m = c.args.other in
     let terms = c.stand_on-stand.ensures.own.1.1 ∙ sym c.requires.own.1 in
     let on = subst
-    (λ s. StandsThen p q m call.index call.mode call.tuple.now s c.stand_on-stand.new.out)
+    (λ s. StandsThen p q m call.index call.mode call.tuple.now.fields s c.stand_on-stand.new.out)
     c.in-On.is c.stand_on-stand.ensures.then in
     first_then_on (shape_of_pass p) call.index q r b (ap (λ (t : Terms Shape). t.shape) terms)
-    c.leave.ensures.gave call.mode call.tuple.now c.walk.result c.walk.new.out (view p) v' on.1
+    c.leave.ensures.gave call.mode call.tuple.now.fields c.walk.result c.walk.new.out (view p) v' on.1
     (subst
-    (λ s. EndsSeek s (view r) v' call.index call.mode call.tuple.now c.walk.result
+    (λ s. EndsSeek s (view r) v' call.index call.mode call.tuple.now.fields c.walk.result
     c.walk.new.out)
     (ap (λ (t : Terms Shape). t.shape) (c.leave.ensures.own.1.1 ∙ sym c.requires.own.1))
     c.walk.ensures.ends)
@@ -82,14 +82,14 @@ returns-in-Ends-clause-ends g c = let call = c.args.self.now in let p = c.args.p
     let kept = c.stand_on-stand.ensures.kept in let gave = c.leave.ensures.gave in
     let holds = page_gave q r call.index b m both.beside.other gave
     (page_same p q call.index m kept terms
-    (both_stands p call.index call.mode call.tuple.now c.args.leaf.now m both).holds) in
+    (both_stands p call.index call.mode call.tuple.now.fields c.args.leaf.now m both).holds) in
     let gave2 = c.leave-in-Ends.ensures.gave in let out = c.stand_on-stand.new.out in
     first_then_gave (shape_of_pass p) call.index r c.leave-in-Ends.new.pass m
     (ap (λ (t : Terms Shape). t.shape) (c.leave.ensures.own.1.1 ∙ sym c.requires.own.1)) gave2
-    call.mode call.tuple.now c.in-Ends.told out (view p) b
+    call.mode call.tuple.now.fields c.in-Ends.told out (view p) b
     (said_then_first (shape_of_pass p) call.index q r b (ap (λ (t : Terms Shape). t.shape) terms)
-    gave call.mode call.tuple.now c.in-Ends.told out (view p)
-    (subst (λ s. StandsThen p q m call.index call.mode call.tuple.now s out) c.in-Ends.is
+    gave call.mode call.tuple.now.fields c.in-Ends.told out (view p)
+    (subst (λ s. StandsThen p q m call.index call.mode call.tuple.now.fields s out) c.in-Ends.is
     c.stand_on-stand.ensures.then)
     both.frame both.is.page.is.page.head.number
     (page_number both.frame call.index 0 both.is.page.is) both.knows
@@ -104,7 +104,7 @@ leave-requires-in-Ends-clause-held g c = let call = c.args.self.now in let p = c
     let kept = c.stand_on-stand.ensures.kept in let gave = c.leave.ensures.gave in
     let holds = page_gave q r call.index b m both.beside.other gave
     (page_same p q call.index m kept terms
-    (both_stands p call.index call.mode call.tuple.now c.args.leaf.now m both).holds) in
+    (both_stands p call.index call.mode call.tuple.now.fields c.args.leaf.now m both).holds) in
     may_leave r (m ∷ []) m call.index holds.frame
     (only_gave q r b (m ∷ []) (only_same p q (b ∷ m ∷ []) both.only kept terms) gave)
     holds.knows holds.is

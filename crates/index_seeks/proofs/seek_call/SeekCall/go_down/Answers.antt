@@ -20,8 +20,8 @@ pub returns-clause-held : goal.returns-clause-held
 returns-clause-held g c = let call = c.args.self.now in let p = c.args.pass.now in
     let q = c.descend_pair.new.pass in let pair = c.descend_pair.result in
     let went = c.descend_pair.ensures.went in
-    held_pair p q call.index call.mode call.tuple.now pair went
-    (went_only p q call.index call.mode call.tuple.now pair went
+    held_pair p q call.index call.mode call.tuple.now.fields pair went
+    (went_only p q call.index call.mode call.tuple.now.fields pair went
     (none_held p (objects_of call.space.now p call.forest c.requires.own) c.requires.nothing))
 
 pub descend_pair-requires-clause-known : goal.descend_pair-requires-clause-known

@@ -12,7 +12,7 @@ pub returns-in-Some-clause-told : goal.returns-in-Some-clause-told
 returns-in-Some-clause-told g c = let call = c.args.self.now in let p = c.args.pass.now in
     let q = c.look_on.new.pass in
     inl (subst (λ o. EndsFromLeaf (shape_of_pass p) (view p) (view q) c.args.pair.now.leaf.block
-    call.index call.mode call.tuple.now o c.look_on.new.out) c.in-Some.is c.look_on.ensures.ends)
+    call.index call.mode call.tuple.now.fields o c.look_on.new.out) c.in-Some.is c.look_on.ensures.ends)
 
 pub returns-in-None-clause-told : goal.returns-in-None-clause-told
 returns-in-None-clause-told g c = let call = c.args.self.now in let p = c.args.pass.now in
@@ -20,7 +20,7 @@ returns-in-None-clause-told g c = let call = c.args.self.now in let p = c.args.p
       between = view q;
       out = c.look_on.new.out;
       first = subst (λ o. EndsFromLeaf (shape_of_pass p) (view p) (view q)
-          c.args.pair.now.leaf.block call.index call.mode call.tuple.now o c.look_on.new.out)
+          c.args.pair.now.leaf.block call.index call.mode call.tuple.now.fields o c.look_on.new.out)
           c.in-None.is c.look_on.ensures.ends;
       again = c.seek_again.ensures.told;
     })

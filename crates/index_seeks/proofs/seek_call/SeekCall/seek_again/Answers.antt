@@ -20,9 +20,9 @@ returns-in-Some-try_seek-clause-told g c = let call = c.args.self.now in
     let v = view c.loop.pass in let v' = view c.try_seek.new.pass in
     let told = c.in-Some-try_seek.told in let out = c.try_seek.new.out in
     vain_then_way (view c.args.pass.now) v v' call.index c.loop.invariant.vain call.mode
-    call.tuple.now told out
-    (tries_way v v' call.index call.mode call.tuple.now told out
-    (subst (λ o. TriesSeek v v' call.index call.mode call.tuple.now o out) c.in-Some-try_seek.is
+    call.tuple.now.fields told out
+    (tries_way v v' call.index call.mode call.tuple.now.fields told out
+    (subst (λ o. TriesSeek v v' call.index call.mode call.tuple.now.fields o out) c.in-Some-try_seek.is
     c.try_seek.ensures.tried))
 
 pub loop-preserved : goal.loop-preserved
@@ -36,10 +36,10 @@ loop-preserved g c = let call = c.args.self.now in record {
   vain = vain_both (view c.args.pass.now) (view c.loop.pass) (view c.try_seek.new.pass) call.index
       c.loop.invariant.vain
       (tries_vain (view c.loop.pass) (view c.try_seek.new.pass) call.index call.mode
-      call.tuple.now c.try_seek.new.out
+      call.tuple.now.fields c.try_seek.new.out
       (subst
       (λ o. TriesSeek (view c.loop.pass) (view c.try_seek.new.pass) call.index call.mode
-      call.tuple.now o c.try_seek.new.out) c.in_default.is c.try_seek.ensures.tried));
+      call.tuple.now.fields o c.try_seek.new.out) c.in_default.is c.try_seek.ensures.tried));
 }
 
 pub returns-in-Some-try_seek-clause-own : goal.returns-in-Some-try_seek-clause-own

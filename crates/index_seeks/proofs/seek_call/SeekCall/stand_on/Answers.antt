@@ -9,9 +9,9 @@ use Rattle.index_seeks.proofs.seek_call.SeekCall.stand_on.Goals as goal
 
 pub tell-requires-clause-can : goal.tell-requires-clause-can
 tell-requires-clause-can g c = let call = c.args.self.now in let stands = c.requires.stands in
-    stands_tells c.args.pass.now c.args.block call.index call.mode call.tuple.now c.args.bound
+    stands_tells c.args.pass.now c.args.block call.index call.mode call.tuple.now.fields c.args.bound
     stands c.take_row_of.new.out
-    (subst (λ b. TellsRow call.mode call.tuple.now stands.holds.is.page.rows b
+    (subst (λ b. TellsRow call.mode call.tuple.now.fields stands.holds.is.page.rows b
     c.take_row_of.new.out) c.if-take_row_of.true (c.take_row_of.ensures stands.holds))
 
 pub returns-in-Some-clause-then : goal.returns-in-Some-clause-then
@@ -24,12 +24,12 @@ returns-in-Some-clause-then g c = let call = c.args.self.now in let stands = c.r
         frame = stands.holds.frame;
         knows = knows_same p q c.args.block stands.holds.frame
             c.count_changes.ensures.kept.held terms stands.holds.knows;
-        saw = subst (CountsPast (view p) (view q) call.index call.mode call.tuple.now c.args.bound)
+        saw = subst (CountsPast (view p) (view q) call.index call.mode call.tuple.now.fields c.args.bound)
             c.in-Some.is c.count_changes.ensures.past (far_of (side_of call.mode)
             stands.holds.frame)
-            (stands_past p c.args.block call.index call.mode call.tuple.now c.args.bound stands
+            (stands_past p c.args.block call.index call.mode call.tuple.now.fields c.args.bound stands
             c.take_row_of.new.out
-            (subst (λ b. TellsRow call.mode call.tuple.now stands.holds.is.page.rows b
+            (subst (λ b. TellsRow call.mode call.tuple.now.fields stands.holds.is.page.rows b
             c.take_row_of.new.out) c.if-take_row_of.false
             (c.take_row_of.ensures stands.holds)));
       },

@@ -16,8 +16,8 @@ leave-requires-clause-held g c = let call = c.args.self.now in let p = c.args.pa
     c.take_beside.ensures.tells) in
     let walks = c.requires.walks in
     may_leave q (b ∷ m ∷ []) b call.index took.holds.frame
-    (took_only p call.index call.mode call.tuple.now c.args.from walks m q took)
-    (took_knows p call.index call.mode call.tuple.now c.args.from walks m q took) took.holds.is
+    (took_only p call.index call.mode call.tuple.now.fields c.args.from walks m q took)
+    (took_knows p call.index call.mode call.tuple.now.fields c.args.from walks m q took) took.holds.is
 
 pub step_onto-requires-clause-only : goal.step_onto-requires-clause-only
 step_onto-requires-clause-only g c = let call = c.args.self.now in let p = c.args.pass.now in
@@ -25,7 +25,7 @@ step_onto-requires-clause-only g c = let call = c.args.self.now in let p = c.arg
     let took = subst (λ s. TellsBeside p b call.index s (Held m) q) c.side_of-side.ensures
     (subst (λ r. TellsBeside p b call.index c.side_of-side.result r q) c.in-Held.is
     c.take_beside.ensures.tells) in
-    next_only p call.index call.mode call.tuple.now c.args.from c.requires.walks m q took
+    next_only p call.index call.mode call.tuple.now.fields c.args.from c.requires.walks m q took
     c.leave.new.pass c.leave.ensures.gave
 
 pub step_onto-requires-clause-stands : goal.step_onto-requires-clause-stands
@@ -34,7 +34,7 @@ step_onto-requires-clause-stands g c = let call = c.args.self.now in let p = c.a
     let took = subst (λ s. TellsBeside p b call.index s (Held m) q) c.side_of-side.ensures
     (subst (λ r. TellsBeside p b call.index c.side_of-side.result r q) c.in-Held.is
     c.take_beside.ensures.tells) in
-    next_stands p call.index call.mode call.tuple.now c.args.from c.requires.walks m q took
+    next_stands p call.index call.mode call.tuple.now.fields c.args.from c.requires.walks m q took
     c.leave.new.pass c.leave.ensures.gave
 
 pub returns-in-Held-clause-then : goal.returns-in-Held-clause-then
@@ -43,10 +43,10 @@ returns-in-Held-clause-then g c = let call = c.args.self.now in let p = c.args.p
     let took = subst (λ s. TellsBeside p b call.index s (Held m) q) c.side_of-side.ensures
     (subst (λ r. TellsBeside p b call.index c.side_of-side.result r q) c.in-Held.is
     c.take_beside.ensures.tells) in
-    walks_then p c.leave.new.pass c.step_onto.new.pass call.index call.mode call.tuple.now
+    walks_then p c.leave.new.pass c.step_onto.new.pass call.index call.mode call.tuple.now.fields
     c.step_onto.result c.step_onto.new.out
     (ap (λ (t : Terms Shape). t.shape) (c.leave.ensures.own.1.1 ∙ sym c.requires.own.1))
-    (next_passes p call.index call.mode call.tuple.now c.args.from c.requires.walks m q took
+    (next_passes p call.index call.mode call.tuple.now.fields c.args.from c.requires.walks m q took
     c.leave.new.pass c.leave.ensures.gave) c.step_onto.ensures.then
 
 pub tell-told-requires-clause-can : goal.tell-told-requires-clause-can
@@ -55,7 +55,7 @@ tell-told-requires-clause-can g c = let call = c.args.self.now in let p = c.args
     let last = subst (λ s. TellsBeside p b call.index s AtEnd q) c.side_of-side.ensures
     (subst (λ r. TellsBeside p b call.index c.side_of-side.result r q) c.in-AtEnd.is
     c.take_beside.ensures.tells) in
-    last_here p call.index call.mode call.tuple.now c.args.from c.requires.walks q last
+    last_here p call.index call.mode call.tuple.now.fields c.args.from c.requires.walks q last
     c.args.out.now
 
 pub returns-in-AtEnd-clause-then : goal.returns-in-AtEnd-clause-then
@@ -66,12 +66,12 @@ returns-in-AtEnd-clause-then g c = let call = c.args.self.now in let p = c.args.
     c.take_beside.ensures.tells) in
     let terms = c.tell-told.ensures.own.1.1 ∙ sym c.take_beside.ensures.own.1.1 in
     let holds = page_same q r call.index b c.tell-told.ensures.kept terms
-    (last_page p call.index call.mode call.tuple.now c.args.from c.requires.walks q last) in (
+    (last_page p call.index call.mode call.tuple.now.fields c.args.from c.requires.walks q last) in (
       (only_gave r c.leave-in-AtEnd.new.pass b []
           (only_same q r (b ∷ [])
-          (last_only p call.index call.mode call.tuple.now c.args.from c.requires.walks q last)
+          (last_only p call.index call.mode call.tuple.now.fields c.args.from c.requires.walks q last)
           c.tell-told.ensures.kept terms) c.leave-in-AtEnd.ensures.gave).count,
-      last_ends p call.index call.mode call.tuple.now c.args.from c.requires.walks q last r
+      last_ends p call.index call.mode call.tuple.now.fields c.args.from c.requires.walks q last r
           c.leave-in-AtEnd.new.pass c.tell-told.result c.args.out.now c.tell-told.ensures.did
           (ap (λ (t : Terms Shape). t.shape) (c.tell-told.ensures.own.1.1 ∙ sym c.requires.own.1))
           c.leave-in-AtEnd.ensures.gave holds,
@@ -84,9 +84,9 @@ returns-in-Busy-clause-then g c = let call = c.args.self.now in let p = c.args.p
     (subst (λ r. TellsBeside p b call.index c.side_of-side.result r q) c.in-Busy.is
     c.take_beside.ensures.tells) in (
       (only_gave q c.leave-in-Busy.new.pass b []
-          (busy_only p call.index call.mode call.tuple.now c.args.from c.requires.walks q busy)
+          (busy_only p call.index call.mode call.tuple.now.fields c.args.from c.requires.walks q busy)
           c.leave-in-Busy.ensures.gave).count,
-      busy_ends p call.index call.mode call.tuple.now c.args.from c.requires.walks q busy
+      busy_ends p call.index call.mode call.tuple.now.fields c.args.from c.requires.walks q busy
           c.leave-in-Busy.new.pass c.args.out.now c.leave-in-Busy.ensures.gave,
     )
 
@@ -99,10 +99,10 @@ leave-requires-in-AtEnd-clause-held g c = let call = c.args.self.now in let p = 
     let terms = c.tell-told.ensures.own.1.1 ∙ sym c.take_beside.ensures.own.1.1 in
     let kept = c.tell-told.ensures.kept in
     let holds = page_same q r call.index b kept terms
-    (last_page p call.index call.mode call.tuple.now c.args.from c.requires.walks q last) in
+    (last_page p call.index call.mode call.tuple.now.fields c.args.from c.requires.walks q last) in
     may_leave r (b ∷ []) b call.index holds.frame
     (only_same q r (b ∷ [])
-    (last_only p call.index call.mode call.tuple.now c.args.from c.requires.walks q last) kept
+    (last_only p call.index call.mode call.tuple.now.fields c.args.from c.requires.walks q last) kept
     terms) holds.knows holds.is
 
 pub leave-requires-in-Busy-clause-held : goal.leave-requires-in-Busy-clause-held
@@ -112,8 +112,8 @@ leave-requires-in-Busy-clause-held g c = let call = c.args.self.now in let p = c
     (subst (λ r. TellsBeside p b call.index c.side_of-side.result r q) c.in-Busy.is
     c.take_beside.ensures.tells) in
     may_leave q (b ∷ []) b call.index walks.holds.frame
-    (busy_only p call.index call.mode call.tuple.now c.args.from walks q busy)
-    (busy_knows p call.index call.mode call.tuple.now c.args.from walks q busy) walks.holds.is
+    (busy_only p call.index call.mode call.tuple.now.fields c.args.from walks q busy)
+    (busy_knows p call.index call.mode call.tuple.now.fields c.args.from walks q busy) walks.holds.is
 
 pub returns-in-AtEnd-clause-own : goal.returns-in-AtEnd-clause-own
 returns-in-AtEnd-clause-own g c = (

@@ -14,10 +14,10 @@ pub returns-in-On-clause-then : goal.returns-in-On-clause-then
 returns-in-On-clause-then g c = let call = c.args.self.now in let p = c.args.pass.now in
     let q = c.stand_on.new.pass in let b = c.args.block in
     let terms = c.stand_on.ensures.own.1.1 ∙ sym c.requires.own.1 in
-    stands_walk p q b call.index call.mode call.tuple.now c.in-On.walk c.stand_on.ensures.kept
+    stands_walk p q b call.index call.mode call.tuple.now.fields c.in-On.walk c.stand_on.ensures.kept
     terms c.requires.only c.requires.stands.holds
     (subst
-    (λ s. StandsThen p q b call.index call.mode call.tuple.now s c.stand_on.new.out)
+    (λ s. StandsThen p q b call.index call.mode call.tuple.now.fields s c.stand_on.new.out)
     c.in-On.is c.stand_on.ensures.then)
 
 pub leave-requires-clause-held : goal.leave-requires-clause-held
@@ -39,9 +39,9 @@ returns-in-Ends-clause-then g c = let call = c.args.self.now in let p = c.args.p
       (only_gave q r b []
           (only_same p q (b ∷ []) c.requires.only c.stand_on.ensures.kept terms) gave).count,
       said_then_gave (shape_of_pass p) call.index q r b (ap (λ (t : Terms Shape). t.shape) terms)
-          gave call.mode call.tuple.now c.in-Ends.told c.stand_on.new.out (view p)
+          gave call.mode call.tuple.now.fields c.in-Ends.told c.stand_on.new.out (view p)
           (subst
-          (λ s. StandsThen p q b call.index call.mode call.tuple.now s c.stand_on.new.out)
+          (λ s. StandsThen p q b call.index call.mode call.tuple.now.fields s c.stand_on.new.out)
           c.in-Ends.is c.stand_on.ensures.then)
           (gave_page q r b call.index holds.frame holds.knows holds.is gave),
     )

@@ -26,10 +26,10 @@ search-requires g c = let held = c.requires.held in let call = c.args.self.now i
     (c.frame.ensures held.frame held.frame
     (frame_has p c.requires.known c.args.block held.frame held.knows)) held.is.paged
     c.page_of-page.ensures in
-    subst (λ (z : PageRows). length call.tuple.now ≤ z.head.fields) (sym is)
-    (subst (λ n. length call.tuple.now ≤ n)
+    subst (λ (z : PageRows). length call.tuple.now.fields ≤ z.head.fields) (sym is)
+    (subst (λ n. length call.tuple.now.fields ≤ n)
     (sym (held.order.fields ∙ ap (fields_for (shape_of_pass p)) held.is.index))
-    (subst (λ (t : Terms Shape). length call.tuple.now ≤ fields_for t.shape call.index)
+    (subst (λ (t : Terms Shape). length call.tuple.now.fields ≤ fields_for t.shape call.index)
     (sym c.requires.own.1) call.fits))
 
 pub take_row-requires-clause-leaf : goal.take_row-requires-clause-leaf
@@ -46,7 +46,7 @@ take_row-requires-clause-finds g c = c.search.ensures
 pub returns : goal.returns
 returns g c = λ h. (let call = c.args.self.now in
     subst
-    (λ (z : PageRows). TellsRow call.mode call.tuple.now z.rows c.take_row.result
+    (λ (z : PageRows). TellsRow call.mode call.tuple.now.fields z.rows c.take_row.result
     c.take_row.new.out)
     (same_page h.frame c.frame.result.now h.is.page c.page_of-page.result.now
     (c.frame.ensures h.frame h.frame

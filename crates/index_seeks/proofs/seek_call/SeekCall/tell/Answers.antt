@@ -7,19 +7,19 @@ use Rattle.index_seeks.proofs.seek_call.SeekCall.tell.Goals as goal
 
 pub read_point-point-requires-clause-rule : goal.read_point-point-requires-clause-rule
 read_point-point-requires-clause-rule g c = let call = c.args.self.now in
-    may_tell (view c.args.pass.now) call.index call.mode call.tuple.now c.args.bound c.args.reply
+    may_tell (view c.args.pass.now) call.index call.mode call.tuple.now.fields c.args.bound c.args.reply
     c.args.row.now c.requires.can call.found
 
 pub returns-then-speaks_at-clause-did : goal.returns-then-speaks_at-clause-did
 returns-then-speaks_at-clause-did g c = let call = c.args.self.now in
-    tells_answer (view c.args.pass.now) call.index call.mode call.tuple.now c.args.bound
+    tells_answer (view c.args.pass.now) call.index call.mode call.tuple.now.fields c.args.bound
     c.args.reply c.args.row.now c.requires.can call.found (view c.read_point-point.new.pass)
     c.read_point-point.result c.read_point-point.ensures.did
     (sym c.speaks_at.ensures ∙ c.if-speaks_at.true)
 
 pub returns-else-speaks_at-clause-did : goal.returns-else-speaks_at-clause-did
 returns-else-speaks_at-clause-did g c = let call = c.args.self.now in
-    tells_nothing (view c.args.pass.now) call.index call.mode call.tuple.now c.args.bound
+    tells_nothing (view c.args.pass.now) call.index call.mode call.tuple.now.fields c.args.bound
     c.args.reply c.args.row.now c.requires.can call.found (view c.read_point-point.new.pass)
     c.read_point-point.result c.read_point-point.ensures.did
     (sym c.speaks_at.ensures ∙ c.if-speaks_at.false)

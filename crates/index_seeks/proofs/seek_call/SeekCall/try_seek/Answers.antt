@@ -11,7 +11,7 @@ use Rattle.index_seeks.proofs.seek_call.SeekCall.try_seek.Goals as goal
 pub returns-clause-tried : goal.returns-clause-tried
 returns-clause-tried g c = let call = c.args.self.now in let p = c.args.pass.now in
     let q = c.go_down-pair.new.pass in let r = c.look_on.new.pass in
-    let pair = c.go_down-pair.result in let i = call.index in let tuple = call.tuple.now in
+    let pair = c.go_down-pair.result in let i = call.index in let tuple = call.tuple.now.fields in
     tries_pair p q (view r) i call.mode tuple pair.leaf.block c.look_on.result c.look_on.new.out
     (pair_comes p q i call.mode tuple pair c.go_down-pair.ensures.went)
     (subst

@@ -20,11 +20,11 @@ loop-init g c = let p = c.args.pass.now in record {
 pub loop-preserved : goal.loop-preserved
 loop-preserved g c = let call = c.args.self.now in let p = c.args.pass.now in
     let q = c.loop.pass in let r = c.step.new.pass in
-    let then = walks_then p q r call.index call.mode call.tuple.now c.step.result c.step.new.out
+    let then = walks_then p q r call.index call.mode call.tuple.now.fields c.step.result c.step.new.out
     (ap (λ (t : Terms Shape). t.shape) (c.loop.invariant.own.1.1 ∙ sym c.requires.own.1))
     c.loop.invariant.passes c.step.ensures.then in
     let on = subst
-    (λ s. WalksThen p r call.index call.mode call.tuple.now s c.step.new.out) c.in-On.is then in
+    (λ s. WalksThen p r call.index call.mode call.tuple.now.fields s c.step.new.out) c.in-On.is then in
     record {
       own = (
         passes_both c.args.pass.now c.loop.pass c.step.new.pass c.loop.invariant.own.0
@@ -38,16 +38,16 @@ loop-preserved g c = let call = c.args.self.now in let p = c.args.pass.now in
 pub returns-in-Ends-clause-nothing : goal.returns-in-Ends-clause-nothing
 returns-in-Ends-clause-nothing g c = let call = c.args.self.now in
     (subst
-    (λ s. WalksThen c.loop.pass c.step.new.pass call.index call.mode call.tuple.now s
+    (λ s. WalksThen c.loop.pass c.step.new.pass call.index call.mode call.tuple.now.fields s
     c.step.new.out) c.in-Ends.is c.step.ensures.then).0
 
 pub returns-in-Ends-clause-ends : goal.returns-in-Ends-clause-ends
 returns-in-Ends-clause-ends g c = let call = c.args.self.now in let p = c.args.pass.now in
     let q = c.loop.pass in let r = c.step.new.pass in
-    let then = walks_then p q r call.index call.mode call.tuple.now c.step.result c.step.new.out
+    let then = walks_then p q r call.index call.mode call.tuple.now.fields c.step.result c.step.new.out
     (ap (λ (t : Terms Shape). t.shape) (c.loop.invariant.own.1.1 ∙ sym c.requires.own.1))
     c.loop.invariant.passes c.step.ensures.then in
-    (subst (λ s. WalksThen p r call.index call.mode call.tuple.now s c.step.new.out) c.in-Ends.is
+    (subst (λ s. WalksThen p r call.index call.mode call.tuple.now.fields s c.step.new.out) c.in-Ends.is
     then).1
 
 pub returns-in-Ends-clause-own : goal.returns-in-Ends-clause-own
