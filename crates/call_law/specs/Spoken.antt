@@ -39,14 +39,15 @@ spoken_saying i p n (Replies ask word bound columns) =
     if speaks_at bound p
     then record { index = i; by = n; ask = ask; answer = printed_word word p columns } ∷ []
     else []
-spoken_saying i p n (Piece ask low high rows columns) =
-    record {
+spoken_saying i p n (Piece ask low high rows bound columns) =
+    if speaks_at bound p
+    then record {
       index = i;
       by = n;
       ask = ask;
       answer = Scanned (record { point = p; rows = rows; columns = columns } ∷ []);
-    }
-    ∷ []
+    } ∷ []
+    else []
 spoken_saying i p n (Full places) = []
 spoken_saying i p n Look = []
 

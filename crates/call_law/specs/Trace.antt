@@ -75,7 +75,7 @@ AreGivenAt i n qs = AllByRecursion (λ (q : OwnAnswer). (q.index ≡ i) × (q.by
 abbrev pub full_places : what.Statement MadeChange Saying → List (List Where)
 full_places (what.TheVariants.Change deed) = []
 full_places (what.TheVariants.Answer (Replies ask word bound columns)) = []
-full_places (what.TheVariants.Answer (Piece ask low high rows columns)) = []
+full_places (what.TheVariants.Answer (Piece ask low high rows bound columns)) = []
 full_places (what.TheVariants.Answer (Full places)) = places ∷ []
 full_places (what.TheVariants.Answer Look) = []
 

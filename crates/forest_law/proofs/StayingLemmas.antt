@@ -74,7 +74,8 @@ module _ (name : ℕ) (w w' : ForestState) (away : Away name w w') (xs ys : Entr
   said_stays : (a : Saying) → IsSaid w xs p a
       → IsSaid w' (xs ++ ys) p a
   said_stays (Replies ask word bound columns) so = λ speaks. word_stays ask word (so speaks)
-  said_stays (Piece ask low high rows columns) so = so ∙ ap (slice low high) (sym map_stays)
+  said_stays (Piece ask low high rows bound columns) so =
+      λ speaks. so speaks ∙ ap (slice low high) (sym map_stays)
   said_stays (Full places) so =
       (so.0 ∙ ap (λ z. z.pages) (sym away.shape), so.1, short_stays name w w' away so.2)
   said_stays Look so = tt

@@ -120,7 +120,7 @@ said_first : (said : Statement MadeChange Saying) (q : OwnAnswer) (qs : List Own
 said_first (what.Change deed) q qs places is one later = said_before q qs places (later one)
 said_first (what.Answer (Replies ask word bound columns)) q qs places is one later =
     said_before q qs places (later one)
-said_first (what.Answer (Piece ask low high rows columns)) q qs places is one later =
+said_first (what.Answer (Piece ask low high rows bound columns)) q qs places is one later =
     said_before q qs places (later one)
 said_first (what.Answer Look) q qs places is one later = said_before q qs places (later one)
 said_first (what.Answer (Full named)) q qs places is one later =

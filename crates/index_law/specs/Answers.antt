@@ -30,15 +30,15 @@ pub data Where : Type 0 where
   InFrame : (block : ℕ) → Where
   Image : Where
 
--- What is said at a point. A reply that is bound to a number says nothing at any other point. A
--- piece is the rows of a range. A full carries where each page is. A look says nothing.
+-- What is said at a point. A reply or a piece that is bound to a number says nothing at any other
+-- point. A piece is the rows of a range. A full carries where each page is. A look says nothing.
 pub data Saying : Type 0 where
   Replies : Ask → Word → (bound : Option ℕ) → Columns → Saying
-  Piece : Ask → (low high : KeyPlace) → (rows : Map) → Columns → Saying
+  Piece : Ask → (low high : KeyPlace) → (rows : Map) → (bound : Option ℕ) → Columns → Saying
   Full : List Where → Saying
   Look : Saying
 
--- a reply that is bound to a number speaks at that point alone, and any other at each
+-- what is bound to a number speaks at that point alone, and what isn't at each
 abbrev pub speaks_at : Option ℕ → ℕ → Bool
 speaks_at None p = true
 speaks_at (Some n) p = n == p

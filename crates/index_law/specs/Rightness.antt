@@ -54,12 +54,13 @@ module _ {O : Type 0} where
   IsWord w xs p ask LogFull = (p ≡ w.max_changes) × IsAllowed (map_at xs p) ask
   IsWord w xs p ask SpaceFull = AsksToWrite ask × IsShort w
 
-  -- what is said is right at the point p of the list: a reply where it speaks, a piece that has
-  -- just the map's rows of its range, and a full that names as many places as there are pages,
-  -- each one used, where these are so few
+  -- what is said is right at the point p of the list: a reply, and a piece that has just the map's
+  -- rows of its range, each where it speaks; and a full that names as many places as there are
+  -- pages, each one used, where these are so few
   abbrev pub IsSaid : Whole Shape O MadeChange → Entries → ℕ → Saying → Type 0
   IsSaid w xs p (Replies ask word bound columns) = speaks_at bound p ≡ true → IsWord w xs p ask word
-  IsSaid w xs p (Piece ask low high rows columns) = rows ≡ slice low high (map_at xs p)
+  IsSaid w xs p (Piece ask low high rows bound columns) =
+      speaks_at bound p ≡ true → rows ≡ slice low high (map_at xs p)
   IsSaid w xs p (Full places) =
       (length places ≡ w.shape.pages) × AllByRecursion (λ (x : Where). is_used x ≡ true) places
       × IsShort w

@@ -66,7 +66,11 @@ saying_so w i p n (Replies ask w' bound columns) s right c = pick (speaks_at bou
     pick : (b : Bool) → speaks_at bound p ≡ b → Contains (cond b (record { index = i; by = n; ask = ask; answer = printed_word w' p columns } ∷ []) []) s → IsSpokenSo w s
     pick true speaks c' = subst (IsSpokenSo w) (contains_one (record { index = i; by = n; ask = ask; answer = printed_word w' p columns }) s c') (word_so w i p n ask w' bound columns right speaks)
     pick false speaks c' = absurd (contains_none s c')
-saying_so w i p n (Piece ask low high rows columns) s right c = subst (IsSpokenSo w) (contains_one (record { index = i; by = n; ask = ask; answer = Scanned (record { point = p; rows = rows; columns = columns } ∷ []) }) s c) tt
+saying_so w i p n (Piece ask low high rows bound columns) s right c = pick (speaks_at bound p) c
+  where
+    pick : (b : Bool) → Contains (cond b (record { index = i; by = n; ask = ask; answer = Scanned (record { point = p; rows = rows; columns = columns } ∷ []) } ∷ []) []) s → IsSpokenSo w s
+    pick true c' = subst (IsSpokenSo w) (contains_one (record { index = i; by = n; ask = ask; answer = Scanned (record { point = p; rows = rows; columns = columns } ∷ []) }) s c') tt
+    pick false c' = absurd (contains_none s c')
 saying_so w i p n (Full places) s right c = absurd (contains_none s c)
 saying_so w i p n Look s right c = absurd (contains_none s c)
 
