@@ -20,7 +20,7 @@ abbrev pub OwnAnswer : Type 0
 OwnAnswer = Said MadeChange Saying
 
 -- an answer to an operation of an index, by the pass with this number; one piece of a scan is an
--- answer here
+-- answer here, without its rows
 pub record Spoken : Type 0 where
   pub index : ℕ
   pub by : ℕ
@@ -33,6 +33,17 @@ printed_word (Gives reply) p columns = Replied reply p columns
 printed_word LogFull p columns = answer.LogFull p columns
 printed_word SpaceFull p columns = answer.SpaceFull columns
 
+-- One piece of a scan as an answer. Its rows are left out: what is printed may be a part of the
+-- range that was said, so the rows of an answer are tied where ranges are said, and not here.
+abbrev pub spoken_piece : ℕ → ℕ → ℕ → Ask → Columns → Spoken
+spoken_piece i p n ask columns =
+    record {
+      index = i;
+      by = n;
+      ask = ask;
+      answer = Scanned (record { point = p; rows = []; columns = columns } ∷ []);
+    }
+
 -- what is said at the point p of the list i, if that says something
 abbrev pub spoken_saying : ℕ → ℕ → ℕ → Saying → List Spoken
 spoken_saying i p n (Replies ask word bound columns) =
@@ -40,14 +51,7 @@ spoken_saying i p n (Replies ask word bound columns) =
     then record { index = i; by = n; ask = ask; answer = printed_word word p columns } ∷ []
     else []
 spoken_saying i p n (Piece ask low high rows bound columns) =
-    if speaks_at bound p
-    then record {
-      index = i;
-      by = n;
-      ask = ask;
-      answer = Scanned (record { point = p; rows = rows; columns = columns } ∷ []);
-    } ∷ []
-    else []
+    if speaks_at bound p then spoken_piece i p n ask columns ∷ [] else []
 spoken_saying i p n (Full places) = []
 spoken_saying i p n Look = []
 
@@ -66,10 +70,8 @@ abbrev pub spoken : List OwnAnswer → List Spoken
 spoken [] = []
 spoken (q ∷ qs) = spoken_at q ++ spoken qs
 
--- what an answer to an operation is as own answers: each piece of a scan is one
+-- what an answer to an operation is as own answers: each piece of a scan is one, without its rows
 abbrev pub sayings : ℕ → ℕ → Ask → Answer → List Spoken
 sayings i n ask (Scanned pieces) =
-    map
-    (λ (piece : ScanPiece). record { index = i; by = n; ask = ask; answer = Scanned (piece ∷ []) })
-    pieces
+    map (λ (piece : ScanPiece). spoken_piece i piece.point n ask piece.columns) pieces
 sayings i n ask answer = record { index = i; by = n; ask = ask; answer = answer } ∷ []

@@ -14,7 +14,7 @@ use Rattle.map_history.specs.LegalReport.{Line, Run, IsAnswered}
 use Rattle.index_law.specs.Answers.{MadeChange}
 use Rattle.forest_law.specs.State.{ForestState}
 use Rattle.index_law.specs.State.{Entries}
-use Rattle.call_law.specs.Spoken.{View, OwnAnswer, Spoken, sayings}
+use Rattle.call_law.specs.Spoken.{View, OwnAnswer, Spoken, spoken_piece, sayings}
 use Rattle.lane_law.specs.Worked.{lane_sayings}
 use Rattle.lane_law.specs.Runs.{all_sayings, RunsAll}
 use Rattle.list_facts.proofs.Elements.{contains_none, contains_one, contains_head, get_contains, map_get_from, flat_from, zip_from}
@@ -38,8 +38,8 @@ reply_from i n ask (LogFull k c) s reply point columns said is = contains_one (r
 reply_from i n ask (SpaceFull c) s reply point columns said is = contains_one (record { index = i; by = n; ask = ask; answer = SpaceFull c }) s said
 reply_from i n ask (Scanned pieces) s reply point columns said is =
     let at = get_contains (sayings i n ask (Scanned pieces)) s said in
-    let piece = map_get_from (λ (piece : ScanPiece). record { index = i; by = n; ask = ask; answer = Scanned (piece ∷ []) }) pieces at.0 s at.1 in
-    let scanned : Scanned (piece.0 ∷ []) ≡ Replied reply point columns = ap (λ (z : Spoken). z.answer) piece.2 ∙ is in
+    let piece = map_get_from (λ (piece : ScanPiece). spoken_piece i piece.point n ask piece.columns) pieces at.0 s at.1 in
+    let scanned : (spoken_piece i piece.0.point n ask piece.0.columns).answer ≡ Replied reply point columns = ap (λ (z : Spoken). z.answer) piece.2 ∙ is in
     absurd cc
 
 -- a line that was answered `ok` at a point of an index, and its change

@@ -17,7 +17,7 @@ use Rattle.index_law.specs.Answers as word
 use Rattle.forest_law.specs.State.{ForestState}
 use Rattle.index_law.specs.State.{Entries}
 use Rattle.index_law.specs.Rightness.{map_at, IsAllowed, AsksToWrite, IsShort, IsRight}
-use Rattle.call_law.specs.Spoken.{OwnAnswer, Spoken, spoken, spoken_at, spoken_saying, printed_word, sayings}
+use Rattle.call_law.specs.Spoken.{OwnAnswer, Spoken, spoken, spoken_at, spoken_saying, spoken_piece, printed_word, sayings}
 use Rattle.lane_law.specs.Worked.{lane_sayings}
 use Rattle.lane_law.specs.Runs.{all_sayings}
 use Rattle.list_facts.proofs.Elements.{contains_none, contains_one, contains_head, flat_contains, zip_get}
@@ -68,8 +68,8 @@ saying_so w i p n (Replies ask w' bound columns) s right c = pick (speaks_at bou
     pick false speaks c' = absurd (contains_none s c')
 saying_so w i p n (Piece ask low high rows bound columns) s right c = pick (speaks_at bound p) c
   where
-    pick : (b : Bool) → Contains (cond b (record { index = i; by = n; ask = ask; answer = Scanned (record { point = p; rows = rows; columns = columns } ∷ []) } ∷ []) []) s → IsSpokenSo w s
-    pick true c' = subst (IsSpokenSo w) (contains_one (record { index = i; by = n; ask = ask; answer = Scanned (record { point = p; rows = rows; columns = columns } ∷ []) }) s c') tt
+    pick : (b : Bool) → Contains (cond b (spoken_piece i p n ask columns ∷ []) []) s → IsSpokenSo w s
+    pick true c' = subst (IsSpokenSo w) (contains_one (spoken_piece i p n ask columns) s c') tt
     pick false c' = absurd (contains_none s c')
 saying_so w i p n (Full places) s right c = absurd (contains_none s c)
 saying_so w i p n Look s right c = absurd (contains_none s c)

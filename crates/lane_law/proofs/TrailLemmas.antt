@@ -16,7 +16,7 @@ use Rattle.map_history.specs.Report.{ScanPiece, Answer, Replied, LogFull, SpaceF
 use Rattle.map_history.specs.LegalReport.{Line, Run}
 use Rattle.index_law.specs.Answers.{MadeChange}
 use Rattle.forest_law.specs.State.{ForestState}
-use Rattle.call_law.specs.Spoken.{View, OwnAnswer, Spoken, sayings}
+use Rattle.call_law.specs.Spoken.{View, OwnAnswer, Spoken, spoken_piece, sayings}
 use Rattle.lane_law.specs.Worked.{lane_sayings}
 use Rattle.lane_law.specs.Runs.{all_sayings, RunsAll, AreEntries}
 use Rattle.lane_law.specs.Trail.{Changed, IsOwnChange, IsEntered, IsTrail}
@@ -30,7 +30,7 @@ both_by : (n : ℕ) (xs ys : List Spoken) → AreBy n xs → AreBy n ys → AreB
 both_by n [] ys a b = b
 both_by n (x ∷ xs) ys a b = (a.0, both_by n xs ys a.1 b)
 
-pieces_by : (i n : ℕ) (ask : Ask) (pieces : List ScanPiece) → AreBy n (map (λ (piece : ScanPiece). record { index = i; by = n; ask = ask; answer = Scanned (piece ∷ []) }) pieces)
+pieces_by : (i n : ℕ) (ask : Ask) (pieces : List ScanPiece) → AreBy n (map (λ (piece : ScanPiece). spoken_piece i piece.point n ask piece.columns) pieces)
 pieces_by i n ask [] = tt
 pieces_by i n ask (p ∷ pieces) = (refl, pieces_by i n ask pieces)
 

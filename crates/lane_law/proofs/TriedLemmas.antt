@@ -1,5 +1,5 @@
 -- The tries of lanes are as many as their columns ask for.
-use Rattle.std.proofs.Common.{◌≡◌, ℕ, ◌+◌, Bool, true, false, cond, eqb, ◌&&◌, ◌||◌, List, [], ◌∷◌, ◌++◌, map, refl, ap, sym, ◌∙◌, arith}
+use Rattle.std.proofs.Common.{◌≡◌, ℕ, ◌+◌, Bool, true, false, cond, eqb, ◌&&◌, ◌||◌, List, [], ◌∷◌, map, refl, ap, sym, ◌∙◌, arith}
 use Rattle.std.proofs.lemmas.List.Sums.{sum_by-cons, sum_by-append}
 use Rattle.std.specs.List.{AllByRecursion, sum_by, count_by, flat_map, zip}
 use Rattle.std.specs.Str.{bytes_eq}
@@ -7,7 +7,7 @@ use Rattle.map_history.specs.declared.columns.How.{How}
 use Rattle.map_history.specs.declared.columns.How.TheVariants as how
 use Rattle.map_history.specs.declared.columns.Note.{Note}
 use Rattle.map_history.specs.declared.columns.Note.TheVariants as note
-use Rattle.map_history.specs.Report.{Columns, Answer, AnswerLine, Report}
+use Rattle.map_history.specs.Report.{Columns, AnswerLine, Report}
 use Rattle.map_history.specs.LegalReport.{Line, Run, columns_of, columns_in, columns_at}
 use Rattle.map_history.specs.Statistics.{has_word}
 use Rattle.map_history.specs.Words.{how_text, note_text}

@@ -39,8 +39,8 @@ pub record IsEntered (report : Report) (index point by : ℕ) (deed : MadeChange
   pub same_lane : entry.lane ≡ by + 1
 
 -- The pass has the numbers of all lanes, which are all that its space was opened for. What it said
--- under the number of a lane is, in order, what is printed of that lane's lines; the changes that
--- are printed are those that it made, each said once.
+-- under the number of a lane is, in order, what is printed of that lane's lines, but for the rows
+-- of scans; the changes that are printed are those that it made, each said once.
 pub record IsTrail (run : Run) (report : Report) (v : View) : Type 0 where
   pub low : v.low ≡ 0
   pub end : v.end ≡ length run.lanes
