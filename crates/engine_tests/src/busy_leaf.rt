@@ -124,7 +124,7 @@ fn assert_told<R: AllocGlobal + Abort + Wait>(
 
 /// The same in a space of its own.
 fn work_plot<R: AllocGlobal + Abort + Wait>(rt: &R) {
-    let (space, mut pass) = open_forest(rt.alloc(), &SIZES, &[2], 2).expect(rt, "a space");
+    let (space, mut pass) = open_forest(rt.alloc(), &SIZES, &[2], 2, 0).expect(rt, "a space");
     let mut other = space
         .split(rt.alloc(), &mut pass)
         .expect(rt, "another pass");

@@ -17,13 +17,14 @@ use Rattle.forest_law.specs.Opening.{first_frame, AreFirstObjects}
 use Rattle.forest_law.proofs.ObjectLemmas.{same_frame, same_part}
 use Rattle.forest_law.proofs.HashKeptLemmas.{part_there, block_there}
 
-module _ (sh : Shape) (objects : List Object) (first : AreFirstObjects sh objects) where
+module _ (sh : Shape) (clock : ℕ) (objects : List Object)
+    (first : AreFirstObjects sh clock objects) where
   -- each frame is one without a page
-  pub first_frame_is : (b : ℕ) (f : Frame) → IsFrameOf sh objects b f → first_frame ≡ f
+  pub first_frame_is : (b : ℕ) (f : Frame) → IsFrameOf sh objects b f → first_frame clock ≡ f
   first_frame_is b f at = let low = inside objects (frame_id sh b) (object.Frame f) at in
       let all = first.counted in
-      same_frame first_frame f
-      (some-injective (object.Frame first_frame) (object.Frame f)
+      same_frame (first_frame clock) f
+      (some-injective (object.Frame (first_frame clock)) (object.Frame f)
       (sym (first.frames b (omega (arith, low, all))) ∙ at))
 
   abbrev empty : Part
@@ -33,7 +34,7 @@ module _ (sh : Shape) (objects : List Object) (first : AreFirstObjects sh object
   first_part_is : (k : ℕ) (p : Part) → IsPartOf sh objects k p → empty ≡ p
   first_part_is k p at = pick (cases_lt k sh.parts)
     where
-      no_frame : object.Frame first_frame ≡ object.Part p → ⊥
+      no_frame : object.Frame (first_frame clock) ≡ object.Part p → ⊥
       no_frame e = absurd cc
 
       pick : (k < sh.parts) ⊎ (sh.parts ≤ k) → empty ≡ p
@@ -42,11 +43,11 @@ module _ (sh : Shape) (objects : List Object) (first : AreFirstObjects sh object
       pick (inr most) = let low = inside objects (part_id sh k) (object.Part p) at in
           let all = first.counted in
           let same : part_id sh k ≡ frame_id sh (k - sh.parts) = omega (arith, most) in
-          absurd (no_frame (some-injective (object.Frame first_frame) (object.Part p)
+          absurd (no_frame (some-injective (object.Frame (first_frame clock)) (object.Part p)
           (sym (first.frames (k - sh.parts) (omega (arith, most, low, all)))
           ∙ (ap (get_elem? objects) (sym same) ∙ at))))
 
-  tidy_then : IsTidy (hash_block first_frame)
+  tidy_then : IsTidy (hash_block (first_frame clock))
   tidy_then = record {
     both = refl;
     leaf = λ index e. absurd (none_is index e);

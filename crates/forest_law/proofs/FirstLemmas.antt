@@ -89,12 +89,13 @@ first_pool_is sh pool room places images ages tick = record {
 
 -- the pool, the trees behind it, the partitions behind these and the frames behind those are the
 -- first objects
-pub first_objects_are : (sh : Shape) (pool : Pool) (a b c d : List Object)
+pub first_objects_are : (sh : Shape) (clock : ℕ) (pool : Pool) (a b c d : List Object)
     → a ≡ object.Pool pool ∷ [] → IsFirstPool sh pool
     → AddsEach a b sh.indexes (λ i. object.Tree (first_tree i))
     → AddsEach b c sh.parts (λ k. object.Part (empty_part sh.nodes sh.blocks))
-    → AddsEach c d (frames_of sh) (λ k. object.Frame first_frame) → AreFirstObjects sh d
-first_objects_are sh pool a b c d is first trees parts frames = record {
+    → AddsEach c d (frames_of sh) (λ k. object.Frame (first_frame clock))
+    → AreFirstObjects sh clock d
+first_objects_are sh clock pool a b c d is first trees parts frames = record {
   counted = (let t = trees.counted in let p = parts.counted in let f = frames.counted in
       omega (arith, t, p, f, one));
   pool = pool;
@@ -108,7 +109,7 @@ first_objects_are sh pool a b c d is first trees parts frames = record {
   parts = λ k low. frames.kept (1 + sh.indexes + k) (object.Part (empty_part sh.nodes sh.blocks))
       (subst (λ n. get_elem? c (n + k) ≡ some (object.Part (empty_part sh.nodes sh.blocks)))
       (let t = trees.counted in omega (arith, t, one)) (parts.each k low));
-  frames = λ k low. subst (λ n. get_elem? d (n + k) ≡ some (object.Frame first_frame))
+  frames = λ k low. subst (λ n. get_elem? d (n + k) ≡ some (object.Frame (first_frame clock)))
       (let t = trees.counted in let p = parts.counted in omega (arith, t, p, one))
       (frames.each k low);
 }

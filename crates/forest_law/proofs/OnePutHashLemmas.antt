@@ -97,24 +97,26 @@ one_keeps sh before news f g old new was is tidy = rests_keep sh before news (re
 })
 
 -- a frame that isn't hashed is tidy where its page has the fields that its advice asks for
-pub restore_keeps : (key : FieldList) → 1 ≤ length key → (pool now : Pool)
-    → KeepsHash (one_index (length key)) (pool_in_hand pool first_frame)
-    (pool_in_hand now (root_before key))
-restore_keeps key keyed pool now = one_keeps (one_index (length key)) (pool_in_hand pool first_frame)
-    (pool_in_hand now (root_before key)) first_frame (root_before key) (with_pool pool first_frame)
-    (with_pool now (root_before key)) refl refl (λ t. record {
+pub restore_keeps : (clock : ℕ) (key : FieldList) → 1 ≤ length key → (pool now : Pool)
+    → KeepsHash (one_index (length key)) (pool_in_hand pool (first_frame clock))
+    (pool_in_hand now (root_before clock key))
+restore_keeps clock key keyed pool now = one_keeps (one_index (length key))
+    (pool_in_hand pool (first_frame clock)) (pool_in_hand now (root_before clock key))
+    (first_frame clock) (root_before clock key) (with_pool pool (first_frame clock))
+    (with_pool now (root_before clock key)) refl refl (λ t. record {
       both = refl;
       leaf = λ index e. absurd (none_is index e);
       built = λ params e. absurd cc;
       advice = keyed;
     })
 
-pub put_keeps : (key : FieldList) (value : List ℕ)
-    → KeepsHash (one_index (length key)) (frame_in_hand (root_before key))
-    (frame_in_hand (root_after key value))
-put_keeps key value = one_keeps (one_index (length key)) (frame_in_hand (root_before key))
-    (frame_in_hand (root_after key value)) (root_before key) (root_after key value)
-    (alone (root_before key)) (alone (root_after key value)) refl refl (λ t. record {
+pub put_keeps : (clock : ℕ) (key : FieldList) (value : List ℕ)
+    → KeepsHash (one_index (length key)) (frame_in_hand (root_before clock key))
+    (frame_in_hand (root_after clock key value))
+put_keeps clock key value = one_keeps (one_index (length key))
+    (frame_in_hand (root_before clock key)) (frame_in_hand (root_after clock key value))
+    (root_before clock key) (root_after clock key value)
+    (alone (root_before clock key)) (alone (root_after clock key value)) refl refl (λ t. record {
       both = refl;
       leaf = λ index e. absurd (none_is index e);
       built = λ params e. absurd cc;

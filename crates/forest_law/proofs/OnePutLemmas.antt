@@ -60,7 +60,7 @@ pool_after pool = record pool {
   images = with_item pool.images 0 None;
 }
 
-module _ (key : FieldList) (keyed : 1 ≤ length key) (pool : Pool)
+module _ (clock : ℕ) (key : FieldList) (keyed : 1 ≤ length key) (pool : Pool)
     (first : IsFirstPool (one_index (length key)) pool) where
   abbrev shape : Shape
   shape = one_index (length key)
@@ -69,10 +69,10 @@ module _ (key : FieldList) (keyed : 1 ≤ length key) (pool : Pool)
   root_page = first_page (fields_for shape) 0
 
   abbrev known : List (Option Object)
-  known = pool_in_hand pool first_frame
+  known = pool_in_hand pool (first_frame clock)
 
   abbrev restored : List (Option Object)
-  restored = pool_in_hand (pool_after pool) (root_before key)
+  restored = pool_in_hand (pool_after pool) (root_before clock key)
 
   -- there is one place, and one image
   one_place : 0 < length pool.place.items
@@ -92,7 +92,7 @@ module _ (key : FieldList) (keyed : 1 ≤ length key) (pool : Pool)
   restores : RestoresPage shape known restored
   restores = record {
     number = 0;
-    hand = record { block = 0; old = first_frame; new = root_before key };
+    hand = record { block = 0; old = first_frame clock; new = root_before clock key };
     old = pool;
     new = pool_after pool;
     step = record {
@@ -125,14 +125,14 @@ module _ (key : FieldList) (keyed : 1 ≤ length key) (pool : Pool)
 
   pub restore_follows : Follows shape known restored None
   restore_follows = restores_follows shape known restored restores
-      (restore_keeps key keyed pool (pool_after pool))
+      (restore_keeps clock key keyed pool (pool_after pool))
 
   -- the objects of the opening, and those after the root is restored
   abbrev opening : List Object
-  opening = objects_with pool first_frame
+  opening = objects_with pool (first_frame clock)
 
   abbrev after : List Object
-  after = objects_with (pool_after pool) (root_before key)
+  after = objects_with (pool_after pool) (root_before clock key)
 
   fate_then : (k : ℕ)
       → Stays opening after known restored k ⊎ Changes opening after known restored k
@@ -146,8 +146,8 @@ module _ (key : FieldList) (keyed : 1 ≤ length key) (pool : Pool)
   fate_then (suc zero) = inl (record { same = refl; free = λ x e. none_is_not x e })
   fate_then (suc (suc zero)) = inl (record { same = refl; free = λ x e. none_is_not x e })
   fate_then (suc (suc (suc zero))) = inr (record {
-    old = object.Frame first_frame;
-    new = object.Frame (root_before key);
+    old = object.Frame (first_frame clock);
+    new = object.Frame (root_before clock key);
     becomes = (refl, refl);
     was = refl;
     is = refl;
@@ -169,8 +169,8 @@ module _ (key : FieldList) (keyed : 1 ≤ length key) (pool : Pool)
   leads_then : Leads opening after known restored
   leads_then = record {
     fate = fate_then;
-    was = in_objects pool first_frame;
-    is = in_objects (pool_after pool) (root_before key);
+    was = in_objects pool (first_frame clock);
+    is = in_objects (pool_after pool) (root_before clock key);
   }
 
   tree_at : (i : ℕ) → i < 1 → get_elem? opening (1 + i) ≡ some (object.Tree (first_tree i))
@@ -181,11 +181,11 @@ module _ (key : FieldList) (keyed : 1 ≤ length key) (pool : Pool)
   part_at zero low = refl
   part_at (suc k) low = absurd (omega (arith, low))
 
-  frame_at : (b : ℕ) → b < 1 → IsFrameOf shape opening b first_frame
+  frame_at : (b : ℕ) → b < 1 → IsFrameOf shape opening b (first_frame clock)
   frame_at zero low = refl
   frame_at (suc b) low = absurd (omega (arith, low))
 
-  firsts : AreFirstObjects shape opening
+  firsts : AreFirstObjects shape clock opening
   firsts = record {
     counted = refl;
     pool = pool;
@@ -209,7 +209,7 @@ module _ (key : FieldList) (keyed : 1 ≤ length key) (pool : Pool)
       keyed_at (suc i) low = absurd (omega (arith, low))
 
   opening_lawful : AreLawfulObjects shape opening ([] ∷ [])
-  opening_lawful = first_lawful shape opening firsts refl suits
+  opening_lawful = first_lawful shape clock opening firsts refl suits
 
   -- the state in which the root is restored is lawful
   pub restored_lawful : AreLawfulObjects shape after ([] ∷ [])
@@ -219,9 +219,10 @@ module _ (key : FieldList) (keyed : 1 ≤ length key) (pool : Pool)
   -- and its pages are within the budget
   pub restored_paid : ArePaid shape after ([] ∷ [])
   restored_paid = budget_lasts shape opening after known restored leads_then ([] ∷ [])
-      opening_lawful ([] ∷ []) None restore_follows refl refl (first_paid shape opening firsts)
+      opening_lawful ([] ∷ []) None restore_follows refl refl
+      (first_paid shape clock opening firsts)
 
-module _ (key : FieldList) (value : List ℕ) where
+module _ (clock : ℕ) (key : FieldList) (value : List ℕ) where
   abbrev sh : Shape
   sh = one_index (length key)
 
@@ -232,13 +233,13 @@ module _ (key : FieldList) (value : List ℕ) where
   root = first_page (fields_for sh) 0
 
   abbrev hand : InHand
-  hand = record { block = 0; old = root_before key; new = root_after key value }
+  hand = record { block = 0; old = root_before clock key; new = root_after clock key value }
 
   abbrev before : List (Option Object)
-  before = frame_in_hand (root_before key)
+  before = frame_in_hand (root_before clock key)
 
   abbrev news : List (Option Object)
-  news = frame_in_hand (root_after key value)
+  news = frame_in_hand (root_after clock key value)
 
   -- nothing else is in hand
   alone : (k : ℕ) (x y : Object) → Becomes before news k x y → k ≢ 3 → Rests x y
@@ -294,22 +295,22 @@ module _ (key : FieldList) (value : List ℕ) where
     }
 
     put_follows : Follows sh before news (Some change)
-    put_follows = row_follows sh before news change put_on_leaf (put_keeps key value)
+    put_follows = row_follows sh before news change put_on_leaf (put_keeps clock key value)
 
     module _ (keyed : 1 ≤ length key) (pool : Pool) (first : IsFirstPool sh pool) where
       abbrev xs : List Object
-      xs = objects_with (pool_after pool) (root_before key)
+      xs = objects_with (pool_after pool) (root_before clock key)
 
       abbrev ys : List Object
-      ys = objects_with (pool_after pool) (root_after key value)
+      ys = objects_with (pool_after pool) (root_after clock key value)
 
       fate : (k : ℕ) → Stays xs ys before news k ⊎ Changes xs ys before news k
       fate zero = inl (record { same = refl; free = λ x e. none_is_not x e })
       fate (suc zero) = inl (record { same = refl; free = λ x e. none_is_not x e })
       fate (suc (suc zero)) = inl (record { same = refl; free = λ x e. none_is_not x e })
       fate (suc (suc (suc zero))) = inr (record {
-        old = object.Frame (root_before key);
-        new = object.Frame (root_after key value);
+        old = object.Frame (root_before clock key);
+        new = object.Frame (root_after clock key value);
         becomes = (refl, refl);
         was = refl;
         is = refl;
@@ -321,16 +322,17 @@ module _ (key : FieldList) (value : List ℕ) where
       was zero x e = absurd (none_is_not x e)
       was (suc zero) x e = absurd (none_is_not x e)
       was (suc (suc zero)) x e = absurd (none_is_not x e)
-      was (suc (suc (suc zero))) x e = ap some (same_some (object.Frame (root_before key)) x
-          (some-injective (Some (object.Frame (root_before key))) (Some x) e))
+      was (suc (suc (suc zero))) x e = ap some (same_some (object.Frame (root_before clock key)) x
+          (some-injective (Some (object.Frame (root_before clock key))) (Some x) e))
       was (suc (suc (suc (suc k)))) x e = absurd (some-ne-none (Some x) (sym e))
 
       is : (k : ℕ) (y : Object) → get_elem? news k ≡ some (Some y) → get_elem? ys k ≡ some y
       is zero y e = absurd (none_is_not y e)
       is (suc zero) y e = absurd (none_is_not y e)
       is (suc (suc zero)) y e = absurd (none_is_not y e)
-      is (suc (suc (suc zero))) y e = ap some (same_some (object.Frame (root_after key value)) y
-          (some-injective (Some (object.Frame (root_after key value))) (Some y) e))
+      is (suc (suc (suc zero))) y e = ap some
+          (same_some (object.Frame (root_after clock key value)) y
+          (some-injective (Some (object.Frame (root_after clock key value))) (Some y) e))
       is (suc (suc (suc (suc k)))) y e = absurd (some-ne-none (Some y) (sym e))
 
       leads : Leads xs ys before news
@@ -354,13 +356,13 @@ module _ (key : FieldList) (value : List ℕ) where
 
       objects_lawful : AreLawfulObjects sh ys new_lists
       objects_lawful = objects_stay sh xs ys before news leads old_lists
-          (restored_lawful key keyed pool first) new_lists (Some change) put_follows
+          (restored_lawful clock key keyed pool first) new_lists (Some change) put_follows
           (refl, maps_else) refl refl lists_lawful
 
       objects_paid : ArePaid sh ys new_lists
       objects_paid = budget_lasts sh xs ys before news leads old_lists
-          (restored_lawful key keyed pool first) new_lists (Some change) put_follows
-          (refl, maps_else) refl (restored_paid key keyed pool first)
+          (restored_lawful clock key keyed pool first) new_lists (Some change) put_follows
+          (refl, maps_else) refl (restored_paid clock key keyed pool first)
 
       -- the root is the one page, and it is of the trees
       no_outside : (n : ℕ) (page : Page) → pages_of sh ys n ≡ Some page
@@ -368,7 +370,7 @@ module _ (key : FieldList) (value : List ℕ) where
       no_outside zero page is = ap (λ (p : Page). is_own zero p.prev)
           (sym (same_some (record root { rows = row ∷ [] }) page
           (sym (ap (λ o. page_where sh ys 0 (where_of o))
-          (set_here pool.place.items 0 (InFrame 0) (one_place key keyed pool first))) ∙ is)))
+          (set_here pool.place.items 0 (InFrame 0) (one_place clock key keyed pool first))) ∙ is)))
       no_outside (suc n) page is = absurd (none_is_some (sym (ap (page_where sh ys (suc n))
           (ap where_of (set_else pool.place.items 0 (suc n) (InFrame 0) (λ e. omega (arith, e)))
           ∙ (first.places (suc n) ∙ first_free 1 (suc n) (omega arith)))) ∙ is))
@@ -378,18 +380,19 @@ module _ (key : FieldList) (value : List ℕ) where
 
 pub one_put_is_lawful : OnePutIsLawful
 one_put_is_lawful = record {
-  restores = λ pool key keyed first. record {
+  restores = λ clock pool key keyed first. record {
     now = pool_after pool;
     place = refl;
     images = refl;
     ages = refl;
-    follows = restore_follows key keyed pool first;
+    follows = restore_follows clock key keyed pool first;
     lawful = λ value columns latches most passes. record {
-      objects = objects_lawful key value columns keyed pool first;
-      budget = objects_paid key value columns keyed pool first;
-      outside = none_outside (state_after (pool_after pool) key value columns latches most passes)
-          (no_outside key value columns keyed pool first);
+      objects = objects_lawful clock key value columns keyed pool first;
+      budget = objects_paid clock key value columns keyed pool first;
+      outside = none_outside
+          (state_after clock (pool_after pool) key value columns latches most passes)
+          (no_outside clock key value columns keyed pool first);
     };
   };
-  follows = λ key value columns. put_follows key value columns;
+  follows = λ clock key value columns. put_follows clock key value columns;
 }

@@ -32,8 +32,8 @@ use Rattle.forest_law.proofs.FirstHashLemmas.{first_frame_is, first_hashed}
 use Rattle.forest_law.proofs.BudgetKeptLemmas.{budget_opens}
 use Rattle.forest_law.proofs.HolderLemmas.{none_outside}
 
-module _ (sh : Shape) (objects : List Object)
-    (first : AreFirstObjects sh objects) where
+module _ (sh : Shape) (clock : ℕ) (objects : List Object)
+    (first : AreFirstObjects sh clock objects) where
   -- a test that is true, and one that is false
   is_below : (n : ℕ) → n < sh.indexes → nat_lt n sh.indexes ≡ true
   is_below n low = grind (arith, nat_tests)
@@ -144,7 +144,7 @@ module _ (sh : Shape) (objects : List Object)
   -- no frame has a page
   no_page : (b : ℕ) (f : Frame) (p : PageRows) → IsFrameOf sh objects b f → f.page ≡ Some p → ⊥
   no_page b f p at paged = none_is p
-      (ap (λ (z : Frame). z.page) (first_frame_is sh objects first b f at) ∙ paged)
+      (ap (λ (z : Frame). z.page) (first_frame_is sh clock objects first b f at) ∙ paged)
 
   lists_are : (i : ℕ) → maps_of (replicate sh.indexes []) i ≡ []
   lists_are i = pick (get_elem? (replicate sh.indexes []) i) refl
@@ -177,7 +177,7 @@ module _ (sh : Shape) (objects : List Object)
         root = refl;
       };
       parts = λ k low. (empty_part sh.nodes sh.blocks, first.parts k low);
-      frames = λ b low. (first_frame, first.frames b low);
+      frames = λ b low. (first_frame clock, first.frames b low);
     };
     placed = record {
       named = λ b f p at paged. absurd (no_page b f p at paged);
@@ -185,7 +185,7 @@ module _ (sh : Shape) (objects : List Object)
       imaged = imaged;
       stored = stored;
     };
-    hashed = first_hashed sh objects first;
+    hashed = first_hashed sh clock objects first;
     lists = λ i xs e. subst (λ z. AreLawful (changes z))
         (replicate_is sh.indexes i [] xs e) lawful-none;
     pages = subst
@@ -219,8 +219,9 @@ module _ (sh : Shape) (objects : List Object)
           ∙ (sym (pages_are n) ∙ is)))
 
 pub opens_lawfully : ForestsOpenLawfully
-opens_lawfully sh objects most passes fields room suits first = record {
-  objects = first_lawful sh objects first fields suits;
-  budget = first_paid sh objects first;
-  outside = none_outside (opened sh objects sh.indexes most passes) (no_outside sh objects first);
+opens_lawfully sh clock objects most passes fields room suits first = record {
+  objects = first_lawful sh clock objects first fields suits;
+  budget = first_paid sh clock objects first;
+  outside = none_outside (opened sh objects sh.indexes most passes)
+      (no_outside sh clock objects first);
 }

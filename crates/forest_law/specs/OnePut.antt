@@ -49,12 +49,12 @@ abbrev pub put_of : FieldList → List ℕ → Columns → MadeChange
 put_of key value columns = record { change = Put key value; columns = columns }
 
 -- the frame of the root before the put
-abbrev pub root_before : FieldList → Frame
-root_before key = new_frame (Some (empty_page 0 (length key)))
+abbrev pub root_before : (clock : ℕ) → FieldList → Frame
+root_before clock key = new_frame clock (Some (empty_page 0 (length key)))
 
 -- the frame of the root after the put: it has the row, and all else is as before
-abbrev pub root_after : FieldList → List ℕ → Frame
-root_after key value = new_frame (Some (leaf_with key value))
+abbrev pub root_after : (clock : ℕ) → FieldList → List ℕ → Frame
+root_after clock key value = new_frame clock (Some (leaf_with key value))
 
 -- of four objects the first and the last are in hand, the pool and a frame
 abbrev pub pool_in_hand : Pool → Frame → List (Option Object)
@@ -73,34 +73,34 @@ objects_with pool f = object.Pool pool
     ∷ []
 
 -- the state after the root was restored, with this pool, and the put was made
-abbrev pub state_after : Pool → FieldList → List ℕ → Columns → List ℕ → (most passes : ℕ)
-    → ForestState
-state_after pool key value columns latches most passes = record {
+abbrev pub state_after : (clock : ℕ) → Pool → FieldList → List ℕ → Columns → List ℕ
+    → (most passes : ℕ) → ForestState
+state_after clock pool key value columns latches most passes = record {
   shape = one_index (length key);
-  objects = objects_with pool (root_after key value);
+  objects = objects_with pool (root_after clock key value);
   latches = latches;
   lists = list_with key value columns ∷ [];
   max_changes = most;
   passes = passes;
 }
 
--- the root's page can come from its image in the first pool to the frame of block 0. That follows,
--- and the state after a put on it is lawful
-pub record RestoresRoot (pool : Pool) (key : FieldList) : Type 0 where
+-- the root's page can come from its image in the first pool to the frame of block 0, which is at
+-- the clock of all. That follows, and the state after a put on it is lawful
+pub record RestoresRoot (clock : ℕ) (pool : Pool) (key : FieldList) : Type 0 where
   pub now : Pool
   pub place : now.place.items ≡ set pool.place.items 0 (InFrame 0)
   pub images : now.images.items ≡ set pool.images.items 0 None
   pub ages : now.ages ≡ pool.ages
-  pub follows : Follows (one_index (length key)) (pool_in_hand pool first_frame)
-      (pool_in_hand now (root_before key)) None
+  pub follows : Follows (one_index (length key)) (pool_in_hand pool (first_frame clock))
+      (pool_in_hand now (root_before clock key)) None
   pub lawful : (value : List ℕ) (columns : Columns) (latches : List ℕ) (most passes : ℕ)
-      → IsLawful (state_after now key value columns latches most passes)
+      → IsLawful (state_after clock now key value columns latches most passes)
 
 -- a restore of the root follows, and so does the put on it, and the state after both is lawful,
--- whatever the key is, if it has a field
+-- whatever the clock of all frames is, and the key, if that has a field
 pub record OnePutIsLawful : Type 0 where
-  pub restores : (pool : Pool) (key : FieldList) → 1 ≤ length key
-      → IsFirstPool (one_index (length key)) pool → RestoresRoot pool key
-  pub follows : (key : FieldList) (value : List ℕ) (columns : Columns)
-      → Follows (one_index (length key)) (frame_in_hand (root_before key))
-      (frame_in_hand (root_after key value)) (Some (0, put_of key value columns))
+  pub restores : (clock : ℕ) (pool : Pool) (key : FieldList) → 1 ≤ length key
+      → IsFirstPool (one_index (length key)) pool → RestoresRoot clock pool key
+  pub follows : (clock : ℕ) (key : FieldList) (value : List ℕ) (columns : Columns)
+      → Follows (one_index (length key)) (frame_in_hand (root_before clock key))
+      (frame_in_hand (root_after clock key value)) (Some (0, put_of key value columns))

@@ -48,20 +48,20 @@ abbrev pub first_image : Shape → ℕ → Option Stored
 first_image shape n =
     if nat_lt n shape.indexes then Some (empty_image n (fields_for shape n)) else None
 
--- a frame of which nothing is known, with this page, if there is one
-abbrev pub new_frame : Option PageRows → Frame
-new_frame page = record {
+-- a frame of which nothing is known, at this clock and with this page, if there is one
+abbrev pub new_frame : (clock : ℕ) → Option PageRows → Frame
+new_frame clock page = record {
   page = page;
   low = None;
   high = None;
-  clock = 0;
+  clock = clock;
   figures = opening_block;
   hashed = None;
 }
 
--- the frame that each block begins with: it has no page
-abbrev pub first_frame : Frame
-first_frame = new_frame None
+-- the frame that each block begins with, at the clock of all: it has no page
+abbrev pub first_frame : (clock : ℕ) → Frame
+first_frame clock = new_frame clock None
 
 -- the tree that an index begins with: its root is a leaf, of the index's number
 abbrev pub first_tree : ℕ → Tree
@@ -80,8 +80,9 @@ pub record IsFirstPool (shape : Shape) (pool : Pool) : Type 0 where
   pub ages : pool.ages ≡ replicate shape.blocks 0
   pub tick : pool.tick ≡ 0
 
--- the objects are the pool, the trees, the partitions and the frames as they begin
-pub record AreFirstObjects (shape : Shape) (objects : List Object) : Type 0 where
+-- the objects are the pool, the trees, the partitions and the frames as they begin, with this clock
+-- of all frames
+pub record AreFirstObjects (shape : Shape) (clock : ℕ) (objects : List Object) : Type 0 where
   pub counted : length objects ≡ frame_id shape (frames_of shape)
   pub pool : Pool
   pub pool_at : get_elem? objects pool_id ≡ some (object.Pool pool)
@@ -90,15 +91,15 @@ pub record AreFirstObjects (shape : Shape) (objects : List Object) : Type 0 wher
       → get_elem? objects (tree_id i) ≡ some (object.Tree (first_tree i))
   pub parts : (k : ℕ) → k < shape.parts
       → IsPartOf shape objects k (empty_part shape.nodes shape.blocks)
-  pub frames : (b : ℕ) → b < frames_of shape → IsFrameOf shape objects b first_frame
+  pub frames : (b : ℕ) → b < frames_of shape → IsFrameOf shape objects b (first_frame clock)
 
--- a space that begins with these objects, whatever its other numbers are, begins lawfully, where
--- there is a page for each index, and the sizes suit the hash
+-- a space that begins with these objects, whatever the clock and its other numbers are, begins
+-- lawfully, where there is a page for each index, and the sizes suit the hash
 abbrev pub ForestsOpenLawfully : Type 0
 ForestsOpenLawfully =
-    (shape : Shape) (objects : List Object) (most passes : ℕ)
+    (shape : Shape) (clock : ℕ) (objects : List Object) (most passes : ℕ)
     → length shape.fields ≡ shape.indexes → shape.indexes ≤ shape.pages
-    → SuitsHash shape → AreFirstObjects shape objects
+    → SuitsHash shape → AreFirstObjects shape clock objects
     → IsLawful (opened shape objects shape.indexes most passes)
 
 -- n items were added behind the old ones, one for each number, by a function of the numbers

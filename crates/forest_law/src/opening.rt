@@ -2,7 +2,7 @@
 ghost use Rattle.std.specs.Prelude.{◌≡◌, ◌≤◌, IfOk, OnOk, []};
 ghost use Rattle.hash_partition.specs.Part.{empty_part};
 ghost use Rattle.forest_law.specs.declared.objects.Object.TheVariants as object;
-ghost use Rattle.forest_law.specs.Opening.{empty_page, first_image, new_frame, first_frame};
+ghost use Rattle.forest_law.specs.Opening.{empty_page, first_image, first_frame};
 ghost use Rattle.forest_law.specs.Opening.{first_tree, first_where};
 ghost use Rattle.forest_law.specs.Opening.{IsFirstPool, AreFirstObjects, AddsEach};
 
@@ -16,16 +16,20 @@ use learning::BlockFigures;
 use std::alloc::Global;
 
 /// The pool, a tree for each index, the partitions, and a frame for each block: each index's empty
-/// root is an image, no partition has a node, and no frame a page.
-pub fn first_forest(alloc: Global, layout: &ForestLayout) -> Result<Vec<Object>, NoMemory>
+/// root is an image, no partition has a node, no frame a page, and each frame this clock.
+pub fn first_forest(
+    alloc: Global,
+    layout: &ForestLayout,
+    clock: u64,
+) -> Result<Vec<Object>, NoMemory>
     requires room { layout.now.indexes ≤ layout.now.pages }
-    ensures { IfOk result (λ objects. AreFirstObjects layout.now objects.items) }
+    ensures { IfOk result (λ objects. AreFirstObjects layout.now clock objects.items) }
 {
     let mut objects = Vec::new(alloc);
     objects.push(Object::Pool(first_pool(alloc, layout)?))?;
     push_trees(&mut objects, layout.indexes)?;
     push_parts(alloc, &mut objects, layout)?;
-    push_frames(&mut objects, layout.blocks)?;
+    push_frames(&mut objects, layout.blocks, clock)?;
     Ok(objects)
 }
 
@@ -125,13 +129,13 @@ fn push_parts(
     Ok(())
 }
 
-/// A frame without a page for each block, behind what is there.
-fn push_frames(objects: &mut Vec<Object>, blocks: u32) -> Result<(), NoMemory>
-    ensures { OnOk result
-        (AddsEach objects.old.items objects.new.items blocks (λ b. object.Frame first_frame)) }
+/// A frame without a page for each block, at this clock, behind what is there.
+fn push_frames(objects: &mut Vec<Object>, blocks: u32, clock: u64) -> Result<(), NoMemory>
+    ensures { OnOk result (AddsEach objects.old.items objects.new.items blocks
+        (λ b. object.Frame (first_frame clock))) }
 {
     for block in 0..blocks {
-        objects.push(Object::Frame(new_frame(None)))?;
+        objects.push(Object::Frame(first_frame(clock)))?;
     }
     Ok(())
 }
@@ -154,15 +158,15 @@ fn empty_page(alloc: Global, index: u32, fields: u8) -> Result<Page, NoMemory>
     Ok(page)
 }
 
-/// A frame of which nothing is known, with this page.
-fn new_frame(page: Option<Page>) -> Frame
-    ensures { result ≡ new_frame page }
+/// A frame without a page, of which nothing is known, at this clock.
+fn first_frame(clock: u64) -> Frame
+    ensures { result ≡ first_frame clock }
 {
     Frame {
-        page,
+        page: None,
         low: None,
         high: None,
-        clock: 0,
+        clock,
         figures: BlockFigures::opening(),
         hashed: None,
     }

@@ -14,12 +14,13 @@ use map_history::Sizes;
 use std::alloc::Global;
 
 /// A space of these sizes, for indexes with so many fields each, and its first pass, which has all
-/// numbers. Each index is an empty root, which is an image.
+/// numbers. Each index is an empty root, which is an image, and all frames begin with this clock.
 pub fn open_forest(
     alloc: Global,
     sizes: &Sizes,
     fields: &[u8],
     passes: u32,
+    clock: u64,
 ) -> Result<(ForestSpace, ForestPass), NoMemory>
     requires room { length fields.now ≤ sizes.now.pages }
     requires few { 1 + length fields.now + sizes.now.parts + sizes.now.blocks < 2 ^ 32 }
@@ -32,7 +33,7 @@ pub fn open_forest(
 {
     forests_open_lawfully();
     let layout = ForestLayout::try_new(alloc, sizes, fields)?;
-    let objects = first_forest(alloc, &layout)?;
+    let objects = first_forest(alloc, &layout, clock)?;
     let most = u64::from(sizes.max_changes);
     ForestSpace::open(alloc, layout, objects, fields.len() as u32, most, passes).map_err(
         |_| NoMemory,

@@ -44,7 +44,8 @@ impl Engine {
         if let Some(setting) = broken_setting(sizes, fields.len() as u32, lanes) {
             return Err(EngineError::BadSize(setting));
         }
-        let (space, world) = open_forest(alloc, sizes, fields, lanes)?;
+        // All clocks begin at 0.
+        let (space, world) = open_forest(alloc, sizes, fields, lanes, 0)?;
         let (learner, learn) = open_learner(alloc, fields, lanes)?;
         let sizes = *sizes;
         let pass = EnginePass {

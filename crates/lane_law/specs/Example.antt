@@ -130,7 +130,7 @@ LanesExample = (sizes : Sizes) (w : ForestState) → IsExample sizes w → IsMet
 -- the state after the put, where a list may have a change and there is one page
 abbrev pub example_state : Sizes → Pool → ForestState
 example_state sizes pool =
-    state_after pool key value dashes (0 ∷ 0 ∷ 0 ∷ 0 ∷ []) sizes.max_changes 2
+    state_after 0 pool key value dashes (0 ∷ 0 ∷ 0 ∷ 0 ∷ []) sizes.max_changes 2
 
 -- it is such a state, with a pool to which that of a space of one page leads, however that begins
 abbrev pub ExampleStands : Type 0

@@ -19,7 +19,7 @@ use Rattle.forest_law.specs.declared.objects.Object.{Object}
 use Rattle.forest_law.specs.declared.objects.Object.TheVariants as object
 use Rattle.forest_law.specs.HashSteps.{KeepsHashing}
 use Rattle.forest_law.specs.Numbers.{frame_id}
-use Rattle.forest_law.specs.Opening.{new_frame}
+use Rattle.forest_law.specs.Opening.{first_frame}
 use Rattle.forest_world.specs.Held.{TreePass, shape_of_pass, HasFrame}
 use Rattle.call_law.specs.Spoken.{View}
 use Rattle.buffer_pool.specs.Frames.{TakesOut, PutsBack}
@@ -30,11 +30,11 @@ use Rattle.leaf_changes.specs.Holds.{IsLeafOf, HoldsLeaf}
 -- the frame that stands in a hand, if one does
 abbrev frame_at : maybe.Option (Option Object) → Frame
 frame_at (some (Some (object.Frame f))) = f
-frame_at (some (Some (object.Part x))) = new_frame None
-frame_at (some (Some (object.Pool x))) = new_frame None
-frame_at (some (Some (object.Tree t))) = new_frame None
-frame_at (some None) = new_frame None
-frame_at none = new_frame None
+frame_at (some (Some (object.Part x))) = first_frame 0
+frame_at (some (Some (object.Pool x))) = first_frame 0
+frame_at (some (Some (object.Tree t))) = first_frame 0
+frame_at (some None) = first_frame 0
+frame_at none = first_frame 0
 
 -- the block's frame in hand as it now is
 abbrev pub frame_in : TreePass → ℕ → Frame

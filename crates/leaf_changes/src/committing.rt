@@ -4,7 +4,7 @@ ghost use Rattle.latch_space.specs.Passes.{IsSamePass};
 ghost use Rattle.latch_space.specs.Spaces.{IsPassOf};
 ghost use Rattle.index_law.specs.Meanings.{change_lent, change_by};
 ghost use Rattle.forest_law.specs.declared.objects.Frame.{Frame};
-ghost use Rattle.forest_law.specs.Opening.{new_frame};
+ghost use Rattle.forest_law.specs.Opening.{first_frame};
 ghost use Rattle.leaf_changes.specs.Commits.{CanCommit, Commits, CanWriteAhead, WritesAhead};
 ghost use Rattle.engine_law.specs.Says.{columns_by};
 
@@ -27,7 +27,7 @@ pub(crate) trait Becomes {
 impl Becomes for Brand {
     ghost block = { 0 };
 
-    ghost leaf = { new_frame None };
+    ghost leaf = { first_frame 0 };
 }
 
 impl<R: Wait> TreeCall<'_, R> {

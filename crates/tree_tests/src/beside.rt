@@ -35,7 +35,7 @@ fn is_short(causes: &(Cause, Cause)) -> bool {
 /// What one pass is told while the other holds the tree, then nothing, and then the partition.
 fn work_beside<R: AllocGlobal + Abort + Wait>(rt: &R) {
     let key = key_of(rt.alloc(), b"oak").expect(rt, "a key");
-    let (space, mut pass) = open_forest(rt.alloc(), &SIZES, &[2], 2).expect(rt, "a space");
+    let (space, mut pass) = open_forest(rt.alloc(), &SIZES, &[2], 2, 0).expect(rt, "a space");
     let mut other = space
         .split(rt.alloc(), &mut pass)
         .expect(rt, "another pass");

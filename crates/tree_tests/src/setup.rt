@@ -51,7 +51,7 @@ impl Grove {
             fold_bits: 1,
             max_changes: 1,
         };
-        let (space, pass) = open_forest(rt.alloc(), &sizes, &[1, 1], 1).expect(rt, "a space");
+        let (space, pass) = open_forest(rt.alloc(), &sizes, &[1, 1], 1, 0).expect(rt, "a space");
         Grove { space, pass, pages }
     }
 

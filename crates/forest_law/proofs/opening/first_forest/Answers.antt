@@ -7,8 +7,8 @@ use Rattle.forest_law.proofs.opening.first_forest.Goals as goal
 
 pub returns : goal.returns
 returns c =
-    first_objects_are c.args.layout.now c.in_ok-first_pool.field-0 c.push.new.self.items
-    c.push_trees.new.objects.items c.push_parts.new.objects.items
+    first_objects_are c.args.layout.now c.args.clock c.in_ok-first_pool.field-0
+    c.push.new.self.items c.push_trees.new.objects.items c.push_parts.new.objects.items
     c.push_frames.new.objects.items
     (c.in_ok-push.ensures.items
     ∙ ap (λ z. z ++ object.Pool c.in_ok-first_pool.field-0 ∷ []) c.new-objects.ensures.items)
@@ -17,4 +17,5 @@ returns c =
     (λ i. object.Tree (first_tree i))) c.layout.view_is c.in_ok-push_trees.ensures)
     c.in_ok-push_parts.ensures
     (subst (λ (z : Shape). AddsEach c.push_parts.new.objects.items c.push_frames.new.objects.items
-    z.blocks (λ b. object.Frame first_frame)) c.layout.view_is c.in_ok-push_frames.ensures)
+    z.blocks (λ b. object.Frame (first_frame c.args.clock))) c.layout.view_is
+    c.in_ok-push_frames.ensures)

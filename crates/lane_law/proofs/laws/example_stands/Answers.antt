@@ -5,7 +5,7 @@ use Rattle.map_history.specs.Report.{dashes}
 use Rattle.lane_law.proofs.laws.example_stands.Goals as goal
 
 pub returns : goal.returns
-returns c sizes pool one room first = let restored = one_put_is_lawful.restores pool key (omega arith) first in (
+returns c sizes pool one room first = let restored = one_put_is_lawful.restores 0 pool key (omega arith) first in (
   restored.now,
   record {
     lawful = restored.lawful value dashes (0 ∷ 0 ∷ 0 ∷ 0 ∷ []) sizes.max_changes 2;
