@@ -4,8 +4,10 @@ use crate::answers::{Answer, Change, Said};
 use crate::script::{Field, Key, Line, Operation, Script, Shape};
 use std::io::{self, Write};
 
-const STATISTICS: &str = "hit 0 off 0 cold 0 short 0 part-busy 0 no-entry 0 block-busy 0 clock 0 \
-    unequal 0 by-clock 0 by-busy 0 by-moved 0 by-last 0 built 0 same 0 arena 0 raced 0 worn 0";
+/// What the statistics say behind the number of `cold`, where every answer says `cold no`: that no
+/// search went by a hash, and no leaf was hashed.
+const BEHIND_COLD: &str = "short 0 part-busy 0 no-entry 0 block-busy 0 clock 0 unequal 0 \
+    by-clock 0 by-busy 0 by-moved 0 by-last 0 built 0 same 0 arena 0 raced 0 worn 0";
 
 /// Writes the whole report of lanes that are done.
 pub fn write_report(
@@ -21,14 +23,21 @@ pub fn write_report(
     for (shape, changes) in script.shapes.iter().zip(changes) {
         write_changes(out, shape, changes)?;
     }
-    for shape in &script.shapes {
-        writeln!(
-            out,
-            "stats {} {STATISTICS}",
-            String::from_utf8_lossy(&shape.name)
-        )?;
+    for (index, shape) in script.shapes.iter().enumerate() {
+        write_statistics(out, shape, count_answers(script, index))?;
     }
     writeln!(out, "end")
+}
+
+/// How many answers an index gave: one to each line.
+fn count_answers(script: &Script, index: usize) -> usize {
+    let lines = script.lanes.iter().flatten();
+    lines.filter(|line| line.index == index).count()
+}
+
+fn write_statistics(out: &mut impl Write, shape: &Shape, answers: usize) -> io::Result<()> {
+    let name = String::from_utf8_lossy(&shape.name);
+    writeln!(out, "stats {name} hit 0 off 0 cold {answers} {BEHIND_COLD}")
 }
 
 fn write_field(out: &mut impl Write, field: &[u8]) -> io::Result<()> {
@@ -56,21 +65,21 @@ fn write_key(out: &mut impl Write, key: &Key) -> io::Result<()> {
 fn write_answer(out: &mut impl Write, number: usize, answer: &Answer) -> io::Result<()> {
     let point = answer.point;
     match &answer.said {
-        Said::Ok => writeln!(out, "{number} ok @{point} - -"),
-        Said::Duplicate => writeln!(out, "{number} duplicate @{point} - -"),
-        Said::Absent => writeln!(out, "{number} absent @{point} - -"),
-        Said::LogFull => writeln!(out, "{number} log-full {point} - -"),
+        Said::Ok => writeln!(out, "{number} ok @{point} cold no"),
+        Said::Duplicate => writeln!(out, "{number} duplicate @{point} cold no"),
+        Said::Absent => writeln!(out, "{number} absent @{point} cold no"),
+        Said::LogFull => writeln!(out, "{number} log-full {point} cold no"),
         Said::Row(key, value) => {
             write!(out, "{number} found")?;
             write_key(out, key)?;
             out.write_all(b" ")?;
             write_field(out, value)?;
-            writeln!(out, " @{point} - -")
+            writeln!(out, " @{point} cold no")
         }
         Said::Found(value) => {
             write!(out, "{number} found ")?;
             write_field(out, value)?;
-            writeln!(out, " @{point} - -")
+            writeln!(out, " @{point} cold no")
         }
     }
 }

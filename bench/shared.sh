@@ -35,7 +35,7 @@ print_machine() {
     echo "$(date +%F), $(uname -m), $(nproc) processors, $memory GiB, load $(load)"
 }
 
-# A report without the columns of its answers and without its statistics, which only ahi has.
+# A report without the columns of its answers and without its statistics, in which programs differ.
 without_columns() {
     awk '/^lane / { answers = 1; print; next }
         /^changes / { answers = 0 }

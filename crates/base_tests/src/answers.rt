@@ -47,13 +47,13 @@ type Answer = (
     &'static [u8],
 );
 
-/// An answer without columns and without fields.
+/// An answer of a descent before anything is learnt, without fields.
 macro_rules! said {
     ($line:expr, $asked:expr, $reply:expr, $point:expr, $value:expr, $text:expr) => {
         (
             $line,
             $asked,
-            told!($reply, Some($point), How::Dash, Note::Dash),
+            told!($reply, Some($point), How::Cold, Note::No),
             &[],
             $value,
             $text,
@@ -69,27 +69,55 @@ static ANSWERS: [Answer; 11] = [
         Reply::Found,
         3,
         b"\0 !%+,-}~\x7f\xaf\xff",
-        b"7 found %00%20!%25+%2c-}%7e%7f%af%ff @3 - -\n"
+        b"7 found %00%20!%25+%2c-}%7e%7f%af%ff @3 cold no\n"
     ),
-    said!(2, b"get t a", Reply::Found, 1, b"x", b"2 found x @1 - -\n"),
-    said!(8, b"get t a", Reply::Found, 4, b"", b"8 found ~ @4 - -\n"),
-    said!(4, b"get t a", Reply::Absent, 2, b"", b"4 absent @2 - -\n"),
+    said!(
+        2,
+        b"get t a",
+        Reply::Found,
+        1,
+        b"x",
+        b"2 found x @1 cold no\n"
+    ),
+    said!(
+        8,
+        b"get t a",
+        Reply::Found,
+        4,
+        b"",
+        b"8 found ~ @4 cold no\n"
+    ),
+    said!(
+        4,
+        b"get t a",
+        Reply::Absent,
+        2,
+        b"",
+        b"4 absent @2 cold no\n"
+    ),
     said!(
         2,
         b"put t a x",
         Reply::Duplicate,
         1,
         b"",
-        b"2 duplicate @1 - -\n"
+        b"2 duplicate @1 cold no\n"
     ),
-    said!(3, b"set t a x", Reply::Absent, 0, b"", b"3 absent @0 - -\n"),
+    said!(
+        3,
+        b"set t a x",
+        Reply::Absent,
+        0,
+        b"",
+        b"3 absent @0 cold no\n"
+    ),
     said!(
         9,
         b"seek t l a",
         Reply::Absent,
         4,
         b"",
-        b"9 absent @4 - -\n"
+        b"9 absent @4 cold no\n"
     ),
     (
         3,

@@ -5,7 +5,7 @@ use crate::files::lines_of;
 use crate::setup::MEMORY;
 use change_log::LaneChange;
 use key_tuple::{Key, Value};
-use map_history::{Counts, How, Line, Note, Op, Reply, RowBuf, Told, answer, make};
+use map_history::{COUNTED, Counts, How, Line, Note, Op, Reply, RowBuf, Told, answer, make};
 use report_judge::judge;
 use report_text::{change, changes_head, lane_head, report_end, report_head, stats};
 use std::collections::BTreeMap;
@@ -13,13 +13,14 @@ use std::process::Abort;
 
 const SCHEMA: &str = "index t 1\nindex two 2\n";
 
-/// An index: its name, its rows, and its changes as they are printed.
+/// An index: its name, its rows, its changes as they are printed, and how many answers it gave.
 #[derive(Drop)]
 struct Table {
     name: &'static str,
     rows: BTreeMap<Key, Value>,
     list: Vec<u8>,
     count: u64,
+    answers: u64,
 }
 
 /// The two indexes, without rows.
@@ -31,6 +32,7 @@ fn two_tables<R: AllocGlobal + Abort>(rt: &R) -> Vec<Table> {
             rows: BTreeMap::new(rt.alloc()),
             list: Vec::new(rt.alloc()),
             count: 0,
+            answers: 0,
         };
         tables.push(table).expect(rt, MEMORY);
     }
@@ -67,11 +69,12 @@ fn answer_line<R: Abort>(
     let told = Told {
         reply,
         point: Some(table.count),
-        how: How::Dash,
-        note: Note::Dash,
+        how: How::Cold,
+        note: Note::No,
     };
     let added = report_text::answer(out, line.line, &told, row, row.value(), &line.op);
     added.expect(rt, MEMORY);
+    table.answers = table.answers.wrapping_add(1);
 }
 
 /// Appends the answers of a lane.
@@ -100,14 +103,22 @@ fn report_of<R: AllocGlobal + Abort>(rt: &R, lines: &[Line]) -> Vec<u8> {
     out
 }
 
+/// The statistics of an index whose answers all say `cold no`.
+fn cold_counts(table: &Table) -> Counts {
+    let mut numbers = [0; COUNTED];
+    numbers[2] = table.answers;
+    Counts { numbers }
+}
+
 /// Appends the changes of each index, the statistics of both, and the end.
 fn add_lists<R: Abort>(rt: &R, out: &mut Vec<u8>, tables: &[Table]) {
     for table in tables {
         changes_head(out, table.name, table.count).expect(rt, MEMORY);
         out.extend_from_slice(&table.list).expect(rt, MEMORY);
     }
-    stats(out, "t", &Counts::none()).expect(rt, MEMORY);
-    stats(out, "two", &Counts::none()).expect(rt, MEMORY);
+    for table in tables {
+        stats(out, table.name, &cold_counts(table)).expect(rt, MEMORY);
+    }
     report_end(out).expect(rt, MEMORY);
 }
 

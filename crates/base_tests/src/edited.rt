@@ -1,15 +1,16 @@
 //! Reports of one lane, written by hand and edited, before the judge.
 use crate::setup::MEMORY;
-use report_judge::{COUNTS, Lie, judge};
+use report_judge::{BEFORE_COLD, BEHIND_COLD, Lie, judge};
 use std::process::Abort;
 
-/// A schema of the index `t` alone, a lane, and its report up to the statistics, which tell of no
-/// columns.
+/// A schema of the index `t` alone, a lane, and its report up to the statistics: so many answers,
+/// all with the columns `cold no`.
 #[derive(Clone, Copy)]
 pub(crate) struct Written {
     pub(crate) schema: &'static str,
     pub(crate) lane: &'static str,
     pub(crate) report: &'static str,
+    pub(crate) answers: u32,
 }
 
 /// A text of the report, what is put in place of it, and how the report is judged then.
@@ -20,7 +21,13 @@ impl Written {
     fn edited<R: AllocGlobal + Abort>(&self, rt: &R, old: &str, new: &str) -> String {
         let (before, after) = self.report.split_once(old).expect(rt, "the old text");
         let mut edited = String::new(rt.alloc());
-        write!(edited, "{before}{new}{after}stats t {COUNTS}\nend\n").expect(rt, MEMORY);
+        write!(edited, "{before}{new}{after}").expect(rt, MEMORY);
+        let answers = self.answers;
+        write!(
+            edited,
+            "stats t {BEFORE_COLD} {answers} {BEHIND_COLD}\nend\n"
+        )
+        .expect(rt, MEMORY);
         edited
     }
 

@@ -5,17 +5,18 @@ use report_judge::Lie;
 static SETS: Written = Written {
     schema: "index t 1\n",
     lane: "set t a x\nput t a x\nset t a y\nget t a\nset t a y\n",
-    report: "ahi run\nlane 1\n1 absent @0 - -\n2 ok @1 - -\n3 ok @2 - -\n4 found y @2 - -\n\
-        5 ok @3 - -\nchanges t 3\n1 1 2 put a x\n2 1 3 set a y\n3 1 5 set a y\n",
+    report: "ahi run\nlane 1\n1 absent @0 cold no\n2 ok @1 cold no\n3 ok @2 cold no\n4 found y @2 cold no\n\
+        5 ok @3 cold no\nchanges t 3\n1 1 2 put a x\n2 1 3 set a y\n3 1 5 set a y\n",
+    answers: 5,
 };
 
 /// The answers, and the first change.
 const TRUE_START: &str =
-    "1 absent @0 - -\n2 ok @1 - -\n3 ok @2 - -\n4 found y @2 - -\n5 ok @3 - -\nchanges t 3\n1 1 2 put a x\n";
+    "1 absent @0 cold no\n2 ok @1 cold no\n3 ok @2 cold no\n4 found y @2 cold no\n5 ok @3 cold no\nchanges t 3\n1 1 2 put a x\n";
 
 /// The same where the set of a row that isn't there is told `ok`.
 const FALSE_START: &str =
-    "1 ok @1 - -\n2 duplicate @1 - -\n3 ok @2 - -\n4 found y @2 - -\n5 ok @3 - -\nchanges t 3\n1 1 1 set a x\n";
+    "1 ok @1 cold no\n2 duplicate @1 cold no\n3 ok @2 cold no\n4 found y @2 cold no\n5 ok @3 cold no\nchanges t 3\n1 1 1 set a x\n";
 
 /// The report as it is, and with a lie.
 static EDITS: [Edit; 9] = [

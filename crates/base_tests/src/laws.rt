@@ -1,7 +1,7 @@
 //! The laws of maps can be cited.
 use map_history::{
-    changes_are_local, dashes_may_stand, lists_grow, maps_ascend, replies_stay,
-    reports_without_full_have_room, searches_find, slices_change,
+    changes_are_local, lists_grow, maps_ascend, replies_stay, reports_without_full_have_room,
+    searches_find, slices_change,
 };
 
 #[test]
@@ -13,5 +13,4 @@ fn the_laws_can_be_cited(_rt: HostRuntime) {
     replies_stay();
     searches_find();
     reports_without_full_have_room();
-    dashes_may_stand();
 }

@@ -7,12 +7,13 @@ static SEEKS: Written = Written {
     lane: "put t a,x,1 p\nput t a,y,2 s\nput t a,x,2 q\nput t a,y,1 r\nput t ~,+,1 e\n\
         seek t ge a,y\nseek t ge a\nseek t g a,x\nseek t g a,x,1\nseek t g a\nseek t le a,x\n\
         seek t le b\nseek t l a,y\nseek t l a\nseek t l ~,+,1\n",
-    report: "ahi run\nlane 1\n1 ok @1 - -\n2 ok @2 - -\n3 ok @3 - -\n4 ok @4 - -\n5 ok @5 - -\n\
-        6 found a,y,1 r @5 - -\n7 found a,x,1 p @5 - -\n8 found a,y,1 r @5 - -\n\
-        9 found a,x,2 q @5 - -\n10 absent @5 - -\n11 found a,x,2 q @5 - -\n\
-        12 found a,y,2 s @5 - -\n13 found a,x,2 q @5 - -\n14 found ~,+,1 e @5 - -\n\
-        15 absent @5 - -\nchanges t 5\n1 1 1 put a,x,1 p\n2 1 2 put a,y,2 s\n3 1 3 put a,x,2 q\n\
+    report: "ahi run\nlane 1\n1 ok @1 cold no\n2 ok @2 cold no\n3 ok @3 cold no\n4 ok @4 cold no\n5 ok @5 cold no\n\
+        6 found a,y,1 r @5 cold no\n7 found a,x,1 p @5 cold no\n8 found a,y,1 r @5 cold no\n\
+        9 found a,x,2 q @5 cold no\n10 absent @5 cold no\n11 found a,x,2 q @5 cold no\n\
+        12 found a,y,2 s @5 cold no\n13 found a,x,2 q @5 cold no\n14 found ~,+,1 e @5 cold no\n\
+        15 absent @5 cold no\nchanges t 5\n1 1 1 put a,x,1 p\n2 1 2 put a,y,2 s\n3 1 3 put a,x,2 q\n\
         4 1 4 put a,y,1 r\n5 1 5 put ~,+,1 e\n",
+    answers: 15,
 };
 
 /// That the answer to this line is wrong.

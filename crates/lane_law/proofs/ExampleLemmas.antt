@@ -15,7 +15,7 @@ use Rattle.change_log.specs.Entries.{ArePrinted}
 use Rattle.map_history.specs.declared.sizes.Sizes.{Sizes}
 use Rattle.map_history.specs.Operation.{Get}
 use Rattle.map_history.specs.Reply.{Value}
-use Rattle.map_history.specs.Report.{IndexPart, dashes}
+use Rattle.map_history.specs.Report.{IndexPart, unlearnt}
 use Rattle.map_history.specs.Statistics.{counts_of}
 use Rattle.map_history.specs.LegalReport.{Mark, Precedes, columns_at}
 use Rattle.forest_law.specs.declared.objects.Object.{Object}
@@ -44,7 +44,7 @@ one_mark false m = all_pairs_none Precedes
 
 -- what the get found, as it is said
 abbrev found : what.Statement MadeChange Saying
-found = what.TheVariants.Answer (Replies (Get key) (Gives (Value value)) None dashes)
+found = what.TheVariants.Answer (Replies (Get key) (Gives (Value value)) None unlearnt)
 
 -- the entry of the list
 abbrev made : Entry MadeChange

@@ -7,7 +7,7 @@ use Rattle.map_history.specs.declared.sizes.Sizes.{Sizes}
 use Rattle.map_history.specs.Map.{MapChange, Put}
 use Rattle.map_history.specs.Operation.{Get, Make}
 use Rattle.map_history.specs.Reply.{Value, Done}
-use Rattle.map_history.specs.Report.{AnswerLine, Replied, Report, dashes}
+use Rattle.map_history.specs.Report.{AnswerLine, Replied, Report, unlearnt}
 use Rattle.map_history.specs.Statistics.{counts_of}
 use Rattle.map_history.specs.LegalReport.{Line, Run, IsLegalReport}
 use Rattle.index_law.specs.Answers.{MadeChange, Gives, Replies}
@@ -36,7 +36,7 @@ put_row = Put key value
 
 -- the same, as an entry of the list has it
 abbrev pub row_made : MadeChange
-row_made = record { change = put_row; columns = dashes }
+row_made = record { change = put_row; columns = unlearnt }
 
 -- the first lane's line
 abbrev pub line_of_put : Line
@@ -56,11 +56,11 @@ example_run sizes = record {
 
 -- what the put is told, and what the get
 abbrev pub told_put : AnswerLine
-told_put = answered line_of_put (Replied Done 1 dashes)
+told_put = answered line_of_put (Replied Done 1 unlearnt)
 
 -- it finds the row at the point of the put
 abbrev pub told_get : AnswerLine
-told_get = answered line_of_get (Replied (Value value) 1 dashes)
+told_get = answered line_of_get (Replied (Value value) 1 unlearnt)
 
 -- the report of the two lanes
 abbrev pub example_report : Report
@@ -69,7 +69,7 @@ example_report = record {
   indexes = record {
     name = 105 ∷ [];
     entries = record { lane = 1; line = 2; change = put_row } ∷ [];
-    counts = counts_of (dashes ∷ dashes ∷ []);
+    counts = counts_of (unlearnt ∷ unlearnt ∷ []);
   } ∷ [];
 }
 
@@ -108,7 +108,7 @@ example_view w = record {
         index = 0;
         point = 1;
         by = 1;
-        what = what.Answer (Replies (Get key) (Gives (Value value)) None dashes);
+        what = what.Answer (Replies (Get key) (Gives (Value value)) None unlearnt);
       } ∷ [];
   refused = [];
   references = [];
@@ -130,7 +130,7 @@ LanesExample = (sizes : Sizes) (w : ForestState) → IsExample sizes w → IsMet
 -- the state after the put, where a list may have a change and there is one page
 abbrev pub example_state : Sizes → Pool → ForestState
 example_state sizes pool =
-    state_after 0 pool key value dashes (0 ∷ 0 ∷ 0 ∷ 0 ∷ []) sizes.max_changes 2
+    state_after 0 pool key value unlearnt (0 ∷ 0 ∷ 0 ∷ 0 ∷ []) sizes.max_changes 2
 
 -- it is such a state, with a pool to which that of a space of one page leads, however that begins
 abbrev pub ExampleStands : Type 0

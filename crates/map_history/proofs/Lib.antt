@@ -3,6 +3,7 @@ pub mod ApplyLemmas
 pub mod CutLemmas
 pub mod RowsLemmas
 pub mod AnswerLemmas
+pub mod RangeLemmas
 pub mod WriteLemmas
 pub mod HistoryLemmas
 pub mod SearchLemmas

@@ -1,22 +1,19 @@
 -- Which notes may stand beside which word in the two columns.
 use Rattle.std.specs.Prelude.{Bool, true, false, ◌&&◌, List, [], ◌∷◌}
 use Rattle.std.specs.List.{list_all}
-use Rattle.map_history.specs.Words.{Search, Unhashed, Guess, Descent, Onward, Lesson, Nothing, Build, Uncounted, how_word, note_word}
+use Rattle.map_history.specs.Words.{Search, Guess, Descent, Onward, Lesson, Nothing, Build, Uncounted, how_word, note_word}
 use Rattle.map_history.specs.Report.{Columns, ScanPiece}
 
--- nothing is learnt without a hash, a hit tells at most that it isn't counted, a descent always
--- tells
+-- a hit tells at most that it isn't counted, a descent always tells
 abbrev pub may_teach : Search → Lesson → Bool
-may_teach Unhashed Nothing = true
 may_teach Guess Nothing = true
 may_teach Guess Uncounted = true
 may_teach Descent Build = true
 may_teach Descent Uncounted = true
 may_teach search lesson = false
 
--- a scan that goes on from where it stood teaches nothing, nor does one without a hash
+-- a scan that goes on from where it stood teaches nothing
 abbrev pub may_go_on : Search → Lesson → Bool
-may_go_on Unhashed Nothing = true
 may_go_on Onward Nothing = true
 may_go_on search lesson = false
 

@@ -5,8 +5,7 @@ use Rattle.key_tuple.specs.KeyPlace.{KeyPlace, At, before, within}
 use Rattle.map_history.specs.Map.{Pair, Map, MapChange, Ascends, slice, value_at, key_of, value_of, is_allowed, after_change, map_after, AreLawful}
 use Rattle.map_history.specs.Operation.{Ask}
 use Rattle.map_history.specs.Reply.{first_after, last_before, reply_of}
-use Rattle.map_history.specs.Report.{Report, Columns, dashes}
-use Rattle.map_history.specs.Columns.{may_stand, may_stand_later}
+use Rattle.map_history.specs.Report.{Report}
 use Rattle.map_history.specs.LegalReport.{Run, HasRoom, HasNoSpaceFull}
 
 -- keys rise along each map that changes make
@@ -84,8 +83,3 @@ pub record SearchesFind : Type 0 where
 -- a report in which nothing is answered `space-full` has room, however many pages there are
 abbrev pub NoSpaceFullHasRoom : Type 0
 NoSpaceFullHasRoom = (run : Run) (report : Report) → HasNoSpaceFull report → HasRoom run report
-
--- two dashes may stand in the columns of any answer or piece
-pub record DashesStand : Type 0 where
-  pub first : (columns : Columns) → columns ≡ dashes → may_stand columns ≡ true
-  pub later : (columns : Columns) → columns ≡ dashes → may_stand_later columns ≡ true

@@ -121,12 +121,16 @@ pub record RepliesAt (changes : List MapChange) (ask : Ask) (point : ℕ)
   pub within : point ≤ length changes
   pub reply_is : reply_of (map_after (take point changes)) ask ≡ reply
 
--- of all lines that are answered so
-abbrev pub HasReplies : Run → Report → Type 0
-HasReplies run report =
-    (lane place : ℕ) (line : Line) (reply : MapReply) (point : ℕ) (columns : Columns)
+-- of the line at a place of a lane, where it is answered so
+abbrev pub LineHasReply : Run → Report → (lane place : ℕ) → Type 0
+LineHasReply run report lane place =
+    (line : Line) (reply : MapReply) (point : ℕ) (columns : Columns)
     → IsAnswered run report lane place line (Replied reply point columns) → reply ≢ Done
     → RepliesAt (changes_at report line.op.index) line.op.ask point reply
+
+-- of all lines that are
+abbrev pub HasReplies : Run → Report → Type 0
+HasReplies run report = (lane place : ℕ) → LineHasReply run report lane place
 
 -- a point that a lane was told, and by how much the list rose there
 pub record Mark : Type 0 where
@@ -168,12 +172,16 @@ abbrev pub ScansFor : Ask → List MapChange → List ScanPiece → Type 0
 ScansFor (Scan from to limit) changes pieces = IsScan from to limit changes pieces
 ScansFor ask changes pieces = Unit {0}
 
--- Scans: the pieces of each are what an ordered map answers.
-abbrev pub HasScans : Run → Report → Type 0
-HasScans run report =
-    (lane place : ℕ) (line : Line) (pieces : List ScanPiece)
+-- Scans: the pieces of the line at a place of a lane, if it scans, are what an ordered map answers.
+abbrev pub LineHasScan : Run → Report → (lane place : ℕ) → Type 0
+LineHasScan run report lane place =
+    (line : Line) (pieces : List ScanPiece)
     → IsAnswered run report lane place line (Scanned pieces)
     → ScansFor line.op.ask (changes_at report line.op.index) pieces
+
+-- those of all lines are
+abbrev pub HasScans : Run → Report → Type 0
+HasScans run report = (lane place : ℕ) → LineHasScan run report lane place
 
 -- a change that the map allows, and that is refused since the list is full
 pub record IsLogFull (most : ℕ) (changes : List MapChange) (ask : Ask) (n : ℕ) : Type 0 where
@@ -184,11 +192,15 @@ pub record IsLogFull (most : ℕ) (changes : List MapChange) (ask : Ask) (n : �
   pub allowed : is_allowed (map_after changes) change ≡ true
 
 -- Log-full: only where the list is as long as it may be, and of a change that its map allows.
-abbrev pub HasLogFull : Run → Report → Type 0
-HasLogFull run report =
-    (lane place : ℕ) (line : Line) (n : ℕ) (columns : Columns)
+abbrev pub LineHasLogFull : Run → Report → (lane place : ℕ) → Type 0
+LineHasLogFull run report lane place =
+    (line : Line) (n : ℕ) (columns : Columns)
     → IsAnswered run report lane place line (LogFull n columns)
     → IsLogFull run.sizes.max_changes (changes_at report line.op.index) line.op.ask n
+
+-- at every line
+abbrev pub HasLogFull : Run → Report → Type 0
+HasLogFull run report = (lane place : ℕ) → LineHasLogFull run report lane place
 
 -- a put or set entry
 abbrev pub writes_row : ChangeLine → Bool
@@ -198,12 +210,20 @@ writes_row e = writes e.change
 abbrev pub rows_written : Report → ℕ
 rows_written report = sum_by (λ (part : IndexPart). count_by writes_row part.entries) report.indexes
 
--- Room: space-full only where the pages are few for the rows that were written.
+-- the pages are few for the indexes, the rows that were written, and the lanes
+abbrev pub HasFewPages : Run → Report → Type 0
+HasFewPages run report =
+    run.sizes.pages ≤ 2 * (length run.names + rows_written report) + length run.lanes
+
+-- Room: space-full only where the pages are few.
+abbrev pub LineHasRoom : Run → Report → (lane place : ℕ) → Type 0
+LineHasRoom run report lane place =
+    (line : Line) (columns : Columns)
+    → IsAnswered run report lane place line (SpaceFull columns) → HasFewPages run report
+
+-- at every line
 abbrev pub HasRoom : Run → Report → Type 0
-HasRoom run report =
-    (lane place : ℕ) (line : Line) (columns : Columns)
-    → IsAnswered run report lane place line (SpaceFull columns)
-    → run.sizes.pages ≤ 2 * (length run.names + rows_written report) + length run.lanes
+HasRoom run report = (lane place : ℕ) → LineHasRoom run report lane place
 
 -- an answer is `space-full`
 abbrev pub is_space_full : Answer → Bool

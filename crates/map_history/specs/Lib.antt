@@ -1,3 +1,4 @@
+pub mod Bytes
 pub mod Map
 pub mod Pairs
 pub mod Operation
@@ -10,6 +11,7 @@ pub mod Spelling
 pub mod Columns
 pub mod Scans
 pub mod Rows
+pub mod Ranges
 pub mod Statistics
 pub mod LegalReport
 pub mod Lines

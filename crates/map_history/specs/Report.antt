@@ -14,9 +14,9 @@ pub record Columns : Type 0 where
   pub how : How
   pub note : Note
 
--- the columns of an answer without a hash
-abbrev pub dashes : Columns
-dashes = record { how = how.Dash; note = note.Dash }
+-- the columns of a descent before anything useful is learnt: `cold no`
+abbrev pub unlearnt : Columns
+unlearnt = record { how = how.Cold; note = note.No }
 
 -- a piece of a scan: the rows that it prints, and the point at which they were read
 pub record ScanPiece : Type 0 where

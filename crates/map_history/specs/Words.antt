@@ -5,9 +5,9 @@ use Rattle.map_history.specs.declared.columns.How.TheVariants as how
 use Rattle.map_history.specs.declared.columns.Note.{Note}
 use Rattle.map_history.specs.declared.columns.Note.TheVariants as note
 
--- how rows were looked for: without a hash, by the hash, by a descent, or on from a scan's place
+-- how rows were looked for: that isn't told, by the hash, by a descent, or on from a scan's place
 pub data Search : Type 0 where
-  Unhashed : Search
+  Untold : Search
   Guess : Search
   Descent : Search
   Onward : Search
@@ -30,7 +30,7 @@ pub record NoteWord : Type 0 where
 
 -- the words of the first column
 abbrev pub how_word : How → HowWord
-how_word how.Dash = record { text = codes "-"; search = Unhashed }
+how_word how.Dash = record { text = codes "-"; search = Untold }
 how_word how.Hit = record { text = codes "hit"; search = Guess }
 how_word how.Off = record { text = codes "off"; search = Descent }
 how_word how.Cold = record { text = codes "cold"; search = Descent }

@@ -1,6 +1,6 @@
 //! A change, made on an ordered map of the program.
 ghost use Rattle.std.specs.Prelude.{◌≡◌, OnOk, OnErr};
-ghost use Rattle.map_history.specs.Map.{Ascends, after_change};
+ghost use Rattle.map_history.specs.Map.{Ascends, after_change, is_allowed};
 ghost use Rattle.map_history.specs.Operation.{change_of, operation_of, after_ask};
 ghost use Rattle.map_history.specs.Pairs.{pairs};
 ghost use Rattle.map_history.specs.Map as by;
@@ -10,6 +10,16 @@ use crate::op::Op;
 use key_tuple::{Key, NoMemory, Value};
 use std::alloc::AllocError;
 use std::collections::BTreeMap;
+
+/// Whether the map allows a change: a put's key isn't there, and that of a set or a del is.
+pub fn is_allowed(map: &BTreeMap<Key, Value>, change: &Change) -> bool
+    ensures { result ≡ is_allowed (pairs map.now) (change_of change.now) }
+{
+    match change {
+        Change::Put { key, .. } => !map.contains_key(key),
+        Change::Set { key, .. } | Change::Del { key } => map.contains_key(key),
+    }
+}
 
 /// Makes a change. One that the map doesn't allow leaves it: a put of a key that is there, a set or a
 /// del of one that isn't. After `NoMemory` the map is as before.

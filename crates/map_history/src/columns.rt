@@ -5,7 +5,7 @@ ghost use Rattle.map_history.specs.Words.{how_text, note_text};
 /// How a search found its row.
 #[derive(Clone, Copy, PartialEq, Eq)]
 pub enum How {
-    /// The hash isn't in use yet: printed `-`.
+    /// Nothing is told of a search: printed `-`, which stands in no report.
     Dash,
     /// By the hash.
     Hit,

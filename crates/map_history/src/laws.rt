@@ -1,5 +1,5 @@
 //! Laws of maps, changes and replies, each the contract of a function that does nothing.
-ghost use Rattle.map_history.specs.Laws.{MapsAscend, ChangesAreLocal, SlicesChange, ListsGrow, RepliesStay, SearchesFind, NoSpaceFullHasRoom, DashesStand};
+ghost use Rattle.map_history.specs.Laws.{MapsAscend, ChangesAreLocal, SlicesChange, ListsGrow, RepliesStay, SearchesFind, NoSpaceFullHasRoom};
 
 /// Keys rise along each map that changes make.
 pub fn maps_ascend()
@@ -34,9 +34,4 @@ pub fn searches_find()
 /// A report in which nothing is answered `space-full` has room.
 pub fn reports_without_full_have_room()
     ensures { NoSpaceFullHasRoom }
-{}
-
-/// Dashes may stand in the columns of any answer or piece.
-pub fn dashes_may_stand()
-    ensures { DashesStand }
 {}

@@ -11,6 +11,7 @@ mod laws;
 mod line;
 mod op;
 mod part_list;
+mod ranges;
 mod reply;
 mod row_buf;
 mod rows;
@@ -18,15 +19,16 @@ mod sizes;
 
 pub use answers::answer;
 pub use change::Change;
-pub use changes::{apply, make, pairs_ascend};
+pub use changes::{apply, is_allowed, make, pairs_ascend};
 pub use columns::{How, Note};
 pub use counts::{COUNTED, Counts, counted_words};
 pub use laws::{
-    changes_are_local, dashes_may_stand, lists_grow, maps_ascend, replies_stay,
-    reports_without_full_have_room, searches_find, slices_change,
+    changes_are_local, lists_grow, maps_ascend, replies_stay, reports_without_full_have_room,
+    searches_find, slices_change,
 };
 pub use line::Line;
 pub use op::{Op, OpRef};
+pub use ranges::{first_from, last_below};
 pub use reply::{Piece, Reply, Told};
 pub use row_buf::RowBuf;
 pub use rows::{RowIn, Rows};

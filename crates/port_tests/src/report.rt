@@ -53,8 +53,8 @@ fn add_answer<R: Abort>(rt: &R, answers: &mut Texts, row: &RowBuf, number: u64, 
     let told = Told {
         reply: Reply::Ok,
         point: Some(number),
-        how: How::Dash,
-        note: Note::Dash,
+        how: How::Cold,
+        note: Note::No,
     };
     answers
         .add_answer(line.line, &told, row, &line.op)
@@ -138,10 +138,10 @@ fn is_put<R: AllocGlobal + Abort>(
 
 const REPORT: &[u8] = b"ahi run\n\
     lane 1\n\
-    2 ok @2 - -\n\
-    3 ok @1 - -\n\
+    2 ok @2 cold no\n\
+    3 ok @1 cold no\n\
     lane 2\n\
-    1 ok @1 - -\n\
+    1 ok @1 cold no\n\
     changes t 2\n\
     1 2 1 put a x\n\
     2 1 2 del a\n\
@@ -154,7 +154,7 @@ const REPORT: &[u8] = b"ahi run\n\
     end\n";
 
 /// What stands before the fourth put.
-const THREE_LINES: &[u8] = b"ahi run\nlane 1\n2 ok @2 - -\n";
+const THREE_LINES: &[u8] = b"ahi run\nlane 1\n2 ok @2 cold no\n";
 
 #[test]
 fn a_report_of_two_lanes_over_two_indexes_is_put_line_by_line(rt: HostRuntime) {

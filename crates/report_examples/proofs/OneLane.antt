@@ -8,7 +8,7 @@ use Rattle.map_history.specs.Reply.{MapReply, Value, Row, Done, Absent, Duplicat
 use Rattle.map_history.specs.Report.{Answer, AnswerLine, Replied, LogFull, SpaceFull, Scanned, ChangeLine, IndexPart, entries_at, changes_at, Columns, Report}
 use Rattle.map_history.specs.LegalReport.{Line, Answers, columns_at, IsAnswered, NamesLine, IsNamed, RepliesAt, Precedes, marks_in, ScansFor, IsLegalReport, marks_of}
 use Rattle.map_history.specs.Statistics.{counts_of}
-use Rattle.report_examples.specs.Samples.{one_lane_run, one_lane_report, no_counts}
+use Rattle.report_examples.specs.Samples.{one_lane_run, one_lane_report, counts_told}
 use Rattle.list_facts.proofs.Each.{each_get}
 use Rattle.report_examples.proofs.EachPlace.{EachPlace, each_place, EachAnswer, each_answer, EachTwo, each_two}
 
@@ -25,7 +25,7 @@ Fits report changes line (Scanned pieces) = ScansFor line.op.ask changes pieces
 
 pub record FitsAll (sizes : Sizes) (lines : List Line) (answers : List AnswerLine) (entries : List ChangeLine) : Type 0 where
   pub form : AllZip Answers lines answers
-  pub counts : no_counts ≡ counts_of (columns_at (one_lane_run sizes lines) (one_lane_report answers entries) 0)
+  pub counts : counts_told answers ≡ counts_of (columns_at (one_lane_run sizes lines) (one_lane_report answers entries) 0)
   pub lawful : EachPlace (λ n c. is_allowed (map_after (take n (map (λ (e : ChangeLine). e.change) entries))) c ≡ true) (map (λ (e : ChangeLine). e.change) entries)
   pub named : EachPlace (λ n entry. NamesLine (one_lane_run sizes lines) (one_lane_report answers entries) 0 n entry) entries
   pub fits : EachAnswer (Fits (one_lane_report answers entries) (map (λ (e : ChangeLine). e.change) entries)) lines answers
@@ -61,7 +61,7 @@ module _ (sizes : Sizes) (lines : List Line) (answers : List AnswerLine) (entrie
   lawful_all (suc i) n c e = absurd cc
 
   counts_all : (i : ℕ) (part : IndexPart) → slice_get (one_lane_report answers entries).indexes i ≡ Some part → part.counts ≡ counts_of (columns_at (one_lane_run sizes lines) (one_lane_report answers entries) i)
-  counts_all zero part e = let is : record { name = codes "t"; entries = entries; counts = no_counts } ≡ part = cc in ap (λ (p : IndexPart). p.counts) (sym is) ∙ all.counts
+  counts_all zero part e = let is : record { name = codes "t"; entries = entries; counts = counts_told answers } ≡ part = cc in ap (λ (p : IndexPart). p.counts) (sym is) ∙ all.counts
   counts_all (suc i) part e = absurd cc
 
   order_all : (lane i : ℕ) (ls : List Line) (rs : List AnswerLine) → slice_get (lines ∷ []) lane ≡ Some ls → slice_get (answers ∷ []) lane ≡ Some rs → AllPairs Precedes (marks_in i (zip ls rs))

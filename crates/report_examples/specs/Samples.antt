@@ -1,18 +1,19 @@
 -- Small runs of one lane on one index, and what is to be reported of them.
 use Rattle.std.specs.Prelude.{ℕ, List, [], ◌∷◌, codes}
+use Rattle.std.specs.List.{flat_map}
 use Rattle.key_tuple.specs.Order.{FieldList}
 use Rattle.map_history.specs.declared.counts.Counts.{Counts}
 use Rattle.map_history.specs.declared.sizes.Sizes.{Sizes}
 use Rattle.map_history.specs.Map.{MapChange, Put, Set, Del}
 use Rattle.map_history.specs.Operation.{Ask, Get, Make}
 use Rattle.map_history.specs.Reply.{MapReply, Value, Done, Absent, Duplicate}
-use Rattle.map_history.specs.Report.{Answer, Replied, AnswerLine, ChangeLine, Report, dashes}
+use Rattle.map_history.specs.Report.{Answer, Replied, AnswerLine, ChangeLine, Report, unlearnt}
 use Rattle.map_history.specs.Statistics.{counts_of}
-use Rattle.map_history.specs.LegalReport.{Line, Run, IsLegalButRoom, IsLegalReport}
+use Rattle.map_history.specs.LegalReport.{Line, Run, columns_of, IsLegalButRoom, IsLegalReport}
 
--- statistics that count nothing
-abbrev pub no_counts : Counts
-no_counts = counts_of []
+-- the statistics of some answers
+abbrev pub counts_told : List AnswerLine → Counts
+counts_told answers = counts_of (flat_map (λ (a : AnswerLine). columns_of a.answer) answers)
 
 -- a line of the index 0
 abbrev pub line : ℕ → Ask → Line
@@ -22,9 +23,9 @@ line n ask = record { line = n; op = record { index = 0; ask = ask } }
 abbrev pub answer_line : ℕ → Answer → AnswerLine
 answer_line n answer = record { line = n; answer = answer }
 
--- a reply at a point, as the answer of a line
+-- a reply at a point, found by a descent, as the answer of a line
 abbrev pub told : ℕ → MapReply → ℕ → AnswerLine
-told n reply point = answer_line n (Replied reply point dashes)
+told n reply point = answer_line n (Replied reply point unlearnt)
 
 -- the entry of a change that a line made
 abbrev pub made : ℕ → MapChange → ChangeLine
@@ -34,11 +35,11 @@ made n change = record { lane = 1; line = n; change = change }
 abbrev pub one_lane_run : Sizes → List Line → Run
 one_lane_run sizes lines = record { sizes = sizes; names = codes "t" ∷ []; lanes = lines ∷ [] }
 
--- the report with these answers and these entries
+-- the report with these answers and these entries; its statistics count the answers
 abbrev pub one_lane_report : List AnswerLine → List ChangeLine → Report
 one_lane_report answers entries = record {
   lanes = answers ∷ [];
-  indexes = record { name = codes "t"; entries = entries; counts = no_counts } ∷ [];
+  indexes = record { name = codes "t"; entries = entries; counts = counts_told answers } ∷ [];
 }
 
 -- the report of this lane is legal, whatever the sizes

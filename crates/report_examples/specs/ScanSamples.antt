@@ -1,10 +1,12 @@
 -- A scan of three rows of two fields, in one piece and in two, and pieces that are no answer.
 use Rattle.std.specs.Prelude.{None, List, [], ◌∷◌, codes}
 use Rattle.key_tuple.specs.Order.{FieldList}
+use Rattle.map_history.specs.declared.columns.How.TheVariants as how
+use Rattle.map_history.specs.declared.columns.Note.TheVariants as note
 use Rattle.map_history.specs.Map.{Pair, Map, MapChange, Put}
 use Rattle.map_history.specs.Operation.{Make, Scan}
 use Rattle.map_history.specs.Reply.{Done}
-use Rattle.map_history.specs.Report.{ScanPiece, Scanned, AnswerLine, ChangeLine, dashes}
+use Rattle.map_history.specs.Report.{Columns, ScanPiece, Scanned, AnswerLine, ChangeLine, unlearnt}
 use Rattle.map_history.specs.LegalReport.{Line}
 use Rattle.report_examples.specs.Samples.{line, told, made}
 
@@ -51,9 +53,17 @@ abbrev pub puts_and_scan_told : List ScanPiece → List AnswerLine
 puts_and_scan_told pieces = told 1 Done 1 ∷ told 2 Done 2 ∷ told 3 Done 3
     ∷ record { line = 4; answer = Scanned pieces } ∷ []
 
--- a piece at the end of the list of changes
+-- the first piece of a scan, at the end of the list of changes
 abbrev pub piece : Map → ScanPiece
-piece rows = record { point = 3; rows = rows; columns = dashes }
+piece rows = record { point = 3; rows = rows; columns = unlearnt }
+
+-- the columns of a piece that goes on from the place where the cursor stood
+abbrev pub by_clock : Columns
+by_clock = record { how = how.ByClock; note = note.Dash }
+
+-- a later piece, read there on
+abbrev pub later_piece : Map → ScanPiece
+later_piece rows = record { point = 3; rows = rows; columns = by_clock }
 
 -- all three rows in one piece
 abbrev pub in_one_piece : List ScanPiece
@@ -61,7 +71,7 @@ in_one_piece = piece (low_row ∷ middle_row ∷ high_row ∷ []) ∷ []
 
 -- the first two rows, and then the last
 abbrev pub in_two_pieces : List ScanPiece
-in_two_pieces = piece (low_row ∷ []) ∷ piece (middle_row ∷ high_row ∷ []) ∷ []
+in_two_pieces = piece (low_row ∷ []) ∷ later_piece (middle_row ∷ high_row ∷ []) ∷ []
 
 -- the middle row is left out
 abbrev pub row_left_out : List ScanPiece
@@ -73,11 +83,11 @@ last_left_out = piece (low_row ∷ middle_row ∷ []) ∷ []
 
 -- the second row stands in both pieces
 abbrev pub row_twice : List ScanPiece
-row_twice = piece (low_row ∷ middle_row ∷ []) ∷ piece (middle_row ∷ high_row ∷ []) ∷ []
+row_twice = piece (low_row ∷ middle_row ∷ []) ∷ later_piece (middle_row ∷ high_row ∷ []) ∷ []
 
 -- the piece of the last row comes first
 abbrev pub other_way_round : List ScanPiece
-other_way_round = piece (middle_row ∷ high_row ∷ []) ∷ piece (low_row ∷ []) ∷ []
+other_way_round = piece (middle_row ∷ high_row ∷ []) ∷ later_piece (low_row ∷ []) ∷ []
 
 -- the first two rows, which are all that a limit of two lets through
 abbrev pub first_two : List ScanPiece

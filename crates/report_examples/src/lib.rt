@@ -20,4 +20,5 @@ pub use spelt::{empty_lane_is_spelt, puts_and_scan_are_spelt, row_life_is_spelt}
 pub use spoilt::{
     early_point_is_illegal, extra_change_is_illegal, late_point_is_illegal,
     missing_change_is_illegal, other_change_is_illegal, other_value_is_illegal,
+    untold_search_is_illegal,
 };

@@ -2,9 +2,12 @@
 use crate::answers::Answer;
 use crate::words::{first_word, is_among, number_of};
 
-/// What a line of statistics says after the name, where all answers have two dashes.
-pub const COUNTS: &str =
-    "hit 0 off 0 cold 0 short 0 part-busy 0 no-entry 0 block-busy 0 clock 0 unequal 0 by-clock 0 by-busy 0 by-moved 0 by-last 0 built 0 same 0 arena 0 raced 0 worn 0";
+/// What a line of statistics says before the number of `cold`, where all answers say `cold no`.
+pub const BEFORE_COLD: &str = "hit 0 off 0 cold";
+
+/// What it says behind that number.
+pub const BEHIND_COLD: &str =
+    "short 0 part-busy 0 no-entry 0 block-busy 0 clock 0 unequal 0 by-clock 0 by-busy 0 by-moved 0 by-last 0 built 0 same 0 arena 0 raced 0 worn 0";
 
 /// The words that are counted, in their order.
 pub static COUNTED: [&str; 18] = [
@@ -30,8 +33,7 @@ pub static COUNTED: [&str; 18] = [
 
 /// The words that say how a search went, and those that may stand behind each of them: why it went down
 /// the tree, and what became of a build then, or why it wasn't counted.
-static COLUMNS: [(&[&str], &[&str]); 3] = [
-    (&["-"], &["-"]),
+static COLUMNS: [(&[&str], &[&str]); 2] = [
     (&["hit"], &["-", "raced", "worn"]),
     (
         &[

@@ -17,6 +17,6 @@ mod words;
 
 pub use acts::{Act, Reach};
 pub use asked::{Index, Line, read_lanes, read_schema};
-pub use columns::{COUNTED, COUNTS};
+pub use columns::{BEFORE_COLD, BEHIND_COLD, COUNTED};
 pub use drawn::draw;
 pub use judging::{LIMITS, Lie, Limits, judge, judge_within};

@@ -2,7 +2,7 @@
 use crate::drawing::{lane_texts, schema_text, slices_of};
 use crate::setup::{MEMORY, is_legal};
 use crate::tables::{Table, new_tables};
-use report_judge::{COUNTS, Index, LIMITS, Line, draw, read_lanes, read_schema};
+use report_judge::{BEFORE_COLD, BEHIND_COLD, Index, LIMITS, Line, draw, read_lanes, read_schema};
 use std::process::Abort;
 use std::slice::Iter;
 
@@ -93,7 +93,8 @@ fn add_lists<R: Abort>(rt: &R, text: &mut String, tables: &[Table<'_>]) {
 
 fn add_statistics<R: Abort>(rt: &R, text: &mut String, tables: &[Table<'_>]) {
     for table in tables {
-        write!(text, "stats {} {COUNTS}\n", table.name).expect(rt, MEMORY);
+        let (name, answers) = (table.name, table.answers);
+        write!(text, "stats {name} {BEFORE_COLD} {answers} {BEHIND_COLD}\n").expect(rt, MEMORY);
     }
 }
 

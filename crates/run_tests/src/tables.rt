@@ -5,13 +5,14 @@ use report_judge::{Act, Index, Line};
 use std::collections::BTreeMap;
 use std::process::Abort;
 
-/// An index: its name, its rows, and its changes as they are printed.
+/// An index: its name, its rows, its changes as they are printed, and how many answers it gave.
 #[derive(Drop)]
 pub(crate) struct Table<'a> {
     pub(crate) name: &'a str,
     rows: BTreeMap<&'a str, &'a str>,
     pub(crate) list: String,
     pub(crate) count: u64,
+    pub(crate) answers: u64,
 }
 
 /// An empty one of each index.
@@ -26,6 +27,7 @@ pub(crate) fn new_tables<'a, R: AllocGlobal + Abort>(
             rows: BTreeMap::new(rt.alloc()),
             list: String::new(rt.alloc()),
             count: 0,
+            answers: 0,
         };
         tables.push(table).expect(rt, MEMORY);
     }
@@ -67,7 +69,8 @@ impl<'a> Table<'a> {
                 .push_str(self.change(rt, lane, line))
                 .expect(rt, MEMORY),
         }
-        write!(answers, " @{} - -\n", self.count).expect(rt, MEMORY);
+        write!(answers, " @{} cold no\n", self.count).expect(rt, MEMORY);
+        self.answers = self.answers.wrapping_add(1);
     }
 
     /// Makes the change that the line asks for where the rows allow it, and gives what it is told.

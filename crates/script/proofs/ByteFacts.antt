@@ -7,7 +7,7 @@ use Rattle.std.proofs.lemmas.List.Splits.{length-slice_split}
 use Rattle.key_tuple.specs.Order.{FieldList}
 use Rattle.map_history.specs.Text.{is_plain}
 use Rattle.script.specs.Grammar.{is_from, plain, digit_of, byte_of, in_front, bytes_of, is_tilde, field_of, fields_in, tuple_of}
-use Rattle.script.specs.Bytes.{AreBytes, AreFields}
+use Rattle.map_history.specs.Bytes.{AreBytes, AreFields}
 use Rattle.script.proofs.Results.{given, both_so}
 
 -- what holds of the first and of the others holds of each

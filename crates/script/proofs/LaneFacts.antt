@@ -19,7 +19,7 @@ use Rattle.script.specs.declared.error.ScriptError.{ScriptError}
 use Rattle.script.specs.declared.verb.Verb.{Verb}
 use Rattle.script.specs.declared.verb.Verb.TheVariants as verb
 use Rattle.script.specs.Steps.{◌>>=◌, or_bad, GivesWhole}
-use Rattle.script.specs.Bytes.{AreFields, IsValue}
+use Rattle.map_history.specs.Bytes.{AreFields, IsValue}
 use Rattle.script.specs.Grammar.{only, both, exactly, at_most, key_spelled, tuple_spelled, tuple_of, field_of, short_key, short_value, is_name, says_nothing, line_words, lines_of}
 use Rattle.script.specs.Schema.{SchemaText, IsFieldCount, index_by_name}
 use Rattle.script.specs.Lane.{verb_named, mode_named, index_named, key_parts, row_parts, search_parts, ask_of, operation_for, operation_in, line_meaning, lane_from, lane_of, line_said, fields_asked, FitsFields, HasValue, IsLaneLine}

@@ -14,7 +14,7 @@ use Rattle.script.specs.declared.verb.Verb.TheVariants as verb
 use Rattle.script.specs.declared.error.ScriptError.{ScriptError}
 use Rattle.script.specs.declared.error.Flaw.{Flaw}
 use Rattle.script.specs.declared.error.Flaw.TheVariants.{BadLine, UnknownIndex}
-use Rattle.script.specs.Bytes.{AreFields, IsValue}
+use Rattle.map_history.specs.Bytes.{AreFields, IsValue}
 use Rattle.script.specs.Steps.{◌>>=◌, or_bad, numbered}
 use Rattle.script.specs.Grammar.{lines_of, line_words, says_nothing, is_name, only, both, key_spelled, tuple_spelled, field_of, short_key, short_value}
 use Rattle.script.specs.Schema.{SchemaText, index_by_name}

@@ -1,6 +1,5 @@
 pub mod Steps
 pub mod Grammar
-pub mod Bytes
 pub mod Pieces
 pub mod Schema
 pub mod Lane

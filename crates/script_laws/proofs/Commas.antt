@@ -7,7 +7,7 @@ use Rattle.std.proofs.lemmas.List.Splits.{slice_split_none, slice_split_at}
 use Rattle.key_tuple.specs.Order.{FieldList}
 use Rattle.map_history.specs.Text.{is_plain, hex_digit, byte_text, field_text, key_text}
 use Rattle.script.specs.Grammar.{fields_in, tuple_of}
-use Rattle.script.specs.Bytes.{AreBytes, AreFields}
+use Rattle.map_history.specs.Bytes.{AreBytes, AreFields}
 use Rattle.script.proofs.Results.{both_so}
 use Rattle.script_laws.proofs.Escapes.{field_again, not_so}
 

@@ -4,7 +4,7 @@ use Rattle.std.specs.List.{flat_map}
 use Rattle.std.proofs.lemmas.Bool.{leb-true, le-leb, lt-leb, lt-ltb, le-ltb, ne_eqb, cases_lt}
 use Rattle.map_history.specs.Text.{is_plain, hex_digit, byte_text, field_text}
 use Rattle.script.specs.Grammar.{is_from, digit_of, byte_of, in_front, bytes_of, is_tilde, field_of}
-use Rattle.script.specs.Bytes.{AreBytes}
+use Rattle.map_history.specs.Bytes.{AreBytes}
 use Rattle.script.proofs.Results.{both_so, and_false}
 
 is_between : (low high b : ℕ) → low ≤ b → b ≤ high → is_from low high b ≡ true

@@ -7,7 +7,7 @@ use Rattle.script.specs.declared.error.Flaw.{Flaw}
 use Rattle.script.specs.declared.error.ScriptError.{ScriptError}
 use Rattle.script.specs.declared.error.ScriptError.TheVariants.{Flawed}
 use Rattle.script.specs.declared.error.Flaw.TheVariants.{BadLine}
-use Rattle.script.specs.Bytes.{AreBytes, AreFields}
+use Rattle.map_history.specs.Bytes.{AreBytes, AreFields}
 use Rattle.script.specs.Grammar.{lines_of, field_of, tuple_of}
 use Rattle.script.specs.Lane.{line_meaning, lane_of}
 use Rattle.script.specs.Schema.{SchemaText, SchemaDraft, empty_draft, schema_line, schema_of}

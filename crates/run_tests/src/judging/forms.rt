@@ -32,33 +32,38 @@ static FORMS: [Written; 1] = [Written {
         ),
         (
             "a hit, and why it made no entry",
-            &[("2 ok @1 - -", "2 ok @1 hit no")],
+            &[("2 ok @1 cold no", "2 ok @1 hit no")],
             Err(Lie::Form { line: 3 }),
         ),
         (
             "an answer without a descent, and an entry that was built",
-            &[("2 ok @1 - -", "2 ok @1 - built")],
+            &[("2 ok @1 cold no", "2 ok @1 - built")],
+            Err(Lie::Form { line: 3 }),
+        ),
+        (
+            "two dashes",
+            &[("2 ok @1 cold no", "2 ok @1 - -")],
             Err(Lie::Form { line: 3 }),
         ),
         (
             "a descent that was off, and a dash",
-            &[("2 ok @1 - -", "2 ok @1 off -")],
+            &[("2 ok @1 cold no", "2 ok @1 off -")],
             Err(Lie::Form { line: 3 }),
         ),
         (
             "a descent by the clock, and a dash",
-            &[("2 ok @1 - -", "2 ok @1 by-clock -")],
+            &[("2 ok @1 cold no", "2 ok @1 by-clock -")],
             Err(Lie::Form { line: 3 }),
         ),
         (
             "a hit that isn't counted",
-            &[("2 ok @1 - -", "2 ok @1 hit -")],
+            &[("2 ok @1 cold no", "2 ok @1 hit -")],
             Err(Lie::Form { line: 24 }),
         ),
         (
             "a hit that is counted of another index",
             &[
-                ("2 ok @1 - -", "2 ok @1 hit -"),
+                ("2 ok @1 cold no", "2 ok @1 hit -"),
                 ("stats u hit 0", "stats u hit 1"),
             ],
             Err(Lie::Form { line: 24 }),

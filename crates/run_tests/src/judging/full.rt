@@ -8,7 +8,7 @@ const LANE: &str = "put t a x\nput t b y\nput t c z\ndel t a\nput t a w\ndel t d
 
 /// What the lane is told where an index may have two changes.
 const REPORT: &str =
-    "ahi run\nlane 1\n1 ok @1 - -\n2 ok @2 - -\n3 log-full 2 - -\n4 log-full 2 - -\n5 duplicate @2 - -\n6 absent @2 - -\n7 found x @2 - -\nchanges t 2\n1 1 1 put a x\n2 1 2 put b y\nstats t hit 0 off 0 cold 0 short 0 part-busy 0 no-entry 0 block-busy 0 clock 0 unequal 0 by-clock 0 by-busy 0 by-moved 0 by-last 0 built 0 same 0 arena 0 raced 0 worn 0\nend\n";
+    "ahi run\nlane 1\n1 ok @1 cold no\n2 ok @2 cold no\n3 log-full 2 cold no\n4 log-full 2 cold no\n5 duplicate @2 cold no\n6 absent @2 cold no\n7 found x @2 cold no\nchanges t 2\n1 1 1 put a x\n2 1 2 put b y\nstats t hit 0 off 0 cold 7 short 0 part-busy 0 no-entry 0 block-busy 0 clock 0 unequal 0 by-clock 0 by-busy 0 by-moved 0 by-last 0 built 0 same 0 arena 0 raced 0 worn 0\nend\n";
 
 const MANY: u64 = LIMITS.pages;
 

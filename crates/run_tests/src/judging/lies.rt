@@ -126,7 +126,7 @@ static LIES: [Written; 2] = [
             ),
             (
                 "a missing answer line",
-                &[("7 found w @4 - -\n", "")],
+                &[("7 found w @4 cold no\n", "")],
                 Err(Lie::Form { line: 7 }),
             ),
         ],
@@ -134,7 +134,7 @@ static LIES: [Written; 2] = [
     Written {
         schema: "index t 1\n",
         lanes: &["put t a x\n"; 2],
-        report: "ahi run\nlane 1\n1 ok @1 - -\nlane 2\n1 duplicate @1 - -\nchanges t 1\n1 1 1 put a x\nstats t hit 0 off 0 cold 0 short 0 part-busy 0 no-entry 0 block-busy 0 clock 0 unequal 0 by-clock 0 by-busy 0 by-moved 0 by-last 0 built 0 same 0 arena 0 raced 0 worn 0\nend\n",
+        report: "ahi run\nlane 1\n1 ok @1 cold no\nlane 2\n1 duplicate @1 cold no\nchanges t 1\n1 1 1 put a x\nstats t hit 0 off 0 cold 2 short 0 part-busy 0 no-entry 0 block-busy 0 clock 0 unequal 0 by-clock 0 by-busy 0 by-moved 0 by-last 0 built 0 same 0 arena 0 raced 0 worn 0\nend\n",
         limits: LIMITS,
         cases: &[
             ("a change that serves one line", &[], Ok(())),

@@ -3,7 +3,7 @@ use Rattle.key_tuple.specs.KeyPlace.{before, not_below}
 use Rattle.map_history.specs.Map.{Put}
 use Rattle.map_history.specs.Operation.{Make}
 use Rattle.report_examples.specs.Samples.{line, made}
-use Rattle.map_history.specs.Report.{dashes}
+use Rattle.map_history.specs.Report.{unlearnt}
 use Rattle.report_examples.specs.ScanSamples.{ab, a_zero, a_empty, puts_and_scan, puts_and_scan_told, puts_made, in_one_piece}
 use Rattle.report_examples.proofs.OneLane.{is_legal}
 use Rattle.report_examples.proofs.scans.puts_and_scan_are_legal.Goals as goal
@@ -15,10 +15,10 @@ returns c = λ sizes. is_legal sizes puts_and_scan (puts_and_scan_told in_one_pi
   counts = refl;
   lawful = (refl, (refl, (refl, tt)));
   named = (
-    record { lane = 0; place = 0; line = line 1 (Make (Put ab (codes "1"))); columns = dashes; answered = record { line_there = (puts_and_scan, refl, refl); answer_there = (puts_and_scan_told in_one_piece, refl, refl) }; same_lane = refl; same_line = refl; same_op = refl },
+    record { lane = 0; place = 0; line = line 1 (Make (Put ab (codes "1"))); columns = unlearnt; answered = record { line_there = (puts_and_scan, refl, refl); answer_there = (puts_and_scan_told in_one_piece, refl, refl) }; same_lane = refl; same_line = refl; same_op = refl },
     (
-      record { lane = 0; place = 1; line = line 2 (Make (Put a_zero (codes "2"))); columns = dashes; answered = record { line_there = (puts_and_scan, refl, refl); answer_there = (puts_and_scan_told in_one_piece, refl, refl) }; same_lane = refl; same_line = refl; same_op = refl },
-      (record { lane = 0; place = 2; line = line 3 (Make (Put a_empty (codes "3"))); columns = dashes; answered = record { line_there = (puts_and_scan, refl, refl); answer_there = (puts_and_scan_told in_one_piece, refl, refl) }; same_lane = refl; same_line = refl; same_op = refl }, tt),
+      record { lane = 0; place = 1; line = line 2 (Make (Put a_zero (codes "2"))); columns = unlearnt; answered = record { line_there = (puts_and_scan, refl, refl); answer_there = (puts_and_scan_told in_one_piece, refl, refl) }; same_lane = refl; same_line = refl; same_op = refl },
+      (record { lane = 0; place = 2; line = line 3 (Make (Put a_empty (codes "3"))); columns = unlearnt; answered = record { line_there = (puts_and_scan, refl, refl); answer_there = (puts_and_scan_told in_one_piece, refl, refl) }; same_lane = refl; same_line = refl; same_op = refl }, tt),
     ),
   );
   fits = (

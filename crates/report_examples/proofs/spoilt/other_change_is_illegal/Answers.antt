@@ -2,7 +2,7 @@ use Rattle.std.proofs.Common.{◌≡◌, ℕ, zero, suc, Some, refl, ap, get_or,
 use Rattle.std.specs.List.{slice_get}
 use Rattle.map_history.specs.Map.{Put}
 use Rattle.map_history.specs.Operation.{Ask, Make}
-use Rattle.map_history.specs.Report.{ChangeLine, dashes}
+use Rattle.map_history.specs.Report.{ChangeLine, unlearnt}
 use Rattle.report_examples.specs.Samples.{row_life, row_life_told, line, made, a_key, value_x, value_y}
 use Rattle.report_examples.specs.Spoilt.{other_change}
 use Rattle.report_examples.proofs.spoilt.other_change_is_illegal.Goals as goal
@@ -21,5 +21,5 @@ not_first (suc n) entry p e q = omega arith
 
 pub returns : goal.returns
 returns c = λ sizes legal.
-    let named = legal.changes.done 0 0 (line 1 (Make (Put a_key value_x))) 1 dashes (record { line_there = (row_life, refl, refl); answer_there = (row_life_told, refl, refl) }) in
+    let named = legal.changes.done 0 0 (line 1 (Make (Put a_key value_x))) 1 unlearnt (record { line_there = (row_life, refl, refl); answer_there = (row_life_told, refl, refl) }) in
     not_first named.n named.entry named.is_point named.there named.same_change
