@@ -1,0 +1,7 @@
+//! The first lines that are drawn.
+ghost use Rattle.gen_law.specs.Worked.{FirstLinesAreDrawn};
+
+/// The first line of lane 1 for the number 0, reckoned by hand, is what the definitions give.
+pub fn first_lines_are_drawn()
+    ensures { FirstLinesAreDrawn }
+{}
