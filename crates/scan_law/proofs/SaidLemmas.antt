@@ -10,7 +10,7 @@ use Rattle.std.specs.Ordering.{nat_cmp, ordering_then, ordering_reverse, is_gt, 
 use Rattle.std.specs.declared.cmp.Ordering.{Ordering}
 use Rattle.std.specs.declared.cmp.Ordering.TheVariants.{Less, Equal, Greater}
 use Rattle.std.specs.List.{filter, AllByRecursion}
-use Rattle.list_facts.proofs.Each.{each_all, each_filter, each_weaker, filter_each, filter_none, filter-and}
+use Rattle.list_facts.proofs.Each.{each_all, each_append, each_filter, each_weaker, filter_each, filter_none, filter-and}
 use Rattle.key_tuple.specs.Order.{FieldList, key_cmp, tuple_cmp}
 use Rattle.key_tuple.specs.KeyPlace.{KeyPlace, At, End, before, within, not_below}
 use Rattle.key_tuple.proofs.PlaceLemmas.{before-itself}
@@ -53,11 +53,6 @@ chain_snoc : (from at : KeyPlace) (ranges : List ReadRange) (range : ReadRange) 
     → range.low ≡ at → Chain from (ranges ++ range ∷ []) range.high
 chain_snoc from at [] range chain low = (low ∙ sym chain, refl)
 chain_snoc from at (r ∷ rs) range chain low = (chain.0, chain_snoc r.high at rs range chain.1 low)
-
-each_snoc : (P : ReadRange → Type 0) (xs : List ReadRange) (x : ReadRange) → AllByRecursion P xs → P x
-    → AllByRecursion P (xs ++ x ∷ [])
-each_snoc P [] x a p = (p, tt)
-each_snoc P (y ∷ ys) x a p = (a.0, each_snoc P ys x a.1 p)
 
 count_snoc : (ranges : List ReadRange) (range : ReadRange)
     → row_count (ranges ++ range ∷ []) ≡ row_count ranges + length range.piece.rows
@@ -188,7 +183,7 @@ said_scans = record {
   nothing = λ from to limit. record { chain = refl; each = tt; count = omega arith };
   one_more = λ from to limit left at ranges range so is low few. record {
     chain = chain_snoc (At from) at ranges range so.chain low;
-    each = each_snoc _ ranges range so.each is;
+    each = each_append (IsRangeFor to) ranges (range ∷ []) so.each (is, tt);
     count = (let count = so.count in let more = count_snoc ranges range in
         omega (arith, count, more, few));
   };
