@@ -17,8 +17,8 @@ use Rattle.forest_world.specs.Held.{TreePass, shape_of_pass}
 use Rattle.call_law.specs.Hands.{LacksObject}
 use Rattle.buffer_pool.specs.Forests.{IsFittedTree}
 use Rattle.buffer_pool.proofs.SpaceLemmas.{objects_of}
-use Rattle.leaf_rows.specs.Finding.{HasRow}
-use Rattle.leaf_rows.proofs.ValueLemmas.{has_row}
+use Rattle.page_view.specs.Finding.{HasRow}
+use Rattle.page_view.proofs.ValueLemmas.{has_row}
 use Rattle.leaf_search.specs.declared.searched.Searched.{Searched}
 use Rattle.leaf_search.specs.KeySearches.{HitsKey}
 use Rattle.leaf_search.specs.Searches.{Searches}

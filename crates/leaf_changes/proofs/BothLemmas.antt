@@ -24,7 +24,7 @@ use Rattle.buffer_pool.specs.Parts.{part_of_index, HoldsPartIf, HoldsPartToo, Kn
 use Rattle.buffer_pool.proofs.AddedLemmas.{frame_still}
 use Rattle.buffer_pool.proofs.CallLemmas.{frame_has}
 use Rattle.buffer_pool.proofs.PartLemmas.{part_has}
-use Rattle.leaf_rows.specs.Finding.{HasSpot}
+use Rattle.page_view.specs.Finding.{HasSpot}
 use Rattle.leaf_changes.specs.Hashed.{HoldsLeafAndPart, HoldsHashed, HoldsPartKept, KeepsHashed, GivesPartOf, count_with_part}
 use Rattle.leaf_changes.specs.Holds.{IsLeafOf, HoldsFreshAlone, HoldsStill, StaysKnown}
 use Rattle.engine_law.proofs.KnownLemmas.{part_no_frame}

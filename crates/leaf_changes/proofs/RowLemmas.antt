@@ -17,7 +17,7 @@ use Rattle.forest_law.specs.declared.objects.Frame.{Frame}
 use Rattle.forest_law.specs.State.{bound, page_within, fields_for}
 use Rattle.clock_law.specs.ModifyClock.{last_clock}
 use Rattle.leaf_rows.specs.Changing.{PutsRow, LacksRow, HasRowOf, frame_without}
-use Rattle.leaf_rows.specs.Finding.{HasSpot, IsFoundAt}
+use Rattle.page_view.specs.Finding.{HasSpot, IsFoundAt}
 use Rattle.leaf_rows.specs.Setting.{SetsValue}
 use Rattle.leaf_rows.proofs.ChangeLemmas.{takes_out}
 use Rattle.leaf_rows.proofs.FullLemmas.{refused_values_lack_room}

@@ -17,7 +17,7 @@ use Rattle.forest_law.specs.Numbers.{frame_id}
 use Rattle.forest_world.specs.Held.{TreePass, shape_of_pass, HasFrame}
 use Rattle.hash_maintain.specs.Leaves.{kept_frame, without_row}
 use Rattle.leaf_rows.specs.Changing.{LacksRow, PutsRow, WasPut, HasRowOf, HasSomeRow, TakesRowOut, frame_without, hashed_as}
-use Rattle.leaf_rows.specs.Finding.{HasRow, HasSpot}
+use Rattle.page_view.specs.Finding.{HasRow, HasSpot}
 use Rattle.leaf_rows.specs.Setting.{frame_with, IsNoLonger, SetsValue, value_refusal, LacksRoomFor}
 use Rattle.leaf_changes.specs.Hashed.{KeepsHashed}
 use Rattle.leaf_changes.specs.Holds.{HoldsLeaf, KeepsNumber, StaysKnown}

@@ -14,7 +14,7 @@ use Rattle.forest_world.specs.Held.{TreePass, shape_of_pass, HasFrame}
 use Rattle.call_law.specs.Hands.{KnowsFrame, KnowsPart, HoldsNoPart}
 use Rattle.call_law.specs.Spoken.{View}
 use Rattle.buffer_pool.specs.Pages.{HasNumber}
-use Rattle.leaf_rows.specs.Finding.{HasRow, HasSpot}
+use Rattle.page_view.specs.Finding.{HasRow, HasSpot}
 use Rattle.tree_facts.specs.TreeFrames.{low_of, high_of}
 use Rattle.tree_descent.specs.Leaves.{cut_in, IsPageFor}
 

@@ -15,9 +15,9 @@ use forest_world::{ForestPass, Frame};
 use index_page::{PageError, Place, Spot};
 use key_tuple::{Key, Value};
 use leaf_rows::{
-    GrownRow, LeafBefore, delete_row, find_key, grow_value, put_back, put_row, rewrite_row,
-    take_back,
+    GrownRow, LeafBefore, delete_row, grow_value, put_back, put_row, rewrite_row, take_back,
 };
+use page_view::find_key;
 use tree_descent::Leaf;
 
 impl<R> TreeCall<'_, R> {

@@ -11,13 +11,13 @@ ghost use Rattle.engine_law.specs.Tells.{HasKeyOf};
 ghost use Rattle.leaf_changes.specs.Holds.{HoldsFreshAlone, HoldsKeyRow};
 ghost use Rattle.leaf_changes.specs.Says.{AnswersAndLeaves};
 ghost use Rattle.engine_law.specs.Says.{columns_by};
-ghost use Rattle.leaf_rows.specs.Finding.{HasRow, HasSpot};
+ghost use Rattle.page_view.specs.Finding.{HasRow, HasSpot};
 
 use crate::tree_call::TreeCall;
 use forest_world::{ForestPass, Frame};
 use index_page::{Page, Place, Spot};
 use key_tuple::Key;
-use leaf_rows::find_key;
+use page_view::find_key;
 use map_history::{OpRef, Reply, RowBuf, Told};
 use tree_descent::Leaf;
 

@@ -18,7 +18,7 @@ use Rattle.clock_law.proofs.LaterLemmas.{changes}
 use Rattle.forest_law.specs.declared.objects.Frame.{Frame}
 use Rattle.leaf_rows.specs.Changing.{PutsRow, HasRowOf, TakesRowOut, hashed_as}
 use Rattle.leaf_rows.specs.Laws.{RowsAreTakenOut}
-use Rattle.leaf_rows.proofs.ValueLemmas.{not_before, pairs_ascend}
+use Rattle.page_view.proofs.ValueLemmas.{not_before, pairs_ascend}
 
 -- a row among rows that rise is the only one of its key
 one_key : (xs : List Row) (x : Row) (ys ls : List Row) (r : Row) (rs : List Row)

@@ -1,6 +1,3 @@
-pub mod ValueLemmas
 pub mod ChangeLemmas
 pub mod FullLemmas
 pub mod SetLemmas
-pub mod RowSpotLemmas
-pub mod SpotLemmas

@@ -19,7 +19,7 @@ use Rattle.forest_law.specs.declared.objects.Frame.{Frame}
 use Rattle.leaf_rows.specs.Changing.{HasRowOf, HasSomeRow}
 use Rattle.leaf_rows.specs.Laws.{ValuesAreSet}
 use Rattle.leaf_rows.specs.Setting.{rows_with, page_with, clock_with, frame_with, IsNoLonger, IsLongerValue, SetsValue, MovesRowTo, frame_before}
-use Rattle.leaf_rows.proofs.ValueLemmas.{leaf_values, has_bytes, pairs_ascend}
+use Rattle.page_view.proofs.ValueLemmas.{leaf_values, has_bytes, pairs_ascend}
 
 module _ (place : ℕ) (value : List ℕ) where
   -- rows of which none stands there stay

@@ -15,7 +15,7 @@ use Rattle.tree_law.specs.Pages.{row_pairs}
 use Rattle.clock_law.specs.ModifyClock.{raised}
 use Rattle.forest_law.specs.declared.objects.Frame.{Frame}
 use Rattle.forest_law.specs.RowSteps.{InsertsRow, DeletesRow}
-use Rattle.leaf_rows.specs.Finding.{HasSpot, HasRow}
+use Rattle.page_view.specs.Finding.{HasSpot, HasRow}
 
 -- the frame has a leaf that lacks the key, which belongs at the spot
 pub record LacksRow (f : Frame) (key : FieldList) (spot : Spot) : Type 0 where

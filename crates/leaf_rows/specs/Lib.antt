@@ -1,4 +1,3 @@
-pub mod Finding
 pub mod Changing
 pub mod Setting
 pub mod Laws

@@ -12,7 +12,7 @@ ghost use Rattle.index_page.specs.Rows.{Bytes, placed_row, find_row};
 ghost use Rattle.tree_law.specs.Pages.{row_pairs};
 ghost use Rattle.clock_law.specs.ModifyClock.{last_clock};
 ghost use Rattle.forest_law.specs.HashSteps.{KeepsHashing};
-ghost use Rattle.leaf_rows.specs.Finding.{HasSpot};
+ghost use Rattle.page_view.specs.Finding.{HasSpot};
 ghost use Rattle.leaf_rows.specs.Changing.{LacksRow, PutsRow, WasPut, HasSomeRow, TakesRowOut};
 ghost use Rattle.leaf_rows.specs.Changing.{row_refusal, IsFullFor, HasRowOf, frame_without};
 ghost use Rattle.leaf_rows.specs.Changing.{hashed_as};

@@ -3,11 +3,9 @@
 #![tactic(auto)]
 
 mod changing;
-mod finding;
 mod laws;
 mod setting;
 
 pub use changing::{delete_row, put_row, take_back};
-pub use finding::find_key;
 pub use laws::{refusals_are_full, refused_values_lack_room, rows_are_taken_out, values_are_set};
 pub use setting::{GrownRow, LeafBefore, grow_value, put_back, rewrite_row, value_len};

@@ -22,7 +22,7 @@ use Rattle.buffer_pool.specs.Forests.{IsFittedTree}
 use Rattle.hash_guess.specs.Guesses.{GuessHits}
 use Rattle.hash_guess.specs.Hits.{HoldsHit}
 use Rattle.hash_guess.proofs.HitLemmas.{found_at}
-use Rattle.leaf_rows.proofs.RowSpotLemmas.{row_spot}
+use Rattle.page_view.proofs.RowSpotLemmas.{row_spot}
 use Rattle.tree_descent.specs.Ways.{HoldsPage}
 use Rattle.leaf_search.specs.declared.searched.Searched.{Searched}
 use Rattle.leaf_search.specs.Hows.{note_of_hit}

@@ -6,10 +6,9 @@ use crate::claims::ensure;
 use forest_law::Frame;
 use index_page::{Page, PageHead, Place, Spot};
 use key_tuple::{Fields, Key, Mode, Value};
-use leaf_rows::{
-    LeafBefore, delete_row, find_key, grow_value, put_back, put_row, take_back, value_len,
-};
+use leaf_rows::{LeafBefore, delete_row, grow_value, put_back, put_row, take_back, value_len};
 use learning::BlockFigures;
+use page_view::find_key;
 use sample_rows::{key_of, value_of};
 use std::process::Abort;
 

@@ -1,7 +1,7 @@
 use Rattle.std.proofs.Common.{◌≢◌}
 use Rattle.index_page.specs.Rows.{Row}
 use Rattle.index_page.proofs.RowLemmas.{each_found}
-use Rattle.leaf_rows.proofs.ValueLemmas.{leaf_values, none-lacks}
+use Rattle.page_view.proofs.ValueLemmas.{leaf_values, none-lacks}
 use Rattle.leaf_rows.proofs.changing.insert_at.Goals as goal
 
 -- where all fields agreed, the row after the spot would have the key

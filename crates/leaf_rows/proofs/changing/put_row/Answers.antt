@@ -4,7 +4,7 @@ use Rattle.list_facts.proofs.Places.{same_some}
 use Rattle.map_history.specs.Map.{value_at}
 use Rattle.index_page.specs.Page.{PageRows}
 use Rattle.tree_law.specs.Pages.{row_pairs}
-use Rattle.leaf_rows.specs.Finding.{HasSpot}
+use Rattle.page_view.specs.Finding.{HasSpot}
 use Rattle.leaf_rows.proofs.ChangeLemmas.{puts_row}
 use Rattle.leaf_rows.proofs.changing.put_row.Goals as goal
 

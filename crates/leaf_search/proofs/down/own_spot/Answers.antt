@@ -2,7 +2,7 @@ use Rattle.std.proofs.Common.{sym, ap, subst, ◌∙◌}
 use Rattle.index_page.specs.Search.{Finds}
 use Rattle.forest_law.specs.State.{fields_for}
 use Rattle.forest_world.specs.Held.{shape_of_pass}
-use Rattle.leaf_rows.proofs.SpotLemmas.{own_spot}
+use Rattle.page_view.proofs.SpotLemmas.{own_spot}
 use Rattle.leaf_search.proofs.down.own_spot.Goals as goal
 
 pub returns-in-Ge : goal.returns-in-Ge

@@ -1,5 +1,5 @@
 //! The row of a key.
-ghost use Rattle.leaf_rows.specs.Finding.{HasSpot, IsFoundAt};
+ghost use Rattle.page_view.specs.Finding.{HasSpot, IsFoundAt};
 
 use index_page::{Page, Place, Spot, spots_tell_keys};
 use key_tuple::{Fields, Key};

@@ -1,7 +1,7 @@
 use Rattle.std.proofs.Common.{◌∙◌, sym, subst}
-use Rattle.leaf_rows.specs.Finding.{IsFoundAt}
-use Rattle.leaf_rows.proofs.ValueLemmas.{has_row, value-none}
-use Rattle.leaf_rows.proofs.finding.find_key.Goals as goal
+use Rattle.page_view.specs.Finding.{IsFoundAt}
+use Rattle.page_view.proofs.ValueLemmas.{has_row, value-none}
+use Rattle.page_view.proofs.finding.find_key.Goals as goal
 
 pub returns-then-spot-count : goal.returns-then-spot-count
 returns-then-spot-count c =

@@ -14,7 +14,7 @@ use Rattle.index_page.specs.Rows.{RowBody, Bytes, Child, Row, LacksKey, find_row
 use Rattle.index_page.proofs.RowLemmas.{find_stands, each_found}
 use Rattle.index_page.proofs.WithoutLemmas.{each_middle}
 use Rattle.tree_law.specs.Pages.{with_pair, row_pairs}
-use Rattle.leaf_rows.specs.Finding.{HasRow}
+use Rattle.page_view.specs.Finding.{HasRow}
 
 -- each row carries a value
 abbrev pub HaveValues : List Row → Type 0

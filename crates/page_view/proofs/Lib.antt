@@ -1,0 +1,4 @@
+pub mod ValueLemmas
+pub mod RowSpotLemmas
+pub mod SpotLemmas
+pub mod TakingLemmas
