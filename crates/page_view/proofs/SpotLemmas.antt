@@ -50,7 +50,7 @@ module _ (key : FieldList) where
       go Greater e = absurd cc
 
   -- against a key of as many fields, to be above is to come behind
-  above-whole : (k : FieldList) → length key ≡ length k
+  pub above-whole : (k : FieldList) → length key ≡ length k
       → above key (At k) ≡ before (At key) (At k)
   unfolding above before
   above-whole k long = ap is_lt (tuple_cmp-whole key k long)

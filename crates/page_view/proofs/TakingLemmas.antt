@@ -170,3 +170,18 @@ module _ (rows : List Row) (start : Option ℕ) (to : Option FieldList) (limit n
       ),
     );
   }
+
+-- the rows from a place on are the last of all
+pub ends_with : (place : Option ℕ) (rows : List Row)
+    → (fore : List Row) × (rows ≡ fore ++ rows_from_place place rows)
+ends_with None rows = (rows, sym (append-nil rows))
+ends_with (Some place) rows = go rows
+  where
+    go : (xs : List Row) → (fore : List Row) × (xs ≡ fore ++ rows_at_or_after place xs)
+    go [] = ([], refl)
+    go (x ∷ xs) = by_test (x.place == place) (go xs)
+      where
+        by_test : (b : Bool) → (fore : List Row) × (xs ≡ fore ++ rows_at_or_after place xs)
+            → (fore : List Row) × (x ∷ xs ≡ fore ++ cond b (x ∷ xs) (rows_at_or_after place xs))
+        by_test true more = ([], refl)
+        by_test false more = (x ∷ more.0, ap (λ zs. x ∷ zs) more.1)

@@ -31,9 +31,9 @@ pub fn take_rows(
 ) -> Result<Stop, NoMemory>
     requires level { page.now.head.level ≡ 0 }
     requires start { IsPlaceIn page.now.rows start }
-    requires to { IfSome to (λ t. length t.now ≤ page.now.head.fields) }
+    requires to { IfSome to (λ t. length t.now.fields ≤ page.now.head.fields) }
     ensures ok { IfOk result (λ stop. TakesRows (rows_from_place start page.now.rows)
-        (option_map (λ t. t.now) to.entry) limit rows.old rows.new stop) }
+        (option_map (λ t. t.now.fields) to.entry) limit rows.old rows.new stop) }
     ensures err { OnErr result (rows.new ≡ rows.old) }
 {
     page.is_in_order();
@@ -59,8 +59,8 @@ pub fn take_rows(
 
 /// Whether the row isn't below TO.
 fn is_past_to(row: &RowRef<'_>, to: Option<&Tuple>) -> bool
-    requires { IfSome to (λ t. length t.now ≤ length row.now.row.key) }
-    ensures { result ≡ not (is_below (option_map (λ t. t.now) to.entry) (At row.now.row.key)) }
+    requires { IfSome to (λ t. length t.now.fields ≤ length row.now.row.key) }
+    ensures { result ≡ not (is_below (option_map (λ t. t.now.fields) to.entry) (At row.now.row.key)) }
 {
     match to {
         Some(to) => is_past(Mode::Ge, to, row),

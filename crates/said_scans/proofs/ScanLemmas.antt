@@ -1,5 +1,5 @@
 -- What a pass says of a scan is a scan, and stays said.
-use Rattle.std.proofs.Common.{◌≡◌, ℕ, ◌≤◌, Option, List, [], ◌∷◌, ◌++◌, length, map, sym, subst, ◌∙◌, arith, Contains}
+use Rattle.std.proofs.Common.{refl, ◌≡◌, ℕ, ◌≤◌, Option, List, [], ◌∷◌, ◌++◌, length, map, sym, subst, ◌∙◌, arith, Contains}
 use Rattle.std.proofs.lemmas.List.{length-map, map-append}
 use Rattle.std.proofs.lemmas.List.Elements.{Contains-append_left, Contains-append_right}
 use Rattle.std.specs.List.{AllByRecursion}
@@ -41,7 +41,7 @@ module _ (w : ForestState) (v : View) (fits : Fits IsRight IsReference w v) (i n
       subst (λ (list : Entries). HasMapRows (changes list) range) same (record {
         within = (let point = right.point in
             omega (arith, point, length-map right.list (λ (e : Entry MadeChange). e.change.change)));
-        rows = right.said;
+        rows = right.said refl;
       })
 
   ranges_right : (ranges : List ReadRange) → SaysRanges v i n ask ranges

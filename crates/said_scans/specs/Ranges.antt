@@ -1,5 +1,5 @@
 -- A scan among what a pass has said: each piece with the range that it was said for.
-use Rattle.std.specs.Prelude.{ℕ, ◌≡◌, Option, List, ◌∷◌, map, Contains}
+use Rattle.std.specs.Prelude.{ℕ, ◌≡◌, Option, None, List, ◌∷◌, map, Contains}
 use Rattle.std.specs.List.{AllByRecursion}
 use Rattle.key_tuple.specs.Order.{FieldList}
 use Rattle.latch_law.specs.declared.knows.Statement.TheVariants as what
@@ -16,7 +16,8 @@ range_said i n ask range = record {
   index = i;
   point = range.piece.point;
   by = n;
-  what = what.Answer (Piece ask range.low range.high range.piece.rows range.piece.columns);
+  what = what.Answer (Piece ask range.low range.high range.piece.rows None
+      range.piece.columns);
 }
 
 -- the pass says the range: it is among its own answers

@@ -17,7 +17,7 @@ from_not_false false e = absurd cc
 pub loop-number-preserved : goal.loop-number-preserved
 loop-number-preserved c =
     let page = c.args.page.now in let row = c.row-row.result.row in
-    let to = option_map (λ t. t.now) c.args.to in
+    let to = option_map (λ t. t.now.fields) c.args.to in
     let added : c.push.new.self ≡ c.loop-number.rows ++ row_from row.key c.value.result.now ∷ [] =
     search rules in
     one_taken page.rows c.args.start to c.loop-number.number c.args.rows.now c.loop-number.rows
@@ -29,13 +29,13 @@ loop-number-preserved c =
 
 pub returns-in_default-clause-ok : goal.returns-in_default-clause-ok
 returns-in_default-clause-ok c =
-    stops_at_end c.args.page.now.rows c.args.start (option_map (λ t. t.now) c.args.to) c.args.limit
+    stops_at_end c.args.page.now.rows c.args.start (option_map (λ t. t.now.fields) c.args.to) c.args.limit
     c.loop-number.number c.args.rows.now c.loop-number.rows c.loop-number.next
     c.loop-number.invariant c.loop-number-test.true c.in_default.is
 
 pub returns-then-is_past_to-clause-ok : goal.returns-then-is_past_to-clause-ok
 returns-then-is_past_to-clause-ok c =
-    let row = c.row-row.result.row in let to = option_map (λ t. t.now) c.args.to in
+    let row = c.row-row.result.row in let to = option_map (λ t. t.now.fields) c.args.to in
     stops_at_to c.args.page.now.rows c.args.start to c.args.limit c.loop-number.number
     c.args.rows.now c.loop-number.rows c.loop-number.next c.loop-number.invariant
     c.loop-number-test.true c.in-Some.place row c.in-Some.is c.row-row.ensures.row
