@@ -4,7 +4,6 @@ pub mod SawLemmas
 pub mod TellingLemmas
 pub mod SeekTraceLemmas
 pub mod SeekTryLemmas
-pub mod SeekHandLemmas
 pub mod StandLemmas
 pub mod StepLemmas
 pub mod SeekLearnLemmas

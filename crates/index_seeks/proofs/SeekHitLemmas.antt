@@ -41,13 +41,14 @@ use Rattle.buffer_pool.proofs.AddedLemmas.{only_given, gave_adds, frame_no_tree,
 use Rattle.hash_guess.specs.Guesses.{HitsRow, part_given}
 use Rattle.hash_guess.specs.Hits.{HoldsHit}
 use Rattle.hash_guess.proofs.HitLemmas.{stands_among, found_at}
-use Rattle.index_seeks.specs.SeekHands.{HoldsLeavesAlone, HoldsHitAlone}
+use Rattle.index_seeks.specs.SeekHands.{HoldsHitAlone}
+use Rattle.tree_neighbours.specs.LeafHands.{HoldsLeavesAlone}
 use Rattle.index_seeks.specs.SeekSteps.{AnswersHit}
 use Rattle.index_seeks.specs.SeekTraces.{TellsOfSeek}
 use Rattle.index_seeks.specs.Seeks.{HasKnown, CanTell}
 use Rattle.engine_law.proofs.FrameTraceLemmas.{frames_both}
 use Rattle.engine_law.proofs.KnownLemmas.{part_no_frame}
-use Rattle.index_seeks.proofs.SeekHandLemmas.{only_then, frames_apart}
+use Rattle.tree_neighbours.proofs.HandLemmas.{only_then, frames_apart}
 use Rattle.engine_law.proofs.FrameTraceLemmas.{said_spares}
 
 module _ (v : View) (i : ℕ) (mode : Mode) (tuple : FieldList) (block place : ℕ) (found : Bool)

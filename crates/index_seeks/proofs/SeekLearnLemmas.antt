@@ -43,11 +43,12 @@ use Rattle.leaf_search.proofs.DownLemmas.{taught_leaf, taught_shape}
 use Rattle.leaf_search.specs.Hows.{how_of}
 use Rattle.leaf_search.proofs.FigureLemmas.{figures_bounded}
 use Rattle.leaf_search.proofs.SearchLemmas.{cause_is_down, lesson_tells}
-use Rattle.index_seeks.specs.SeekHands.{HoldsLeavesAlone, HoldsLast, HoldsBothLeaves, HoldsLeafPair, blocks_at, blocks_of_pair}
+use Rattle.index_seeks.specs.SeekHands.{HoldsLast, HoldsBothLeaves, HoldsLeafPair, blocks_at, blocks_of_pair}
+use Rattle.tree_neighbours.specs.LeafHands.{HoldsLeavesAlone}
 use Rattle.engine_law.proofs.FrameTraceLemmas.{frames_both}
 use Rattle.engine_law.proofs.KnownLemmas.{part_no_frame}
 use Rattle.engine_law.proofs.KnownLemmas.{one_frame, page_number}
-use Rattle.index_seeks.proofs.SeekHandLemmas.{only_then, frames_apart}
+use Rattle.tree_neighbours.proofs.HandLemmas.{only_then, frames_apart}
 use Rattle.index_seeks.proofs.StandLemmas.{went_last, went_both}
 
 -- the leaf of another frame with the same page in the same bounds

@@ -28,7 +28,7 @@ use Rattle.buffer_pool.specs.Pages.{HasNumber, HasTreePage}
 use Rattle.buffer_pool.proofs.AddedLemmas.{none_added, only_given, held_adds, gave_adds, frame_no_tree, given_spares, none_spares, spares_both}
 use Rattle.engine_law.specs.Says.{OnlyLooks}
 use Rattle.index_seeks.specs.SeekSteps.{SaysIf, Answered, PassesLeaves, EndsSeek, EndsFromLeaf}
-use Rattle.index_seeks.specs.SeekTraces.{IsLeafReference}
+use Rattle.tree_neighbours.specs.LeafHands.{IsLeafReference}
 use Rattle.engine_law.proofs.FrameTraceLemmas.{frames_both, said_frames}
 use Rattle.engine_law.proofs.KnownLemmas.{gave_known}
 use Rattle.engine_law.proofs.FrameTraceLemmas.{said_spares}

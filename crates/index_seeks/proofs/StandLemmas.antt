@@ -20,12 +20,13 @@ use Rattle.tree_neighbours.specs.Neighbours.{IsLeafBeside}
 use Rattle.tree_neighbours.specs.Pairs.{HoldsOther, frames_at, DescendsPair}
 use Rattle.tree_neighbours.specs.Sides.{side_of, row_on, page_on}
 use Rattle.index_seeks.specs.Seeks.{TellsRow, CanTell, PassesNothing, SawNothing, far_of}
-use Rattle.index_seeks.specs.SeekHands.{HoldsLeavesAlone, blocks_at, blocks_of_pair, HoldsLast, HoldsBothLeaves, StandsOn, SawPast}
+use Rattle.index_seeks.specs.SeekHands.{blocks_at, blocks_of_pair, HoldsLast, HoldsBothLeaves, StandsOn, SawPast}
+use Rattle.tree_neighbours.specs.LeafHands.{HoldsLeavesAlone}
 use Rattle.engine_law.proofs.KnownLemmas.{part_no_frame}
 use Rattle.index_seeks.proofs.PassingLemmas.{begins, goes_on, finds, ends, passes_over}
 use Rattle.index_seeks.proofs.SawLemmas.{saw_passes}
 use Rattle.engine_law.proofs.KnownLemmas.{one_frame}
-use Rattle.index_seeks.proofs.SeekHandLemmas.{only_then, frames_apart}
+use Rattle.tree_neighbours.proofs.HandLemmas.{only_then, frames_apart}
 use Rattle.index_seeks.proofs.SpotLemmas.{none_on}
 
 -- where both leaves are held, nothing comes before the second one

@@ -28,13 +28,14 @@ use Rattle.index_seeks.specs.declared.seek_call.Stand.TheVariants.{On, Ends}
 use Rattle.index_seeks.specs.declared.seek_call.Walk.{Walk}
 use Rattle.engine_law.specs.Says.{OnlyLooks}
 use Rattle.index_seeks.specs.Seeks.{CanTell, SawNothing, far_of}
-use Rattle.index_seeks.specs.SeekHands.{HoldsLeavesAlone, StandsOn, SawPast, WalksAt}
+use Rattle.index_seeks.specs.SeekHands.{StandsOn, SawPast, WalksAt}
+use Rattle.tree_neighbours.specs.LeafHands.{HoldsLeavesAlone}
 use Rattle.index_seeks.specs.SeekSteps.{SaysIf, PassesLeaves, EndsSeek, WalksThen}
 use Rattle.index_seeks.proofs.PassingLemmas.{ends, passes_over}
 use Rattle.index_seeks.proofs.SawLemmas.{saw_more, saw_passes}
 use Rattle.engine_law.proofs.KnownLemmas.{part_no_frame}
 use Rattle.engine_law.proofs.KnownLemmas.{one_frame}
-use Rattle.index_seeks.proofs.SeekHandLemmas.{gave_page, only_then, only_gave, only_same, knows_gave, page_same, page_gave, frames_apart}
+use Rattle.tree_neighbours.proofs.HandLemmas.{gave_page, only_then, only_gave, only_same, knows_gave, page_same, page_gave, beside_shape, beside_only, beside_knows, beside_page}
 use Rattle.index_seeks.proofs.SeekTraceLemmas.{looks_pass, takes_pass, passes_both, passes_then, passes_end, gave_passes, said_then_gave}
 
 -- a walk stands on the block's leaf
@@ -153,25 +154,13 @@ module _ (p : TreePass) (i : ℕ) (mode : Mode) (tuple : FieldList) (walk : Walk
   -- the next one is held
   module _ (m : ℕ) (q : TreePass) (took : TakesBeside p b i (side_of mode) m q) where
     took_shape : shape_of_pass q ≡ shape_of_pass p
-    took_shape = ap (λ (t : Terms Shape). t.shape) took.silently.does.adds.numbers.terms
+    took_shape = beside_shape p b i (side_of mode) m q took
 
     pub took_only : HoldsLeavesAlone q (b ∷ m ∷ [])
-    took_only = only_then p q (b ∷ []) (b ∷ m ∷ []) (frame_id (shape_of_pass p) m ∷ []) walks.only
-        took.silently
-        (λ c apart.
-        ((apart.0, tt), (frames_apart (shape_of_pass p) m c apart.1.0, tt)))
-        ((λ e. omega (arith, e)), tt)
-        (λ k below. (part_no_frame (shape_of_pass p) k m below, tt))
-        (let was = walks.only.count in let now = took.count in omega (arith, was, now))
+    took_only = beside_only p b i (side_of mode) m q took walks.only
 
     pub took_knows : KnowsFrame (view q) b took.holds.frame
-    took_knows = (
-      took.holds.knows.0,
-      ap (λ s. get_elem? (view q).held (frame_id s b)) took_shape
-          ∙ (took.silently.does.rest (frame_id (shape_of_pass p) b)
-          (frames_apart (shape_of_pass p) m b (λ e. took.beside.other (sym e)), tt)
-          ∙ took.holds.knows.1),
-    )
+    took_knows = beside_knows p b i (side_of mode) m q took took.holds.frame took.holds.knows
 
     module _ (r : TreePass) (gave : GivesFrame q b r) where
       pub next_only : HoldsLeavesAlone r (m ∷ [])
@@ -187,18 +176,10 @@ module _ (p : TreePass) (i : ℕ) (mode : Mode) (tuple : FieldList) (walk : Walk
 
       -- and nothing comes before the next one
       pub next_stands : StandsOn r m i mode tuple (Some walk.point)
-      unfolding page_gave
+      unfolding page_gave beside_page
       next_stands = record {
         known = next_only.known;
-        holds = page_gave q r i b m took.beside.other gave (record {
-          frame = took.frame;
-          knows = took.knows;
-          is = took.beside.is;
-          order = subst
-              (λ s. IsOrderly (fields_for s)
-              (page_within took.beside.is.page took.frame.low took.frame.high))
-              (sym took_shape) took.beside.order;
-        });
+        holds = page_gave q r i b m took.beside.other gave (beside_page p b i (side_of mode) m q took);
         none = passes_over (view r) i mode tuple (Some walk.point) took.holds.frame took.frame
             took.beside.meets
             (saw_passes i walk.point mode tuple (far_of (side_of mode) took.holds.frame) (view r)

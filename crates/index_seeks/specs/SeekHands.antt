@@ -16,14 +16,8 @@ use Rattle.tree_neighbours.specs.declared.pairs.LeafPair.{LeafPair}
 use Rattle.tree_neighbours.specs.Neighbours.{IsLeafBeside}
 use Rattle.tree_neighbours.specs.Sides.{side_of, row_on, page_on}
 use Rattle.index_seeks.specs.declared.seek_call.Walk.{Walk}
+use Rattle.tree_neighbours.specs.LeafHands.{HoldsLeavesAlone}
 use Rattle.index_seeks.specs.Seeks.{near_of, far_of, PassesNothing, SawNothing}
-
--- the pass holds frames of these blocks alone, and each is what it is known to be
-pub record HoldsLeavesAlone (p : TreePass) (bs : List ℕ) : Type 0 where
-  pub known : IsKnown p
-  pub frames : HoldsNoFrameBut (view p) bs
-  pub tables : HoldsNoTable (view p)
-  pub count : count p ≡ length bs
 
 -- the block, if one is given
 abbrev pub blocks_at : Option ℕ → List ℕ

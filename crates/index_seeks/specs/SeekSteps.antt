@@ -30,7 +30,8 @@ use Rattle.index_seeks.specs.declared.seek_call.Stand.TheVariants.{On, Ends}
 use Rattle.engine_law.specs.Says.{SaysOnce, OnlyLooks}
 use Rattle.index_seeks.specs.Seeks.{PassesNothing, SawNothing}
 use Rattle.index_seeks.specs.SeekHands.{SawPast, WalksAt}
-use Rattle.index_seeks.specs.SeekTraces.{IsLeafReference, BeginOnLeaf, EndsOnLeaves}
+use Rattle.index_seeks.specs.SeekTraces.{BeginOnLeaf, EndsOnLeaves}
+use Rattle.tree_neighbours.specs.LeafHands.{IsLeafReference}
 use Rattle.engine_law.specs.Tells.{TellsOnce}
 
 -- the one answer was said and is told, or nothing was answered, and nothing else was done

@@ -20,15 +20,8 @@ use Rattle.call_law.specs.Trace.{SparesTrees, frame_references}
 use Rattle.buffer_pool.specs.Pages.{HasNumber, HasTreePage}
 use Rattle.tree_descent.specs.Leaves.{cut_in}
 use Rattle.tree_descent.specs.Paths.{LeadFromRoot}
+use Rattle.tree_neighbours.specs.LeafHands.{IsLeafReference}
 use Rattle.engine_law.specs.Tells.{TellsOnce}
-
--- the reference is of a frame that had a leaf of the index when it was given back
-pub record IsLeafReference (shape : Shape) (i : ℕ) (q : Reference Object) : Type 0 where
-  pub block : ℕ
-  pub taken : Object
-  pub frame : Frame
-  pub is : q ≡ reference (frame_id shape block) taken (object.Frame frame)
-  pub page : HasTreePage frame i 0
 
 -- the references of the leaf of this number, and then of leaves beside it
 pub record BeginOnLeaf (shape : Shape) (i number : ℕ) (qs : List (Reference Object)) : Type 0 where

@@ -4,7 +4,8 @@ ghost use Rattle.latch_space.specs.Passes.{view, count, IsSamePass};
 ghost use Rattle.latch_space.specs.Spaces.{IsPassOf};
 ghost use Rattle.map_history.specs.Told.{columns_told};
 ghost use Rattle.forest_world.specs.Held.{shape_of_pass};
-ghost use Rattle.index_seeks.specs.SeekHands.{HoldsLeavesAlone, StandsOn, WalksAt};
+ghost use Rattle.index_seeks.specs.SeekHands.{StandsOn, WalksAt};
+ghost use Rattle.tree_neighbours.specs.LeafHands.{HoldsLeavesAlone};
 ghost use Rattle.engine_law.specs.Says.{columns_by};
 ghost use Rattle.index_seeks.specs.SeekSteps.{EndsSeek, WalksThen, TellsColumns};
 

@@ -1,2 +1,3 @@
 pub mod NeighbourLemmas
 pub mod PairLemmas
+pub mod HandLemmas

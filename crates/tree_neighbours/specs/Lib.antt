@@ -1,3 +1,4 @@
 pub mod Sides
 pub mod Neighbours
 pub mod Pairs
+pub mod LeafHands

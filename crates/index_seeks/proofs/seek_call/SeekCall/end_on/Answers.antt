@@ -10,7 +10,7 @@ use Rattle.buffer_pool.proofs.CallLemmas.{frame_has}
 use Rattle.buffer_pool.proofs.AgainLemmas.{passes_both}
 use Rattle.index_seeks.specs.Seeks.{TellsRow, CanTell}
 use Rattle.engine_law.proofs.KnownLemmas.{knows_same, page_number, same_page}
-use Rattle.index_seeks.proofs.SeekHandLemmas.{only_same, only_gave, may_leave}
+use Rattle.tree_neighbours.proofs.HandLemmas.{only_same, only_gave, may_leave}
 use Rattle.index_seeks.proofs.SeekTraceLemmas.{said_then_first}
 use Rattle.index_seeks.proofs.StandLemmas.{last_tells}
 use Rattle.index_seeks.proofs.seek_call.SeekCall.end_on.Goals as goal

@@ -12,7 +12,7 @@ use Rattle.hash_guess.proofs.HitLemmas.{found_at}
 use Rattle.engine_law.specs.Says.{columns_by}
 use Rattle.index_seeks.specs.SeekSteps.{SaysIf}
 use Rattle.engine_law.proofs.KnownLemmas.{knows_same, same_page}
-use Rattle.index_seeks.proofs.SeekHandLemmas.{gave_page, only_same, only_gave, may_leave}
+use Rattle.tree_neighbours.proofs.HandLemmas.{gave_page, only_same, only_gave, may_leave}
 use Rattle.index_seeks.proofs.SeekHitLemmas.{hit_tells}
 use Rattle.index_seeks.proofs.seek_call.SeekCall.end_on_hit.Goals as goal
 

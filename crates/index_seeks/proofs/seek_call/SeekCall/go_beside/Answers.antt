@@ -6,7 +6,7 @@ use Rattle.forest_world.specs.Held.{shape_of_pass}
 use Rattle.buffer_pool.proofs.AgainLemmas.{passes_both}
 use Rattle.index_seeks.specs.SeekSteps.{StandsThen, EndsSeek}
 use Rattle.engine_law.proofs.KnownLemmas.{knows_same, page_number}
-use Rattle.index_seeks.proofs.SeekHandLemmas.{gave_page, only_same, only_gave, page_same, page_gave, may_leave}
+use Rattle.tree_neighbours.proofs.HandLemmas.{gave_page, only_same, only_gave, page_same, page_gave, may_leave}
 use Rattle.index_seeks.proofs.SeekTraceLemmas.{said_then_first, first_then_gave, first_then_on}
 use Rattle.index_seeks.proofs.StandLemmas.{both_stands}
 use Rattle.index_seeks.proofs.StepLemmas.{walks_at, past_gave}

@@ -4,7 +4,7 @@ use Rattle.index_law.specs.Shape.{Shape}
 use Rattle.buffer_pool.proofs.AgainLemmas.{passes_both}
 use Rattle.tree_neighbours.specs.Neighbours.{TellsBeside}
 use Rattle.tree_neighbours.specs.declared.beside.Beside.TheVariants.{AtEnd, Held, Busy}
-use Rattle.index_seeks.proofs.SeekHandLemmas.{only_same, only_gave, page_same, may_leave}
+use Rattle.tree_neighbours.proofs.HandLemmas.{only_same, only_gave, page_same, may_leave}
 use Rattle.index_seeks.proofs.StepLemmas.{walks_then, last_here, last_only, last_page, last_ends, busy_only, busy_knows, busy_ends, took_only, took_knows, next_only, next_passes, next_stands}
 use Rattle.index_seeks.proofs.seek_call.SeekCall.step.Goals as goal
 

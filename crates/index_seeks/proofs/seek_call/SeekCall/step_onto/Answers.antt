@@ -5,7 +5,7 @@ use Rattle.index_law.specs.Shape.{Shape}
 use Rattle.forest_world.specs.Held.{shape_of_pass}
 use Rattle.buffer_pool.proofs.AgainLemmas.{passes_both}
 use Rattle.index_seeks.specs.SeekSteps.{StandsThen}
-use Rattle.index_seeks.proofs.SeekHandLemmas.{gave_page, only_same, only_gave, page_same, may_leave}
+use Rattle.tree_neighbours.proofs.HandLemmas.{gave_page, only_same, only_gave, page_same, may_leave}
 use Rattle.index_seeks.proofs.SeekTraceLemmas.{said_then_gave}
 use Rattle.index_seeks.proofs.StepLemmas.{stands_walk}
 use Rattle.index_seeks.proofs.seek_call.SeekCall.step_onto.Goals as goal

@@ -1,5 +1,5 @@
--- What a seek has in hand along its way.
-use Rattle.std.proofs.Common.{◌≡◌, ◌≢◌, inl, inr, ℕ, ◌<◌, List, ◌∷◌, length, sym, ap, subst, ◌∙◌, arith, None}
+-- Leaves in hand, while others are taken and given back.
+use Rattle.std.proofs.Common.{◌≡◌, ◌≢◌, inl, inr, ℕ, ◌<◌, List, [], ◌∷◌, length, sym, ap, subst, ◌∙◌, arith, None}
 use Rattle.std.specs.List.{AllByRecursion}
 use Rattle.std.proofs.lemmas.Bool.{cases_eq}
 use mathlib.Core.Option.{some}
@@ -21,9 +21,10 @@ use Rattle.forest_law.specs.State.{page_within, fields_for}
 use Rattle.tree_descent.specs.Ways.{HoldsPage}
 use Rattle.buffer_pool.proofs.CallLemmas.{gave_frame}
 use Rattle.tree_descent.proofs.PageLemmas.{may_give_back}
-use Rattle.index_seeks.specs.SeekHands.{HoldsLeavesAlone}
-use Rattle.engine_law.proofs.KnownLemmas.{part_no_frame}
-use Rattle.engine_law.proofs.KnownLemmas.{gave_known, knows_same}
+use Rattle.tree_neighbours.specs.declared.side.Side.{Side}
+use Rattle.tree_neighbours.specs.LeafHands.{HoldsLeavesAlone}
+use Rattle.tree_neighbours.specs.Neighbours.{TakesBeside}
+use Rattle.engine_law.proofs.KnownLemmas.{gave_known, knows_same, part_no_frame}
 
 -- what is given back of a block has the page that it was known to have
 pub gave_page : (p q : TreePass) (b i : ℕ) (f : Frame) → KnowsFrame (view p) b f
@@ -150,3 +151,51 @@ module _ (p q : TreePass) (i : ℕ) where
 pub may_leave : (p : TreePass) (bs : List ℕ) (b i : ℕ) (f : Frame) → HoldsLeavesAlone p bs
     → KnowsFrame (view p) b f → HasTreePage f i 0 → MayGiveBack p b
 may_leave p bs b i f only knows is = may_give_back p only.known b i 0 f knows is
+
+-- the leaf beside the one in hand was taken, and both are held
+module _ (p : TreePass) (b i : ℕ) (side : Side) (m : ℕ) (q : TreePass)
+    (took : TakesBeside p b i side m q) where
+  pub beside_shape : shape_of_pass q ≡ shape_of_pass p
+  beside_shape = ap (λ (t : Terms Shape). t.shape) took.silently.does.adds.numbers.terms
+
+  pub beside_only : HoldsLeavesAlone p (b ∷ []) → HoldsLeavesAlone q (b ∷ m ∷ [])
+  beside_only only = only_then p q (b ∷ []) (b ∷ m ∷ []) (frame_id (shape_of_pass p) m ∷ []) only
+      took.silently
+      (λ c apart.
+      ((apart.0, tt), (frames_apart (shape_of_pass p) m c apart.1.0, tt)))
+      ((λ e. omega (arith, e)), tt)
+      (λ k below. (part_no_frame (shape_of_pass p) k m below, tt))
+      (let was = only.count in let now = took.count in omega (arith, was, now))
+
+  -- the one is known still
+  pub beside_knows : (f : Frame) → KnowsFrame (view p) b f → KnowsFrame (view q) b f
+  beside_knows f knows = (
+    knows.0,
+    ap (λ s. get_elem? (view q).held (frame_id s b)) beside_shape
+        ∙ (took.silently.does.rest (frame_id (shape_of_pass p) b)
+        (frames_apart (shape_of_pass p) m b (λ e. took.beside.other (sym e)), tt)
+        ∙ knows.1),
+  )
+
+  -- and is a leaf still
+  unfoldable pub beside_keeps : (h : HoldsPage (view p) b i 0) → HoldsPage (view q) b i 0
+  beside_keeps h = record {
+    frame = h.frame;
+    knows = beside_knows h.frame h.knows;
+    is = h.is;
+    order = subst
+        (λ s. IsOrderly (fields_for s) (page_within h.is.page h.frame.low h.frame.high))
+        (sym beside_shape) h.order;
+  }
+
+  -- the other is one too
+  unfoldable pub beside_page : HoldsPage (view q) m i 0
+  beside_page = record {
+    frame = took.frame;
+    knows = took.knows;
+    is = took.beside.is;
+    order = subst
+        (λ s. IsOrderly (fields_for s)
+        (page_within took.beside.is.page took.frame.low took.frame.high))
+        (sym beside_shape) took.beside.order;
+  }
