@@ -1,0 +1,3 @@
+pub mod RestoreLemmas
+pub mod StoreLemmas
+pub mod ReferLemmas

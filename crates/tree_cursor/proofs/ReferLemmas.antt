@@ -1,0 +1,67 @@
+-- What a reference of a cursor's leaf says.
+use Rattle.std.proofs.Common.{◌≡◌, ℕ, suc, List, [], ◌∷◌, length, inl, inr, refl, sym, ap, subst, ◌∙◌}
+use mathlib.Core.Option.{some}
+use lib.ListN.{get_elem?}
+use Rattle.atomic_table.proofs.Lists.{at_last, at_longer}
+use Rattle.latch_law.specs.declared.knows.Reference.{Reference}
+use Rattle.latch_law.specs.declared.knows.Terms.{Terms}
+use Rattle.latch_law.specs.Views.{holding}
+use Rattle.latch_law.specs.Whole.{reference}
+use Rattle.latch_space.specs.Passes.{view}
+use Rattle.tree_law.specs.TreeShape.{In}
+use Rattle.index_law.specs.Shape.{Shape}
+use Rattle.forest_law.specs.declared.objects.Frame.{Frame}
+use Rattle.forest_law.specs.declared.objects.Object.{Object}
+use Rattle.forest_law.specs.declared.objects.Object.TheVariants as object
+use Rattle.forest_law.specs.Numbers.{frame_id}
+use Rattle.forest_world.specs.Held.{shape_of_pass}
+use Rattle.call_law.specs.Spoken.{View}
+use Rattle.engine_law.proofs.KnownLemmas.{gave_known}
+use Rattle.tree_cursor.specs.declared.cursor.Cursor.{Cursor}
+use Rattle.tree_cursor.specs.Cursors.{HasCursor, Referred}
+use Rattle.tree_cursor.specs.CursorLaws.{FramesRefer, GivenFramesRefer, ReferencesStay}
+
+-- what is among some others stands at a number
+place_among : {A : Type 0} (x : A) (xs : List A) → In x xs → (n : ℕ) × (get_elem? xs n ≡ some x)
+place_among x [] among = absurd among
+place_among x (y ∷ ys) (inl is) = (0, ap some (sym is))
+place_among x (y ∷ ys) (inr among) = let rest = place_among x ys among in (suc rest.0, rest.1)
+
+pub frames_refer : FramesRefer
+frames_refer v c q f among object_is released has =
+    let at = place_among q v.references among in record {
+      nth = at.0;
+      said = q;
+      there = at.1;
+      object_is = object_is;
+      frame = f;
+      released = released;
+      has = has;
+    }
+
+pub references_stay : ReferencesStay
+references_stay v v' added c adds r = record {
+  nth = r.nth;
+  said = r.said;
+  there = ap (λ qs. get_elem? qs r.nth) adds.references
+      ∙ at_longer v.references added.references r.nth r.said r.there;
+  object_is = r.object_is
+      ∙ ap (λ (t : Terms Shape). frame_id t.shape c.block) (sym adds.numbers.terms);
+  frame = r.frame;
+  released = r.released;
+  has = r.has;
+}
+
+pub given_frames_refer : GivenFramesRefer
+given_frames_refer p q c f knows has gave =
+    let k = frame_id (shape_of_pass p) c.block in
+    let said = reference k gave.taken (object.Frame gave.frame) in record {
+      nth = length (view p).references;
+      said = said;
+      there = ap (λ (v : View). get_elem? v.references (length (view p).references)) gave.view
+          ∙ at_last (view p).references said (length (view p).references) refl;
+      object_is = ap (λ (t : Terms Shape). frame_id t.shape c.block) (sym gave.hand.terms);
+      frame = gave.frame;
+      released = refl;
+      has = subst (λ (g : Frame). HasCursor g c) (gave_known p q c.block f knows gave) has;
+    }

@@ -1,0 +1,4 @@
+pub mod Cursors
+pub mod CursorLaws
+pub mod Storing
+pub mod Restoring
