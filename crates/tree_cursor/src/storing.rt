@@ -16,8 +16,8 @@ use index_page::{Page, Place};
 use key_tuple::{Fields, Key, NoMemory};
 use std::alloc::Global;
 
-/// A cursor before the row at a place of the leaf in the block's frame or, without a place, before
-/// the leaf's high key. It makes no step, and takes memory for the key alone.
+/// A cursor before the row at a place of the leaf in the block's frame, or before the leaf's high key
+/// where no place is named. It makes no step, and takes memory for the key alone.
 pub fn store(
     alloc: Global,
     space: &ForestSpace,
@@ -46,7 +46,7 @@ pub fn store(
     })
 }
 
-/// The key of the row at a place or, without a place, the high key.
+/// The key of the row at the place or, where none is named, the high key.
 fn key_at(
     alloc: Global,
     page: &Page,
