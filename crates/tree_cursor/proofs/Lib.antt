@@ -1,3 +1,4 @@
 pub mod RestoreLemmas
 pub mod StoreLemmas
 pub mod ReferLemmas
+pub mod DescentLemmas

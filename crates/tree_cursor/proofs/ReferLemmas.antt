@@ -3,22 +3,18 @@ use Rattle.std.proofs.Common.{◌≡◌, ℕ, suc, List, [], ◌∷◌, length, 
 use mathlib.Core.Option.{some}
 use lib.ListN.{get_elem?}
 use Rattle.atomic_table.proofs.Lists.{at_last, at_longer}
-use Rattle.latch_law.specs.declared.knows.Reference.{Reference}
 use Rattle.latch_law.specs.declared.knows.Terms.{Terms}
-use Rattle.latch_law.specs.Views.{holding}
 use Rattle.latch_law.specs.Whole.{reference}
 use Rattle.latch_space.specs.Passes.{view}
 use Rattle.tree_law.specs.TreeShape.{In}
 use Rattle.index_law.specs.Shape.{Shape}
 use Rattle.forest_law.specs.declared.objects.Frame.{Frame}
-use Rattle.forest_law.specs.declared.objects.Object.{Object}
 use Rattle.forest_law.specs.declared.objects.Object.TheVariants as object
 use Rattle.forest_law.specs.Numbers.{frame_id}
 use Rattle.forest_world.specs.Held.{shape_of_pass}
 use Rattle.call_law.specs.Spoken.{View}
 use Rattle.engine_law.proofs.KnownLemmas.{gave_known}
-use Rattle.tree_cursor.specs.declared.cursor.Cursor.{Cursor}
-use Rattle.tree_cursor.specs.Cursors.{HasCursor, Referred}
+use Rattle.tree_cursor.specs.Cursors.{HasCursor}
 use Rattle.tree_cursor.specs.CursorLaws.{FramesRefer, GivenFramesRefer, ReferencesStay}
 
 -- what is among some others stands at a number

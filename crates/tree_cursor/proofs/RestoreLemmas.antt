@@ -1,5 +1,5 @@
 -- A cursor's block is tried once, and at the clock kept its frame is what the reference says.
-use Rattle.std.proofs.Common.{◌≡◌, ◌≢◌, ◌⊎◌, inl, inr, ℕ, ◌<◌, ◌+◌, [], ◌∷◌, List, Bool, true, false, sym, ap, ap₂, subst, ◌∙◌, arith, refl, Option, Some, None, length}
+use Rattle.std.proofs.Common.{◌≡◌, ◌≢◌, inl, inr, ℕ, ◌<◌, [], ◌∷◌, List, Bool, true, false, sym, ap, ap₂, subst, ◌∙◌, arith, refl, Option, Some, None, length}
 use mathlib.Core.Option.{some, some-injective}
 use lib.ListN.{get_elem?}
 use Rattle.atomic_table.proofs.Lists.{set_here}
@@ -26,9 +26,8 @@ use Rattle.forest_law.specs.Numbers.{frame_id, frames_of}
 use Rattle.forest_law.specs.State.{mark_of, numbered_if, page_within, fields_for}
 use Rattle.forest_law.proofs.FramePageLemmas.{frames_tell_pages}
 use Rattle.forest_world.specs.Held.{TreePass, shape_of_pass}
-use Rattle.call_law.specs.Hands.{KnowsFrame}
 use Rattle.call_law.specs.Spoken.{View}
-use Rattle.buffer_pool.specs.Calls.{Does, GetsNothing}
+use Rattle.buffer_pool.specs.Calls.{Does}
 use Rattle.buffer_pool.specs.Forests.{IsFittedTree}
 use Rattle.buffer_pool.specs.Frames.{TakesFrame, RefusesFrame, GivesFrame}
 use Rattle.buffer_pool.specs.Hands.{LacksFrame, MayGiveBack}
@@ -39,7 +38,6 @@ use Rattle.buffer_pool.proofs.InsideLemmas.{taken_inside}
 use Rattle.tree_descent.specs.Ways.{HoldsPage}
 use Rattle.engine_law.proofs.KnownLemmas.{gave_known}
 use Rattle.tree_cursor.specs.declared.cursor.Cursor.{Cursor}
-use Rattle.tree_cursor.specs.declared.cursor.Restored.{Restored}
 use Rattle.tree_cursor.specs.declared.cursor.Restored.TheVariants.{BySearch}
 use Rattle.tree_cursor.specs.declared.cursor.Stale.TheVariants.{Busy, Moved, Last}
 use Rattle.tree_cursor.specs.Cursors.{StandsAt, StandsIn, HasCursor, Referred}

@@ -1,7 +1,6 @@
 -- A cursor on a leaf in hand: its key is that of a row, or the high key.
-use Rattle.std.proofs.Common.{◌≡◌, ℕ, ◌≤◌, Bool, true, false, Option, Some, None, List, [], ◌∷◌, ◌++◌, length, inl, inr, refl, sym, ap, subst, ◌∙◌, arith}
-use Rattle.std.specs.List.{AllByRecursion, filter}
-use lib.ListN.{get_elem?}
+use Rattle.std.proofs.Common.{◌≡◌, ℕ, ◌≤◌, ◌<◌, Bool, true, false, Option, Some, None, List, length, inl, inr, refl, sym, ap, subst, ◌∙◌, arith}
+use Rattle.std.specs.List.{AllByRecursion}
 use Rattle.key_tuple.specs.KeyPlace.{KeyPlace, At, before, within}
 use Rattle.key_tuple.specs.Order.{FieldList}
 use Rattle.key_tuple.specs.declared.key.Key.{Key}
@@ -9,11 +8,13 @@ use Rattle.key_tuple.proofs.PlaceLemmas.{before_not_after}
 use Rattle.key_tuple.proofs.PositionLemmas.{within_parts}
 use Rattle.list_facts.proofs.Each.{each_all, each_filter, each_weaker}
 use Rattle.map_history.specs.Map.{Pair, Map, slice}
+use Rattle.latch_space.specs.Passes.{view}
+use Rattle.index_page.specs.Page.{PageRows}
 use Rattle.index_page.specs.Rows.{Row, find_row}
 use Rattle.index_page.proofs.RowLemmas.{find_stands}
 use Rattle.clock_law.specs.ModifyClock.{HasKeyAt}
 use Rattle.tree_law.specs.TreeShape.{In}
-use Rattle.tree_law.specs.Pages.{Page, is_own, low_place, high_place, row_pairs}
+use Rattle.tree_law.specs.Pages.{Page, HasFields, is_own, high_place}
 use Rattle.tree_law.proofs.LeafLemmas.{IsRow, rows_each, pair_in, each_in, in_middle}
 use Rattle.index_law.specs.Shape.{Shape}
 use Rattle.forest_law.specs.declared.objects.Frame.{Frame}
@@ -23,13 +24,14 @@ use Rattle.forest_law.specs.State.{ForestState, bound, page_within, numbered_if,
 use Rattle.forest_law.proofs.FramePageLemmas.{frames_tell_pages}
 use Rattle.tree_facts.specs.TreeFrames.{IsTreeFrame, low_of, high_of}
 use Rattle.tree_facts.proofs.LeafLemmas.{slice_is}
+use Rattle.forest_world.specs.Held.{TreePass, shape_of_pass}
 use Rattle.call_law.specs.Spoken.{View}
-use Rattle.buffer_pool.specs.Forests.{FitsTrees}
+use Rattle.buffer_pool.specs.Forests.{FitsTrees, IsFittedTree}
 use Rattle.tree_descent.specs.Ways.{HoldsPage}
-use Rattle.tree_descent.proofs.PageLemmas.{known_frame, known_tree_frame}
+use Rattle.tree_descent.proofs.PageLemmas.{same_page, known_tree_frame, read_fields, read_high}
 use Rattle.tree_cursor.specs.declared.cursor.Cursor.{Cursor}
 use Rattle.tree_cursor.specs.Cursors.{StandsAt, StandsIn, HasCursor}
-use Rattle.tree_cursor.specs.Storing.{IsKeyOf}
+use Rattle.tree_cursor.specs.Storing.{HasStand, IsKeyOf, StoresCursor}
 
 -- the row at a place has its key there
 pub row_has_key : (rows : List Row) (place : ℕ) (row : Row) → find_row place rows ≡ Some row
@@ -133,3 +135,47 @@ module _ (w : ForestState) (law : IsLawful w) (v : View) (fits : FitsTrees w v) 
       → IsKeyOf h.is.page.rows h.frame.high place key → StandsAt leaf place key false
   key_stands (Some place) key is = is
   key_stands None key is = is
+
+-- what was read of the frame in hand is what is known of it
+module _ (p : TreePass) (fitted : IsFittedTree (view p)) (b i : ℕ) (h : HoldsPage (view p) b i 0)
+    (found : Frame) (rows : PageRows) (same : found ≡ h.frame) (paged : found.page ≡ Some rows) where
+  page_is : rows ≡ h.is.page
+  page_is = same_page h.frame found h.is.page rows same h.is.paged paged
+
+  fields_are : rows.head.fields ≡ fields_for (shape_of_pass p) i
+  fields_are = read_fields (shape_of_pass p) b i 0 h.frame h.is h.order rows page_is
+
+  -- so a cursor's key may be made
+  pub read_some : 0 < rows.head.fields
+  read_some = let some = some_fields fitted.whole fitted.is_lawful (view p) fitted.fits b i h in
+      omega (arith, some, fields_are)
+
+  pub read_ends : HasFields rows.head.fields (bound found.high)
+  read_ends = read_high (shape_of_pass p) b i 0 h.frame h.is h.order rows page_is found same
+
+  pub read_stand : (place : Option ℕ) → HasStand h.is.page.rows h.frame.high place
+      → HasStand rows.rows found.high place
+  read_stand place stand = subst (λ (f : Frame). HasStand rows.rows f.high place) (sym same)
+      (subst (λ (x : PageRows). HasStand x.rows h.frame.high place) (sym page_is) stand)
+
+  -- and the cursor with that key stands on the frame
+  pub read_stores : (number : ℕ) (place : Option ℕ) (key : Key) → rows.head.number ≡ number
+      → IsKeyOf rows.rows found.high place key.tuple → length key.tuple ≡ rows.head.fields
+      → key.room ≡ rows.head.fields
+      → StoresCursor (view p) b i h.frame place
+      (cursor_with b found.clock number place key false)
+  read_stores number place key number_is is fields room =
+      let w = fitted.whole in let law = fitted.is_lawful in let fits = fitted.fits in
+      record {
+        block = refl;
+        place_is = refl;
+        stands_before = refl;
+        has = has_cursor w law (view p) fits b i h found.clock number place key false
+            (ap (λ (f : Frame). f.clock) (sym same))
+            (ap (λ (x : PageRows). x.head.number) (sym page_is) ∙ number_is)
+            (key_stands w law (view p) fits b i h place key.tuple
+            (subst (λ (f : Frame). IsKeyOf h.is.page.rows f.high place key.tuple) same
+            (subst (λ (x : PageRows). IsKeyOf x.rows found.high place key.tuple) page_is is)));
+        fields = fields ∙ fields_are;
+        room = room ∙ fields_are;
+      }
