@@ -135,6 +135,7 @@ module _ (p q : TreePass) (gives : GivesNothing p q) where
           frame = pages.frame;
           knows = pages.knows;
           has = pages.has;
+          held_as_taken = pages.held_as_taken;
           inside = pages.inside;
           cause = record {
             pool = pages.cause.pool;

@@ -1,11 +1,14 @@
 -- The victim's frame, and the room that there is once its page is gone.
 use Rattle.std.proofs.Common.{◌≡◌, ℕ, [], ◌∷◌, sym, subst, ◌∙◌, refl, arith, true, false, Option, Some, None, is_some}
+use Rattle.latch_law.specs.Rule.{Holds}
+use Rattle.latch_law.specs.Views.{holding}
 use Rattle.latch_space.specs.Passes.{view}
 use Rattle.index_page.specs.Page.{PageRows}
 use Rattle.index_law.specs.Shape.{Shape}
 use Rattle.forest_law.specs.declared.objects.Frame.{Frame}
 use Rattle.forest_law.specs.declared.objects.Pool.{Pool}
 use Rattle.forest_law.specs.declared.objects.Object.{Object}
+use Rattle.forest_law.specs.declared.objects.Object.TheVariants as object
 use Rattle.forest_law.specs.Numbers.{pool_id, frame_id}
 use Rattle.forest_world.specs.Held.{TreePass, shape_of_pass}
 use Rattle.call_law.specs.Hands.{HoldsNoPart}
@@ -15,7 +18,8 @@ use Rattle.buffer_pool.specs.Pages.{HasNumber}
 use Rattle.buffer_pool.specs.Tries.{tries_and_given, KnowsPool, HoldsPoolAndFrame}
 use Rattle.buffer_pool.specs.Turning.{EmptiesFrame}
 use Rattle.buffer_pool.specs.Victims.{HoldsVictim, HoldsRoom}
-use Rattle.buffer_pool.proofs.KnownLemmas.{named_number}
+use Rattle.buffer_pool.proofs.AsTakenLemmas.{still_taken}
+use Rattle.buffer_pool.proofs.KnownLemmas.{named_number, frame_named}
 use Rattle.buffer_pool.proofs.AddedLemmas.{parts_still}
 use Rattle.buffer_pool.proofs.GivingLemmas.{giving_none, giving_both}
 use Rattle.buffer_pool.proofs.VictimLemmas.{tries_none, tries_among, tries_shape, tried_left}
@@ -46,6 +50,7 @@ empties_itself p b t x f both fitted empty = record {
       (tries_among p p [] (pool_id ∷ frame_id (shape_of_pass p) b ∷ []) (λ j apart. tt)
       (tries_none p both.known));
   both = both;
+  taken = still_taken p b f both.frame;
   count = refl;
   empty = empty;
   clears = record {
@@ -80,8 +85,9 @@ module _ (p q : TreePass) (x : Pool) (b : ℕ) (victim : HoldsVictim p x b q) (t
       (λ k below. ((λ e. omega (arith, e, below)), tt))
 
   -- and there is room once its page is gone
-  pub holds_room : (r : TreePass) → EmptiesFrame q b t x r → HoldsRoom p b t x r
-  holds_room r emptied =
+  pub holds_room : IsFittedTree (view q) → (r : TreePass) → EmptiesFrame q b t x r
+      → HoldsRoom p b t x r
+  holds_room fitted r emptied =
       let ks = pool_id ∷ frame_id (shape_of_pass p) b ∷ [] in
       record {
         tries = giving_both p q r ks
@@ -106,6 +112,20 @@ module _ (p q : TreePass) (x : Pool) (b : ℕ) (victim : HoldsVictim p x b q) (t
         clears = emptied.clears;
         frame = emptied.frame;
         knows = emptied.both.frame;
+        was = victim.holds.frame;
+        taken = subst
+            (λ (s : Shape). Holds (view r) (frame_id s b)
+            (holding (object.Frame victim.holds.frame) (object.Frame emptied.frame)))
+            victim_shape
+            (emptied.taken
+            (holding (object.Frame victim.holds.frame) (object.Frame victim.holds.frame))
+            (subst
+            (λ (s : Shape). Holds (view q) (frame_id s b)
+            (holding (object.Frame victim.holds.frame) (object.Frame victim.holds.frame)))
+            (sym victim_shape) victim.holds.taken));
+        named = λ page paged.
+            frame_named fitted.whole fitted.is_lawful (view q) fitted.fits t x victim_both.pool b
+            victim.holds.frame victim.holds.knows page paged;
         empty = emptied.empty;
         count = (let a = emptied.count in let e = victim.holds.count in omega (arith, a, e));
       }

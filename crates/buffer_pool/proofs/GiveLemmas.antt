@@ -26,6 +26,7 @@ use Rattle.call_law.specs.Trace.{Added, frame_references}
 use Rattle.call_law.proofs.TraceLemmas.{both_added}
 use Rattle.buffer_pool.specs.declared.looking.Looked.{Looked}
 use Rattle.buffer_pool.specs.declared.looking.Looked.TheVariants as looked
+use Rattle.buffer_pool.specs.AsTaken.{HoldsAsTaken}
 use Rattle.buffer_pool.specs.Calls.{Does}
 use Rattle.buffer_pool.specs.Causes.{AreUnchanged, ChangesPoolSo, ChangesPoolOnce}
 use Rattle.buffer_pool.specs.Forests.{TreeView}
@@ -37,6 +38,7 @@ use Rattle.buffer_pool.specs.Tries.{tries_alone, tries_and_given, TriesGivingPar
 use Rattle.buffer_pool.specs.Victims.{TriedInVain}
 use Rattle.buffer_pool.proofs.AddedLemmas.{only_refused, only_given, frame_still, frame_before, parts_still}
 use Rattle.buffer_pool.proofs.AgainLemmas.{frames-append, both_unchanged}
+use Rattle.buffer_pool.proofs.AsTakenLemmas.{rest_as_taken}
 use Rattle.buffer_pool.proofs.CallLemmas.{does_both, does_among, does_again, took_pool, gave_pool}
 use Rattle.buffer_pool.proofs.ClearLemmas.{comes_before_too}
 use Rattle.buffer_pool.proofs.FrameLemmas.{one_held}
@@ -168,6 +170,11 @@ module _ (p p1 : TreePass) (known : IsKnown p) (lacks : HoldsNoTable (view p))
     frame_then b f knows = frame_still (view q1) (view q) (pool_id ∷ []) last.adds.numbers
         last.rest b (frame_not_pool (shape_of_pass q1) b, tt) f knows
 
+    -- and as it was taken still
+    pub then_as_taken : (b : ℕ) → HoldsAsTaken (view q1) b → HoldsAsTaken (view q) b
+    then_as_taken b = rest_as_taken (view q1) (view q) (pool_id ∷ []) last.adds.numbers last.rest b
+        (frame_not_pool (shape_of_pass q1) b, tt)
+
   -- what a look found
   module _ (q1 q : TreePass) (gave : GivesPool q1 q) (n : ℕ) where
     looks_held : (b : ℕ) → HoldsPageToo p1 n b (object.Pool took.pool) took.pool q1
@@ -186,6 +193,8 @@ module _ (p p1 : TreePass) (known : IsKnown p) (lacks : HoldsNoTable (view p))
       frame = holds.frame;
       knows = frame_then q1 q ks holds.tries holds.pool holds.knew gave b holds.frame holds.knows;
       has = holds.has;
+      held_as_taken = then_as_taken q1 q ks holds.tries holds.pool holds.knew gave b
+          holds.held_as_taken;
       inside = holds.inside;
       cause = record {
         pool = took.pool;

@@ -3,19 +3,24 @@ use Rattle.std.proofs.Common.{◌≡◌, ℕ, List, [], ◌∷◌, ◌++◌, inl
 use Rattle.std.specs.List.{AllByRecursion}
 use lib.ListN.{get_elem?}
 use Rattle.list_facts.proofs.Each.{each_append, each_weaker}
+use Rattle.latch_law.specs.declared.knows.Holding.{Holding}
 use Rattle.latch_law.specs.declared.knows.Reference.{Reference}
 use Rattle.latch_law.specs.declared.knows.Terms.{Terms}
+use Rattle.latch_law.specs.Rule.{Holds}
+use Rattle.latch_law.specs.Views.{holding}
 use Rattle.latch_space.specs.Passes.{view}
 use Rattle.index_law.specs.Shape.{Shape}
 use Rattle.forest_law.specs.declared.objects.Frame.{Frame}
 use Rattle.forest_law.specs.declared.objects.Pool.{Pool}
 use Rattle.forest_law.specs.declared.objects.Object.{Object}
+use Rattle.forest_law.specs.declared.objects.Object.TheVariants as object
 use Rattle.forest_law.specs.Numbers.{pool_id, frame_id}
 use Rattle.forest_world.specs.Held.{TreePass, shape_of_pass}
 use Rattle.hash_maintain.specs.Leaves.{unhashed}
 use Rattle.call_law.specs.Hands.{KnowsFrame, HoldsNoTable}
 use Rattle.call_law.specs.Trace.{Added, is_frame, frame_references}
 use Rattle.call_law.specs.Spoken.{OwnAnswer}
+use Rattle.buffer_pool.specs.AsTaken.{StaysTaken}
 use Rattle.buffer_pool.specs.Calls.{Does}
 use Rattle.buffer_pool.specs.Causes.{AreUnchanged, LeavesPool, ChangesPoolSo, ChangesPoolOnce}
 use Rattle.buffer_pool.specs.Parts.{UnhashesBlock}
@@ -23,6 +28,7 @@ use Rattle.buffer_pool.specs.Tries.{IsOfPart, tries_alone, tries_and_given, Trie
 use Rattle.buffer_pool.specs.Turning.{ClearsBlock, EmptiesFrame}
 use Rattle.buffer_pool.proofs.AddedLemmas.{parts_still}
 use Rattle.buffer_pool.proofs.CallLemmas.{does_both, does_among}
+use Rattle.buffer_pool.proofs.FrameLemmas.{one_held}
 use Rattle.buffer_pool.proofs.TurnLemmas.{pool_not_frame}
 
 -- no frame is among partitions
@@ -124,10 +130,27 @@ module _ (p u : TreePass) (b : ℕ) (did : UnhashesBlock p b u) where
         did.silently.silent did.silently.does);
   }
 
+  -- it is held as it was taken
+  unhashed_taken : (f : Frame) → KnowsFrame (view p) b f → (q : TreePass) (g : Frame)
+      → StaysTaken u q b g → StaysTaken p q b g
+  unfolding unhashed_knows
+  unhashed_taken f knows q g stays h held =
+      let is : holding knows.0 (object.Frame f) ≡ h =
+      one_held p (frame_id (shape_of_pass p) b) (holding knows.0 (object.Frame f)) h knows.1
+      held in
+      subst
+      (λ (s : Shape). Holds (view q) (frame_id s b) (holding h.taken (object.Frame g)))
+      unhashed_shape
+      (stays (holding h.taken (object.Frame (unhashed f)))
+      (subst
+      (λ (z : Holding Object). Holds (view u) (frame_id (shape_of_pass u) b)
+      (holding z.taken (object.Frame (unhashed f)))) is (unhashed_knows f knows).1))
+
   -- then its frame may be emptied
-  pub unhashed_empties : (t : Object) (x : Pool) (q : TreePass) (y : Pool) (g : Frame)
-      → TurnsBoth u b t q y g → g.page ≡ None → ClearsBlock x b y → EmptiesFrame p b t x q
-  unhashed_empties t x q y g turns empty clears = record {
+  pub unhashed_empties : (t : Object) (x : Pool) (f : Frame) → KnowsFrame (view p) b f
+      → (q : TreePass) (y : Pool) (g : Frame) → TurnsBoth u b t q y g → g.page ≡ None
+      → ClearsBlock x b y → EmptiesFrame p b t x q
+  unhashed_empties t x f knows q y g turns empty clears = record {
     pool = y;
     frame = g;
     tries = giving_both p u q (pool_id ∷ frame_id (shape_of_pass p) b ∷ []) unhashed_giving
@@ -138,6 +161,7 @@ module _ (p u : TreePass) (b : ℕ) (did : UnhashesBlock p b u) where
               (tries_alone turns.tries.refused)) unhashed_shape turns.tries.does;
         }));
     both = turns.both;
+    taken = unhashed_taken f knows q g turns.taken;
     count = turns.count ∙ did.count;
     empty = empty;
     clears = clears;

@@ -1,6 +1,7 @@
 pub mod SpaceLemmas
 pub mod KeepLemmas
 pub mod FrameLemmas
+pub mod AsTakenLemmas
 pub mod TreeLemmas
 pub mod PoolLemmas
 pub mod AddedLemmas
@@ -29,6 +30,7 @@ pub mod LookLemmas
 pub mod FitsLemmas
 pub mod GiveLemmas
 pub mod PageIfLemmas
+pub mod GaveLemmas
 pub mod FullLemmas
 pub mod FreeLemmas
 pub mod NewPageLemmas

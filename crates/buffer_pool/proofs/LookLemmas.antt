@@ -2,11 +2,13 @@
 use Rattle.std.proofs.Common.{◌≡◌, ℕ, ◌<◌, [], ◌∷◌, ◌++◌, inl, inr, sym, ap, subst, ◌∙◌, arith, Some}
 use mathlib.Core.Option.{some, some-injective}
 use lib.ListN.{get_elem?}
+use Rattle.list_facts.proofs.Places.{same_some}
 use Rattle.latch_law.specs.declared.knows.Holding.{Holding}
 use Rattle.latch_law.specs.Rule.{Holds}
 use Rattle.latch_law.specs.Views.{holding, with_refused}
 use Rattle.latch_space.specs.Has.{IsKnown}
 use Rattle.latch_space.specs.Passes.{view}
+use Rattle.index_page.specs.Page.{PageRows}
 use Rattle.index_law.specs.Shape.{Shape}
 use Rattle.forest_law.specs.declared.objects.Frame.{Frame}
 use Rattle.forest_law.specs.declared.objects.Pool.{Pool}
@@ -19,6 +21,7 @@ use Rattle.forest_law.proofs.ObjectLemmas.{same_frame}
 use Rattle.forest_world.specs.Held.{TreePass, shape_of_pass}
 use Rattle.buffer_pool.specs.declared.looking.Looked.{Looked}
 use Rattle.buffer_pool.specs.declared.looking.Looked.TheVariants as looked
+use Rattle.buffer_pool.specs.AsTaken.{IsAsTaken}
 use Rattle.buffer_pool.specs.Calls.{Does}
 use Rattle.buffer_pool.specs.Forests.{IsFittedTree}
 use Rattle.buffer_pool.specs.Frames.{TakesFrame}
@@ -29,6 +32,7 @@ use Rattle.buffer_pool.specs.Tries.{tries_alone, KnowsPool}
 use Rattle.buffer_pool.specs.Turning.{SetsAge, MayRestore, RestoresTo}
 use Rattle.buffer_pool.specs.Victims.{MissesFrame, HoldsRoom}
 use Rattle.buffer_pool.proofs.AddedLemmas.{frame_still}
+use Rattle.buffer_pool.proofs.AsTakenLemmas.{held_as_taken, rest_as_taken, took_as_taken}
 use Rattle.buffer_pool.proofs.CallLemmas.{took_frame}
 use Rattle.buffer_pool.proofs.ClearLemmas.{cleared_aged, made_room}
 use Rattle.buffer_pool.proofs.FrameLemmas.{one_held}
@@ -38,7 +42,7 @@ use Rattle.buffer_pool.proofs.KnownLemmas.{page_there, block_below}
 use Rattle.buffer_pool.proofs.PageLemmas.{fits_before, lacks_if}
 use Rattle.buffer_pool.proofs.PoolLemmas.{same_pool}
 use Rattle.buffer_pool.proofs.TurnLemmas.{frame_not_pool}
-use Rattle.buffer_pool.proofs.VictimLemmas.{tried_left, tries_both, tries_among}
+use Rattle.buffer_pool.proofs.VictimLemmas.{tried_left, tries_both, tries_among, tries_shape}
 
 image_is_not : (b : ℕ) → Image ≡ InFrame b → ⊥
 image_is_not b e = absurd cc
@@ -117,6 +121,9 @@ module _ (p : TreePass) (t : Object) (x : Pool) (held : KnowsPool (view p) t x) 
               aged.tries.does.rest b (frame_not_pool (shape_of_pass q) b, tt) took.frame
               took.has.held;
           has = named_has q took;
+          held_as_taken = rest_as_taken (view q) (view r) (pool_id ∷ []) aged.tries.does.adds.numbers
+              aged.tries.does.rest b (frame_not_pool (shape_of_pass q) b, tt)
+              (took_as_taken p q b lacks took);
           inside = taken_inside (with_refused (view p) took.refused) b took.frame took.was;
           aged = record { tick = aged.aged.tick; ages = aged.aged.ages };
           how = inl (record { named = named; places = aged.aged.place });
@@ -145,6 +152,25 @@ module _ (p q : TreePass) (t : Object) (x : Pool) (n b : ℕ) (room : HoldsRoom 
     stored = room.clears.keeps n (λ e. image_is_not b (sym stored ∙ e)) ∙ stored;
   }
 
+  restored_shape : (r : TreePass) → RestoresTo q b n t room.pool r
+      → shape_of_pass r ≡ shape_of_pass q
+  restored_shape r restored =
+      tries_shape q r (pool_id ∷ frame_id (shape_of_pass q) b ∷ []) restored.turns.tries
+
+  -- the page that came is another than the one that was there
+  another_came : where_at x.place.items n ≡ Image → (f : Frame) → HasNumber f n
+      → IsAsTaken (object.Frame room.was) (object.Frame f)
+  another_came stored f has g z was now kept =
+      let first : room.was.page ≡ Some kept.was =
+      ap (λ (w : Frame). w.page) (same_frame room.was g was) ∙ kept.had in
+      let page : has.page ≡ kept.is =
+      same_some has.page kept.is (sym has.paged
+      ∙ (ap (λ (w : Frame). w.page) (same_frame f z now) ∙ kept.has)) in
+      let number : kept.was.head.number ≡ n =
+      sym kept.number ∙ (ap (λ (w : PageRows). w.head.number) (sym page) ∙ has.number) in
+      absurd (image_is_not b (sym stored
+      ∙ (ap (where_at x.place.items) (sym number) ∙ room.named kept.was first)))
+
   -- and is held with it then
   pub holds_restored : where_at x.place.items n ≡ Image → (r : TreePass)
       → RestoresTo q b n t room.pool r → HoldsPageToo p n b t x r
@@ -164,6 +190,18 @@ module _ (p q : TreePass) (t : Object) (x : Pool) (n b : ℕ) (room : HoldsRoom 
         frame = restored.frame;
         knows = restored.turns.both.frame;
         has = restored.has;
+        held_as_taken = held_as_taken r b
+            (holding (object.Frame room.was) (object.Frame restored.frame))
+            (subst
+            (λ (s : Shape). Holds (view r) (frame_id s b)
+            (holding (object.Frame room.was) (object.Frame restored.frame)))
+            (sym (restored_shape r restored))
+            (restored.turns.taken (holding (object.Frame room.was) (object.Frame room.frame))
+            (subst
+            (λ (s : Shape). Holds (view q) (frame_id s b)
+            (holding (object.Frame room.was) (object.Frame room.frame)))
+            (sym (giving_shape p q ks room.tries)) room.taken)))
+            (another_came stored restored.frame restored.has);
         inside = restored.inside;
         aged = cleared_aged x b room.pool restored.pool room.clears restored.aged;
         how = inr (record {

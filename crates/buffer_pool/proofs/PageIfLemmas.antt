@@ -23,6 +23,7 @@ use Rattle.buffer_pool.specs.Frames.{GivesFrame}
 use Rattle.buffer_pool.specs.Looking.{FindsNone}
 use Rattle.buffer_pool.specs.Pages.{HasNumber, PagesIn, HasTreePage, FindsNoPage}
 use Rattle.buffer_pool.proofs.AddedLemmas.{only_given}
+use Rattle.buffer_pool.proofs.AsTakenLemmas.{none_as_taken, both_as_taken, gave_as_taken}
 use Rattle.buffer_pool.proofs.CallLemmas.{does_both, does_again, frame_has, gave_frame}
 use Rattle.buffer_pool.proofs.ClearLemmas.{comes_before_too}
 use Rattle.buffer_pool.proofs.FrameLemmas.{one_held}
@@ -31,7 +32,11 @@ use Rattle.buffer_pool.proofs.VictimLemmas.{in_left, in_right, tried_left}
 
 -- where the number has no page, there is none of this index and level
 pub none_found : (p q : TreePass) (n i level : ℕ) → FindsNone p n q → FindsNoPage p n i level q
-none_found p q n i level finds = record { got = finds.gives.got; why = inl finds.gave }
+none_found p q n i level finds = record {
+  got = finds.gives.got;
+  as_taken = none_as_taken finds.gives.got.silently.added.references finds.gives.none;
+  why = inl finds.gave;
+}
 
 module _ (p q : TreePass) (n b : ℕ) (pages : PagesIn p n b q) where
   -- the frame is in hand as it is known
@@ -90,6 +95,9 @@ module _ (p q : TreePass) (n b : ℕ) (pages : PagesIn p n b q) where
         };
         count = (let a = pages.count in let c = gave.count in omega (arith, a, c));
       };
+      as_taken = both_as_taken pages.silently.added.references given
+          (none_as_taken pages.silently.added.references pages.none)
+          (gave_as_taken q r b gave pages.held_as_taken, tt);
       why = inr (record {
         block = b;
         taken = gave.taken;

@@ -32,6 +32,7 @@ use Rattle.buffer_pool.specs.Tries.{HoldsPoolAndFrame, TurnsBoth}
 use Rattle.buffer_pool.specs.Turning.{KeepsOthers, MayTurn, TurnsBack}
 use Rattle.buffer_pool.proofs.AddedLemmas.{held_adds, none_spares}
 use Rattle.buffer_pool.proofs.CallLemmas.{frame_has, pool_has}
+use Rattle.buffer_pool.proofs.FrameLemmas.{one_held}
 use Rattle.buffer_pool.proofs.HashRestLemmas.{frame_rests}
 use Rattle.buffer_pool.proofs.KeepLemmas.{learnt_same}
 
@@ -218,6 +219,16 @@ module _ (p p1 p2 : TreePass) (b : ℕ) (frame : Frame) (pool : Pool) (out : Tak
 
   -- and come back
   module _ (g : Frame) (y : Pool) (q : TreePass) (back : TurnsBack p2 b g y q) where
+    -- the frame is held as it was taken
+    frame_back : Holds (view q) (frame_id (shape_of_pass p) b)
+        (holding both.frame.0 (object.Frame g))
+    frame_back = subst
+        (λ (s : Shape). Holds (view q) (frame_id s b) (holding both.frame.0 (object.Frame g)))
+        out_shape (back.frame both.frame.0 f
+        (ap (λ (s : Shape). get_elem? (view p2).held (frame_id s b)) out_shape
+        ∙ (ap (λ (v : TreeView). get_elem? v.held (frame_id (shape_of_pass p) b)) out_view
+        ∙ both.frame.1)))
+
     pub turned : TurnsBoth p b t q y g
     turned = record {
       tries = record {
@@ -244,5 +255,10 @@ module _ (p p1 p2 : TreePass) (b : ℕ) (frame : Frame) (pool : Pool) (out : Tak
               ∙ both.frame.1)),
         );
       };
+      taken = λ h held. subst
+          (λ (z : Holding Object). Holds (view q) (frame_id (shape_of_pass p) b)
+          (holding z.taken (object.Frame g)))
+          (one_held p (frame_id (shape_of_pass p) b)
+          (holding both.frame.0 (object.Frame f)) h both.frame.1 held) frame_back;
       count = back.count ∙ (outside.count ∙ out.count);
     }

@@ -8,7 +8,8 @@ use Rattle.block_ages.specs.Order.{IsBehind, IsNext}
 use Rattle.block_ages.proofs.OrderLemmas.{before_or_behind, behind_or_not}
 use Rattle.latch_law.specs.declared.knows.Refusal.{Refusal}
 use Rattle.latch_law.specs.declared.knows.Terms.{Terms}
-use Rattle.latch_law.specs.Views.{with_refused}
+use Rattle.latch_law.specs.Rule.{Holds}
+use Rattle.latch_law.specs.Views.{holding, with_refused}
 use Rattle.latch_space.specs.Has.{IsKnown}
 use Rattle.latch_space.specs.Hands.{has_value, is_held}
 use Rattle.latch_space.specs.Passes.{view, count}
@@ -16,6 +17,7 @@ use Rattle.index_law.specs.Shape.{Shape}
 use Rattle.tree_law.specs.TreeShape.{In}
 use Rattle.forest_law.specs.declared.objects.Pool.{Pool}
 use Rattle.forest_law.specs.declared.objects.Object.{Object}
+use Rattle.forest_law.specs.declared.objects.Object.TheVariants as object
 use Rattle.forest_law.specs.Numbers.{pool_id, frame_id, frames_of}
 use Rattle.forest_world.specs.Held.{TreePass, shape_of_pass, HasPool}
 use Rattle.buffer_pool.specs.Calls.{Does}
@@ -25,6 +27,7 @@ use Rattle.buffer_pool.specs.Hands.{LacksFrame}
 use Rattle.buffer_pool.specs.Tries.{tries_alone, Tries, IsTried, KnowsPool}
 use Rattle.buffer_pool.specs.Victims.{HoldsFrameToo, MissesFrame, HoldsVictim}
 use Rattle.buffer_pool.proofs.AddedLemmas.{held_adds, none_spares}
+use Rattle.buffer_pool.proofs.AsTakenLemmas.{just_taken}
 use Rattle.buffer_pool.proofs.InsideLemmas.{taken_inside}
 use Rattle.buffer_pool.proofs.KnownLemmas.{ages_counted}
 use Rattle.buffer_pool.proofs.CallLemmas.{pool_has, does_both, does_none, does_among, took_frame, refused_frame}
@@ -115,6 +118,7 @@ took_too p q b known lacks took = record {
   lacked = lacks;
   frame = took.frame;
   knows = took.has.held;
+  taken = just_taken p q b lacks took;
   inside = taken_inside (with_refused (view p) took.refused) b took.frame took.was;
   count = took.count;
 }
@@ -227,6 +231,10 @@ module _ (p q : TreePass) (x : Pool) (last : Option ℕ) (tried : HasTried p q x
         lacked = lacked_before b holds.lacked;
         frame = holds.frame;
         knows = holds.knows;
+        taken = subst
+            (λ (s : Shape). Holds (view r) (frame_id s b)
+            (holding (object.Frame holds.frame) (object.Frame holds.frame))) same_shape
+            holds.taken;
         inside = holds.inside;
         count = (let a = holds.count in let e = tried.count in omega (arith, a, e));
       };

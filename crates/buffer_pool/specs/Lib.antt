@@ -5,6 +5,7 @@ pub mod Lending
 pub mod Pools
 pub mod Trees
 pub mod Calls
+pub mod AsTaken
 pub mod Ages
 pub mod Tries
 pub mod Causes

@@ -13,6 +13,7 @@ use Rattle.call_law.specs.Hands.{KnowsFrame}
 use Rattle.call_law.specs.Trace.{frame_references}
 use Rattle.buffer_pool.specs.declared.looking.Looked.{Looked}
 use Rattle.buffer_pool.specs.declared.looking.Looked.TheVariants as looked
+use Rattle.buffer_pool.specs.AsTaken.{HoldsAsTaken}
 use Rattle.buffer_pool.specs.Calls.{GetsNothing}
 use Rattle.buffer_pool.specs.Causes.{AreUnchanged, HasAged, ComesBy}
 use Rattle.buffer_pool.specs.Hands.{LacksFrame}
@@ -31,6 +32,7 @@ pub record HoldsPageToo (p : TreePass) (n b : ℕ) (t : Object) (x : Pool)
   pub frame : Frame
   pub knows : KnowsFrame (view q) b frame
   pub has : HasNumber frame n
+  pub held_as_taken : HoldsAsTaken (view q) b
   pub inside : HasNoOutside frame
   pub aged : HasAged x b pool
   pub how : ComesBy p x n b tries.refused pool

@@ -21,6 +21,7 @@ use Rattle.forest_world.specs.Held.{TreePass, shape_of_pass}
 use Rattle.call_law.specs.Hands.{KnowsFrame}
 use Rattle.call_law.specs.Spoken.{View}
 use Rattle.call_law.specs.Trace.{Added, frame_references}
+use Rattle.buffer_pool.specs.AsTaken.{AreAsTaken, HoldsAsTaken}
 use Rattle.buffer_pool.specs.Calls.{DoesSilently, GetsNothing}
 use Rattle.buffer_pool.specs.Causes.{AreUnchanged, PagesBy}
 use Rattle.buffer_pool.specs.Forests.{TreeView, FitsTrees}
@@ -42,8 +43,8 @@ abbrev pub HoldsOtherPages : View → ℕ → Type 0
 HoldsOtherPages v n = (b : ℕ) (f : Frame) (page : PageRows) → KnowsFrame v b f
     → f.page ≡ Some page → page.head.number ≢ n
 
--- the page, which is none outside the trees, is held in the frame of the block b, for a cause, and
--- no frame was given back
+-- the page, which is none outside the trees, is held in the frame of the block b, for a cause; that
+-- frame is as it was taken if it had the page then, and no frame was given back
 pub record PagesIn (p : TreePass) (n b : ℕ) (q : TreePass) : Type 0 where
   pub silently : DoesSilently p q (frame_id (shape_of_pass p) b ∷ [])
   pub none : frame_references silently.added.references ≡ []
@@ -51,6 +52,7 @@ pub record PagesIn (p : TreePass) (n b : ℕ) (q : TreePass) : Type 0 where
   pub frame : Frame
   pub knows : KnowsFrame (view q) b frame
   pub has : HasNumber frame n
+  pub held_as_taken : HoldsAsTaken (view q) b
   pub inside : HasNoOutside frame
   pub cause : PagesBy p n b silently.added
   pub count : count q ≡ count p + 1
@@ -92,9 +94,10 @@ pub record GaveNone (n : ℕ) (qs : List (Reference Object)) : Type 0 where
   pub unchanged : AreUnchanged qs
 
 -- there was no page of the number, or it was no page of the trees of this index and level; what is
--- held is as before
+-- held is as before, and a frame that kept its page was given back as it was taken
 pub record FindsNoPage (p : TreePass) (n i level : ℕ) (q : TreePass) : Type 0 where
   pub got : GetsNothing p q
+  pub as_taken : AreAsTaken got.silently.added.references
   pub why : GaveNone n got.silently.added.references
       ⊎ GaveOther p n i level got.silently.added
 

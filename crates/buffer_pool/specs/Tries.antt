@@ -19,6 +19,7 @@ use Rattle.forest_world.specs.Held.{TreePass, shape_of_pass}
 use Rattle.call_law.specs.Hands.{KnowsFrame}
 use Rattle.call_law.specs.Spoken.{View}
 use Rattle.call_law.specs.Trace.{Added}
+use Rattle.buffer_pool.specs.AsTaken.{StaysTaken}
 use Rattle.buffer_pool.specs.Calls.{Does}
 
 -- some refused tries, and nothing else
@@ -69,4 +70,5 @@ pub record TurnsBoth (p : TreePass) (b : ℕ) (t : Object) (q : TreePass) (y : P
     (g : Frame) : Type 0 where
   pub tries : Tries p q (pool_id ∷ frame_id (shape_of_pass p) b ∷ [])
   pub both : HoldsPoolAndFrame q b t y g
+  pub taken : StaysTaken p q b g
   pub count : count q ≡ count p

@@ -29,6 +29,7 @@ use Rattle.buffer_pool.specs.Hands.{HasOut}
 use Rattle.buffer_pool.specs.Pools.{HasPoolOut}
 use Rattle.buffer_pool.specs.Pages.{HasNumber}
 use Rattle.buffer_pool.specs.Ages.{IsAged, IsAgeless}
+use Rattle.buffer_pool.specs.AsTaken.{StaysTaken}
 use Rattle.buffer_pool.specs.Causes.{HasAged, GoesToImage}
 use Rattle.buffer_pool.specs.Tries.{Tries, TriesGivingParts, KnowsPool, HoldsPoolAndFrame, TurnsBoth}
 
@@ -130,6 +131,7 @@ pub record EmptiesFrame (p : TreePass) (b : ℕ) (t : Object) (x : Pool) (q : Tr
   pub frame : Frame
   pub tries : TriesGivingParts p q (pool_id ∷ frame_id (shape_of_pass p) b ∷ [])
   pub both : HoldsPoolAndFrame q b t pool frame
+  pub taken : StaysTaken p q b frame
   pub count : count q ≡ count p
   pub empty : frame.page ≡ None
   pub clears : ClearsBlock x b pool

@@ -1,11 +1,17 @@
 -- The frame that makes room for a page: which one it is, and what is held then.
 use Rattle.std.specs.Prelude.{ℕ, ◌≡◌, ◌+◌, Bool, true, false, Option, Some, None, [], ◌∷◌}
+use Rattle.latch_law.specs.Rule.{Holds}
+use Rattle.latch_law.specs.Views.{holding}
 use Rattle.latch_space.specs.Passes.{view, count}
+use Rattle.index_page.specs.Page.{PageRows}
 use Rattle.forest_law.specs.declared.objects.Frame.{Frame}
 use Rattle.forest_law.specs.declared.objects.Pool.{Pool}
+use Rattle.forest_law.specs.declared.objects.Where.TheVariants.{InFrame}
 use Rattle.forest_law.specs.declared.objects.Object.{Object}
+use Rattle.forest_law.specs.declared.objects.Object.TheVariants as object
 use Rattle.forest_law.specs.Numbers.{pool_id, frame_id}
 use Rattle.forest_law.specs.Outside.{HasNoOutside}
+use Rattle.forest_law.specs.State.{where_at}
 use Rattle.forest_world.specs.Held.{TreePass, shape_of_pass}
 use Rattle.call_law.specs.Hands.{KnowsFrame}
 use Rattle.buffer_pool.specs.Causes.{TookVictim}
@@ -13,12 +19,14 @@ use Rattle.buffer_pool.specs.Hands.{LacksFrame}
 use Rattle.buffer_pool.specs.Tries.{Tries, TriesGivingParts, IsTried, KnowsPool}
 use Rattle.buffer_pool.specs.Turning.{ClearsBlock}
 
--- the block's frame is held besides, and has no page outside the trees
+-- the block's frame is held besides, as it was taken, and has no page outside the trees
 pub record HoldsFrameToo (p : TreePass) (b : ℕ) (q : TreePass) : Type 0 where
   pub tries : Tries p q (frame_id (shape_of_pass p) b ∷ [])
   pub lacked : LacksFrame p b
   pub frame : Frame
   pub knows : KnowsFrame (view q) b frame
+  pub taken : Holds (view q) (frame_id (shape_of_pass p) b)
+      (holding (object.Frame frame) (object.Frame frame))
   pub inside : HasNoOutside frame
   pub count : count q ≡ count p + 1
 
@@ -48,8 +56,8 @@ abbrev pub TellsVictim : TreePass → Pool → Option ℕ → TreePass → Type 
 TellsVictim p x (Some b) q = HoldsVictim p x b q
 TellsVictim p x None q = TriedInVain p q
 
--- such a frame is held besides, and has no page; what was in it is an image, and partitions alone
--- were given back
+-- such a frame is held besides, and has no page; what was in it, as it was taken, is an image, and
+-- partitions alone were given back
 pub record HoldsRoom (p : TreePass) (b : ℕ) (t : Object) (x : Pool) (q : TreePass) : Type 0 where
   pub tries : TriesGivingParts p q (pool_id ∷ frame_id (shape_of_pass p) b ∷ [])
   pub took : TookVictim p x b tries.refused
@@ -59,6 +67,11 @@ pub record HoldsRoom (p : TreePass) (b : ℕ) (t : Object) (x : Pool) (q : TreeP
   pub clears : ClearsBlock x b pool
   pub frame : Frame
   pub knows : KnowsFrame (view q) b frame
+  pub was : Frame
+  pub taken : Holds (view q) (frame_id (shape_of_pass p) b)
+      (holding (object.Frame was) (object.Frame frame))
+  pub named : (page : PageRows) → was.page ≡ Some page
+      → where_at x.place.items page.head.number ≡ InFrame b
   pub empty : frame.page ≡ None
   pub count : count q ≡ count p + 1
 

@@ -64,7 +64,7 @@ returns-clause-empty g c = λ t x f both.
     let then = unhashed_both c.args.pass.now u b did t x f both in
     let fits = c.unhash_block.ensures.fits in let y = c.set_aside.new.pool in
     let g' = c.set_aside.new.frame in let aside = c.set_aside.ensures in
-    unhashed_empties c.args.pass.now u b did t x c.turn.new.pass y g'
+    unhashed_empties c.args.pass.now u b did t x f both.frame c.turn.new.pass y g'
     (evict_turns u p1 p2 b frame pool out outside t x (unhashed f) then fits g' aside.stored
     aside.unloads y aside.puts c.turn.new.pass c.turn.ensures.turned)
     (evict_empty u p1 p2 b frame pool out outside t x (unhashed f) then fits g' aside.stored

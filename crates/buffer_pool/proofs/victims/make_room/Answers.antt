@@ -26,7 +26,7 @@ empty_frame-requires-clause-room g c = let h = c.requires.pool in
 pub returns-clause-did : goal.returns-clause-did
 returns-clause-did g c = λ t x held. let victim = c.in-Some.ensures.did t x held in
     holds_room c.args.pass.now c.try_victim.new.pass x c.in-Some.block victim t held
-    c.empty_frame.new.pass
+    c.try_victim.ensures.fits c.empty_frame.new.pass
     (c.empty_frame.ensures.empty t x victim.holds.frame
     (victim_both c.args.pass.now c.try_victim.new.pass x c.in-Some.block victim t held))
 
