@@ -18,24 +18,15 @@ use Rattle.call_law.specs.Hands.{HoldsNoFrameBut, HoldsNoTable}
 use Rattle.call_law.specs.Trace.{frame_references}
 use Rattle.call_law.proofs.TableLemmas.{tables_lacked}
 use Rattle.call_law.proofs.TraceLemmas.{both_added}
+use Rattle.buffer_pool.specs.AsTaken.{GaveAsTaken}
 use Rattle.buffer_pool.specs.Calls.{Does, GetsNothing}
-use Rattle.buffer_pool.proofs.CallLemmas.{does_both, does_none, does_nothing, silently_both}
+use Rattle.buffer_pool.proofs.AsTakenLemmas.{both_as_taken}
+use Rattle.buffer_pool.proofs.CallLemmas.{does_both, does_none}
 use Rattle.tree_descent.specs.Descents.{Descends}
 use Rattle.tree_descent.specs.Leaves.{HasCutWithin, cut_in}
 use Rattle.tree_descent.specs.Paths.{LeadFromRoot}
 use Rattle.tree_descent.specs.Ways.{ComesDown}
 use Rattle.tree_descent.proofs.WayLemmas.{frames_both}
-
--- before the first way
-pub vain_none : (p : TreePass) → IsKnown p → GetsNothing p p
-vain_none p known = record { silently = does_nothing p known; count = refl }
-
--- one way in vain after others
-pub vain_more : (p q r : TreePass) → GetsNothing p q → GetsNothing q r → GetsNothing p r
-vain_more p q r first second = record {
-  silently = silently_both p q r [] first.silently second.silently;
-  count = second.count ∙ first.count;
-}
 
 module _ (p q : TreePass) (vain : GetsNothing p q) where
   -- after ways in vain all is held as before
@@ -55,39 +46,43 @@ module _ (p q : TreePass) (vain : GetsNothing p q) where
   pub vain_tables : HoldsNoTable (view p) → HoldsNoTable (view q)
   vain_tables = tables_lacked (view p) (view q) vain_shape (λ k table. vain_lacks k)
 
+module _ (p q : TreePass) (vain : GaveAsTaken p q) where
   module _ (r : TreePass) (i : ℕ) (mode : Mode) (tuple : FieldList) (b : ℕ)
       (down : ComesDown q (cut_in (shape_of_pass q) i mode tuple) i b r) where
     leaf_does : Does q r (frame_id (shape_of_pass p) b ∷ []) down.way.silently.added
     leaf_does = subst (λ (s : Shape). Does q r (frame_id s b ∷ []) down.way.silently.added)
-        vain_shape down.way.silently.does
+        (vain_shape p q vain.got) down.way.silently.does
 
     -- the way that comes to the leaf after ways in vain is a descent
     pub descends : (spot : Spot) → Finds mode tuple down.way.page.is.page.rows spot
         → Descends p i mode tuple (record { block = b; spot = spot }) r
     descends spot finds = let k = frame_id (shape_of_pass p) b in
-        let a = vain.silently.added in
+        let a = vain.got.silently.added in
         let way = down.way in
         record {
           silently = record {
             added = both_added a way.silently.added;
             does = does_both p q r (k ∷ []) a way.silently.added
-                (does_none p q a (k ∷ []) vain.silently.does) leaf_does;
-            silent = λ j. vain.silently.silent j ++ way.silently.silent j;
+                (does_none p q a (k ∷ []) vain.got.silently.does) leaf_does;
+            silent = λ j. vain.got.silently.silent j ++ way.silently.silent j;
           };
-          lacked = sym (vain.silently.does.rest k tt)
+          as_taken = both_as_taken a.references way.silently.added.references vain.as_taken
+              way.as_taken;
+          lacked = sym (vain.got.silently.does.rest k tt)
               ∙ subst (λ (s : Shape). get_elem? (view q).held (frame_id s b) ≡ some None)
-              vain_shape way.lacked;
+              (vain_shape p q vain.got) way.lacked;
           frame = way.frame;
           knows = way.knows;
+          held_as_taken = way.held_as_taken;
           is = record {
             page = record {
               is = way.page.is;
               order = subst
                   (λ (s : Shape). IsOrderly (fields_for s)
-                  (page_within way.page.is.page way.frame.low way.frame.high)) vain_shape
-                  way.page.order;
+                  (page_within way.page.is.page way.frame.low way.frame.high))
+                  (vain_shape p q vain.got) way.page.order;
               within = subst (λ (s : Shape). HasCutWithin way.frame (cut_in s i mode tuple))
-                  vain_shape down.within;
+                  (vain_shape p q vain.got) down.within;
             };
             finds = finds;
           };
@@ -98,7 +93,8 @@ module _ (p q : TreePass) (vain : GetsNothing p q) where
             leads = subst
                 (λ (s : Shape). LeadFromRoot s (cut_in s i mode tuple) i 0
                 way.page.is.page.head.number
-                (frame_references way.silently.added.references)) vain_shape way.leads;
+                (frame_references way.silently.added.references)) (vain_shape p q vain.got)
+                way.leads;
           };
-          count = (let x = vain.count in let y = way.count in omega (arith, x, y));
+          count = (let x = vain.got.count in let y = way.count in omega (arith, x, y));
         }

@@ -138,6 +138,7 @@ module _ (p : TreePass) (b i : ℕ) (mode : Mode) (tuple : FieldList)
           parent = held;
           frame = took.frame;
           knows = took.knows;
+          held_as_taken = took.held_as_taken;
           page = child_page;
           picks = there;
           points = picked_points cut rows child_page.is.page.head.number there;

@@ -33,12 +33,15 @@ use Rattle.call_law.specs.Spoken.{View}
 use Rattle.call_law.specs.Trace.{Added, is_frame, frame_references}
 use Rattle.call_law.proofs.TableLemmas.{tables_lacked}
 use Rattle.call_law.proofs.TraceLemmas.{both_added}
-use Rattle.buffer_pool.specs.Calls.{Does, DoesSilently, GetsNothing}
+use Rattle.buffer_pool.specs.AsTaken.{AreAsTaken, GaveAsTaken}
+use Rattle.buffer_pool.specs.Calls.{Does, DoesSilently}
 use Rattle.buffer_pool.specs.Forests.{IsFittedTree}
 use Rattle.buffer_pool.specs.Frames.{GivesFrame}
 use Rattle.buffer_pool.specs.Pages.{IsLive, HasTreePage, PagesIn, FindsPage, FindsNoPage, PointsAt}
 use Rattle.buffer_pool.proofs.AddedLemmas.{none_added, only_given, held_adds, none_spares}
-use Rattle.buffer_pool.proofs.CallLemmas.{does_both, does_none, does_again, silently_both, gave_frame}
+use Rattle.buffer_pool.proofs.AsTakenLemmas.{none_as_taken, both_as_taken}
+use Rattle.buffer_pool.proofs.CallLemmas.{does_both, does_none, does_again, gave_frame}
+use Rattle.buffer_pool.proofs.GaveLemmas.{gave_both}
 use Rattle.buffer_pool.proofs.FrameLemmas.{one_held}
 use Rattle.tree_descent.specs.Paths.{PicksChild, LeadsTo, LeadDown, LeadFromRoot}
 use Rattle.tree_descent.specs.Ways.{HoldsPage, GoesDown, LooksFor}
@@ -129,6 +132,7 @@ module _ {p : TreePass} {cut : KeyPlace → Bool} {i : ℕ} where
       };
       silent = refl;
     };
+    as_taken = tt;
     leads = record { top = level; down = (refl, refl) };
     below = below;
     count = refl;
@@ -155,11 +159,13 @@ module _ {p : TreePass} {cut : KeyPlace → Bool} {i : ℕ} where
     looks_tables = tables_lacked (view p) (view q) looks_shape (λ k table. looks_lacks k)
 
     -- the page was no page of its level: the way was in vain
-    pub ends_in_vain : {r : TreePass} → FindsNoPage q n i level r → GetsNothing p r
-    ends_in_vain {r} found = record {
-      silently = silently_both p q r [] looks.silently found.got.silently;
-      count = found.got.count ∙ looks.count;
-    }
+    pub ends_in_vain : {r : TreePass} → FindsNoPage q n i level r → GaveAsTaken p r
+    ends_in_vain {r} found = gave_both p q r
+        (record {
+          got = record { silently = looks.silently; count = looks.count };
+          as_taken = looks.as_taken;
+        })
+        (record { got = found.got; as_taken = found.as_taken })
 
     -- the page is taken: the way goes down to it
     module _ {b : ℕ} {r : TreePass} (took : PagesIn q n b r) (fitted : IsFittedTree (view r))
@@ -193,11 +199,14 @@ module _ {p : TreePass} {cut : KeyPlace → Bool} {i : ℕ} where
               (does_none p q looks.silently.added (k ∷ []) looks.silently.does) took_does;
           silent = λ j. looks.silently.silent j ++ took.silently.silent j;
         };
+        as_taken = both_as_taken looks.silently.added.references more.references looks.as_taken
+            (none_as_taken more.references took.none);
         lacked = sym (looks.silently.does.rest k tt)
             ∙ subst (λ (s : Shape). get_elem? (view q).held (frame_id s b) ≡ some None) looks_shape
             took.lacked;
         frame = took.frame;
         knows = took.knows;
+        held_as_taken = took.held_as_taken;
         page = record {
           is = is;
           order = subst
@@ -265,11 +274,22 @@ module _ {p : TreePass} {cut : KeyPlace → Bool} {i : ℕ} where
         silent = append-nil way.silently.added.said ∙ way.silently.silent;
       }
 
+      -- and each frame that kept its page was given back as it was taken
+      gives_as_taken : AreAsTaken (way.silently.added.references ++ given.references)
+      gives_as_taken = both_as_taken way.silently.added.references given.references way.as_taken (
+        way.held_as_taken (holding way.knows.0 (object.Frame way.frame)) way.knows.1,
+        tt,
+      )
+
       gives_count : count r ≡ count p
       gives_count = let a = gave.count in let b = way.count in omega (arith, a, b)
 
-      pub turns_back : GetsNothing p r
-      turns_back = record { silently = gives_way; count = gives_count }
+      pub turns_back : GaveAsTaken p r
+      unfolding gives_way
+      turns_back = record {
+        got = record { silently = gives_way; count = gives_count };
+        as_taken = gives_as_taken;
+      }
 
   -- a level that isn't that of the leaves is above another
   pub way_above : {level b : ℕ} {q : TreePass} → GoesDown p cut i level b q → 0 < level
@@ -307,6 +327,7 @@ module _ {p : TreePass} {cut : KeyPlace → Bool} {i : ℕ} where
     unfolding gives_way
     leaves_page gave = record {
       silently = gives_way way gave;
+      as_taken = gives_as_taken way gave;
       leads = leads_on;
       below = way.page.below (omega arith) n (picked_points cut way.page.is.page.rows n picks);
       count = gives_count way gave;

@@ -11,7 +11,8 @@ use Rattle.forest_world.specs.Held.{TreePass, shape_of_pass}
 use Rattle.call_law.specs.Hands.{KnowsFrame}
 use Rattle.call_law.specs.Spoken.{View}
 use Rattle.call_law.specs.Trace.{frame_references}
-use Rattle.buffer_pool.specs.Calls.{DoesSilently, GetsNothing}
+use Rattle.buffer_pool.specs.AsTaken.{AreAsTaken, HoldsAsTaken, GaveAsTaken}
+use Rattle.buffer_pool.specs.Calls.{DoesSilently}
 use Rattle.buffer_pool.specs.Hands.{LacksFrame}
 use Rattle.buffer_pool.specs.Pages.{HasTreePage, PointsAt}
 use Rattle.tree_descent.specs.Leaves.{HasCutWithin}
@@ -40,13 +41,15 @@ pub record IsOnWay (shape : Shape) (f : Frame) (i level : ℕ) : Type 0 where
   pub below : 0 < level → (n : ℕ) → PointsAt is.page.rows n → n < shape.pages
 
 -- a way down has come to the page in the block's frame, and the references of frames that were
--- added are the path to it
+-- added are the path to it; each frame that kept its page was given back, or is held, as it was taken
 pub record GoesDown (p : TreePass) (cut : KeyPlace → Bool) (i level b : ℕ)
     (q : TreePass) : Type 0 where
   pub silently : DoesSilently p q (frame_id (shape_of_pass p) b ∷ [])
+  pub as_taken : AreAsTaken silently.added.references
   pub lacked : LacksFrame p b
   pub frame : Frame
   pub knows : KnowsFrame (view q) b frame
+  pub held_as_taken : HoldsAsTaken (view q) b
   pub page : IsOnWay (shape_of_pass p) frame i level
   pub leads : LeadFromRoot (shape_of_pass p) cut i level page.is.page.head.number
       (frame_references silently.added.references)
@@ -56,6 +59,7 @@ pub record GoesDown (p : TreePass) (cut : KeyPlace → Bool) (i level b : ℕ)
 pub record LooksFor (p : TreePass) (cut : KeyPlace → Bool) (i level n : ℕ)
     (q : TreePass) : Type 0 where
   pub silently : DoesSilently p q []
+  pub as_taken : AreAsTaken silently.added.references
   pub leads : LeadFromRoot (shape_of_pass p) cut i level n
       (frame_references silently.added.references)
   pub below : n < (shape_of_pass p).pages
@@ -69,4 +73,4 @@ pub record ComesDown (p : TreePass) (cut : KeyPlace → Bool) (i b : ℕ) (q : T
 -- the way has come to such a leaf, or was in vain
 abbrev pub TriesDown : TreePass → (KeyPlace → Bool) → ℕ → Option ℕ → TreePass → Type 0
 TriesDown p cut i (Some b) q = ComesDown p cut i b q
-TriesDown p cut i None q = GetsNothing p q
+TriesDown p cut i None q = GaveAsTaken p q

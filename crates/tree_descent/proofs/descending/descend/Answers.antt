@@ -4,33 +4,34 @@ use Rattle.forest_law.specs.State.{fields_for}
 use Rattle.forest_world.specs.Held.{shape_of_pass}
 use Rattle.buffer_pool.proofs.AgainLemmas.{passes_both}
 use Rattle.tree_descent.specs.Leaves.{cut_in}
-use Rattle.tree_descent.proofs.DescentLemmas.{vain_none, vain_more, vain_shape, vain_frames, vain_tables, descends}
+use Rattle.buffer_pool.proofs.GaveLemmas.{gave_both, gave_none}
+use Rattle.tree_descent.proofs.DescentLemmas.{vain_shape, vain_frames, vain_tables, descends}
 use Rattle.tree_descent.proofs.WayLemmas.{way_page}
 use Rattle.tree_descent.proofs.descending.descend.Goals as goal
 
 pub loop-init : goal.loop-init
 loop-init g c =
-    record { own = ((refl, refl), c.requires.own.1); vain = vain_none c.args.pass.now c.requires.known }
+    record { own = ((refl, refl), c.requires.own.1); vain = gave_none c.args.pass.now c.requires.known }
 
 pub try_down-requires-clause-index : goal.try_down-requires-clause-index
 try_down-requires-clause-index g c = subst (λ (s : Shape). c.args.index < s.indexes)
-    (sym (vain_shape c.args.pass.now c.loop.pass c.loop.invariant.vain)) c.requires.index
+    (sym (vain_shape c.args.pass.now c.loop.pass c.loop.invariant.vain.got)) c.requires.index
 
 pub try_down-requires-clause-fields : goal.try_down-requires-clause-fields
 try_down-requires-clause-fields g c = subst
     (λ (s : Shape). length (g.T.Fields.fields_of c.args.tuple.now) ≤ fields_for s c.args.index)
-    (sym (vain_shape c.args.pass.now c.loop.pass c.loop.invariant.vain)) c.requires.fields
+    (sym (vain_shape c.args.pass.now c.loop.pass c.loop.invariant.vain.got)) c.requires.fields
 
 pub try_down-requires-clause-frames : goal.try_down-requires-clause-frames
 try_down-requires-clause-frames g c =
-    vain_frames c.args.pass.now c.loop.pass c.loop.invariant.vain c.requires.frames
+    vain_frames c.args.pass.now c.loop.pass c.loop.invariant.vain.got c.requires.frames
 
 pub try_down-requires-clause-tables : goal.try_down-requires-clause-tables
 try_down-requires-clause-tables g c =
-    vain_tables c.args.pass.now c.loop.pass c.loop.invariant.vain c.requires.tables
+    vain_tables c.args.pass.now c.loop.pass c.loop.invariant.vain.got c.requires.tables
 
 pub try_down-requires-clause-room : goal.try_down-requires-clause-room
-try_down-requires-clause-room g c = let same = c.loop.invariant.vain.count in
+try_down-requires-clause-room g c = let same = c.loop.invariant.vain.got.count in
     let room = c.requires.room in omega (arith, same, room)
 
 pub spot_on-spot-requires-clause-held : goal.spot_on-spot-requires-clause-held
@@ -53,7 +54,7 @@ loop-preserved g c = record {
         c.try_down.ensures.own.0,
     c.try_down.ensures.own.1,
   );
-  vain = vain_more c.args.pass.now c.loop.pass c.try_down.new.pass c.loop.invariant.vain
+  vain = gave_both c.args.pass.now c.loop.pass c.try_down.new.pass c.loop.invariant.vain
       c.in_default.ensures.tried;
 }
 
