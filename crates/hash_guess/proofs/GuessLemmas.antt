@@ -31,10 +31,13 @@ use Rattle.forest_law.specs.References.{IsReference}
 use Rattle.forest_world.specs.Held.{TreePass, shape_of_pass}
 use Rattle.call_law.specs.Hands.{LacksObject, HoldsNoFrameBut}
 use Rattle.call_law.specs.Spoken.{View}
-use Rattle.buffer_pool.specs.Calls.{Does, GetsNothing}
+use Rattle.buffer_pool.specs.AsTaken.{GaveAsTaken}
+use Rattle.buffer_pool.specs.Calls.{Does}
 use Rattle.buffer_pool.specs.Tries.{tries_and_given}
 use Rattle.buffer_pool.proofs.AddedLemmas.{none_added}
-use Rattle.buffer_pool.proofs.CallLemmas.{does_both, does_among, does_again, does_nothing}
+use Rattle.buffer_pool.proofs.AsTakenLemmas.{same_as_taken, held_as_taken}
+use Rattle.buffer_pool.proofs.CallLemmas.{does_both, does_among, does_again}
+use Rattle.buffer_pool.proofs.GaveLemmas.{gave_none}
 use Rattle.buffer_pool.proofs.FrameLemmas.{one_held}
 use Rattle.hash_guess.specs.declared.cause.Cause.{Cause}
 use Rattle.hash_guess.specs.declared.cause.Cause.TheVariants.{Cold, Short, PartBusy, NoEntry, BlockBusy, Unequal}
@@ -197,6 +200,9 @@ module _ (p m : TreePass) (index : ℕ) (tuple : FieldList) (info : Info) (n : N
         names = names_place;
         lacked = lacked_before;
         hit = holds_hit q index mode tuple n found told;
+        held_as_taken = held_as_taken q n.block
+            (holding (object.Frame followed.frame) (object.Frame followed.frame))
+            (frame_held m q index n followed) (same_as_taken (object.Frame followed.frame));
         does = took_block;
         count = followed.count ∙ entry.took.comes.count;
       }
@@ -241,17 +247,42 @@ module _ (p m : TreePass) (index : ℕ) (tuple : FieldList) (info : Info) (n : N
               let d = refuted.count in omega (arith, a, b, d));
         }
 
--- after each cause the pass holds what it held, and has said nothing
+-- nothing was asked
+asks_nothing : (p q : TreePass) → IsKnown p → q ≡ p → GaveAsTaken p q
+asks_nothing p q known same = subst (GaveAsTaken p) (sym same) (gave_none p known)
+
+-- after each cause the pass holds what it held, has said nothing, and gave back what it took as it
+-- was taken
 pub misses_keep : (p q : TreePass) → IsKnown p → (index : ℕ) (mode : Mode) (tuple : FieldList)
-    (info : Info) (cause : Cause) → MissedFor p index mode tuple info cause q → GetsNothing p q
-misses_keep p q known index mode tuple info Cold told =
-    subst (GetsNothing p) (sym told.1) (record { silently = does_nothing p known; count = refl })
+    (info : Info) (cause : Cause) → MissedFor p index mode tuple info cause q → GaveAsTaken p q
+misses_keep p q known index mode tuple info Cold told = asks_nothing p q known told.1
 misses_keep p q known index mode tuple info (Short have need) told =
-    subst (GetsNothing p) (sym told.1) (record { silently = does_nothing p known; count = refl })
+    asks_nothing p q known told.1
 misses_keep p q known index mode tuple info (PartBusy n) told = record {
-  silently = record { added = _; does = told.does; silent = refl };
-  count = told.count;
+  got = record {
+    silently = record { added = _; does = told.does; silent = refl };
+    count = told.count;
+  };
+  as_taken = tt;
 }
-misses_keep p q known index mode tuple info (NoEntry fold) told = search
-misses_keep p q known index mode tuple info (BlockBusy n) told = search
-misses_keep p q known index mode tuple info (Unequal block place) told = search
+misses_keep p q known index mode tuple info (NoEntry fold) told = record {
+  got = record {
+    silently = record { added = _; does = told.does; silent = refl };
+    count = told.count;
+  };
+  as_taken = (same_as_taken (object.Part told.part), tt);
+}
+misses_keep p q known index mode tuple info (BlockBusy n) told = record {
+  got = record {
+    silently = record { added = _; does = told.does; silent = refl };
+    count = told.count;
+  };
+  as_taken = (same_as_taken (object.Part told.part), tt);
+}
+misses_keep p q known index mode tuple info (Unequal block place) told = record {
+  got = record {
+    silently = record { added = _; does = told.does; silent = refl };
+    count = told.count;
+  };
+  as_taken = (same_as_taken (object.Part told.part), (same_as_taken (object.Frame told.frame), tt));
+}

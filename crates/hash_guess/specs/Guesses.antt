@@ -25,6 +25,7 @@ use Rattle.forest_law.specs.References.{IsReference}
 use Rattle.forest_world.specs.Held.{TreePass, shape_of_pass}
 use Rattle.call_law.specs.Hands.{LacksObject}
 use Rattle.call_law.specs.Spoken.{View}
+use Rattle.buffer_pool.specs.AsTaken.{AreAsTaken, HoldsAsTaken}
 use Rattle.buffer_pool.specs.Calls.{Does, GetsNothing}
 use Rattle.buffer_pool.specs.Tries.{tries_and_given}
 use Rattle.hash_guess.specs.declared.cause.Cause.{Cause}
@@ -63,14 +64,15 @@ abbrev pub with_part : TreePass → ℕ → Part → View
 with_part p index part =
     with_held (view p) (part_id_in p index) (Some (holding (object.Part part) (object.Part part)))
 
--- the named row is the one that the mode asks for: the block's frame is held besides, and one
--- reference more tells of the partition
+-- the named row is the one that the mode asks for: the block's frame is held besides, as it was
+-- taken, and one reference more tells of the partition
 pub record HitsRow (p : TreePass) (index : ℕ) (mode : Mode) (tuple : FieldList) (info : Info)
     (block place : ℕ) (found : Bool) (q : TreePass) : Type 0 where
   pub part : Part
   pub names : NamesPlace p index tuple info part block place
   pub lacked : LacksObject (view p) (frame_id_in p block)
   pub hit : HoldsHit (view q) index mode tuple block place found
+  pub held_as_taken : HoldsAsTaken (view q) block
   pub does : Does p q (frame_id_in p block ∷ [])
       (tries_and_given [] (part_given p index part ∷ []))
   pub count : count q ≡ count p + 1
@@ -132,11 +134,12 @@ pub record GuessHits (p : TreePass) (l : Knows) (index : ℕ) (mode : Mode) (tup
   pub hits : HitsRow p index mode tuple info block place found q
   pub learns : LearnsOf l index info kind.Hit learn m
 
--- the pass holds what it held, for a cause by an info that was read; where the hash was asked the miss
--- was tried
+-- the pass holds what it held, for a cause by an info that was read, and gave back what it took as it
+-- was taken; where the hash was asked the miss was tried
 pub record GuessMisses (p : TreePass) (l : Knows) (index : ℕ) (mode : Mode) (tuple : FieldList)
     (cause : Cause) (learn : Option Learn) (q : TreePass) (m : Knows) : Type 0 where
   pub keeps : GetsNothing p q
+  pub as_taken : AreAsTaken keeps.silently.added.references
   pub info : Info
   pub misses : MissedFor p index mode tuple info cause q
   pub learns : LearnsIf (is_miss cause) l index info learn m

@@ -16,9 +16,12 @@ returns-in-Ok-clause-did g c = record {
 }
 
 pub returns-then-is_miss-clause-did : goal.returns-then-is_miss-clause-did
-returns-then-is_miss-clause-did g c = let told = c.in-Err.ensures.err in record {
-  keeps = misses_keep c.args.pass.now c.find_named-told.new.pass c.requires.known c.args.index
-      c.args.mode (g.A.Fields.fields_of c.args.tuple.now) c.recommend-info.result c.in-Err.cause told;
+returns-then-is_miss-clause-did g c = let told = c.in-Err.ensures.err in
+    let kept = misses_keep c.args.pass.now c.find_named-told.new.pass c.requires.known c.args.index
+    c.args.mode (g.A.Fields.fields_of c.args.tuple.now) c.recommend-info.result c.in-Err.cause told
+    in record {
+  keeps = kept.got;
+  as_taken = kept.as_taken;
   info = c.recommend-info.result;
   misses = told;
   learns = subst (λ (b : Bool). LearnsIf b (knowledge c.args.learn.now) c.args.index
@@ -35,9 +38,12 @@ returns-then-is_miss-clause-did g c = let told = c.in-Err.ensures.err in record 
 }
 
 pub returns-else-is_miss-clause-did : goal.returns-else-is_miss-clause-did
-returns-else-is_miss-clause-did g c = let told = c.in-Err.ensures.err in record {
-  keeps = misses_keep c.args.pass.now c.find_named-told.new.pass c.requires.known c.args.index
-      c.args.mode (g.A.Fields.fields_of c.args.tuple.now) c.recommend-info.result c.in-Err.cause told;
+returns-else-is_miss-clause-did g c = let told = c.in-Err.ensures.err in
+    let kept = misses_keep c.args.pass.now c.find_named-told.new.pass c.requires.known c.args.index
+    c.args.mode (g.A.Fields.fields_of c.args.tuple.now) c.recommend-info.result c.in-Err.cause told
+    in record {
+  keeps = kept.got;
+  as_taken = kept.as_taken;
   info = c.recommend-info.result;
   misses = told;
   learns = subst (λ (b : Bool). LearnsIf b (knowledge c.args.learn.now) c.args.index
