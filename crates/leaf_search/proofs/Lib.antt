@@ -8,6 +8,7 @@ pub mod HashLemmas
 pub mod LessonLemmas
 pub mod FigureLemmas
 pub mod DownLemmas
+pub mod TaughtLemmas
 pub mod KeyLemmas
 pub mod HitLemmas
 pub mod TryLemmas

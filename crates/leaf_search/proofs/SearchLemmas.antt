@@ -29,15 +29,18 @@ use Rattle.tree_law.specs.Pages.{IsOrderly, high_place, low_place}
 use Rattle.index_law.specs.Shape.{Shape}
 use Rattle.forest_law.specs.declared.objects.Frame.{Frame}
 use Rattle.forest_law.specs.declared.objects.Object.{Object}
+use Rattle.forest_law.specs.declared.objects.Object.TheVariants as object
 use Rattle.forest_law.specs.Numbers.{frame_id}
 use Rattle.forest_law.specs.State.{bound, fields_for, page_within}
 use Rattle.forest_world.specs.Held.{TreePass, shape_of_pass}
 use Rattle.call_law.specs.Trace.{Added, frame_references}
 use Rattle.call_law.proofs.TraceLemmas.{both_added}
+use Rattle.buffer_pool.specs.AsTaken.{AreAsTaken}
 use Rattle.buffer_pool.specs.Calls.{Does, DoesSilently, GetsNothing}
 use Rattle.buffer_pool.specs.Forests.{IsFittedTree}
 use Rattle.buffer_pool.specs.Hands.{LacksFrame}
 use Rattle.buffer_pool.specs.Tries.{tries_and_given}
+use Rattle.buffer_pool.proofs.AsTakenLemmas.{same_as_taken, none_as_taken, both_as_taken}
 use Rattle.buffer_pool.proofs.CallLemmas.{does_both, does_none}
 use Rattle.buffer_pool.proofs.GivingLemmas.{parts_no_frames}
 use Rattle.hash_guess.specs.declared.cause.Cause.{Cause}
@@ -53,8 +56,10 @@ use Rattle.leaf_search.specs.Downs.{SearchesDown, figures_at}
 use Rattle.leaf_search.specs.Hows.{how_of, note_of_hit}
 use Rattle.leaf_search.specs.Lessons.{EndsLesson, Teaches, descent_to, note_of_build}
 use Rattle.leaf_search.specs.Searches.{Searches}
+use Rattle.leaf_search.specs.Taught.{IsAsTaught}
 use Rattle.leaf_search.proofs.DownLemmas.{taught_frame, taught_leaf, taught_page, taught_shape, went_shape}
 use Rattle.leaf_search.proofs.HitLemmas.{hit_page}
+use Rattle.leaf_search.proofs.TaughtLemmas.{holds_as_taught}
 use Rattle.leaf_search.proofs.TryLemmas.{learnt_tries, missed_tries, of_tries, tries_after}
 
 -- the position of a whole key is one in each mode
@@ -89,6 +94,8 @@ module _ {p q : TreePass} {l m : Knows} {i : ℕ} {mode : Mode} {key : FieldList
       }) q m
   searches_hit spot finds = record {
     silently = search (tries_and_given [] (part_given p i guess.hits.part ∷ []));
+    as_taken = (same_as_taken (object.Part guess.hits.part), tt);
+    as_found = λ h held. inl (refl, guess.hits.held_as_taken h held);
     lacked = guess.hits.lacked;
     frame = guess.hits.hit.frame;
     knows = guess.hits.hit.knows;
@@ -136,8 +143,8 @@ cause_is_no_hit cause is = not_down (sym (ap (λ h. (how_word h).search) is) ∙
     not_down e = absurd cc
 
 module _ {p q r s : TreePass} (l : Knows) {n m : Knows} {i : ℕ} {mode : Mode} {key : FieldList}
-    (whole : length key ≡ fields_for (shape_of_pass p) i) (nothing : GetsNothing p q) {way : Leaf}
-    {told : Note} (went : Descends q i mode key way r)
+    (whole : length key ≡ fields_for (shape_of_pass p) i) (nothing : GetsNothing p q)
+    (gave : AreAsTaken nothing.silently.added.references) {way : Leaf} {told : Note} (went : Descends q i mode key way r)
     (taught : Teaches r n i way.block (figures_at way.spot) told s m) where
   shape_q : shape_of_pass q ≡ shape_of_pass p
   shape_q = ap (λ (t : Terms Shape). t.shape) nothing.silently.does.adds.numbers.terms
@@ -178,6 +185,12 @@ module _ {p q r s : TreePass} (l : Knows) {n m : Knows} {i : ℕ} {mode : Mode} 
     does = all_does;
     silent = λ j. (nothing.silently.silent j ++ went.silently.silent j) ++ [];
   }
+
+  -- each frame that kept its page was given back as it was taken
+  all_as_taken : AreAsTaken all.references
+  all_as_taken = both_as_taken (a0.references ++ a1.references) taught.given
+      (both_as_taken a0.references a1.references gave went.as_taken)
+      (none_as_taken taught.given (parts_no_frames taught.given taught.parts))
 
   down_lacked : LacksFrame p way.block
   down_lacked = sym (nothing.silently.does.rest own tt)
@@ -242,6 +255,13 @@ module _ {p q r s : TreePass} (l : Knows) {n m : Knows} {i : ℕ} {mode : Mode} 
       }) s m
   searches_way cause info learn learns spot finds = record {
     silently = down_silently;
+    as_taken = all_as_taken;
+    as_found = λ h held. inr (
+      cause_is_no_hit cause,
+      subst (λ (z : Shape). IsAsTaught z i m h.taken h.known) shape_r
+          (holds_as_taught r s n m i way.block (figures_at way.spot) told taught
+          went.held_as_taken h held),
+    );
     lacked = down_lacked;
     frame = taught.new;
     knows = (taught_leaf r s n m i way.block (figures_at way.spot) told taught).knows;
@@ -280,6 +300,6 @@ searches_down_too {p} {s = s} {l} {m = m} {i} {key = key} whole {cause} guess {l
       how = how_of cause;
       note = told;
     }) s m) (sym down.block_is)
-    (searches_way l whole guess.keeps down.went down.taught cause guess.info _ guess.learns
+    (searches_way l whole guess.keeps guess.as_taken down.went down.taught cause guess.info _ guess.learns
     leaf.spot (subst (λ (z : PageRows). Finds Ge key z.rows leaf.spot)
     (sym (taught_page down.went down.taught)) down.finds))
