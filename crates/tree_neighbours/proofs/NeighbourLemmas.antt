@@ -173,6 +173,7 @@ module _ (p : TreePass) (b i : ℕ) (side : Side) (held : HoldsPage (view p) b i
       holds = held;
       frame = took.frame;
       knows = took.knows;
+      held_as_taken = took.held_as_taken;
       beside = record {
         is = found.0.is;
         order = subst

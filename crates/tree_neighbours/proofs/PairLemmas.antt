@@ -20,10 +20,12 @@ use Rattle.call_law.specs.Hands.{HoldsNoFrameBut, HoldsNoTable}
 use Rattle.call_law.specs.Trace.{Added, frame_references}
 use Rattle.call_law.proofs.TableLemmas.{table_no_frame, tables_lacked}
 use Rattle.call_law.proofs.TraceLemmas.{both_added}
-use Rattle.buffer_pool.specs.Calls.{Does, GetsNothing}
+use Rattle.buffer_pool.specs.AsTaken.{HoldsAsTaken, GaveAsTaken}
+use Rattle.buffer_pool.specs.Calls.{Does}
 use Rattle.buffer_pool.specs.Frames.{GivesFrame}
 use Rattle.buffer_pool.specs.Hands.{LacksFrame, MayGiveBack}
 use Rattle.buffer_pool.proofs.AddedLemmas.{only_given, frame_still}
+use Rattle.buffer_pool.proofs.AsTakenLemmas.{none_as_taken, both_as_taken, rest_as_taken, gave_as_taken}
 use Rattle.buffer_pool.proofs.CallLemmas.{does_both, does_none, does_more, does_among, does_again, gave_frame}
 use Rattle.tree_descent.specs.declared.descending.Leaf.{Leaf}
 use Rattle.tree_descent.specs.Descents.{Descends}
@@ -67,10 +69,12 @@ module _ (p q : TreePass) (i : ℕ) (mode : Mode) (tuple : FieldList) (leaf : Le
       → DescendsPair p i mode tuple (record { leaf = leaf; other = None }) q
   leaf_alone alone = record {
     silently = down.silently;
+    as_taken = down.as_taken;
     path = down.path;
     lacked = down.lacked;
     frame = down.frame;
     knows = down.knows;
+    held_as_taken = down.held_as_taken;
     is = down.is;
     other = alone;
     count = (let one = down.count in omega (arith, one));
@@ -125,6 +129,8 @@ module _ (p q : TreePass) (i : ℕ) (mode : Mode) (tuple : FieldList) (leaf : Le
             (does_more q r took.silently.added k (j ∷ []) took_does);
         silent = λ n. down.silently.silent n ++ took.silently.silent n;
       };
+      as_taken = both_as_taken down.silently.added.references took.silently.added.references
+          down.as_taken (none_as_taken took.silently.added.references took.none);
       path = record {
         vain = down.path.vain;
         path = down.path.path;
@@ -139,6 +145,9 @@ module _ (p q : TreePass) (i : ℕ) (mode : Mode) (tuple : FieldList) (leaf : Le
       knows = frame_still (view q) (view r) (frame_id (shape_of_pass q) m ∷ [])
           took.silently.does.adds.numbers took.silently.does.rest leaf.block
           (λ e. apart (omega (arith, e)), tt) down.frame down.knows;
+      held_as_taken = rest_as_taken (view q) (view r) (frame_id (shape_of_pass q) m ∷ [])
+          took.silently.does.adds.numbers took.silently.does.rest leaf.block
+          (λ e. apart (omega (arith, e)), tt) down.held_as_taken;
       is = down.is;
       other = (
         none,
@@ -148,6 +157,7 @@ module _ (p q : TreePass) (i : ℕ) (mode : Mode) (tuple : FieldList) (leaf : Le
               leaf_shape took.lacked;
           frame = took.frame;
           knows = took.knows;
+          held_as_taken = took.held_as_taken;
           beside = record {
             is = took.beside.is;
             order = subst
@@ -177,6 +187,11 @@ module _ (p q : TreePass) (i : ℕ) (mode : Mode) (tuple : FieldList) (leaf : Le
         (frame_still (view q) (view r) [] does.adds.numbers does.rest leaf.block tt down.frame
         down.knows) down.is.page.is
 
+    leaf_as_taken : HoldsAsTaken (view r) leaf.block
+    leaf_as_taken = let does = busy.refused.got.silently.does in
+        rest_as_taken (view q) (view r) [] does.adds.numbers does.rest leaf.block tt
+        down.held_as_taken
+
     module _ (s : TreePass) (gave : GivesFrame r leaf.block s) where
       abbrev given : Added
       given = only_given k gave.taken (object.Frame gave.frame)
@@ -188,32 +203,39 @@ module _ (p q : TreePass) (i : ℕ) (mode : Mode) (tuple : FieldList) (leaf : Le
           (gave_frame r s busy.refused.got.silently.does.known leaf.block gave)
 
       -- then nothing is held besides
-      pub leaf_given_back : GetsNothing p s
+      pub leaf_given_back : GaveAsTaken p s
       leaf_given_back =
           let a = down.silently.added in
           let b = busy.refused.got.silently.added in
           record {
-            silently = record {
-              added = both_added (both_added a b) given;
-              does = does_again p s (both_added (both_added a b) given) k []
-                  (does_both p r s (k ∷ []) (both_added a b) given
-                  (does_both p q r (k ∷ []) a b down.silently.does
-                  (does_none q r b (k ∷ []) busy.refused.got.silently.does)) gave_does)
-                  (subst
-                  (λ (z : Shape). get_elem? (view s).held (frame_id z leaf.block) ≡ some None)
-                  (ap (λ (t : Terms Shape). t.shape) gave.hand.terms ∙ busy_shape) gave.lacks
-                  ∙ sym down.lacked);
-              silent = λ n. (down.silently.silent n ++ busy.refused.got.silently.silent n) ++ [];
+            got = record {
+              silently = record {
+                added = both_added (both_added a b) given;
+                does = does_again p s (both_added (both_added a b) given) k []
+                    (does_both p r s (k ∷ []) (both_added a b) given
+                    (does_both p q r (k ∷ []) a b down.silently.does
+                    (does_none q r b (k ∷ []) busy.refused.got.silently.does)) gave_does)
+                    (subst
+                    (λ (z : Shape). get_elem? (view s).held (frame_id z leaf.block) ≡ some None)
+                    (ap (λ (t : Terms Shape). t.shape) gave.hand.terms ∙ busy_shape) gave.lacks
+                    ∙ sym down.lacked);
+                silent = λ n.
+                    (down.silently.silent n ++ busy.refused.got.silently.silent n) ++ [];
+              };
+              count = (let one = down.count in let two = busy.refused.got.count in
+                  let three = gave.count in omega (arith, one, two, three));
             };
-            count = (let one = down.count in let two = busy.refused.got.count in
-                let three = gave.count in omega (arith, one, two, three));
+            as_taken = both_as_taken (a.references ++ b.references) given.references
+                (both_as_taken a.references b.references down.as_taken
+                (none_as_taken b.references busy.refused.none))
+                (gave_as_taken r s leaf.block gave leaf_as_taken, tt);
           }
 
-module _ (p q : TreePass) (vain : GetsNothing p q) where
+module _ (p q : TreePass) (vain : GaveAsTaken p q) where
   lacked_back : (b : ℕ) → LacksFrame q b → LacksFrame p b
-  lacked_back b lacks = sym (vain.silently.does.rest (frame_id (shape_of_pass p) b) tt)
+  lacked_back b lacks = sym (vain.got.silently.does.rest (frame_id (shape_of_pass p) b) tt)
       ∙ subst (λ (s : Shape). get_elem? (view q).held (frame_id s b) ≡ some None)
-      (vain_shape p q vain) lacks
+      (vain_shape p q vain.got) lacks
 
   other_back : (r : TreePass) (b i : ℕ) (side : Side) (f : Frame) (page : PageRows) (spot : Spot)
       → (o : Option ℕ) → HoldsOther q r b i side f page spot o
@@ -225,12 +247,13 @@ module _ (p q : TreePass) (vain : GetsNothing p q) where
       lacked = lacked_back m other.1.lacked;
       frame = other.1.frame;
       knows = other.1.knows;
+      held_as_taken = other.1.held_as_taken;
       beside = record {
         is = other.1.beside.is;
         order = subst
             (λ (s : Shape). IsOrderly (fields_for s)
             (page_within other.1.beside.is.page other.1.frame.low other.1.frame.high))
-            (vain_shape p q vain) other.1.beside.order;
+            (vain_shape p q vain.got) other.1.beside.order;
         other = other.1.beside.other;
         meets = other.1.beside.meets;
       };
@@ -243,18 +266,20 @@ module _ (p q : TreePass) (vain : GetsNothing p q) where
       → DescendsPair q i mode tuple pair r → DescendsPair p i mode tuple pair r
   pair_after r i mode tuple pair went =
       let b = pair.leaf.block in
-      let a = vain.silently.added in
-      let same = vain_shape p q vain in
+      let a = vain.got.silently.added in
+      let same = vain_shape p q vain.got in
       let ks = frame_id (shape_of_pass p) b ∷ frames_at (shape_of_pass p) pair.other in
       record {
         silently = record {
           added = both_added a went.silently.added;
-          does = does_both p q r ks a went.silently.added (does_none p q a ks vain.silently.does)
+          does = does_both p q r ks a went.silently.added (does_none p q a ks vain.got.silently.does)
               (subst
               (λ (s : Shape). Does q r (frame_id s b ∷ frames_at s pair.other)
               went.silently.added) same went.silently.does);
-          silent = λ n. vain.silently.silent n ++ went.silently.silent n;
+          silent = λ n. vain.got.silently.silent n ++ went.silently.silent n;
         };
+        as_taken = both_as_taken a.references went.silently.added.references vain.as_taken
+            went.as_taken;
         path = record {
           vain = frame_references a.references ++ went.path.vain;
           path = went.path.path;
@@ -268,6 +293,7 @@ module _ (p q : TreePass) (vain : GetsNothing p q) where
         lacked = lacked_back b went.lacked;
         frame = went.frame;
         knows = went.knows;
+        held_as_taken = went.held_as_taken;
         is = record {
           page = record {
             is = went.is.page.is;
@@ -284,5 +310,5 @@ module _ (p q : TreePass) (vain : GetsNothing p q) where
             pair.other went.other;
         count = went.count
             ∙ (ap (λ (s : Shape). count q + 1 + length (frames_at s pair.other)) same
-            ∙ ap (λ n. n + 1 + length (frames_at (shape_of_pass p) pair.other)) vain.count);
+            ∙ ap (λ n. n + 1 + length (frames_at (shape_of_pass p) pair.other)) vain.got.count);
       }

@@ -9,6 +9,7 @@ use Rattle.forest_law.specs.State.{page_within, fields_for}
 use Rattle.forest_world.specs.Held.{TreePass, shape_of_pass}
 use Rattle.call_law.specs.Hands.{KnowsFrame}
 use Rattle.call_law.specs.Trace.{frame_references}
+use Rattle.buffer_pool.specs.AsTaken.{HoldsAsTaken}
 use Rattle.buffer_pool.specs.Calls.{DoesSilently}
 use Rattle.buffer_pool.specs.Hands.{LacksFrame}
 use Rattle.buffer_pool.specs.Pages.{HasTreePage, RefusesPage}
@@ -35,7 +36,7 @@ pub record IsLastOn (p : TreePass) (b i : ℕ) (side : Side) (q : TreePass) : Ty
   pub same : q ≡ p
 
 -- the leaf to which the one in the block b leads on this side is held besides, in the frame of the
--- block m, and no frame was given back
+-- block m, as it was taken if the frame had it then, and no frame was given back
 pub record TakesBeside (p : TreePass) (b i : ℕ) (side : Side) (m : ℕ) (q : TreePass) : Type 0 where
   pub silently : DoesSilently p q (frame_id (shape_of_pass p) m ∷ [])
   pub none : frame_references silently.added.references ≡ []
@@ -43,6 +44,7 @@ pub record TakesBeside (p : TreePass) (b i : ℕ) (side : Side) (m : ℕ) (q : T
   pub holds : HoldsPage (view p) b i 0
   pub frame : Frame
   pub knows : KnowsFrame (view q) m frame
+  pub held_as_taken : HoldsAsTaken (view q) m
   pub beside : IsLeafBeside (shape_of_pass p) side b i holds.frame m frame
   pub leads : page_on side holds.is.page ≡ Some beside.is.page.head.number
   pub count : count q ≡ count p + 1

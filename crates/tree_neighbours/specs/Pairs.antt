@@ -10,7 +10,8 @@ use Rattle.forest_law.specs.declared.objects.Frame.{Frame}
 use Rattle.forest_law.specs.Numbers.{frame_id}
 use Rattle.forest_world.specs.Held.{TreePass, shape_of_pass}
 use Rattle.call_law.specs.Hands.{KnowsFrame}
-use Rattle.buffer_pool.specs.Calls.{DoesSilently, GetsNothing}
+use Rattle.buffer_pool.specs.AsTaken.{AreAsTaken, HoldsAsTaken, GaveAsTaken}
+use Rattle.buffer_pool.specs.Calls.{DoesSilently}
 use Rattle.buffer_pool.specs.Hands.{LacksFrame}
 use Rattle.tree_descent.specs.Descents.{AddsPath}
 use Rattle.tree_descent.specs.Leaves.{cut_in, IsLeafFor}
@@ -25,12 +26,13 @@ frames_at shape None = []
 frames_at shape (Some m) = frame_id shape m ∷ []
 
 -- the block m has the leaf beside the one of the frame f, to which that one's page leads on this
--- side and which was lacked; it is held
+-- side and which was lacked; it is held, as it was taken if the frame had it then
 pub record HoldsBeside (p q : TreePass) (b i : ℕ) (side : Side) (f : Frame) (page : PageRows)
     (m : ℕ) : Type 0 where
   pub lacked : LacksFrame p m
   pub frame : Frame
   pub knows : KnowsFrame (view q) m frame
+  pub held_as_taken : HoldsAsTaken (view q) m
   pub beside : IsLeafBeside (shape_of_pass p) side b i f m frame
   pub leads : page_on side page ≡ Some beside.is.page.head.number
 
@@ -43,14 +45,16 @@ HoldsOther p q b i side f page spot (Some m) =
     (row_on side spot ≡ None) × HoldsBeside p q b i side f page m
 
 -- the leaf with the tuple's position is held, and the one beside it where the row of the mode may
--- be there
+-- be there; each frame that kept its page was given back, or is held, as it was taken
 pub record DescendsPair (p : TreePass) (i : ℕ) (mode : Mode) (tuple : FieldList) (pair : LeafPair)
     (q : TreePass) : Type 0 where
   pub silently : DoesSilently p q
       (frame_id (shape_of_pass p) pair.leaf.block ∷ frames_at (shape_of_pass p) pair.other)
+  pub as_taken : AreAsTaken silently.added.references
   pub lacked : LacksFrame p pair.leaf.block
   pub frame : Frame
   pub knows : KnowsFrame (view q) pair.leaf.block frame
+  pub held_as_taken : HoldsAsTaken (view q) pair.leaf.block
   pub is : IsLeafFor (shape_of_pass p) frame i mode tuple pair.leaf.spot
   pub path : AddsPath p (cut_in (shape_of_pass p) i mode tuple) i 0 is.page.is.page.head.number
       silently.added
@@ -61,4 +65,4 @@ pub record DescendsPair (p : TreePass) (i : ℕ) (mode : Mode) (tuple : FieldLis
 -- both were taken where they are asked for, or it was in vain
 abbrev pub TriesPair : TreePass → ℕ → Mode → FieldList → Option LeafPair → TreePass → Type 0
 TriesPair p i mode tuple (Some pair) q = DescendsPair p i mode tuple pair q
-TriesPair p i mode tuple None q = GetsNothing p q
+TriesPair p i mode tuple None q = GaveAsTaken p q
