@@ -17,6 +17,7 @@ use Rattle.forest_law.proofs.ObjectLemmas.{same_frame}
 use Rattle.forest_world.specs.Held.{TreePass, shape_of_pass}
 use Rattle.call_law.specs.Hands.{KnowsFrame}
 use Rattle.call_law.specs.Spoken.{View}
+use Rattle.buffer_pool.specs.AsTaken.{WasHeldSo}
 use Rattle.buffer_pool.specs.Frames.{GivesFrame}
 use Rattle.buffer_pool.specs.Pages.{HasNumber, HasTreePage}
 
@@ -42,6 +43,15 @@ knows_same p q b f held terms knows = (
   ap (λ (t : Terms Shape). get_elem? (view q).held (frame_id t.shape b)) terms
       ∙ (ap (λ hs. get_elem? hs (frame_id (shape_of_pass p) b)) held ∙ knows.1),
 )
+
+-- what is given back where no more and no less was held was held so before
+pub held_gave : (p q r : TreePass) (b : ℕ) → (view q).held ≡ (view p).held
+    → (view q).terms ≡ (view p).terms → (gave : GivesFrame q b r)
+    → WasHeldSo (view p) (frame_id (shape_of_pass p) b) gave.taken (object.Frame gave.frame)
+held_gave p q r b held terms gave =
+    ap (λ hs. get_elem? hs (frame_id (shape_of_pass p) b)) (sym held)
+    ∙ (ap (λ (t : Terms Shape). get_elem? (view q).held (frame_id t.shape b)) (sym terms)
+    ∙ gave.held)
 
 -- the page that was read is that of the frame
 pub same_page : (f g : Frame) (page rows : PageRows) → g ≡ f → f.page ≡ Some page
