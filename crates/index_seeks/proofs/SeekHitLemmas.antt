@@ -16,6 +16,7 @@ use Rattle.map_history.specs.Operation.{Seek}
 use Rattle.map_history.specs.Reply.{row_reply, sought}
 use Rattle.map_history.proofs.HistoryLemmas.{map_after-ascends}
 use Rattle.learning.specs.declared.info.Info.{Info}
+use Rattle.search_info.specs.declared.knows.Knows.{Knows}
 use Rattle.index_page.specs.Laws.{StandsAt}
 use Rattle.index_page.specs.Rows.{Row, Bytes, find_row}
 use Rattle.tree_law.specs.GuessCheck.{IsLeaf, Reaches}
@@ -36,8 +37,10 @@ use Rattle.forest_world.specs.Held.{TreePass, shape_of_pass}
 use Rattle.call_law.specs.Spoken.{View}
 use Rattle.call_law.specs.Trace.{SparesTrees, frame_references}
 use Rattle.call_law.proofs.TraceLemmas.{both_added, quiet_of, quiet_then_once, once_then_silent}
+use Rattle.buffer_pool.specs.AsTaken.{AreAsTaken}
 use Rattle.buffer_pool.specs.Tries.{tries_and_given}
 use Rattle.buffer_pool.proofs.AddedLemmas.{only_given, gave_adds, frame_no_tree, given_spares, spares_both}
+use Rattle.buffer_pool.proofs.AsTakenLemmas.{both_as_taken, same_as_taken}
 use Rattle.hash_guess.specs.Guesses.{HitsRow, part_given}
 use Rattle.hash_guess.specs.Hits.{HoldsHit}
 use Rattle.hash_guess.proofs.HitLemmas.{stands_among, found_at}
@@ -140,13 +143,14 @@ hit_alone p q i mode tuple info block place found none hits = record {
 }
 
 -- the answer was told by the leaf alone to which the hash led
-pub hit_seeks : (p q r : TreePass) (i : ℕ) (mode : Mode) (tuple : FieldList) (info : Info)
+pub hit_seeks : (p q r : TreePass) (m : Knows) (i : ℕ) (mode : Mode) (tuple : FieldList)
+    (info : Info)
     (block place : ℕ) (found : Bool) → HitsRow p i mode tuple info block place found q
     → (told : Told) (row : Pair) → told.how ≡ ways.Hit
     → AnswersHit q block i mode tuple told row r
-    → TellsOfSeek (view p) (view r) i mode tuple told row
+    → TellsOfSeek (view p) (view r) m i mode tuple told row
 unfolding quiet_of quiet_then_once once_then_silent
-hit_seeks p q r i mode tuple info block place found hits told row by answers =
+hit_seeks p q r m i mode tuple info block place found hits told row by answers =
     let q1 = answers.between in let gave = answers.gave in let says = answers.says in
     let shape = shape_of_pass p in let way = tries_and_given [] (part_given p i hits.part ∷ []) in
     let ask = Seek mode tuple in
@@ -182,6 +186,14 @@ hit_seeks p q r i mode tuple info block place found hits told row by answers =
             page = answers.page;
           };
         },
+      );
+      as_taken = inl (
+        by,
+        both_as_taken (way.references ++ says.once.added.references) back.references
+            (both_as_taken way.references says.once.added.references
+            (same_as_taken (object.Part hits.part), tt)
+            (subst AreAsTaken (sym says.only.references) tt))
+            (hits.held_as_taken (holding gave.taken (object.Frame gave.frame)) answers.held, tt),
       );
       spares = spares_both shape (both_added way says.once.added) back
           (spares_both shape way says.once.added hits.does.spares

@@ -1,9 +1,18 @@
 -- The leaves of a seek, once their first one was learnt from.
-use Rattle.std.proofs.Common.{◌≡◌, ◌≤◌, true, ℕ, List, [], ◌∷◌, ◌++◌, append-nil, length, sym, ap, subst, ◌∙◌, refl, arith, Option, Some, None, IsSome, ◌⊎◌}
+use Rattle.std.proofs.Common.{◌≡◌, ◌≢◌, ◌≤◌, inl, inr, true, ℕ, List, [], ◌∷◌, ◌++◌, append-nil, length, sym, ap, subst, ◌∙◌, refl, arith, Option, Some, None, IsSome, ◌⊎◌}
+use Rattle.std.specs.List.{AllByRecursion}
+use Rattle.std.proofs.lemmas.Bool.{cases_eq}
+use lib.ListN.{get_elem?}
+use Rattle.list_facts.proofs.Places.{inside, not_both}
 use Rattle.key_tuple.specs.Order.{FieldList, byte_count}
 use Rattle.key_tuple.specs.declared.TheConstants.{MAX_KEY_BYTES}
 use Rattle.key_tuple.specs.declared.mode.Mode.{Mode}
+use Rattle.latch_law.specs.declared.knows.Holding.{Holding}
+use Rattle.latch_law.specs.declared.knows.Reference.{Reference}
 use Rattle.latch_law.specs.declared.knows.Terms.{Terms}
+use Rattle.latch_law.specs.Rule.{Holds}
+use Rattle.latch_law.specs.Views.{holding}
+use Rattle.latch_law.specs.Whole.{reference}
 use Rattle.latch_space.specs.Passes.{view, count}
 use Rattle.latch_space.proofs.Pointwise.{lacks_each, none_known}
 use Rattle.learning.specs.Bounds.{AreFiguresOf}
@@ -16,15 +25,20 @@ use Rattle.index_page.specs.declared.spot.Spot.{Spot}
 use Rattle.index_law.specs.Shape.{Shape}
 use Rattle.tree_law.specs.Pages.{IsOrderly, low_place, high_place}
 use Rattle.forest_law.specs.declared.objects.Frame.{Frame}
+use Rattle.forest_law.specs.declared.objects.Object.{Object}
+use Rattle.forest_law.specs.declared.objects.Object.TheVariants as object
 use Rattle.forest_law.specs.Numbers.{pool_id, part_id, frame_id, frames_of}
 use Rattle.forest_law.specs.State.{bound, fields_for, page_within}
 use Rattle.forest_world.specs.Held.{TreePass, shape_of_pass}
 use Rattle.call_law.specs.Hands.{KnowsFrame}
 use Rattle.call_law.specs.Trace.{Added, Adds, SparesTrees, frame_references}
 use Rattle.call_law.proofs.TraceLemmas.{both_added, adds_both}
+use Rattle.buffer_pool.specs.AsTaken.{AreAsTaken, Exception, IsAsTaken, NoException}
 use Rattle.buffer_pool.specs.Pages.{HasNumber}
 use Rattle.buffer_pool.specs.Tries.{tries_and_given}
 use Rattle.buffer_pool.proofs.AddedLemmas.{frame_still, spares_both}
+use Rattle.buffer_pool.proofs.AsTakenLemmas.{both_as_taken, held_in, none_as_taken}
+use Rattle.buffer_pool.proofs.FrameLemmas.{one_held}
 use Rattle.buffer_pool.proofs.GivingLemmas.{parts_no_frames}
 use Rattle.hash_guess.specs.declared.cause.Cause.{Cause}
 use Rattle.tree_descent.specs.declared.descending.Leaf.{Leaf}
@@ -35,7 +49,7 @@ use Rattle.tree_neighbours.specs.declared.pairs.LeafPair.{LeafPair}
 use Rattle.tree_neighbours.specs.declared.side.Side.{Side}
 use Rattle.tree_neighbours.specs.declared.side.Side.TheVariants.{Left, Right}
 use Rattle.tree_neighbours.specs.Neighbours.{IsLeafBeside}
-use Rattle.tree_neighbours.specs.Pairs.{DescendsPair}
+use Rattle.tree_neighbours.specs.Pairs.{DescendsPair, HoldsOther, frames_at}
 use Rattle.tree_neighbours.specs.Sides.{Meets, side_of, row_on, page_on}
 use Rattle.leaf_search.specs.Downs.{figures_at}
 use Rattle.leaf_search.specs.Lessons.{Teaches, HasSamePage}
@@ -178,30 +192,92 @@ learnt_pair q r l m i pair figures told taught mode tuple held = go pair.other h
     go None last = learnt_last q r l m i pair.leaf figures told taught mode tuple last
     go (Some c) both = learnt_both q r l m i pair.leaf figures told taught mode tuple c both
 
--- a way led to the leaf in the block, which is known, and nothing was said
-pub record ComesToLeaves (p : TreePass) (i : ℕ) (mode : Mode) (tuple : FieldList) (b : ℕ)
+-- a way led to the leaf in the block, which is known, and nothing was said; each frame that kept its
+-- page was given back, or is held, as it was taken, but for exceptions in hand
+pub record ComesToLeaves (but : Exception) (p : TreePass) (i : ℕ) (mode : Mode) (tuple : FieldList) (b : ℕ)
     (q : TreePass) : Type 0 where
   pub added : Added
   pub adds : Adds (view p) (view q) added
   pub silent : added.said ≡ []
   pub spares : SparesTrees (shape_of_pass p) added
+  pub as_taken : AreAsTaken added.references
+  pub hand : (q' : Reference Object) → held_in (view q) q'
+      → IsAsTaken q'.taken q'.released ⊎ but q'
   pub frame : Frame
   pub knows : KnowsFrame (view q) b frame
   pub number : ℕ
   pub has : HasNumber frame number
   pub path : AddsPath p (cut_in (shape_of_pass p) i mode tuple) i 0 number added
 
+-- who holds nothing holds no object
+none_held_of : (p : TreePass) → count p ≡ 0 → (k : ℕ) (h : Holding Object) → Holds (view p) k h → ⊥
+none_held_of p none k h held = let all = p.all in let below = inside (view p).held k (Some h) held in
+    not_both (view p).held k h (lacks_each p k none (omega (arith, below, all.0))) held
+
+-- the reference of the leaf's frame that the lesson left
+abbrev pub taught_leaf_given : (q r : TreePass) (l m : Knows) (i b : ℕ) (figures : Figures)
+    (told : Note) → Teaches q l i b figures told r m → Reference Object
+taught_leaf_given q r l m i b figures told taught =
+    reference (frame_id (shape_of_pass q) b) taught.becomes.taken (object.Frame taught.new)
+
+-- after a lesson that frame alone isn't as it was taken
+taught_hand : (q r : TreePass) (l m : Knows) (i b : ℕ) (figures : Figures) (told : Note)
+    → (taught : Teaches q l i b figures told r m)
+    → ((k : ℕ) (h : Holding Object) → Holds (view q) k h → IsAsTaken h.taken h.known)
+    → (q' : Reference Object) → held_in (view r) q' → IsAsTaken q'.taken q'.released
+    ⊎ (q' ≡ taught_leaf_given q r l m i b figures told taught)
+taught_hand q r l m i b figures told taught before q' held =
+    let own = frame_id (shape_of_pass q) b in elim (cases_eq q'.object own) [
+      | inl e ↦ (let is : holding q'.taken q'.released
+          ≡ holding taught.becomes.taken (object.Frame taught.new) =
+          one_held r own (holding q'.taken q'.released)
+          (holding taught.becomes.taken (object.Frame taught.new))
+          (ap (get_elem? (view r).held) (sym e) ∙ held) taught.becomes.is in
+          inr (λ j. record { object = e j; taken = (is j).taken; released = (is j).known }))
+      | inr ne ↦ inl (before q'.object (holding q'.taken q'.released)
+          (sym (taught.becomes.does.rest q'.object (ne, tt)) ∙ held))
+    ]
+
 module _ (p q : TreePass) (i : ℕ) (mode : Mode) (tuple : FieldList) (pair : LeafPair)
     (went : DescendsPair p i mode tuple pair q) where
   abbrev way : Added
   way = went.silently.added
 
-  pub pair_comes : ComesToLeaves p i mode tuple pair.leaf.block q
-  pair_comes = record {
+  -- the leaf beside, where one is held, is as it was taken
+  other_as_taken : (o : Option ℕ) → HoldsOther p q pair.leaf.block i (side_of mode) went.frame
+      went.is.page.is.page pair.leaf.spot o → (k : ℕ) (h : Holding Object) → Holds (view q) k h
+      → (AllByRecursion (λ (j : ℕ). k ≢ j) (frames_at (shape_of_pass p) o) → ⊥)
+      → IsAsTaken h.taken h.known
+  other_as_taken None other k h held among = absurd (among tt)
+  other_as_taken (Some m) other k h held among = elim (cases_eq k (frame_id (shape_of_pass p) m)) [
+    | inl e ↦ other.1.held_as_taken h (ap (get_elem? (view q).held)
+        (ap (λ (t : Terms Shape). frame_id t.shape m) went.silently.does.adds.numbers.terms ∙ sym e)
+        ∙ held)
+    | inr ne ↦ absurd (among (ne, tt))
+  ]
+
+  -- and nothing else is held, where nothing was
+  pub pair_as_taken : count p ≡ 0 → (k : ℕ) (h : Holding Object) → Holds (view q) k h
+      → IsAsTaken h.taken h.known
+  pair_as_taken none k h held = let own = frame_id (shape_of_pass p) pair.leaf.block in
+      elim (cases_eq k own) [
+        | inl e ↦ went.held_as_taken h (ap (get_elem? (view q).held)
+            (ap (λ (t : Terms Shape). frame_id t.shape pair.leaf.block)
+            went.silently.does.adds.numbers.terms ∙ sym e) ∙ held)
+        | inr ne ↦ other_as_taken pair.other went.other k h held
+            (λ apart. none_held_of p none k h
+            (sym (went.silently.does.rest k (ne, apart)) ∙ held))
+      ]
+
+  pub pair_comes : count p ≡ 0 → ComesToLeaves NoException p i mode tuple pair.leaf.block q
+  pair_comes none = record {
     added = way;
     adds = went.silently.does.adds;
     silent = went.silently.silent;
     spares = went.silently.does.spares;
+    as_taken = went.as_taken;
+    hand = λ q' held. inl
+        (pair_as_taken none q'.object (holding q'.taken q'.released) held);
     frame = went.frame;
     knows = went.knows;
     number = went.is.page.is.page.head.number;
@@ -210,10 +286,12 @@ module _ (p q : TreePass) (i : ℕ) (mode : Mode) (tuple : FieldList) (pair : Le
   }
 
   -- so it is where the leaf was learnt from then
-  pub taught_comes : (r : TreePass) (l m : Knows) (figures : Figures) (told : Note)
-      → Teaches q l i pair.leaf.block figures told r m
-      → ComesToLeaves p i mode tuple pair.leaf.block r
-  taught_comes r l m figures told taught =
+  pub taught_comes : count p ≡ 0 → (r : TreePass) (l m : Knows) (figures : Figures) (told : Note)
+      → (taught : Teaches q l i pair.leaf.block figures told r m)
+      → ComesToLeaves (λ (q' : Reference Object).
+      q' ≡ taught_leaf_given q r l m i pair.leaf.block figures told taught) p i mode tuple
+      pair.leaf.block r
+  taught_comes none r l m figures told taught =
       let b = pair.leaf.block in
       let more = tries_and_given taught.becomes.refused taught.given in
       let same = same_as q r l m i b figures told taught went.frame went.knows in record {
@@ -224,6 +302,10 @@ module _ (p q : TreePass) (i : ℕ) (mode : Mode) (tuple : FieldList) (pair : Le
         spares = spares_both (shape_of_pass p) way more went.silently.does.spares
             (subst (λ (t : Terms Shape). SparesTrees t.shape more)
             went.silently.does.adds.numbers.terms taught.becomes.does.spares);
+        as_taken = both_as_taken way.references taught.given went.as_taken
+            (none_as_taken taught.given (parts_no_frames taught.given taught.parts));
+        hand = λ q' held. taught_hand q r l m i b figures told taught (pair_as_taken none)
+            q' held;
         frame = taught.new;
         knows = knows_new q r l m i b figures told taught;
         number = went.is.page.is.page.head.number;

@@ -22,9 +22,11 @@ use Rattle.call_law.specs.Spoken.{View}
 use Rattle.call_law.specs.Hands.{KnowsFrame}
 use Rattle.call_law.specs.Trace.{Added, Adds, IsOnlySaid, IsNoTree, SparesTrees, frame_references}
 use Rattle.call_law.proofs.TraceLemmas.{both_added, quiet_of, quiet_both, quiet_then_once, once_then_silent}
+use Rattle.buffer_pool.specs.AsTaken.{KeepsAsHeld}
 use Rattle.buffer_pool.specs.Calls.{DoesSilently}
 use Rattle.buffer_pool.specs.Frames.{GivesFrame}
 use Rattle.buffer_pool.specs.Pages.{HasNumber, HasTreePage}
+use Rattle.buffer_pool.proofs.AsTakenLemmas.{keeps_both, keeps_gave, keeps_same}
 use Rattle.buffer_pool.proofs.AddedLemmas.{none_added, only_given, held_adds, gave_adds, frame_no_tree, given_spares, none_spares, spares_both}
 use Rattle.engine_law.specs.Says.{OnlyLooks}
 use Rattle.index_seeks.specs.SeekSteps.{SaysIf, Answered, PassesLeaves, EndsSeek, EndsFromLeaf}
@@ -98,20 +100,24 @@ module _ (shape : Shape) (i : ℕ) where
   no_leaves qs none = subst AreLeaves (sym none) tt
 
   -- a look, and what was taken, pass no leaf
-  pub looks_pass : (v v' : View) → OnlyLooks v v' i → PassesLeaves shape v v' i
-  looks_pass v v' looks = record {
+  pub looks_pass : (v v' : View) → OnlyLooks v v' i → v'.held ≡ v.held → PassesLeaves shape v v' i
+  looks_pass v v' looks same = record {
     quiet = looks.quiet;
     leaves = no_leaves looks.quiet.added.references (said_frames looks.quiet.added looks.only);
+    keeps = keeps_same v v' same looks.quiet.added.references
+        (said_frames looks.quiet.added looks.only);
     spares = said_spares shape looks.quiet.added looks.only;
   }
 
   pub takes_pass : (p q : TreePass) (ks : List ℕ) → shape_of_pass p ≡ shape
       → (silently : DoesSilently p q ks) → frame_references silently.added.references ≡ []
+      → KeepsAsHeld (view p) (view q) silently.added.references
       → PassesLeaves shape (view p) (view q) i
   unfolding quiet_of
-  takes_pass p q ks is silently none = record {
+  takes_pass p q ks is silently none keeps = record {
     quiet = quiet_of (view p) (view q) i silently.added silently.does.adds silently.silent;
     leaves = no_leaves silently.added.references none;
+    keeps = keeps;
     spares = subst (λ s. SparesTrees s silently.added) is silently.does.spares;
   }
 
@@ -121,6 +127,7 @@ module _ (shape : Shape) (i : ℕ) where
   none_pass v = record {
     quiet = quiet_of v v i none_added (held_adds v v v.held refl) refl;
     leaves = tt;
+    keeps = keeps_same v v refl [] refl;
     spares = none_spares shape;
   }
 
@@ -131,6 +138,8 @@ module _ (shape : Shape) (i : ℕ) where
     quiet = quiet_both v v0 v1 i first.quiet second.quiet;
     leaves = leaves_both first.quiet.added.references second.quiet.added.references first.leaves
         second.leaves;
+    keeps = keeps_both v v0 v1 first.quiet.added.references second.quiet.added.references
+        first.keeps second.keeps;
     spares = spares_both shape first.quiet.added second.quiet.added first.spares second.spares;
   }
 
@@ -145,6 +154,8 @@ module _ (shape : Shape) (i : ℕ) where
           ends.answered;
       leaves = leaves_both passes.quiet.added.references ends.added.references passes.leaves
           ends.leaves;
+      keeps = keeps_both v v0 v1 passes.quiet.added.references ends.added.references passes.keeps
+          ends.keeps;
       spares = spares_both shape passes.quiet.added ends.added passes.spares ends.spares;
     }
 
@@ -155,6 +166,7 @@ module _ (shape : Shape) (i : ℕ) where
       added = passes.quiet.added;
       answered = (passes.quiet, refl);
       leaves = passes.leaves;
+      keeps = passes.keeps;
       spares = passes.spares;
     }
 
@@ -187,6 +199,12 @@ module _ (shape : Shape) (i : ℕ) where
     said_then_back a only = frames_both a.references back.references
         ∙ (ap (λ z. z ++ back.references) (said_frames a only) ∙ back_is)
 
+    -- it was held so before that
+    said_keeps : (v : View) → (view p).held ≡ v.held → (a : Added) → IsOnlySaid a
+        → KeepsAsHeld v (view q) (a.references ++ back.references)
+    said_keeps v same a only = keeps_both v (view p) (view q) a.references back.references
+        (keeps_same v (view p) same a.references (said_frames a only)) (keeps_gave p q b gave)
+
     back_leaf : HasTreePage gave.frame i 0 → AreLeaves (frame_references back.references)
     back_leaf page = subst AreLeaves (sym back_is)
         (record { block = b; taken = gave.taken; frame = gave.frame; is = refl; page = page }, tt)
@@ -197,29 +215,32 @@ module _ (shape : Shape) (i : ℕ) where
     gave_passes page = record {
       quiet = quiet_of (view p) (view q) i back back_adds refl;
       leaves = back_leaf page;
+      keeps = keeps_gave p q b gave;
       spares = back_spares;
     }
 
     module _ (mode : Mode) (tuple : FieldList) (o : Option Told) (row : Pair) where
       -- it was answered as is told before
       pub said_then_gave : (v : View) → SaysIf v (view p) i (Seek mode tuple) o row
-          → HasTreePage gave.frame i 0 → EndsSeek shape v (view q) i mode tuple o row
-      said_then_gave v says page =
+          → (view p).held ≡ v.held → HasTreePage gave.frame i 0
+          → EndsSeek shape v (view q) i mode tuple o row
+      said_then_gave v says same page =
           let added = said_added i (Seek mode tuple) row v (view p) o says in record {
             added = both_added added.0 back;
             answered = answered_silent i (Seek mode tuple) row v (view p) (view q) o added.0 back
                 added.1 back_adds refl back_seen;
             leaves = leaves_both added.0.references back.references
                 (no_leaves added.0.references (said_frames added.0 added.2)) (back_leaf page);
+            keeps = said_keeps v same added.0 added.2;
             spares = spares_both shape added.0 back (said_spares shape added.0 added.2)
                 back_spares;
           }
 
       -- and this was the first leaf, which was known so before
       pub said_then_first : (v : View) → SaysIf v (view p) i (Seek mode tuple) o row
-          → (f : Frame) (n : ℕ) → HasNumber f n → KnowsFrame v b f → KnowsFrame (view p) b f
+          → (view p).held ≡ v.held → (f : Frame) (n : ℕ) → HasNumber f n → KnowsFrame v b f → KnowsFrame (view p) b f
           → EndsFromLeaf shape v (view q) b i mode tuple o row
-      said_then_first v says f n has before knows =
+      said_then_first v says same f n has before knows =
           let added = said_added i (Seek mode tuple) row v (view p) o says in record {
             added = both_added added.0 back;
             answered = answered_silent i (Seek mode tuple) row v (view p) (view q) o added.0 back
@@ -237,6 +258,7 @@ module _ (shape : Shape) (i : ℕ) where
               has = subst (λ z. HasNumber z n) (gave_known p q b f knows gave) has;
               each = tt;
             };
+            keeps = said_keeps v same added.0 added.2;
             spares = spares_both shape added.0 back (said_spares shape added.0 added.2)
                 back_spares;
           }
@@ -263,16 +285,18 @@ module _ (shape : Shape) (i : ℕ) where
           each = each_append (IsLeafReference shape i) ends.begin.beside back.references
               ends.begin.each (back_leaf page);
         };
+        keeps = keeps_both v (view p) (view q) ends.added.references back.references ends.keeps
+            (keeps_gave p q b gave);
         spares = spares_both shape ends.added back ends.spares back_spares;
       }
 
       -- the first leaf was given back after a look, and then the seek went on
-      pub first_then_on : (v v' : View) → OnlyLooks v (view p) i
+      pub first_then_on : (v v' : View) → OnlyLooks v (view p) i → (view p).held ≡ v.held
           → EndsSeek shape (view q) v' i mode tuple o row
           → (f : Frame) (n : ℕ) → HasNumber f n → KnowsFrame v b f → KnowsFrame (view p) b f
           → EndsFromLeaf shape v v' b i mode tuple o row
       unfolding quiet_of quiet_both
-      first_then_on v v' looks ends f n has before knows =
+      first_then_on v v' looks same ends f n has before knows =
           let quiet = quiet_both v (view p) (view q) i looks.quiet
           (quiet_of (view p) (view q) i back back_adds refl) in
           record {
@@ -295,6 +319,8 @@ module _ (shape : Shape) (i : ℕ) where
               has = subst (λ z. HasNumber z n) (gave_known p q b f knows gave) has;
               each = ends.leaves;
             };
+            keeps = keeps_both v (view q) v' (looks.quiet.added.references ++ back.references)
+                ends.added.references (said_keeps v same looks.quiet.added looks.only) ends.keeps;
             spares = spares_both shape (both_added looks.quiet.added back) ends.added
                 (spares_both shape looks.quiet.added back
                 (said_spares shape looks.quiet.added looks.only) back_spares) ends.spares;

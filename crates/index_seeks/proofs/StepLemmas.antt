@@ -18,8 +18,10 @@ use Rattle.forest_law.specs.State.{page_within, fields_for}
 use Rattle.forest_world.specs.Held.{TreePass, shape_of_pass}
 use Rattle.call_law.specs.Hands.{KnowsFrame}
 use Rattle.call_law.specs.Spoken.{View}
+use Rattle.buffer_pool.specs.AsTaken.{KeepsAsHeld}
 use Rattle.buffer_pool.specs.Frames.{GivesFrame}
 use Rattle.buffer_pool.proofs.AddedLemmas.{sees_same}
+use Rattle.buffer_pool.proofs.AsTakenLemmas.{keeps_rest, keeps_took}
 use Rattle.tree_descent.specs.Ways.{HoldsPage}
 use Rattle.tree_neighbours.specs.Neighbours.{TakesBeside, IsLastOn, IsBusyOn}
 use Rattle.tree_neighbours.specs.Sides.{side_of}
@@ -56,7 +58,7 @@ pub stands_walk : (p q : TreePass) (b i : ℕ) (mode : Mode) (tuple : FieldList)
     × SawPast (view q) b i walk.point mode tuple
     → PassesLeaves (shape_of_pass p) (view p) (view q) i × WalksAt q i mode tuple walk
 stands_walk p q b i mode tuple walk same terms only holds stands = (
-  looks_pass (shape_of_pass p) i (view p) (view q) stands.1,
+  looks_pass (shape_of_pass p) i (view p) (view q) stands.1 same.held,
   walks_at q i mode tuple walk b stands.0 (only_same p q (b ∷ []) only same terms)
       (page_same p q i b same terms holds) stands.2,
 )
@@ -119,14 +121,15 @@ module _ (p : TreePass) (i : ℕ) (mode : Mode) (tuple : FieldList) (walk : Walk
 
     -- it is given back behind the answer
     pub last_ends : (r s : TreePass) (told : Option Told) (row : Pair)
-        → SaysIf (view q) (view r) i (Seek mode tuple) told row
+        → SaysIf (view q) (view r) i (Seek mode tuple) told row → (view r).held ≡ (view q).held
         → shape_of_pass r ≡ shape_of_pass p → (gave : GivesFrame r b s)
         → HoldsPage (view r) b i 0
         → EndsSeek (shape_of_pass p) (view p) (view s) i mode tuple told row
-    last_ends r s told row says same gave holds = said_then_gave (shape_of_pass p) i r s b same
-        gave mode tuple told row (view p)
+    last_ends r s told row says hand same gave holds = said_then_gave (shape_of_pass p) i r s b
+        same gave mode tuple told row (view p)
         (subst (λ (z : TreePass). SaysIf (view z) (view r) i (Seek mode tuple) told row)
-        last.same says) (gave_page r s b i holds.frame holds.knows holds.is gave)
+        last.same says)
+        (subst (λ (z : TreePass). (view r).held ≡ (view z).held) last.same hand) (gave_page r s b i holds.frame holds.knows holds.is gave)
 
   -- another pass holds the next one
   module _ (q : TreePass) (busy : IsBusyOn p b i (side_of mode) q) where
@@ -142,11 +145,17 @@ module _ (p : TreePass) (i : ℕ) (mode : Mode) (tuple : FieldList) (walk : Walk
           ∙ walks.holds.knows.1),
     )
 
+    busy_keeps : KeepsAsHeld (view p) (view q)
+        busy.refused.got.silently.added.references
+    busy_keeps = keeps_rest (view p) (view q) busy.refused.got.silently.does.rest
+        busy.refused.got.silently.added.references busy.refused.none
+
     pub busy_ends : (r : TreePass) (row : Pair) → GivesFrame q b r
         → EndsSeek (shape_of_pass p) (view p) (view r) i mode tuple None row
     busy_ends r row gave = passes_end (shape_of_pass p) i mode tuple (view p) (view r) row
         (passes_both (shape_of_pass p) i (view p) (view q) (view r)
-        (takes_pass (shape_of_pass p) i p q [] refl busy.refused.got.silently busy.refused.none)
+        (takes_pass (shape_of_pass p) i p q [] refl busy.refused.got.silently busy.refused.none
+        busy_keeps)
         (gave_passes (shape_of_pass p) i q r b
         (ap (λ (t : Terms Shape). t.shape) busy.refused.got.silently.does.adds.numbers.terms) gave
         (gave_page q r b i walks.holds.frame busy_knows walks.holds.is gave)))
@@ -170,7 +179,9 @@ module _ (p : TreePass) (i : ℕ) (mode : Mode) (tuple : FieldList) (walk : Walk
       pub next_passes : PassesLeaves (shape_of_pass p) (view p) (view r) i
       next_passes = passes_both (shape_of_pass p) i (view p) (view q) (view r)
           (takes_pass (shape_of_pass p) i p q (frame_id (shape_of_pass p) m ∷ []) refl
-          took.silently took.none)
+          took.silently took.none
+          (keeps_took (view p) (view q) m took.silently.does.adds.numbers took.silently.does.rest
+          took.held_as_taken took.silently.added.references took.none))
           (gave_passes (shape_of_pass p) i q r b took_shape gave
           (gave_page q r b i took.holds.frame took_knows took.holds.is gave))
 

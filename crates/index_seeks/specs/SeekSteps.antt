@@ -14,11 +14,14 @@ use Rattle.map_history.specs.Told.{columns_told}
 use Rattle.search_info.specs.declared.knows.Knows.{Knows}
 use Rattle.index_law.specs.Shape.{Shape}
 use Rattle.forest_law.specs.declared.objects.Frame.{Frame}
+use Rattle.forest_law.specs.declared.objects.Object.TheVariants as object
+use Rattle.forest_law.specs.Numbers.{frame_id}
 use Rattle.forest_world.specs.Held.{TreePass, shape_of_pass}
 use Rattle.call_law.specs.Hands.{KnowsFrame}
 use Rattle.call_law.specs.Once.{IsQuiet}
 use Rattle.call_law.specs.Spoken.{View}
 use Rattle.call_law.specs.Trace.{Added, SparesTrees, frame_references}
+use Rattle.buffer_pool.specs.AsTaken.{AreAsTakenBut, Exception, KeepsAsHeld, NoException, WasHeldSo}
 use Rattle.buffer_pool.specs.Frames.{GivesFrame}
 use Rattle.buffer_pool.specs.Pages.{HasNumber, HasTreePage}
 use Rattle.tree_neighbours.specs.declared.pairs.LeafPair.{LeafPair}
@@ -65,10 +68,12 @@ Answered v v' i ask None row added = (quiet : IsQuiet v v' i) × (quiet.added �
 Answered v v' i ask (Some told) row added =
     (tells : TellsOnce v v' i ask told row) × (tells.once.added ≡ added)
 
--- no frames but leaves of the index were given back, no tree was taken, and nothing was answered
+-- no frames but leaves of the index were given back, as they were held or taken, no tree was taken,
+-- and nothing was answered
 pub record PassesLeaves (shape : Shape) (v v' : View) (i : ℕ) : Type 0 where
   pub quiet : IsQuiet v v' i
   pub leaves : AllByRecursion (IsLeafReference shape i) (frame_references quiet.added.references)
+  pub keeps : KeepsAsHeld v v' quiet.added.references
   pub spares : SparesTrees shape quiet.added
 
 -- the same, and the operation was answered if an answer is told
@@ -77,6 +82,7 @@ pub record EndsSeek (shape : Shape) (v v' : View) (i : ℕ) (mode : Mode) (tuple
   pub added : Added
   pub answered : Answered v v' i (Seek mode tuple) told row added
   pub leaves : AllByRecursion (IsLeafReference shape i) (frame_references added.references)
+  pub keeps : KeepsAsHeld v v' added.references
   pub spares : SparesTrees shape added
 
 -- the same, and the first of the leaves was that in the block, as it was known
@@ -89,21 +95,26 @@ pub record EndsFromLeaf (shape : Shape) (v v' : View) (b i : ℕ) (mode : Mode) 
   pub knows : KnowsFrame v b frame
   pub has : HasNumber frame number
   pub begin : BeginOnLeaf shape i number (frame_references added.references)
+  pub keeps : KeepsAsHeld v v' added.references
   pub spares : SparesTrees shape added
 
--- one try of a seek: a way led to the leaves, and it was answered if an answer is told
-pub record TriesSeek (v v' : View) (i : ℕ) (mode : Mode) (tuple : FieldList) (told : Option Told)
-    (row : Pair) : Type 0 where
+-- one try of a seek: a way led to the leaves, and it was answered if an answer is told; each frame
+-- that kept its page was given back as it was taken, but for exceptions
+pub record TriesSeek (but : Exception) (v v' : View) (i : ℕ) (mode : Mode) (tuple : FieldList)
+    (told : Option Told) (row : Pair) : Type 0 where
   pub added : Added
   pub answered : Answered v v' i (Seek mode tuple) told row added
   pub ends : EndsOnLeaves v.terms.shape i mode tuple added.references
+  pub as_taken : AreAsTakenBut but added.references
   pub spares : SparesTrees v.terms.shape added
 
--- the answer was told by leaves to which a way led, and no tree was taken
-pub record TellsByWay (v v' : View) (i : ℕ) (mode : Mode) (tuple : FieldList) (told : Told)
-    (row : Pair) : Type 0 where
+-- the answer was told by leaves to which a way led, and no tree was taken; each frame that kept its
+-- page was given back as it was taken, but for exceptions
+pub record TellsByWay (but : Exception) (v v' : View) (i : ℕ) (mode : Mode) (tuple : FieldList)
+    (told : Told) (row : Pair) : Type 0 where
   pub tells : TellsOnce v v' i (Seek mode tuple) told row
   pub ends : EndsOnLeaves v.terms.shape i mode tuple tells.once.added.references
+  pub as_taken : AreAsTakenBut but tells.once.added.references
   pub spares : SparesTrees v.terms.shape tells.once.added
 
 -- a seek went on from the leaf in the block, as it was known, without an answer, and was answered
@@ -113,7 +124,7 @@ pub record SeeksLater (shape : Shape) (v v' : View) (b i : ℕ) (mode : Mode) (t
   pub between : View
   pub out : Pair
   pub first : EndsFromLeaf shape v between b i mode tuple None out
-  pub again : TellsByWay between v' i mode tuple told row
+  pub again : TellsByWay NoException between v' i mode tuple told row
 
 -- a seek was answered from the leaf in the block, or later
 abbrev pub SeeksFrom : Shape → View → View → (b i : ℕ) → Mode → FieldList → Told → Pair → Type 0
@@ -128,17 +139,20 @@ pub record FindsPair (p : TreePass) (l : Knows) (i : ℕ) (mode : Mode) (tuple :
   pub went : DescendsPair p i mode tuple pair between
   pub taught : Teaches between l i pair.leaf.block (figures_at pair.leaf.spot) told q m
 
--- a seek was answered by the leaf in the block, which was given back
+-- a seek was answered by the leaf in the block, which was given back as it was held
 pub record AnswersHit (p : TreePass) (b i : ℕ) (mode : Mode) (tuple : FieldList) (told : Told)
     (row : Pair) (q : TreePass) : Type 0 where
   pub between : TreePass
   pub says : SaysOnce (view p) (view between) i (Seek mode tuple) told row
   pub gave : GivesFrame between b q
+  pub held : WasHeldSo (view p) (frame_id (shape_of_pass p) b) gave.taken (object.Frame gave.frame)
   pub page : HasTreePage gave.frame i 0
 
--- nothing was answered and no tree taken
-pub record TriesInVain (v v' : View) (i : ℕ) : Type 0 where
+-- nothing was answered and no tree taken; each frame that kept its page was given back as it was
+-- taken, but for exceptions
+pub record TriesInVain (but : Exception) (v v' : View) (i : ℕ) : Type 0 where
   pub quiet : IsQuiet v v' i
+  pub as_taken : AreAsTakenBut but quiet.added.references
   pub spares : SparesTrees v.terms.shape quiet.added
 
 -- a step of a walk: to the next leaf, which is held, or the seek ends, with nothing in hand

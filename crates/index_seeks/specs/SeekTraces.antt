@@ -10,6 +10,7 @@ use Rattle.map_history.specs.declared.columns.How.TheVariants as ways
 use Rattle.map_history.specs.declared.reply.Told.{Told}
 use Rattle.map_history.specs.Map.{Pair}
 use Rattle.map_history.specs.Operation.{Seek}
+use Rattle.search_info.specs.declared.knows.Knows.{Knows}
 use Rattle.index_law.specs.Shape.{Shape}
 use Rattle.forest_law.specs.declared.objects.Frame.{Frame}
 use Rattle.forest_law.specs.declared.objects.Object.{Object}
@@ -17,9 +18,11 @@ use Rattle.forest_law.specs.declared.objects.Object.TheVariants as object
 use Rattle.forest_law.specs.Numbers.{frame_id}
 use Rattle.call_law.specs.Spoken.{View}
 use Rattle.call_law.specs.Trace.{SparesTrees, frame_references}
+use Rattle.buffer_pool.specs.AsTaken.{AreAsTaken, AreAsTakenBut}
 use Rattle.buffer_pool.specs.Pages.{HasNumber, HasTreePage}
 use Rattle.tree_descent.specs.Leaves.{cut_in}
 use Rattle.tree_descent.specs.Paths.{LeadFromRoot}
+use Rattle.leaf_search.specs.Taught.{IsAsTaught}
 use Rattle.tree_neighbours.specs.LeafHands.{IsLeafReference}
 use Rattle.engine_law.specs.Tells.{TellsOnce}
 
@@ -56,9 +59,26 @@ abbrev pub LeavesFoundBy : Shape → ℕ → Mode → FieldList → How → List
 LeavesFoundBy shape i mode tuple how qs = ((how ≡ ways.Hit) × IsOfOneLeaf shape i qs)
     ⊎ ((how ≢ ways.Hit) × EndsOnLeaves shape i mode tuple qs)
 
--- the answer was told by leaves that were found as the columns say, and no tree was taken
-pub record TellsOfSeek (v v' : View) (i : ℕ) (mode : Mode) (tuple : FieldList) (told : Told)
-    (row : Pair) : Type 0 where
+-- each frame that kept its page was given back as it was taken, but that of one leaf, which was so as
+-- the descent left it that the lessons m end with
+pub record AreAsTakenButLeaf (shape : Shape) (i : ℕ) (m : Knows)
+    (qs : List (Reference Object)) : Type 0 where
+  pub leaf : Reference Object
+  pub is : IsLeafReference shape i leaf
+  pub taught : IsAsTaught shape i m leaf.taken leaf.released
+  pub others : AreAsTakenBut (λ (q : Reference Object). q ≡ leaf) qs
+
+-- the hash led to the leaf, and no frame that kept its page changed; or a way led there, and but one
+-- did, which was learnt from
+abbrev pub AreAsTakenBy : Shape → ℕ → Knows → How → List (Reference Object) → Type 0
+AreAsTakenBy shape i m how qs =
+    ((how ≡ ways.Hit) × AreAsTaken qs) ⊎ ((how ≢ ways.Hit) × AreAsTakenButLeaf shape i m qs)
+
+-- the answer was told by leaves that were found as the columns say, and no tree was taken; the frames
+-- were given back as they were taken, but for a lesson, with which the lessons m end
+pub record TellsOfSeek (v v' : View) (m : Knows) (i : ℕ) (mode : Mode) (tuple : FieldList)
+    (told : Told) (row : Pair) : Type 0 where
   pub tells : TellsOnce v v' i (Seek mode tuple) told row
   pub ends : LeavesFoundBy v.terms.shape i mode tuple told.how tells.once.added.references
+  pub as_taken : AreAsTakenBy v.terms.shape i m told.how tells.once.added.references
   pub spares : SparesTrees v.terms.shape tells.once.added

@@ -44,7 +44,8 @@ pub fn seek_row<R: Wait>(
     ensures own { IsSamePass pass.old pass.new × IsPassOf space.now pass.new }
     ensures learner { IsSameLearnPass learn.old learn.new × IsLearnPassOf learner.now learn.new }
     ensures nothing { count pass.new ≡ 0 }
-    ensures told { TellsOfSeek (view pass.old) (view pass.new) index mode tuple.now.fields result out.new }
+    ensures told { TellsOfSeek (view pass.old) (view pass.new) (knowledge learn.new) index mode
+        tuple.now.fields result out.new }
     ensures tried { TriesAfter (knowledge learn.old) index result.how (knowledge learn.new) }
     ensures searched { SeekTrace pass.old (knowledge learn.old) index mode tuple.now.fields
         (columns_told result) (knowledge learn.new) }

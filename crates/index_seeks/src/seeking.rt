@@ -4,6 +4,7 @@ ghost use Rattle.latch_space.specs.Passes.{view, count, IsSamePass};
 ghost use Rattle.latch_space.specs.Spaces.{IsPassOf};
 ghost use Rattle.map_history.specs.Told.{columns_told};
 ghost use Rattle.forest_world.specs.Held.{shape_of_pass};
+ghost use Rattle.buffer_pool.specs.AsTaken.{NoException};
 ghost use Rattle.tree_neighbours.specs.Pairs.{DescendsPair};
 ghost use Rattle.engine_law.specs.Says.{columns_by};
 ghost use Rattle.index_seeks.specs.SeekHands.{HoldsLast, HoldsBothLeaves, HoldsLeafPair};
@@ -45,8 +46,8 @@ impl<R: Wait> SeekCall<'_, R> {
         requires nothing { count pass.old ≡ 0 }
         ensures own { IsSamePass pass.old pass.new × IsPassOf self.now.space.now pass.new }
         ensures nothing { count pass.new ≡ 0 }
-        ensures told { TellsByWay (view pass.old) (view pass.new) self.now.index self.now.mode
-            self.now.tuple.now.fields result out.new }
+        ensures told { TellsByWay NoException (view pass.old) (view pass.new) self.now.index
+            self.now.mode self.now.tuple.now.fields result out.new }
         ensures columns { columns_told result ≡ columns_by self.now.found }
     {
         let backoff = Backoff::new();
@@ -65,8 +66,8 @@ impl<R: Wait> SeekCall<'_, R> {
         requires nothing { count pass.old ≡ 0 }
         ensures own { IsSamePass pass.old pass.new × IsPassOf self.now.space.now pass.new }
         ensures nothing { count pass.new ≡ 0 }
-        ensures tried { TriesSeek (view pass.old) (view pass.new) self.now.index self.now.mode
-            self.now.tuple.now.fields result out.new }
+        ensures tried { TriesSeek NoException (view pass.old) (view pass.new) self.now.index
+            self.now.mode self.now.tuple.now.fields result out.new }
         ensures columns { IfSome result (λ told. columns_told told
             ≡ columns_by self.now.found) }
     {

@@ -70,7 +70,7 @@ returns-in-Hit-clause-told g c = let p = c.args.pass.now in
     (knowledge c.guess.new.learn)) hit.is c.guess.ensures.did in
     let about = c.seek_call.ensures.about in let call = c.seek_call.result in
     let told = c.end_on_hit.result in let out = c.end_on_hit.new.out in
-    hit_seeks p q r i mode tuple guessed.info hit.block hit.place hit.found guessed.hits told out
+    hit_seeks p q r (knowledge c.guess.new.learn) i mode tuple guessed.info hit.block hit.place hit.found guessed.hits told out
     (ap (λ (z : Columns). z.how) c.end_on_hit.ensures.columns ∙ c.seek_call.ensures.found.0)
     (about_seek (λ n m t. AnswersHit q hit.block n m t told out r) call.index i call.mode mode
     call.tuple.now.fields tuple about.0 about.1 about.2 c.end_on_hit.ensures.told)
@@ -123,7 +123,7 @@ returns-in-Miss-clause-told g c =
     ∙ (c.seek_call-in-Miss.ensures.found.0 ∙ c.how_of.ensures) in
     miss_told p q r s l n m i mode tuple c.in-Miss.cause c.in-Miss.learn guessed pair
     c.find_pair-note.result.1 c.find_pair-note.ensures.found c.seek.result c.seek.new.out how_is
-    (about_seek (λ k m t. SeeksFrom (shape_of_pass r) (view r) (view s) pair.leaf.block k m t
+    (guessed.keeps.count ∙ c.requires.nothing) (about_seek (λ k m t. SeeksFrom (shape_of_pass r) (view r) (view s) pair.leaf.block k m t
     c.seek.result c.seek.new.out) call.index i call.mode mode call.tuple.now.fields tuple about.0 about.1
     about.2 c.seek.ensures.told)
 

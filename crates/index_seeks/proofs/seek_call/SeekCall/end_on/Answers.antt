@@ -81,6 +81,7 @@ returns-clause-ends g c = let call = c.args.self.now in let p = c.args.pass.now 
     said_then_first (shape_of_pass p) call.index c.tell-told.new.pass c.leave.new.pass
     c.args.leaf.now.block (ap (λ (t : Terms Shape). t.shape) terms) c.leave.ensures.gave call.mode
     call.tuple.now.fields c.tell-told.result c.take_row-found.new.out (view p) c.tell-told.ensures.did
+    c.tell-told.ensures.kept.held
     last.frame last.is.page.is.page.head.number
     (page_number last.frame call.index 0 last.is.page.is) last.knows
     (knows_same p c.tell-told.new.pass c.args.leaf.now.block last.frame

@@ -11,7 +11,7 @@ use Rattle.buffer_pool.proofs.AgainLemmas.{passes_both}
 use Rattle.hash_guess.proofs.HitLemmas.{found_at}
 use Rattle.engine_law.specs.Says.{columns_by}
 use Rattle.index_seeks.specs.SeekSteps.{SaysIf}
-use Rattle.engine_law.proofs.KnownLemmas.{knows_same, same_page}
+use Rattle.engine_law.proofs.KnownLemmas.{held_gave, knows_same, same_page}
 use Rattle.tree_neighbours.proofs.HandLemmas.{gave_page, only_same, only_gave, may_leave}
 use Rattle.index_seeks.proofs.SeekHitLemmas.{hit_tells}
 use Rattle.index_seeks.proofs.seek_call.SeekCall.end_on_hit.Goals as goal
@@ -82,6 +82,7 @@ returns-clause-told g c = let p = c.args.pass.now in let q = c.tell.new.pass in
       says = subst (λ o. SaysIf (view p) (view q) call.index (Seek call.mode call.tuple.now.fields) o
           c.fill.new.self) c.in-Some.is c.tell.ensures.did;
       gave = c.leave.ensures.gave;
+      held = held_gave p q c.leave.new.pass b c.tell.ensures.kept.held terms c.leave.ensures.gave;
       page = gave_page q c.leave.new.pass b call.index hit.frame
           (knows_same p q b hit.frame c.tell.ensures.kept.held terms hit.knows) hit.is
           c.leave.ensures.gave;

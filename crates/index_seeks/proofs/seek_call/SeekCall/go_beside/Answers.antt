@@ -55,6 +55,7 @@ returns-in-On-clause-ends g c = let call = c.args.self.now in let p = c.args.pas
     c.in-On.is c.stand_on-stand.ensures.then in
     first_then_on (shape_of_pass p) call.index q r b (ap (λ (t : Terms Shape). t.shape) terms)
     c.leave.ensures.gave call.mode call.tuple.now.fields c.walk.result c.walk.new.out (view p) v' on.1
+    c.stand_on-stand.ensures.kept.held
     (subst
     (λ s. EndsSeek s (view r) v' call.index call.mode call.tuple.now.fields c.walk.result
     c.walk.new.out)
@@ -90,7 +91,7 @@ returns-in-Ends-clause-ends g c = let call = c.args.self.now in let p = c.args.p
     (said_then_first (shape_of_pass p) call.index q r b (ap (λ (t : Terms Shape). t.shape) terms)
     gave call.mode call.tuple.now.fields c.in-Ends.told out (view p)
     (subst (λ s. StandsThen p q m call.index call.mode call.tuple.now.fields s out) c.in-Ends.is
-    c.stand_on-stand.ensures.then)
+    c.stand_on-stand.ensures.then) kept.held
     both.frame both.is.page.is.page.head.number
     (page_number both.frame call.index 0 both.is.page.is) both.knows
     (knows_same p q b both.frame kept.held terms both.knows))

@@ -73,6 +73,7 @@ returns-in-AtEnd-clause-then g c = let call = c.args.self.now in let p = c.args.
           c.tell-told.ensures.kept terms) c.leave-in-AtEnd.ensures.gave).count,
       last_ends p call.index call.mode call.tuple.now.fields c.args.from c.requires.walks q last r
           c.leave-in-AtEnd.new.pass c.tell-told.result c.args.out.now c.tell-told.ensures.did
+          c.tell-told.ensures.kept.held
           (ap (λ (t : Terms Shape). t.shape) (c.tell-told.ensures.own.1.1 ∙ sym c.requires.own.1))
           c.leave-in-AtEnd.ensures.gave holds,
     )

@@ -42,7 +42,7 @@ returns-in-Ends-clause-then g c = let call = c.args.self.now in let p = c.args.p
           gave call.mode call.tuple.now.fields c.in-Ends.told c.stand_on.new.out (view p)
           (subst
           (λ s. StandsThen p q b call.index call.mode call.tuple.now.fields s c.stand_on.new.out)
-          c.in-Ends.is c.stand_on.ensures.then)
+          c.in-Ends.is c.stand_on.ensures.then) c.stand_on.ensures.kept.held
           (gave_page q r b call.index holds.frame holds.knows holds.is gave),
     )
 
