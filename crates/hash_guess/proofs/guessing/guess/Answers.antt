@@ -20,36 +20,36 @@ returns-then-is_miss-clause-did g c = let told = c.in-Err.ensures.err in
     let kept = misses_keep c.args.pass.now c.find_named-told.new.pass c.requires.known c.args.index
     c.args.mode (g.A.Fields.fields_of c.args.tuple.now) c.recommend-info.result c.in-Err.cause told
     in record {
-  keeps = kept.got;
-  as_taken = kept.as_taken;
-  info = c.recommend-info.result;
-  misses = told;
-  learns = subst (λ (b : Bool). LearnsIf b (knowledge c.args.learn.now) c.args.index
-      c.recommend-info.result (Some c.after_miss.result) (knowledge c.after_miss.new.pass))
-      (sym c.if-is_miss.true ∙ c.is_miss.ensures) (
-        c.after_miss.result,
-        refl,
-        record {
-          read = knowledge c.recommend-info.new.pass;
-          recommends = c.recommend-info.ensures.did;
-          tells = c.after_miss.ensures.did;
-        },
-      );
-}
+      keeps = kept.got;
+      as_taken = kept.as_taken;
+      info = c.recommend-info.result;
+      misses = told;
+      learns = subst (λ (b : Bool). LearnsIf b (knowledge c.args.learn.now) c.args.index
+          c.recommend-info.result (Some c.after_miss.result) (knowledge c.after_miss.new.pass))
+          (sym c.if-is_miss.true ∙ c.is_miss.ensures) (
+            c.after_miss.result,
+            refl,
+            record {
+              read = knowledge c.recommend-info.new.pass;
+              recommends = c.recommend-info.ensures.did;
+              tells = c.after_miss.ensures.did;
+            },
+          );
+    }
 
 pub returns-else-is_miss-clause-did : goal.returns-else-is_miss-clause-did
 returns-else-is_miss-clause-did g c = let told = c.in-Err.ensures.err in
     let kept = misses_keep c.args.pass.now c.find_named-told.new.pass c.requires.known c.args.index
     c.args.mode (g.A.Fields.fields_of c.args.tuple.now) c.recommend-info.result c.in-Err.cause told
     in record {
-  keeps = kept.got;
-  as_taken = kept.as_taken;
-  info = c.recommend-info.result;
-  misses = told;
-  learns = subst (λ (b : Bool). LearnsIf b (knowledge c.args.learn.now) c.args.index
-      c.recommend-info.result None (knowledge c.recommend-info.new.pass))
-      (sym c.if-is_miss.false ∙ c.is_miss.ensures) (refl, c.recommend-info.ensures.did);
-}
+      keeps = kept.got;
+      as_taken = kept.as_taken;
+      info = c.recommend-info.result;
+      misses = told;
+      learns = subst (λ (b : Bool). LearnsIf b (knowledge c.args.learn.now) c.args.index
+          c.recommend-info.result None (knowledge c.recommend-info.new.pass))
+          (sym c.if-is_miss.false ∙ c.is_miss.ensures) (refl, c.recommend-info.ensures.did);
+    }
 
 pub after_hit-requires-clause-index : goal.after_hit-requires-clause-index
 after_hit-requires-clause-index g c = c.requires.index
