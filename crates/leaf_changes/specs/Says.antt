@@ -18,10 +18,13 @@ use Rattle.index_law.specs.Rightness.{IsReply, IsAllowed}
 use Rattle.index_law.specs.Shape.{Shape}
 use Rattle.index_law.specs.State.{Entries}
 use Rattle.forest_law.specs.declared.objects.Frame.{Frame}
-use Rattle.forest_world.specs.Held.{TreePass}
+use Rattle.forest_law.specs.declared.objects.Object.TheVariants as object
+use Rattle.forest_law.specs.Numbers.{frame_id}
+use Rattle.forest_world.specs.Held.{TreePass, shape_of_pass}
 use Rattle.call_law.specs.Once.{IsQuiet, AnswersOnce}
 use Rattle.call_law.specs.Spoken.{View}
 use Rattle.call_law.specs.Trace.{Added, IsOnlySaid, SparesTrees, frame_references}
+use Rattle.buffer_pool.specs.AsTaken.{WasHeldSo}
 use Rattle.buffer_pool.specs.Frames.{GivesFrame}
 use Rattle.engine_law.specs.declared.found.Found.{Found}
 use Rattle.engine_law.specs.Says.{SeesFull, SaysOnce}
@@ -104,3 +107,10 @@ pub record AnswersAndLeaves (p : TreePass) (b i : ℕ) (ask : Ask) (told : Told)
   pub says : SaysBeside (view p) (view between) i ask told row
   pub gave : GivesFrame between b q
   pub number : KeepsNumber (view p) b gave.frame
+
+-- the same, and the leaf was given back as it was held
+pub record ReadsAndLeaves (p : TreePass) (b i : ℕ) (ask : Ask) (told : Told) (row : Pair)
+    (q : TreePass) : Type 0 where
+  pub answers : AnswersAndLeaves p b i ask told row q
+  pub held : WasHeldSo (view p) (frame_id (shape_of_pass p) b) answers.gave.taken
+      (object.Frame answers.gave.frame)

@@ -9,7 +9,7 @@ ghost use Rattle.tree_law.specs.Pages.{row_pairs};
 ghost use Rattle.leaf_changes.specs.Changes.{HasKeyRowIn, HasSpotIn};
 ghost use Rattle.engine_law.specs.Tells.{HasKeyOf};
 ghost use Rattle.leaf_changes.specs.Holds.{HoldsFreshAlone, HoldsKeyRow};
-ghost use Rattle.leaf_changes.specs.Says.{AnswersAndLeaves};
+ghost use Rattle.leaf_changes.specs.Says.{ReadsAndLeaves};
 ghost use Rattle.engine_law.specs.Says.{columns_by};
 ghost use Rattle.page_view.specs.Finding.{HasRow, HasSpot};
 
@@ -29,7 +29,7 @@ impl<R> TreeCall<'_, R> {
             self.now.key.now.tuple leaf.now.spot }
         ensures own { IsSamePass pass.old pass.new × IsPassOf self.now.space.now pass.new }
         ensures nothing { count pass.new ≡ 0 }
-        ensures told { AnswersAndLeaves pass.old leaf.now.block self.now.index
+        ensures told { ReadsAndLeaves pass.old leaf.now.block self.now.index
             (asked.Get self.now.key.now.tuple) result out.new pass.new }
         ensures columns { columns_told result ≡ columns_by self.now.found }
         ensures kept { result.reply ≢ Reply.Found → out.new ≡ out.old }
@@ -50,7 +50,7 @@ impl<R> TreeCall<'_, R> {
         requires held { HoldsKeyRow pass.old block self.now.index place self.now.key.now.tuple }
         ensures own { IsSamePass pass.old pass.new × IsPassOf self.now.space.now pass.new }
         ensures nothing { count pass.new ≡ 0 }
-        ensures told { AnswersAndLeaves pass.old block self.now.index
+        ensures told { ReadsAndLeaves pass.old block self.now.index
             (asked.Get self.now.key.now.tuple) result out.new pass.new }
         ensures columns { columns_told result ≡ columns_by self.now.found }
         ensures found { result.reply ≡ Reply.Found }

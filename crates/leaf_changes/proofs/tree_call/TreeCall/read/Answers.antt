@@ -3,6 +3,7 @@ use Rattle.latch_space.specs.Passes.{view}
 use Rattle.map_history.specs.Operation as asked
 use Rattle.buffer_pool.proofs.AgainLemmas.{passes_both}
 use Rattle.leaf_changes.proofs.CallLemmas.{can_get}
+use Rattle.engine_law.proofs.KnownLemmas.{held_gave}
 use Rattle.leaf_changes.proofs.TellLemmas.{beside_of, number_gave, known_still}
 use Rattle.leaf_changes.proofs.tree_call.TreeCall.read.Goals as goal
 
@@ -28,13 +29,17 @@ pub returns-clause-told : goal.returns-clause-told
 returns-clause-told g c = let call = c.args.self.now in
     let held = c.requires.held.alone.fresh in let p = c.args.pass.now in
     let q = c.say-told.new.pass in record {
-      between = q;
-      says = beside_of (view p) (view q) call.index (asked.Get call.key.now.tuple) c.say-told.result
-          c.read_row-reply.new.out c.say-told.ensures.did;
-      gave = c.let_go.ensures.gave;
-      number = number_gave p q c.let_go.new.pass c.args.block held.frame held.holds.has.held
-          c.say-told.ensures.kept c.say-told.ensures.did.once.adds.numbers.terms
-          c.let_go.ensures.gave;
+      answers = record {
+        between = q;
+        says = beside_of (view p) (view q) call.index (asked.Get call.key.now.tuple) c.say-told.result
+            c.read_row-reply.new.out c.say-told.ensures.did;
+        gave = c.let_go.ensures.gave;
+        number = number_gave p q c.let_go.new.pass c.args.block held.frame held.holds.has.held
+            c.say-told.ensures.kept c.say-told.ensures.did.once.adds.numbers.terms
+            c.let_go.ensures.gave;
+      };
+      held = held_gave p q c.let_go.new.pass c.args.block c.say-told.ensures.kept.held
+          c.say-told.ensures.did.once.adds.numbers.terms c.let_go.ensures.gave;
     }
 
 pub returns-clause-found : goal.returns-clause-found
