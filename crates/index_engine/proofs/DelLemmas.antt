@@ -117,7 +117,7 @@ module _ (p p0 q : TreePass) (i : ℕ) (key : FieldList) (leaf : Leaf) (how : Ho
   tells_first : (between : TreePass)
       → (answers : AnswersAndLeaves p0 leaf.block i ask told (lent_row None) between)
       → TellsFound (IsFoundBy (shape_of_pass p) i key how) (view p) (view between) i ask told
-      (lent_row None) answers.gave.frame
+      (lent_row None) answers.gave.taken answers.gave.frame
   tells_first between answers = tells_found (IsFoundBy (shape_of_pass p) i key how) p p0 between i key
       leaf went ask told (lent_row None) answers
 

@@ -19,9 +19,11 @@ use Rattle.forest_world.specs.Held.{TreePass, shape_of_pass}
 use Rattle.call_law.specs.Spoken.{View}
 use Rattle.call_law.specs.Trace.{Added, Adds, SparesTrees, frame_references}
 use Rattle.call_law.proofs.TraceLemmas.{both_added, quiet_of, quiet_then_once, once_then_silent}
+use Rattle.buffer_pool.specs.AsTaken.{AreAsTaken}
 use Rattle.buffer_pool.specs.Frames.{GivesFrame}
 use Rattle.buffer_pool.specs.Pages.{HasNumber}
 use Rattle.buffer_pool.proofs.AddedLemmas.{only_given, gave_adds, frame_no_tree, given_spares, spares_both}
+use Rattle.buffer_pool.proofs.AsTakenLemmas.{frames_as_taken}
 use Rattle.tree_descent.specs.declared.descending.Leaf.{Leaf}
 use Rattle.leaf_changes.specs.Holds.{KeepsNumber}
 use Rattle.leaf_changes.specs.Says.{AnswersAndLeaves}
@@ -105,10 +107,12 @@ module _ (found : Finding) (p p0 p1 p2 : TreePass) (i : ℕ) (key : FieldList) (
 
 -- what is told by a leaf that was found so, and which references the leaf's ends
 pub record TellsFound (found : Finding) (v v' : View) (i : ℕ) (ask : Ask) (told : Told) (row : Pair)
-    (leaf : Frame) : Type 0 where
+    (taken : Object) (leaf : Frame) : Type 0 where
   pub tells : TellsOnce v v' i ask told row
   pub ends : EndsOnLeaf v.terms.shape found tells.once.added.references
+  pub taken_is : taken ≡ ends.taken
   pub leaf_is : leaf ≡ ends.leaf
+  pub as_taken : AreAsTaken ends.before
   pub spares : SparesTrees v.terms.shape tells.once.added
   pub placed : told.reply ≢ words.SpaceFull
 
@@ -116,7 +120,7 @@ pub record TellsFound (found : Finding) (v v' : View) (i : ℕ) (ask : Ask) (tol
 unfoldable pub tells_found : (found : Finding) (p p0 p2 : TreePass) (i : ℕ) (key : FieldList)
     (leaf : Leaf) → ComesToLeaf found p i key leaf p0 → (ask : Ask) (told : Told) (row : Pair)
     → (answers : AnswersAndLeaves p0 leaf.block i ask told row p2)
-    → TellsFound found (view p) (view p2) i ask told row answers.gave.frame
+    → TellsFound found (view p) (view p2) i ask told row answers.gave.taken answers.gave.frame
 unfolding quiet_of quiet_then_once once_then_silent ends_all
 tells_found found p p0 p2 i key leaf went ask told row answers =
     let p1 = answers.between in let gave = answers.gave in let says = answers.says in
@@ -137,7 +141,9 @@ tells_found found p p0 p2 i key leaf went ask told row answers =
       };
       ends = ends_all found p p0 p1 p2 i key leaf went gave says.once.added beside terms
           answers.number;
+      taken_is = refl;
       leaf_is = refl;
+      as_taken = frames_as_taken added.references went.as_taken;
       spares = spares_all found p p0 p1 p2 i key leaf went gave says.once.added beside terms;
       placed = says.placed;
     }

@@ -13,15 +13,18 @@ use Rattle.search_info.specs.declared.knows.Knows.{Knows}
 use Rattle.index_law.specs.Shape.{Shape}
 use Rattle.forest_law.specs.declared.objects.Frame.{Frame}
 use Rattle.forest_law.specs.declared.objects.Object.{Object}
+use Rattle.forest_law.specs.declared.objects.Object.TheVariants as object
 use Rattle.forest_world.specs.Held.{TreePass, shape_of_pass}
 use Rattle.call_law.specs.Once.{IsQuiet}
 use Rattle.call_law.specs.Spoken.{View}
 use Rattle.call_law.specs.Trace.{SparesTrees}
 use Rattle.call_law.proofs.TraceLemmas.{quiet_of, quiet_both}
+use Rattle.buffer_pool.specs.AsTaken.{AreAsTaken}
 use Rattle.tree_descent.specs.declared.descending.Leaf.{Leaf}
 use Rattle.tree_descent.specs.Descents.{Descends}
 use Rattle.leaf_search.specs.declared.searched.Searched.{Searched}
 use Rattle.leaf_search.specs.Searches.{Searches}
+use Rattle.leaf_search.specs.Taught.{IsAsFound}
 use Rattle.index_engine.specs.Leaving.{ComesToLeaf, LooksAndLeaves}
 use Rattle.leaf_changes.specs.Says.{SparesPages}
 use Rattle.index_engine.specs.Traces.{Finding, AreWayTo, IsFoundBy, EndsOnLeaf, TellsByLeaf}
@@ -33,6 +36,7 @@ pub by_search : (p : TreePass) (l : Knows) (i : ℕ) (key : FieldList) (s : Sear
     → ComesToLeaf (IsFoundBy (shape_of_pass p) i key s.how) p i key s.leaf q
 by_search p l i key s q m found = record {
   silently = found.silently;
+  as_taken = found.as_taken;
   lacked = found.lacked;
   frame = found.frame;
   knows = found.knows;
@@ -58,6 +62,7 @@ pub by_way : (p : TreePass) (i : ℕ) (key : FieldList) (leaf : Leaf) (q : TreeP
     → ComesToLeaf (AreWayTo (shape_of_pass p) i key) p i key leaf q
 by_way p i key leaf q went = record {
   silently = went.silently;
+  as_taken = went.as_taken;
   lacked = went.lacked;
   frame = went.frame;
   knows = went.knows;
@@ -111,17 +116,37 @@ ends_told shape i key told how by qs ends = subst
     (λ h. (e : EndsOnLeaf shape (IsFoundBy shape i key h) qs) × (ends.leaf ≡ e.leaf)) (sym by)
     (ends, refl)
 
--- an answer that was told by a leaf that a search found
-pub tells_search : (v v' : View) (i : ℕ) (key : FieldList) (how : How) (ask : Ask)
-    (told : Told) (row : Pair) (leaf : Frame) → told.how ≡ how
-    → TellsFound (IsFoundBy v.terms.shape i key how) v v' i ask told row leaf
-    → TellsByLeaf v v' i key ask told row
-tells_search v v' i key how ask told row leaf by tells = record {
-  tells = tells.tells;
-  ends = (ends_told v.terms.shape i key told.how how by tells.tells.once.added.references
-      tells.ends).0;
-  spares = tells.spares;
-}
+-- the same, with what is so of the references before the leaf's and of that
+found_told : (shape : Shape) (i : ℕ) (m : Knows) (key : FieldList) (told how : How) → told ≡ how
+    → (qs : List (Reference Object)) → (ends : EndsOnLeaf shape (IsFoundBy shape i key how) qs)
+    → AreAsTaken ends.before → IsAsFound shape i m how ends.taken (object.Frame ends.leaf)
+    → (e : EndsOnLeaf shape (IsFoundBy shape i key told) qs) × AreAsTaken e.before
+    × IsAsFound shape i m told e.taken (object.Frame e.leaf)
+found_told shape i m key told how by qs ends before leaf = subst
+    (λ h. (e : EndsOnLeaf shape (IsFoundBy shape i key h) qs) × AreAsTaken e.before
+    × IsAsFound shape i m h e.taken (object.Frame e.leaf)) (sym by) (ends, before, leaf)
+
+-- an answer that was told by a leaf that a search found, and that was given back as it was found
+pub tells_search : (v v' : View) (m : Knows) (i : ℕ) (key : FieldList) (how : How) (ask : Ask)
+    (told : Told) (row : Pair) (taken : Object) (leaf : Frame) → told.how ≡ how
+    → IsAsFound v.terms.shape i m how taken (object.Frame leaf)
+    → TellsFound (IsFoundBy v.terms.shape i key how) v v' i ask told row taken leaf
+    → TellsByLeaf v v' m i key ask told row
+tells_search v v' m i key how ask told row taken leaf by so tells =
+    let last = subst
+    (λ (t : Object). IsAsFound v.terms.shape i m how t (object.Frame tells.ends.leaf))
+    tells.taken_is
+    (subst (λ (f : Frame). IsAsFound v.terms.shape i m how taken (object.Frame f)) tells.leaf_is
+    so) in
+    let found = found_told v.terms.shape i m key told.how how by
+    tells.tells.once.added.references tells.ends tells.as_taken last in
+    record {
+      tells = tells.tells;
+      ends = found.0;
+      as_taken = found.1;
+      as_found = found.2;
+      spares = tells.spares;
+    }
 
 -- what is so of a key is so of the same key
 pub about_key : (P : ℕ → FieldList → Type 0) (i j : ℕ) (k l : FieldList) → i ≡ j → k ≡ l → P i k

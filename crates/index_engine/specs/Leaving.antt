@@ -13,6 +13,7 @@ use Rattle.forest_law.specs.Numbers.{frame_id}
 use Rattle.forest_world.specs.Held.{TreePass, shape_of_pass}
 use Rattle.call_law.specs.Hands.{KnowsFrame}
 use Rattle.call_law.specs.Trace.{frame_references}
+use Rattle.buffer_pool.specs.AsTaken.{AreAsTaken}
 use Rattle.buffer_pool.specs.Calls.{DoesSilently}
 use Rattle.buffer_pool.specs.Frames.{GivesFrame}
 use Rattle.buffer_pool.specs.Hands.{LacksFrame}
@@ -24,10 +25,11 @@ use Rattle.leaf_changes.specs.Says.{AnswersAndLeaves, SaysBeside, LooksBeside}
 use Rattle.index_engine.specs.Traces.{Finding, IsFullLeaf, HasLightPage, SeesEach}
 
 -- the leaf with the key's position is held besides, and was found so by the references that were
--- added
+-- added; each frame that kept its page was given back as it was taken
 pub record ComesToLeaf (found : Finding) (p : TreePass) (i : ℕ) (key : FieldList) (leaf : Leaf)
     (q : TreePass) : Type 0 where
   pub silently : DoesSilently p q (frame_id (shape_of_pass p) leaf.block ∷ [])
+  pub as_taken : AreAsTaken silently.added.references
   pub lacked : LacksFrame p leaf.block
   pub frame : Frame
   pub knows : KnowsFrame (view q) leaf.block frame

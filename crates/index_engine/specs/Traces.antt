@@ -27,9 +27,11 @@ use Rattle.forest_law.specs.Numbers.{frame_id}
 use Rattle.call_law.specs.Once.{IsQuiet}
 use Rattle.call_law.specs.Spoken.{View}
 use Rattle.call_law.specs.Trace.{SparesTrees, frame_references}
+use Rattle.buffer_pool.specs.AsTaken.{AreAsTaken}
 use Rattle.buffer_pool.specs.Pages.{HasNumber}
 use Rattle.tree_descent.specs.Leaves.{cut_in, IsPageFor}
 use Rattle.tree_descent.specs.Paths.{LeadFromRoot}
+use Rattle.leaf_search.specs.Taught.{IsAsFound}
 use Rattle.tree_shrinking.specs.declared.TheConstants.{LIGHT_LOAD}
 use Rattle.search_info.specs.Tries.{TriesAfter}
 use Rattle.engine_law.specs.Tells.{TellsOnce}
@@ -71,12 +73,16 @@ pub record IsFullLeaf (shape : Shape) (i : ℕ) (key : FieldList) (value : List 
   pub page : IsPageFor shape leaf i 0 (cut_in shape i mode.Ge key)
   pub full : PAGE_ROOM < load_of page.is.page.rows + charge_of key (Bytes value)
 
--- the answer was told by a leaf that was found as the columns say, and no tree was taken
-pub record TellsByLeaf (v v' : View) (i : ℕ) (key : FieldList) (ask : Ask) (told : Told)
+-- The answer was told by a leaf that was found as the columns say, and no tree was taken. Each frame
+-- that kept its page was given back as it was taken; but that of the leaf as the descent left it,
+-- which the lessons m end with, unless the hash led there.
+pub record TellsByLeaf (v v' : View) (m : Knows) (i : ℕ) (key : FieldList) (ask : Ask) (told : Told)
     (row : Pair) : Type 0 where
   pub tells : TellsOnce v v' i ask told row
   pub ends : EndsOnLeaf v.terms.shape (IsFoundBy v.terms.shape i key told.how)
       tells.once.added.references
+  pub as_taken : AreAsTaken ends.before
+  pub as_found : IsAsFound v.terms.shape i m told.how ends.taken (object.Frame ends.leaf)
   pub spares : SparesTrees v.terms.shape tells.once.added
 
 -- The answer of a write: a leaf was found as the columns say. It was told by that leaf, and no tree

@@ -37,8 +37,8 @@ impl Engine {
         requires index { index < indexes_of self.now }
         requires key { FitsKey self.now index key.now.tuple }
         ensures own { IsSame pass.old pass.new × IsOf self.now pass.new }
-        ensures told { TellsByLeaf (known pass.old) (known pass.new) index key.now.tuple
-            (asked.Get key.now.tuple) result out.new }
+        ensures told { TellsByLeaf (known pass.old) (known pass.new) (lessons_of pass.new) index
+            key.now.tuple (asked.Get key.now.tuple) result out.new }
         ensures tried { TriesAfter (lessons_of pass.old) index result.how (lessons_of pass.new) }
         ensures searched { SearchedFor pass.old index mode.Ge key.now.tuple (columns_told result)
             pass.new }
@@ -70,8 +70,8 @@ impl Engine {
         requires index { index < indexes_of self.now }
         requires tuple { FitsTuple self.now index tuple.now.fields }
         ensures own { IsSame pass.old pass.new × IsOf self.now pass.new }
-        ensures told { TellsOfSeek (known pass.old) (known pass.new) index mode tuple.now.fields result
-            out.new }
+        ensures told { TellsOfSeek (known pass.old) (known pass.new) (lessons_of pass.new) index mode
+            tuple.now.fields result out.new }
         ensures tried { TriesAfter (lessons_of pass.old) index result.how (lessons_of pass.new) }
         ensures searched { SoughtFor pass.old index mode tuple.now.fields (columns_told result) pass.new }
     {

@@ -1,5 +1,6 @@
 use Rattle.std.proofs.Common.{◌≡◌, true, ap, sym, subst, ◌∙◌, refl}
 use Rattle.latch_law.specs.declared.knows.Terms.{Terms}
+use Rattle.latch_law.specs.Views.{holding}
 use Rattle.latch_space.specs.Passes.{view}
 use Rattle.map_history.specs.Columns.{may_stand}
 use Rattle.map_history.specs.Operation as asked
@@ -11,6 +12,7 @@ use Rattle.search_info.specs.Passes.{knowledge}
 use Rattle.key_tuple.specs.declared.mode.Mode.TheVariants.{Ge}
 use Rattle.index_law.specs.Shape.{Shape}
 use Rattle.call_law.proofs.TraceLemmas.{same_numbers}
+use Rattle.forest_law.specs.declared.objects.Object.TheVariants as object
 use Rattle.forest_world.specs.Held.{shape_of_pass}
 use Rattle.search_info.specs.Tries.{TriesAfter}
 use Rattle.buffer_pool.proofs.AgainLemmas.{passes_both}
@@ -19,7 +21,7 @@ use Rattle.leaf_search.proofs.SearchLemmas.{hit_stands}
 use Rattle.leaf_search.proofs.TryLemmas.{of_tries}
 use Rattle.index_engine.specs.Engines.{lessons_of}
 use Rattle.leaf_changes.specs.Holds.{HoldsFreshAlone, HoldsKeyRow}
-use Rattle.leaf_changes.specs.Says.{AnswersAndLeaves}
+use Rattle.leaf_changes.specs.Says.{ReadsAndLeaves}
 use Rattle.index_engine.specs.Traces.{IsFoundBy}
 use Rattle.index_engine.proofs.ReadLemmas.{free_parts, key_whole, row_in_hand, row_searches, row_spot_there, searched_alone}
 use Rattle.index_engine.proofs.FoundLemmas.{tells_found}
@@ -53,15 +55,18 @@ returns-in-Row-clause-told g c = let engine = c.args.self.now in let p = c.args.
     let free = free_parts engine p c.requires.own.0 c.args.pass.now.nothing in
     let spot = row_spot_there p q l m i key c.args.pass.now.nothing whole free row.ensures.fits
     row.block row.place row.note row.ensures.searched in
-    let answers = about_key (λ n k. AnswersAndLeaves q row.block n (asked.Get k) told out r)
+    let reads = about_key (λ n k. ReadsAndLeaves q row.block n (asked.Get k) told out r)
     call.index i call.key.now.tuple key about.0 (ap (λ k. k.tuple) about.1) c.read.ensures.told in
-    tells_search (view p) (view r) i key ways.Hit (asked.Get key) told out answers.gave.frame
+    let gave = reads.answers.gave in
+    let found = row_searches p q l m i key c.args.pass.now.nothing whole free row.ensures.fits
+    row.block row.place row.note row.ensures.searched in
+    tells_search (view p) (view r) m i key ways.Hit (asked.Get key) told out gave.taken gave.frame
     (ap (λ (z : Columns). z.how) (c.read.ensures.columns ∙ c.call.ensures.found))
+    (found.as_found (holding gave.taken (object.Frame gave.frame)) reads.held)
     (tells_found (IsFoundBy (shape_of_pass p) i key ways.Hit) p q r i key
     (record { block = row.block; spot = spot })
-    (by_search p l i key (told_hit row.block spot row.note) q m
-    (row_searches p q l m i key c.args.pass.now.nothing whole free row.ensures.fits row.block
-    row.place row.note row.ensures.searched)) (asked.Get key) told out answers)
+    (by_search p l i key (told_hit row.block spot row.note) q m found) (asked.Get key) told out
+    reads.answers)
 
 pub returns-in-Row-clause-searched : goal.returns-in-Row-clause-searched
 returns-in-Row-clause-searched g c = let engine = c.args.self.now in
@@ -112,14 +117,16 @@ returns-in-Leaf-clause-told g c = let p = c.args.pass.now.world in let p0 = c.se
     let s = c.in-Leaf.searched in let m = knowledge c.search.new.learn in
     let call = c.call-in-Leaf.result in let about = c.call-in-Leaf.ensures.about in
     let told = c.get.result in let out = c.get.new.out in
-    let answers = about_key
-    (λ n k. AnswersAndLeaves p0 s.leaf.block n (asked.Get k) told out q)
+    let reads = about_key
+    (λ n k. ReadsAndLeaves p0 s.leaf.block n (asked.Get k) told out q)
     call.index i call.key.now.tuple key about.0 (ap (λ k. k.tuple) about.1) c.get.ensures.told in
-    tells_search (view p) (view q) i key s.how (asked.Get key) told out answers.gave.frame
+    let gave = reads.answers.gave in let found = c.in-Leaf.ensures.searched.0 in
+    tells_search (view p) (view q) m i key s.how (asked.Get key) told out gave.taken gave.frame
     (ap (λ (z : Columns). z.how) (c.get.ensures.columns ∙ c.call-in-Leaf.ensures.found))
+    (found.as_found (holding gave.taken (object.Frame gave.frame)) reads.held)
     (tells_found (IsFoundBy (shape_of_pass p) i key s.how) p p0 q i key s.leaf
-    (by_search p (lessons_of c.args.pass.now) i key s p0 m c.in-Leaf.ensures.searched.0)
-    (asked.Get key) told out answers)
+    (by_search p (lessons_of c.args.pass.now) i key s p0 m found)
+    (asked.Get key) told out reads.answers)
 
 pub returns-in-Leaf-clause-searched : goal.returns-in-Leaf-clause-searched
 returns-in-Leaf-clause-searched g c = record {
@@ -172,7 +179,7 @@ invariant_of-pass g c = let pass = c.args.pass.now in
     let numbers = same_numbers (view pass.world) (view p) (view q)
     hits.guess.hits.does.adds.numbers
     (answers_numbers p row.block call.index (asked.Get call.key.now.tuple) c.read.result
-    c.read.new.out q c.read.ensures.told) in
+    c.read.new.out q c.read.ensures.told.answers) in
     record {
       nothing = c.read.ensures.nothing;
       most = pass.most ∙ ap (λ (t : Terms Shape). t.max_changes) (sym numbers.terms);
@@ -188,7 +195,7 @@ invariant_of-pass-in-Leaf g c = let pass = c.args.pass.now in
     let numbers = same_numbers (view pass.world) (view p) (view q)
     searched.silently.does.adds.numbers
     (answers_numbers p c.in-Leaf.searched.leaf.block call.index (asked.Get call.key.now.tuple)
-    c.get.result c.get.new.out q c.get.ensures.told) in
+    c.get.result c.get.new.out q c.get.ensures.told.answers) in
     record {
       nothing = c.get.ensures.nothing;
       most = pass.most ∙ ap (λ (t : Terms Shape). t.max_changes) (sym numbers.terms);
