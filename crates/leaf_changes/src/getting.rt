@@ -17,8 +17,8 @@ use crate::tree_call::TreeCall;
 use forest_world::{ForestPass, Frame};
 use index_page::{Page, Place, Spot};
 use key_tuple::Key;
-use page_view::find_key;
 use map_history::{OpRef, Reply, RowBuf, Told};
+use page_view::find_key;
 use tree_descent::Leaf;
 
 impl<R> TreeCall<'_, R> {
