@@ -30,7 +30,8 @@ use Rattle.search_info.specs.Tries.{TriesAfter}
 use Rattle.leaf_search.proofs.SearchLemmas.{cause_is_no_hit}
 use Rattle.leaf_search.proofs.TryLemmas.{missed_tries, learnt_tries}
 use Rattle.index_seeks.specs.SeekSteps.{FindsPair, SeeksFrom}
-use Rattle.index_seeks.specs.SeekTraces.{IsLeafReference, TellsOfSeek}
+use Rattle.tree_neighbours.specs.LeafHands.{IsLeafReference}
+use Rattle.index_seeks.specs.SeekTraces.{TellsOfSeek}
 use Rattle.index_seeks.proofs.SeekLearnLemmas.{taught_comes, taught_leaf_given}
 use Rattle.index_seeks.proofs.SeekTryLemmas.{way_seeks}
 
