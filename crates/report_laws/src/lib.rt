@@ -10,4 +10,7 @@ pub use full::{
     log_full_has_cause, no_log_full, no_log_full_of_index, no_space_full, space_full_has_cause,
 };
 pub use samples::{late_row_is_passed_over, one_put_may_find_none, two_puts_may_be_full};
-pub use spelling::{answers_tell_all, bytes_spell_one_plain_report, bytes_spell_one_report};
+pub use spelling::{
+    answers_tell_all, bytes_spell_one_formed_report, bytes_spell_one_plain_report,
+    bytes_spell_one_report,
+};
