@@ -1,0 +1,4 @@
+pub mod TextLines
+pub mod Points
+pub mod Verdicts
+pub mod Laws

@@ -1,0 +1,3 @@
+pub mod BoundLemmas
+pub mod RowLemmas
+pub mod LegalLemmas

@@ -1,0 +1,4 @@
+pub mod FormLemmas
+pub mod ReadingLemmas
+pub mod SeenLemmas
+pub mod AnewLemmas

@@ -1,0 +1,3 @@
+pub mod LineForms
+pub mod Anew
+pub mod Laws

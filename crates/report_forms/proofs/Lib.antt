@@ -1,0 +1,10 @@
+pub mod LimitLemmas
+pub mod NumberLemmas
+pub mod EachLemmas
+pub mod EntryLemmas
+pub mod AnswerLemmas
+pub mod PieceLemmas
+pub mod ScanLemmas
+pub mod LaneLemmas
+pub mod TextLemmas
+pub mod ReportLemmas
