@@ -12,10 +12,12 @@ use Rattle.forest_law.specs.declared.objects.Frame.{Frame}
 use Rattle.forest_law.specs.declared.objects.Object.TheVariants as object
 use Rattle.forest_law.specs.Numbers.{frame_id}
 use Rattle.forest_world.specs.Held.{shape_of_pass}
+use Rattle.call_law.specs.Hands.{KnowsFrame}
 use Rattle.call_law.specs.Spoken.{View}
+use Rattle.buffer_pool.specs.Frames.{GivesFrame}
 use Rattle.engine_law.proofs.KnownLemmas.{gave_known}
 use Rattle.tree_cursor.specs.Cursors.{HasCursor}
-use Rattle.tree_cursor.specs.CursorLaws.{FramesRefer, GivenFramesRefer, ReferencesStay}
+use Rattle.tree_cursor.specs.CursorLaws.{FramesRefer, GivenFramesRefer, StoredCursorsRefer, ReferencesStay}
 
 -- what is among some others stands at a number
 place_among : {A : Type 0} (x : A) (xs : List A) → In x xs → (n : ℕ) × (get_elem? xs n ≡ some x)
@@ -61,3 +63,9 @@ given_frames_refer p q c f knows has gave =
       released = refl;
       has = subst (λ (g : Frame). HasCursor g c) (gave_known p q c.block f knows gave) has;
     }
+
+pub stored_cursors_refer : StoredCursorsRefer
+stored_cursors_refer p q b i place c h stored gave = let s = stored i h in
+    given_frames_refer p q c h.frame
+    (subst (λ n. KnowsFrame (view p) n h.frame) (sym s.block) h.knows) s.has
+    (subst (λ n. GivesFrame p n q) (sym s.block) gave)

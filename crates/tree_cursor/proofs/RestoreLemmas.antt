@@ -33,7 +33,9 @@ use Rattle.buffer_pool.specs.Frames.{TakesFrame, RefusesFrame, GivesFrame}
 use Rattle.buffer_pool.specs.Hands.{LacksFrame, MayGiveBack}
 use Rattle.buffer_pool.specs.Tries.{tries_alone, tries_and_given}
 use Rattle.buffer_pool.proofs.AddedLemmas.{only_refused, only_given}
-use Rattle.buffer_pool.proofs.CallLemmas.{does_both, does_again, does_nothing, took_frame, refused_frame, gave_frame}
+use Rattle.buffer_pool.proofs.AsTakenLemmas.{same_as_taken, took_as_taken}
+use Rattle.buffer_pool.proofs.CallLemmas.{does_both, does_again, took_frame, refused_frame, gave_frame}
+use Rattle.buffer_pool.proofs.GaveLemmas.{gave_none}
 use Rattle.buffer_pool.proofs.InsideLemmas.{taken_inside}
 use Rattle.tree_descent.specs.Ways.{HoldsPage}
 use Rattle.engine_law.proofs.KnownLemmas.{gave_known}
@@ -185,6 +187,7 @@ module _ (p : TreePass) (c : Cursor) (q : TreePass) (took : TakesFrame p c.block
     lacked = lacked;
     does = took_does;
     count = took.count;
+    held_as_taken = took_as_taken p q c.block lacked took;
     again = holds_cursor same below;
   }
 
@@ -251,12 +254,15 @@ module _ (p : TreePass) (c : Cursor) (q : TreePass) (took : TakesFrame p c.block
         → c.clock < last_clock → Restores p c (BySearch (Moved c.clock found)) s
     restores_moved found clock moved below = let back = went_back found clock moved in (
       record {
-        silently = record {
-          added = tries_and_given [] (frame_given p c.block back.frame ∷ []);
-          does = back.does;
-          silent = refl;
+        got = record {
+          silently = record {
+            added = tries_and_given [] (frame_given p c.block back.frame ∷ []);
+            does = back.does;
+            silent = refl;
+          };
+          count = count_same;
         };
-        count = count_same;
+        as_taken = (same_as_taken (object.Frame back.frame), tt);
       },
       (below, refl, back),
     )
@@ -265,23 +271,26 @@ module _ (p : TreePass) (c : Cursor) (q : TreePass) (took : TakesFrame p c.block
 pub restores_last : (p : TreePass) (c : Cursor) → IsKnown p → c.clock ≡ last_clock
     → Restores p c (BySearch Last) p
 restores_last p c known last =
-    (record { silently = does_nothing p known; count = refl }, (last, refl))
+    (gave_none p known, (last, refl))
 
 -- another pass held the block
 pub restores_busy : (p : TreePass) (c : Cursor) (n : ℕ) (q : TreePass) → IsKnown p
     → c.clock < last_clock → RefusesFrame p c.block n q → Restores p c (BySearch (Busy n)) q
 restores_busy p c n q known below busy = (
   record {
-    silently = record {
-      added = only_refused (record {
-        object = frame_id (shape_of_pass p) c.block;
-        holder = n;
-        held = (view p).held;
-      } ∷ []);
-      does = refused_frame p q known c.block n busy;
-      silent = refl;
+    got = record {
+      silently = record {
+        added = only_refused (record {
+          object = frame_id (shape_of_pass p) c.block;
+          holder = n;
+          held = (view p).held;
+        } ∷ []);
+        does = refused_frame p q known c.block n busy;
+        silent = refl;
+      };
+      count = busy.same.count;
     };
-    count = busy.same.count;
+    as_taken = tt;
   },
   (below, busy),
 )

@@ -1,5 +1,5 @@
 -- Laws of cursors and of the references that say them.
-use Rattle.std.specs.Prelude.{◌≡◌}
+use Rattle.std.specs.Prelude.{ℕ, ◌≡◌, Option}
 use Rattle.latch_law.specs.declared.knows.Reference.{Reference}
 use Rattle.latch_space.specs.Passes.{view}
 use Rattle.tree_law.specs.TreeShape.{In}
@@ -12,8 +12,10 @@ use Rattle.call_law.specs.Hands.{KnowsFrame}
 use Rattle.call_law.specs.Spoken.{View}
 use Rattle.call_law.specs.Trace.{Added, Adds}
 use Rattle.buffer_pool.specs.Frames.{GivesFrame}
+use Rattle.tree_descent.specs.Ways.{HoldsPage}
 use Rattle.tree_cursor.specs.declared.cursor.Cursor.{Cursor}
 use Rattle.tree_cursor.specs.Cursors.{HasCursor, Referred}
+use Rattle.tree_cursor.specs.Storing.{Stores}
 
 -- a reference of the cursor's block says the cursor where its frame has the cursor
 abbrev pub FramesRefer : Type 0
@@ -28,6 +30,12 @@ abbrev pub GivenFramesRefer : Type 0
 GivenFramesRefer =
     (p q : TreePass) (c : Cursor) (f : Frame) → KnowsFrame (view p) c.block f → HasCursor f c
     → GivesFrame p c.block q → Referred (view q) c
+
+-- as a cursor that was stored is, once its leaf is given back with no change since
+abbrev pub StoredCursorsRefer : Type 0
+StoredCursorsRefer =
+    (p q : TreePass) (b i : ℕ) (place : Option ℕ) (c : Cursor) → HoldsPage (view p) b i 0
+    → Stores (view p) b place c → GivesFrame p b q → Referred (view q) c
 
 -- and they say it still, whatever the pass adds to what it knows
 abbrev pub ReferencesStay : Type 0

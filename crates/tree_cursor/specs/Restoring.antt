@@ -11,7 +11,8 @@ use Rattle.forest_law.specs.declared.objects.Object.TheVariants as object
 use Rattle.forest_law.specs.Numbers.{frame_id}
 use Rattle.forest_world.specs.Held.{TreePass, shape_of_pass}
 use Rattle.call_law.specs.Spoken.{View}
-use Rattle.buffer_pool.specs.Calls.{Does, GetsNothing}
+use Rattle.buffer_pool.specs.AsTaken.{GaveAsTaken, HoldsAsTaken}
+use Rattle.buffer_pool.specs.Calls.{Does}
 use Rattle.buffer_pool.specs.Frames.{RefusesFrame}
 use Rattle.buffer_pool.specs.Hands.{LacksFrame}
 use Rattle.buffer_pool.specs.Tries.{tries_alone, tries_and_given}
@@ -36,11 +37,13 @@ pub record HoldsCursor (v : View) (c : Cursor) (page : Page) : Type 0 where
   pub has : HasCursor holds.frame c
   pub same : HasSameBounds page has.page
 
--- one try took the cursor's block, which is held besides, with all that the pass's reference says
+-- one try took the cursor's block, which is held besides, as it was taken, with all that the pass's
+-- reference says
 pub record HoldsAgain (p : TreePass) (c : Cursor) (q : TreePass) : Type 0 where
   pub lacked : LacksFrame p c.block
   pub does : Does p q (frame_id (shape_of_pass p) c.block ∷ []) (tries_alone [])
   pub count : count q ≡ count p + 1
+  pub held_as_taken : HoldsAsTaken (view q) c.block
   pub again : (r : Referred (view p) c) → HoldsCursor (view q) c r.has.page
 
 -- the frame's reference, as it was taken and given back
@@ -65,7 +68,7 @@ IsStale p c (Moved kept found) q =
     (c.clock < last_clock) × (kept ≡ c.clock) × WentBack p c.block kept found q
 
 -- what the answer tells: the leaf is held by the clock kept, which is below the last; or the pass
--- holds what it held, for a cause
+-- holds what it held, for a cause, and gave back what it took as it was taken
 abbrev pub Restores : TreePass → Cursor → Restored → TreePass → Type 0
 Restores p c (ByClock b) q = (b ≡ c.block) × (c.clock < last_clock) × HoldsAgain p c q
-Restores p c (BySearch cause) q = GetsNothing p q × IsStale p c cause q
+Restores p c (BySearch cause) q = GaveAsTaken p q × IsStale p c cause q
