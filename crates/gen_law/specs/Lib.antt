@@ -1,3 +1,4 @@
 pub mod Drawing
 pub mod Worked
+pub mod Lanes
 pub mod Counts

@@ -6,4 +6,4 @@ mod counts;
 mod drawing;
 
 pub use counts::rows_by_changes;
-pub use drawing::first_lines_are_drawn;
+pub use drawing::{first_lines_are_drawn, lanes_have_their_own_keys};
