@@ -15,6 +15,8 @@ mod files;
 #[cfg(test)]
 mod folds;
 #[cfg(test)]
+mod generator;
+#[cfg(test)]
 mod grammar;
 #[cfg(test)]
 mod judged;
