@@ -2,3 +2,14 @@ pub mod RestoreLemmas
 pub mod StoreLemmas
 pub mod ReferLemmas
 pub mod DescentLemmas
+pub mod StartLemmas
+pub mod FillLemmas
+pub mod LeafMapLemmas
+pub mod RangeEndLemmas
+pub mod EndingLemmas
+pub mod ToldLemmas
+pub mod PieceLemmas
+pub mod NextLemmas
+pub mod ReadLemmas
+pub mod TellLemmas
+pub mod WholeLemmas

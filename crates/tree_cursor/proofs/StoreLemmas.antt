@@ -83,7 +83,7 @@ module _ (w : ForestState) (law : IsLawful w) (v : View) (fits : FitsTrees w v) 
       (law.objects.counted.hash.keyed h.is.page.head.index (tells.sound h.is.tree).index))
 
   -- the key of a row is within the leaf's bounds
-  row_within : (x : Row) → In x h.is.page.rows
+  pub row_within : (x : Row) → In x h.is.page.rows
       → within (low_of h.frame) (high_of h.frame) (At x.key) ≡ true
   row_within x among =
       let low = low_of h.frame in let high = high_of h.frame in

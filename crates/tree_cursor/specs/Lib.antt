@@ -2,3 +2,8 @@ pub mod Cursors
 pub mod CursorLaws
 pub mod Storing
 pub mod Restoring
+pub mod Starts
+pub mod Fills
+pub mod MapRows
+pub mod Telling
+pub mod Pieces
