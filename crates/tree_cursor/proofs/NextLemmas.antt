@@ -250,8 +250,7 @@ module _ (p s : TreePass) (b m i : ℕ) (c : Cursor) (low : KeyPlace) (h : Holds
         let leaves : List (Reference Object) = (both_added given_b given_m).references in
         subst (λ qs. AllByRecursion (IsLeafReference (shape_of_pass p) i) qs)
         (sym (frames_both first.added.references (middle.references ++ leaves)
-        ∙ (λ j. none j ++ frame_references (nothing j ++ leaves))))
-        (
+        ∙ (λ j. none j ++ frame_references (nothing j ++ leaves)))) (
           gives_leaf (shape_of_pass p) i r u b kept.frame shape_r knows_b kept.is gave.first,
           (
             gives_leaf (shape_of_pass p) i u q m may.holds.frame shape_u knows_m may.holds.is

@@ -148,7 +148,6 @@ module _ (p : TreePass) (b i : ℕ) (c : Cursor) (low : KeyPlace) (start : Optio
         room = stand.room;
       }
 
-
   -- they were told, and the leaf went back
   module _ (only : HoldsLeavesAlone p (b ∷ [])) (fitted : IsFittedTree (view p)) (ask : Ask)
       (to : Option FieldList) (left : ℕ) (columns : Columns) (old new : Map) (step : Step)

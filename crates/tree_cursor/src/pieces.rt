@@ -289,7 +289,9 @@ impl<R: Wait> PieceCall<'_, R> {
             to: self.to,
             limit: self.limit,
         };
-        say_piece(self.space, pass, self.index, op, rows, first, self.how, self.note)
+        say_piece(
+            self.space, pass, self.index, op, rows, first, self.how, self.note,
+        )
     }
 }
 
