@@ -1,7 +1,6 @@
 -- What was taken of a leaf reaches to where the piece ends, and whether that ends the scan.
 use Rattle.std.proofs.Common.{◌≡◌, ◌⊎◌, inl, inr, ℕ, suc, ◌<◌, Bool, true, false, not, Option, Some, None, List, [], ◌∷◌, ◌++◌, length, sym, ap, subst, ◌∙◌, refl, append-nil, arith}
 use Rattle.std.proofs.lemmas.Bool.{both_ways}
-use Rattle.std.proofs.lemmas.List.{append_assoc}
 use Rattle.std.specs.List.{AllByRecursion}
 use Rattle.list_facts.proofs.Each.{each_left, each_right, each_weaker}
 use Rattle.key_tuple.specs.Order.{FieldList}
@@ -22,10 +21,9 @@ use Rattle.call_law.specs.Spoken.{View}
 use Rattle.tree_descent.specs.Ways.{HoldsPage}
 use Rattle.page_view.specs.declared.taking.Stop.{Stop}
 use Rattle.page_view.specs.declared.taking.Stop.TheVariants.{AtLimit, AtTo, AtPageEnd}
-use Rattle.page_view.specs.Taking.{rows_from_place, AreBelow, StopsAt, TakesRows}
+use Rattle.page_view.specs.Taking.{rows_from_place, AreBelow, StopsAt}
 use Rattle.page_view.proofs.TakingLemmas.{ends_with}
 use Rattle.scan_law.specs.AfterKey.{after_key, place_at}
-use Rattle.scan_law.proofs.PlaceLemmas.{End_after}
 use Rattle.scan_law.proofs.EdgeLemmas.{at_from}
 use Rattle.tree_cursor.specs.declared.cursor.Cursor.{Cursor}
 use Rattle.tree_cursor.specs.declared.filling.Ending.{Ending}

@@ -1,9 +1,7 @@
 -- Rows of a leaf were taken, and the cursor stands behind them.
-use Rattle.std.proofs.Common.{◌≡◌, ◌⊎◌, ℕ, ◌<◌, ◌==◌, Bool, true, false, cond, Option, Some, None, List, [], ◌∷◌, ◌++◌, length, inl, inr, refl, sym, ap, subst, ◌∙◌, append-nil, IsSome}
+use Rattle.std.proofs.Common.{◌≡◌, ℕ, ◌==◌, Bool, true, false, cond, Option, Some, None, List, [], ◌∷◌, ◌++◌, inl, inr, refl, sym, ap, subst, ◌∙◌, append-nil, IsSome}
 use Rattle.key_tuple.specs.Order.{FieldList}
-use Rattle.key_tuple.specs.KeyPlace.{At}
 use Rattle.map_history.specs.Map.{Map}
-use Rattle.map_history.specs.Scans.{is_below}
 use Rattle.index_page.specs.Page.{PageRows, IsPageInOrder}
 use Rattle.index_page.specs.Rows.{Row, find_row, first_of_rows, last_of_rows, last_row_after, IsAt}
 use Rattle.tree_law.specs.TreeShape.{In}
@@ -16,7 +14,7 @@ use Rattle.page_view.proofs.TakingLemmas.{first_left}
 use Rattle.tree_cursor.specs.declared.cursor.Cursor.{Cursor}
 use Rattle.tree_cursor.specs.declared.filling.Ending.TheVariants.{Full, Past, Onward}
 use Rattle.tree_cursor.specs.Cursors.{StandsAt}
-use Rattle.tree_cursor.specs.Fills.{is_past_at, HasRowPast, StandsBehind, Moves, EndsBy, Fills, IsLastFrom, IsMovedTo, MovesTo}
+use Rattle.tree_cursor.specs.Fills.{is_past_at, StandsBehind, Moves, Fills, IsLastFrom, IsMovedTo, MovesTo}
 use Rattle.tree_cursor.proofs.StoreLemmas.{row_has_key}
 
 -- the last of the rows from a place on is the last of all

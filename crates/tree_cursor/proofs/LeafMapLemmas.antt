@@ -1,6 +1,6 @@
 -- The rows of a leaf in hand from a place on are the map's, up to the leaf's high end, and so are those
 -- of the leaf behind it where it has none from there on.
-use Rattle.std.proofs.Common.{◌≡◌, ℕ, true, false, None, List, [], ◌∷◌, ◌++◌, sym, ap, subst, ◌∙◌, arith, refl, append-nil}
+use Rattle.std.proofs.Common.{◌≡◌, ℕ, true, false, None, [], ◌++◌, sym, ap, subst, ◌∙◌, arith, append-nil}
 use Rattle.std.specs.List.{AllByRecursion}
 use lib.ListN.{get_elem?}
 use Rattle.key_tuple.specs.KeyPlace.{KeyPlace, At, before}

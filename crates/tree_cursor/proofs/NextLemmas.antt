@@ -1,5 +1,5 @@
 -- A piece from the cursor on of the leaf behind the one in hand, which has no row from there on.
-use Rattle.std.proofs.Common.{◌≡◌, ◌≢◌, inl, inr, ℕ, ◌<◌, ◌≤◌, Bool, true, false, Option, Some, None, List, [], ◌∷◌, ◌++◌, length, sym, ap, subst, ◌∙◌, refl, arith, append-nil, length-append}
+use Rattle.std.proofs.Common.{◌≡◌, ◌≢◌, inl, inr, ℕ, ◌<◌, ◌≤◌, true, false, Option, None, List, [], ◌∷◌, ◌++◌, length, sym, ap, subst, ◌∙◌, refl, arith, append-nil, length-append}
 use Rattle.std.specs.List.{AllByRecursion}
 use mathlib.Core.Option.{some}
 use lib.ListN.{get_elem?}
@@ -11,21 +11,20 @@ use Rattle.latch_law.specs.declared.knows.Reference.{Reference}
 use Rattle.latch_law.specs.declared.knows.Terms.{Terms}
 use Rattle.latch_space.specs.Has.{IsKnown}
 use Rattle.latch_space.specs.Passes.{view}
-use Rattle.map_history.specs.Map.{Pair, Map}
+use Rattle.map_history.specs.Map.{Map}
 use Rattle.map_history.specs.Operation.{Ask}
 use Rattle.map_history.specs.Report.{Columns}
 use Rattle.index_page.specs.Page.{PageRows}
 use Rattle.index_page.specs.Rows.{Row, first_of_rows, IsAt}
-use Rattle.tree_law.specs.Pages.{IsOrderly, row_pairs}
+use Rattle.tree_law.specs.Pages.{row_pairs}
 use Rattle.tree_law.specs.TreeShape.{In}
 use Rattle.tree_law.proofs.LeafLemmas.{pairs_each}
 use Rattle.index_law.specs.Shape.{Shape}
 use Rattle.index_law.specs.State.{Entries}
-use Rattle.forest_law.specs.declared.objects.Frame.{Frame}
 use Rattle.forest_law.specs.declared.objects.Object.{Object}
 use Rattle.forest_law.specs.declared.objects.Object.TheVariants as object
 use Rattle.forest_law.specs.Numbers.{frame_id}
-use Rattle.forest_law.specs.State.{bound, fields_for, page_within}
+use Rattle.forest_law.specs.State.{bound, fields_for}
 use Rattle.forest_world.specs.Held.{TreePass, shape_of_pass}
 use Rattle.call_law.specs.Hands.{KnowsFrame}
 use Rattle.call_law.specs.Spoken.{View}
@@ -42,9 +41,9 @@ use Rattle.tree_descent.specs.Ways.{HoldsPage}
 use Rattle.engine_law.proofs.FrameTraceLemmas.{frames_both}
 use Rattle.engine_law.proofs.KnownLemmas.{one_frame, knows_same, same_page}
 use Rattle.tree_neighbours.specs.declared.side.Side.TheVariants.{Right}
-use Rattle.tree_neighbours.specs.LeafHands.{HoldsLeavesAlone, IsLeafReference}
-use Rattle.tree_neighbours.specs.Neighbours.{IsLeafBeside, TakesBeside}
-use Rattle.tree_neighbours.proofs.HandLemmas.{knows_gave, beside_shape, beside_knows, beside_keeps, beside_page}
+use Rattle.tree_neighbours.specs.LeafHands.{IsLeafReference}
+use Rattle.tree_neighbours.specs.Neighbours.{TakesBeside}
+use Rattle.tree_neighbours.proofs.HandLemmas.{knows_gave, beside_shape, beside_keeps, beside_page}
 use Rattle.page_view.specs.Taking.{rows_from_place}
 use Rattle.page_view.proofs.TakingLemmas.{from_place, place_in}
 use Rattle.scan_law.specs.ScanLaws.{ReadRange}
@@ -57,7 +56,7 @@ use Rattle.tree_cursor.specs.MapRows.{AreMapRows}
 use Rattle.tree_cursor.specs.Cursors.{HasCursor, Referred}
 use Rattle.tree_cursor.specs.Pieces.{HoldsStand, IsNextLeaf, IsEnd, GoesOn, GivesUp, TellsPiece}
 use Rattle.tree_cursor.specs.Starts.{place_of, BeginsAt}
-use Rattle.tree_cursor.specs.Telling.{MayTell, MayTellNext, TellsLeaf, GivesBoth, TellsAndGivesBoth}
+use Rattle.tree_cursor.specs.Telling.{MayTell, MayTellNext, TellsLeaf, GivesBoth}
 use Rattle.tree_cursor.proofs.LeafMapLemmas.{bounds_rise, leaf_rows_behind}
 use Rattle.tree_cursor.proofs.PieceLemmas.{rows_kept, sooner, gives_does, gives_leaf}
 use Rattle.tree_cursor.proofs.ReferLemmas.{given_frames_refer}

@@ -1,51 +1,42 @@
 -- A piece from the cursor on: of the leaf in hand, or of the one behind it.
-use Rattle.std.proofs.Common.{◌≡◌, ◌≢◌, ◌⊎◌, inl, inr, ℕ, ◌<◌, Bool, true, false, not, Option, Some, None, List, [], ◌∷◌, ◌++◌, length, sym, ap, subst, ◌∙◌, refl, arith, append-nil, length-append, IsSome}
+use Rattle.std.proofs.Common.{◌≡◌, ◌≢◌, ◌⊎◌, inl, inr, ℕ, ◌<◌, true, false, not, Option, None, List, [], ◌∷◌, ◌++◌, sym, ap, subst, ◌∙◌, refl, IsSome}
 use Rattle.std.proofs.lemmas.List.Elements.{filter-append}
-use Rattle.std.specs.List.{AllByRecursion, filter}
-use mathlib.Core.Option.{some}
+use Rattle.std.specs.List.{AllByRecursion}
 use lib.ListN.{get_elem?}
 use Rattle.list_facts.proofs.Each.{each_both, each_left, each_right, each_weaker, filter_each, filter_none}
-use Rattle.list_facts.proofs.Places.{same_some}
 use Rattle.key_tuple.specs.Order.{FieldList}
 use Rattle.key_tuple.specs.KeyPlace.{KeyPlace, At, before}
-use Rattle.key_tuple.proofs.PlaceLemmas.{before_upto, before-itself}
-use Rattle.latch_law.specs.declared.knows.Reference.{Reference}
 use Rattle.latch_law.specs.declared.knows.Terms.{Terms}
 use Rattle.latch_law.specs.Whole.{reference}
 use Rattle.latch_space.specs.Has.{IsKnown}
 use Rattle.latch_space.specs.Passes.{view}
-use Rattle.map_history.specs.Map.{Pair, Map}
+use Rattle.map_history.specs.Map.{Map}
 use Rattle.map_history.specs.Operation.{Ask}
 use Rattle.map_history.specs.Report.{Columns}
-use Rattle.index_page.specs.Page.{PageRows, PlacesDiffer}
+use Rattle.index_page.specs.Page.{PlacesDiffer}
 use Rattle.index_page.specs.Rows.{Row, first_of_rows, IsAt}
 use Rattle.tree_law.specs.Pages.{row_pairs}
 use Rattle.tree_law.proofs.LeafLemmas.{pairs_each}
 use Rattle.tree_law.proofs.PageRowLemmas.{row_pairs-append}
 use Rattle.index_law.specs.Shape.{Shape}
-use Rattle.index_law.specs.State.{Entries}
 use Rattle.forest_law.specs.declared.objects.Frame.{Frame}
-use Rattle.forest_law.specs.declared.objects.Object.{Object}
 use Rattle.forest_law.specs.declared.objects.Object.TheVariants as object
 use Rattle.forest_law.specs.Numbers.{frame_id}
 use Rattle.forest_world.specs.Held.{TreePass, shape_of_pass}
 use Rattle.call_law.specs.Hands.{KnowsFrame}
 use Rattle.call_law.specs.Spoken.{View}
-use Rattle.call_law.specs.Trace.{Added, frame_references}
+use Rattle.call_law.specs.Trace.{Added}
 use Rattle.call_law.proofs.TraceLemmas.{both_added}
 use Rattle.buffer_pool.specs.Calls.{Does}
 use Rattle.buffer_pool.specs.Forests.{IsFittedTree}
 use Rattle.buffer_pool.specs.Frames.{GivesFrame}
-use Rattle.buffer_pool.specs.Hands.{MayGiveBack}
 use Rattle.buffer_pool.specs.Pages.{HasTreePage}
 use Rattle.buffer_pool.proofs.AddedLemmas.{only_given, only_said}
 use Rattle.buffer_pool.proofs.CallLemmas.{does_both, does_none, gave_frame}
 use Rattle.tree_descent.specs.Ways.{HoldsPage}
-use Rattle.engine_law.proofs.KnownLemmas.{one_frame, gave_known, knows_same, same_page}
-use Rattle.tree_neighbours.specs.declared.side.Side.TheVariants.{Right}
+use Rattle.engine_law.proofs.KnownLemmas.{knows_same}
 use Rattle.tree_neighbours.specs.LeafHands.{HoldsLeavesAlone, IsLeafReference}
-use Rattle.tree_neighbours.specs.Neighbours.{TakesBeside, IsLastOn}
-use Rattle.tree_neighbours.proofs.HandLemmas.{gave_page, only_gave, only_same, may_leave}
+use Rattle.tree_neighbours.proofs.HandLemmas.{gave_page}
 use Rattle.page_view.specs.Taking.{rows_from_place}
 use Rattle.said_scans.specs.Ranges.{range_said}
 use Rattle.tree_facts.specs.TreeFrames.{high_of}
@@ -53,7 +44,7 @@ use Rattle.forest_law.specs.State.{bound}
 use Rattle.page_view.proofs.TakingLemmas.{from_place, place_in}
 use Rattle.tree_cursor.specs.declared.cursor.Cursor.{Cursor}
 use Rattle.tree_cursor.specs.declared.pieces.Step.{Step}
-use Rattle.tree_cursor.specs.Pieces.{rows_not_before, HoldsStand, LeafTaken, IsHeldLeaf, TellsPiece, IsEnd, GoesOn, GivesUp}
+use Rattle.tree_cursor.specs.Pieces.{rows_not_before, HoldsStand, TellsPiece, IsEnd, GoesOn, GivesUp}
 use Rattle.tree_cursor.specs.Fills.{StandsBehind}
 use Rattle.tree_cursor.specs.MapRows.{AreMapRows}
 use Rattle.tree_cursor.specs.Starts.{place_of, BeginsAt}

@@ -1,18 +1,16 @@
 -- The first of some rows of the map, and where their range ends: with all rows, just behind the last
 -- that was taken, or at TO.
-use Rattle.std.proofs.Common.{◌≡◌, ◌⊎◌, inl, inr, ℕ, Bool, true, false, not, cond, Option, Some, None, List, [], ◌∷◌, ◌++◌, length, sym, ap, subst, ◌∙◌, refl}
+use Rattle.std.proofs.Common.{◌≡◌, ◌⊎◌, inl, inr, ℕ, Bool, true, false, cond, Option, Some, None, [], ◌∷◌, ◌++◌, length, sym, ap, subst, ◌∙◌, refl}
 use Rattle.std.proofs.lemmas.Bool.{both_ways}
 use Rattle.std.proofs.lemmas.List.{append_assoc}
-use Rattle.std.specs.List.{AllByRecursion, filter}
-use lib.ListN.{get_elem?}
-use Rattle.list_facts.proofs.Each.{each_all, each_both, each_filter, each_left, each_right, each_weaker}
+use Rattle.std.specs.List.{AllByRecursion}
+use Rattle.list_facts.proofs.Each.{each_all, each_filter, each_left, each_right, each_weaker}
 use Rattle.key_tuple.specs.Order.{FieldList}
 use Rattle.key_tuple.specs.KeyPlace.{KeyPlace, At, End, before, within, not_below}
 use Rattle.key_tuple.proofs.PlaceLemmas.{before-itself, before-trans, before_not_after, before_upto}
 use Rattle.key_tuple.proofs.PositionLemmas.{within_parts}
 use Rattle.key_tuple.proofs.TupleLemmas.{not_below_cut}
 use Rattle.map_history.specs.Map.{Pair, Map, Ascends, slice, map_after}
-use Rattle.map_history.specs.Scans.{is_below}
 use Rattle.map_history.proofs.HistoryLemmas.{map_after-ascends}
 use Rattle.map_history.proofs.WriteLemmas.{ascends-filter}
 use Rattle.index_law.specs.State.{changes}

@@ -1,6 +1,6 @@
 -- What is read of a leaf in hand is what it is known to be.
-use Rattle.std.proofs.Common.{◌≡◌, ℕ, ◌≤◌, ◌<◌, Bool, true, false, Option, Some, None, length, sym, ap, subst, ◌∙◌, refl}
-use Rattle.std.specs.Prelude.{IfSome, option_map}
+use Rattle.std.proofs.Common.{◌≡◌, ℕ, ◌≤◌, ◌<◌, Bool, Option, Some, None, length, sym, ap, subst, ◌∙◌, refl}
+use Rattle.std.specs.Prelude.{IfSome}
 use denote.Ref.{Bor}
 use Rattle.list_facts.proofs.Places.{same_some}
 use Rattle.key_tuple.specs.Order.{FieldList}
@@ -22,7 +22,6 @@ use Rattle.page_view.specs.Taking.{IsPlaceIn}
 use Rattle.tree_cursor.specs.Cursors.{StandsAt}
 use Rattle.tree_cursor.specs.Fills.{MayFill}
 use Rattle.tree_cursor.specs.Pieces.{count_lent, HoldsStand}
-use Rattle.tree_cursor.specs.Starts.{place_of, BeginsAt}
 use Rattle.tree_cursor.specs.Telling.{MayTell}
 
 module _ (p : TreePass) (known : IsKnown p) (b i : ℕ) (h : HoldsPage (view p) b i 0) (found : Frame)

@@ -1,17 +1,17 @@
 -- The rows of a leaf that aren't before a cursor, by a search and by the cursor's place.
-use Rattle.std.proofs.Common.{◌≡◌, ◌≢◌, ℕ, Bool, true, false, not, cond, ◌==◌, eq-eqb, Option, Some, None, List, [], ◌∷◌, ◌++◌, length, inl, inr, refl, sym, ap, subst, ◌∙◌, IsSome}
+use Rattle.std.proofs.Common.{◌≡◌, ◌≢◌, ℕ, Bool, true, false, not, cond, eq-eqb, Option, Some, List, [], ◌∷◌, ◌++◌, length, inl, inr, refl, sym, ap, subst, ◌∙◌}
 use Rattle.std.proofs.lemmas.Bool.{ne_eqb}
 use Rattle.std.proofs.lemmas.List.{append_assoc}
 use Rattle.std.specs.List.{AllByRecursion}
 use Rattle.list_facts.proofs.Each.{each_left, each_right, each_append, each_both, each_weaker}
 use Rattle.key_tuple.specs.Order.{FieldList}
-use Rattle.key_tuple.specs.KeyPlace.{KeyPlace, At, above, before, not_below}
+use Rattle.key_tuple.specs.KeyPlace.{At, above, before, not_below}
 use Rattle.key_tuple.specs.declared.mode.Mode.TheVariants.{Ge, G}
 use Rattle.key_tuple.proofs.PlaceLemmas.{before-itself, before_not_after}
 use Rattle.index_page.specs.declared.spot.Spot.{Spot}
 use Rattle.index_page.specs.Changes.{NextIs}
 use Rattle.index_page.specs.Page.{PageRows, PlacesDiffer, RowsAscend, IsRowOf, IsPageInOrder}
-use Rattle.index_page.specs.Rows.{Row, find_row, first_of_rows}
+use Rattle.index_page.specs.Rows.{Row, find_row}
 use Rattle.index_page.specs.Search.{Finds}
 use Rattle.index_page.proofs.CutLemmas.{not_below-whole}
 use Rattle.index_page.proofs.RowLemmas.{ascends_right, find_among, find_stands}

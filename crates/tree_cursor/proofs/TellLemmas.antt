@@ -1,5 +1,5 @@
 -- A piece is told of a leaf in hand: what was read of it, what was taken, and what is said of that.
-use Rattle.std.proofs.Common.{◌≡◌, ◌≢◌, ℕ, ◌+◌, ◌-◌, ◌<◌, ◌≤◌, Bool, true, false, not, Option, Some, None, Result, Ok, Err, List, ◌∷◌, ◌++◌, length, drop, sym, ap, subst, ◌∙◌, refl, arith, length-append, IfOk, OnErr}
+use Rattle.std.proofs.Common.{◌≡◌, ℕ, ◌+◌, ◌-◌, ◌<◌, ◌≤◌, true, Option, Some, None, Result, Ok, Err, List, length, drop, sym, ap, subst, ◌∙◌, refl, arith, length-append, IfOk, OnErr}
 use Rattle.std.proofs.Math.Seq.{drop-append_seam}
 use Rattle.std.specs.List.{AllByRecursion}
 use Rattle.list_facts.proofs.Each.{each_left, each_right, each_weaker}

@@ -1,7 +1,6 @@
 -- A piece that was told of a leaf in hand: what was said, and how the scan stands.
-use Rattle.std.proofs.Common.{◌≡◌, ◌⊎◌, inl, inr, ℕ, ◌-◌, ◌<◌, ◌≤◌, Bool, true, false, Option, Some, None, List, [], ◌∷◌, ◌++◌, length, sym, ap, subst, ◌∙◌, refl, arith, length-append}
+use Rattle.std.proofs.Common.{◌≡◌, inl, inr, ℕ, ◌-◌, ◌<◌, ◌≤◌, true, false, Option, None, List, [], length, sym, ap, subst, ◌∙◌, refl, arith}
 use Rattle.std.proofs.lemmas.Bool.{both_ways}
-use Rattle.std.specs.List.{AllByRecursion}
 use mathlib.Core.Option.{some}
 use lib.ListN.{get_elem?}
 use Rattle.key_tuple.specs.Order.{FieldList}
@@ -38,12 +37,12 @@ use Rattle.tree_cursor.specs.declared.filling.Ending.{Ending}
 use Rattle.tree_cursor.specs.declared.filling.Ending.TheVariants.{Full, Past, Onward}
 use Rattle.tree_cursor.specs.declared.pieces.Step.{Step}
 use Rattle.tree_cursor.specs.Cursors.{HasCursor}
-use Rattle.tree_cursor.specs.Fills.{is_past_at, HasRowPast, Moves, EndsBy}
+use Rattle.tree_cursor.specs.Fills.{is_past_at, Moves, EndsBy}
 use Rattle.tree_cursor.specs.Pieces.{IsEnd}
 use Rattle.tree_cursor.specs.Starts.{place_of}
 use Rattle.tree_cursor.specs.Telling.{MayTell, end_of, is_end, TellsLeaf}
 use Rattle.tree_cursor.proofs.EndingLemmas.{piece_reaches}
-use Rattle.tree_cursor.proofs.RangeEndLemmas.{ReachTo, end_ends}
+use Rattle.tree_cursor.proofs.RangeEndLemmas.{end_ends}
 use Rattle.tree_cursor.proofs.StoreLemmas.{cursor_with, has_cursor}
 
 -- the end is told where it has a cause, and the cause where the end is told

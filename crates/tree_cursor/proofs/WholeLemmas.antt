@@ -1,5 +1,5 @@
 -- What a whole call tells of its piece, or where memory lacked.
-use Rattle.std.proofs.Common.{◌≡◌, ◌≢◌, ◌⊎◌, ℕ, ◌<◌, Option, Some, None, Result, Ok, Err, List, [], ◌∷◌, sym, ap, subst, ◌∙◌, refl, IfOk, OnErr, IsSome}
+use Rattle.std.proofs.Common.{◌≡◌, ◌⊎◌, ℕ, ◌<◌, Option, Some, None, Result, Ok, Err, List, [], ◌∷◌, sym, ap, subst, ◌∙◌, refl, IfOk, OnErr, IsSome}
 use Rattle.key_tuple.specs.declared.error.NoMemory.{NoMemory}
 use Rattle.key_tuple.specs.Order.{FieldList}
 use Rattle.key_tuple.specs.KeyPlace.{KeyPlace}

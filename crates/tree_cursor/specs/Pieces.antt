@@ -1,5 +1,5 @@
 -- A piece of a scan: the rows of one leaf, told at one point.
-use Rattle.std.specs.Prelude.{ℕ, ◌≡◌, ◌≢◌, ◌⊎◌, ◌≤◌, ◌<◌, ◌-◌, Bool, true, false, not, Option, Some, None, List, [], ◌∷◌, ◌++◌, length, option_map}
+use Rattle.std.specs.Prelude.{ℕ, ◌≡◌, ◌≢◌, ◌⊎◌, ◌≤◌, ◌<◌, ◌-◌, true, false, not, Option, Some, None, List, [], ◌∷◌, length, option_map}
 use Rattle.std.specs.List.{AllByRecursion, filter}
 use mathlib.Core.Option.{some}
 use denote.Ref.{Bor}
@@ -7,13 +7,12 @@ use lib.ListN.{get_elem?}
 use Rattle.key_tuple.specs.Order.{FieldList}
 use Rattle.key_tuple.specs.KeyPlace.{KeyPlace, At, before}
 use Rattle.key_tuple.specs.Parts.{Buffered}
-use Rattle.latch_space.specs.Passes.{view, count}
+use Rattle.latch_space.specs.Passes.{view}
 use Rattle.map_history.specs.Map.{Map}
 use Rattle.map_history.specs.Operation.{Ask, Scan}
 use Rattle.map_history.specs.Report.{Columns}
-use Rattle.map_history.specs.Scans.{is_below}
 use Rattle.index_page.specs.Page.{PageRows}
-use Rattle.index_page.specs.Rows.{Row, last_row_after}
+use Rattle.index_page.specs.Rows.{Row}
 use Rattle.tree_law.specs.Pages.{row_pairs}
 use Rattle.clock_law.specs.ModifyClock.{last_clock}
 use Rattle.page_view.specs.declared.taking.Stop.{Stop}
@@ -27,13 +26,11 @@ use Rattle.forest_world.specs.Held.{TreePass, shape_of_pass}
 use Rattle.call_law.specs.Spoken.{View}
 use Rattle.call_law.specs.Trace.{Added, frame_references}
 use Rattle.buffer_pool.specs.Calls.{Does}
-use Rattle.buffer_pool.specs.Pages.{HasTreePage}
 use Rattle.tree_facts.specs.TreeFrames.{low_of, high_of}
 use Rattle.tree_descent.specs.Ways.{HoldsPage}
 use Rattle.tree_neighbours.specs.declared.side.Side.TheVariants.{Right}
 use Rattle.tree_neighbours.specs.LeafHands.{IsLeafReference}
 use Rattle.tree_neighbours.specs.Neighbours.{IsLeafBeside}
-use Rattle.scan_law.specs.AfterKey.{place_at}
 use Rattle.scan_law.specs.ScanLaws.{ReadRange}
 use Rattle.scan_law.specs.SaidScans.{IsRangeFor, EndsScan}
 use Rattle.said_scans.specs.Ranges.{range_said}

@@ -1,12 +1,12 @@
 -- A piece that is told of a leaf in hand.
-use Rattle.std.specs.Prelude.{ℕ, ◌≡◌, ◌≢◌, Bool, true, false, if◌then◌else◌, Option, Some, None, List, [], ◌∷◌, length}
+use Rattle.std.specs.Prelude.{ℕ, ◌≡◌, ◌≢◌, Bool, true, false, if◌then◌else◌, Option, Some, None, [], ◌∷◌, length}
 use Rattle.std.specs.List.{AllByRecursion}
 use Rattle.key_tuple.specs.Order.{FieldList}
 use Rattle.key_tuple.specs.KeyPlace.{KeyPlace, At, End, before}
 use Rattle.latch_law.specs.Fitting.{DidRead}
-use Rattle.latch_space.specs.Has.{IsKnown, SameHands}
+use Rattle.latch_space.specs.Has.{SameHands}
 use Rattle.latch_space.specs.Passes.{view}
-use Rattle.map_history.specs.Map.{Pair, Map}
+use Rattle.map_history.specs.Map.{Map}
 use Rattle.map_history.specs.Operation.{Ask}
 use Rattle.map_history.specs.Report.{Columns}
 use Rattle.index_page.specs.Rows.{Row, first_of_rows, IsAt}

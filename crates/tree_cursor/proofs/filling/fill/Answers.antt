@@ -1,9 +1,8 @@
-use Rattle.std.proofs.Common.{◌≡◌, rules, Some, sym, ap, subst, ◌∙◌}
+use Rattle.std.proofs.Common.{◌≡◌, rules, sym, subst, ◌∙◌}
 use Rattle.std.specs.Prelude.{option_map}
 use Rattle.list_facts.proofs.Places.{same_some}
 use Rattle.index_page.specs.Page.{PageRows}
-use Rattle.page_view.specs.declared.taking.Stop.TheVariants.{AtLimit, AtTo, AtPageEnd}
-use Rattle.page_view.specs.Taking.{rows_from_place, TakesRows, IsPlaceIn}
+use Rattle.page_view.specs.Taking.{rows_from_place, TakesRows}
 use Rattle.tree_cursor.specs.declared.filling.Ending.TheVariants.{Full, Past, Onward}
 use Rattle.tree_cursor.specs.Fills.{Fills}
 use Rattle.tree_cursor.proofs.FillLemmas.{fills_full, fills_to, fills_past, fills_onward}

@@ -1,4 +1,4 @@
-use Rattle.std.proofs.Common.{◌≡◌, true, false, Some, sym, ap, subst, ◌∙◌, IsSome, refl}
+use Rattle.std.proofs.Common.{Some, sym, subst, IsSome, refl}
 use Rattle.scan_law.specs.AfterKey.{place_at}
 use Rattle.tree_cursor.specs.Starts.{BeginsAt}
 use Rattle.tree_cursor.proofs.StartLemmas.{key_found, begins_at_key, begins_after_key}

@@ -1,5 +1,4 @@
-use Rattle.std.proofs.Common.{◌≡◌, true, false, sym, subst, refl}
-use Rattle.key_tuple.specs.declared.mode.Mode.TheVariants.{Ge, G}
+use Rattle.std.proofs.Common.{sym, subst}
 use Rattle.index_page.specs.Search.{Finds}
 use Rattle.scan_law.specs.AfterKey.{place_at}
 use Rattle.tree_cursor.specs.Starts.{BeginsAt}

@@ -1,5 +1,4 @@
-use Rattle.std.proofs.Common.{rules, ◌≡◌, Bool, true, false, Option, Some, None, ℕ, is_some, inl, refl, sym, subst, ◌∙◌}
-use Rattle.latch_space.specs.Passes.{view}
+use Rattle.std.proofs.Common.{rules, ◌≡◌, false, Option, Some, None, ℕ, is_some, inl, refl, sym, subst, ◌∙◌}
 use Rattle.tree_cursor.specs.Pieces.{fields_lent, scan_lent}
 use Rattle.tree_cursor.specs.Starts.{place_of, BeginsAt}
 use Rattle.tree_cursor.proofs.PieceLemmas.{may_tell}

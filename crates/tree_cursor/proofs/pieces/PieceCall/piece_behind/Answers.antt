@@ -1,6 +1,5 @@
-use Rattle.std.proofs.Common.{rules, arith, ◌≡◌, ◌+◌, ◌≤◌, None, [], ◌∷◌, length, inr, refl, sym, subst}
-use Rattle.latch_space.specs.Passes.{view, count}
-use Rattle.tree_neighbours.specs.declared.beside.Beside.TheVariants.{AtEnd, Held, Busy}
+use Rattle.std.proofs.Common.{rules, arith, ◌≡◌, None, [], ◌∷◌, inr, sym, subst}
+use Rattle.latch_space.specs.Passes.{view}
 use Rattle.tree_neighbours.specs.declared.side.Side.TheVariants.{Left, Right}
 use Rattle.tree_neighbours.specs.LeafHands.{HoldsLeavesAlone}
 use Rattle.tree_neighbours.specs.Neighbours.{TellsBeside, TakesBeside, IsLastOn}

@@ -1,7 +1,6 @@
 use Rattle.std.proofs.Common.{rules}
 use Rattle.latch_space.specs.Passes.{view}
 use Rattle.tree_cursor.specs.Pieces.{fields_lent, scan_lent}
-use Rattle.tree_cursor.specs.Telling.{GivesBoth}
 use Rattle.tree_cursor.proofs.NextLemmas.{tell_next}
 use Rattle.tree_cursor.proofs.ReadLemmas.{found_paged}
 use Rattle.tree_cursor.proofs.TellLemmas.{gives_both_if, both_back}

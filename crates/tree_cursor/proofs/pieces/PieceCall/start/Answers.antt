@@ -1,6 +1,5 @@
-use Rattle.std.proofs.Common.{◌≡◌, length, true, Some, None, sym, subst, ◌∙◌, refl}
+use Rattle.std.proofs.Common.{◌≡◌, length, Some, None, sym, subst, ◌∙◌, refl}
 use Rattle.std.specs.Prelude.{IfSome}
-use Rattle.latch_space.specs.Passes.{view}
 use Rattle.clock_law.specs.ModifyClock.{HasKeyAt}
 use Rattle.index_page.specs.Page.{PageRows}
 use Rattle.tree_cursor.specs.Starts.{place_of, BeginsAt}

@@ -1,11 +1,10 @@
-use Rattle.std.proofs.Common.{rules, arith, ◌≡◌, ◌-◌, ◌≤◌, ◌<◌, ◌^◌, ℕ, Bool, true, false, not, Fits, w32, length, drop, sym, ap, subst, ◌∙◌, refl, None}
+use Rattle.std.proofs.Common.{rules, arith, ◌≡◌, ◌-◌, Bool, true, false, not, drop, sym, ap, subst, ◌∙◌, refl, None}
 use Rattle.latch_law.specs.Fitting.{DidRead}
 use Rattle.latch_space.specs.Passes.{view}
 use Rattle.index_law.specs.Answers.{Piece}
 use Rattle.index_law.specs.Rightness.{IsRight}
 use Rattle.forest_law.specs.Law.{IsLawful}
 use Rattle.forest_law.specs.References.{IsReference}
-use Rattle.map_history.specs.Map.{Map}
 use Rattle.tree_cursor.specs.declared.filling.Ending.{Ending}
 use Rattle.tree_cursor.specs.declared.filling.Ending.TheVariants.{Onward}
 use Rattle.tree_cursor.specs.MapRows.{AreMapRows}
