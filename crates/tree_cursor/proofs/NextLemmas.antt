@@ -30,11 +30,13 @@ use Rattle.call_law.specs.Hands.{KnowsFrame}
 use Rattle.call_law.specs.Spoken.{View}
 use Rattle.call_law.specs.Trace.{Added, frame_references}
 use Rattle.call_law.proofs.TraceLemmas.{both_added}
+use Rattle.buffer_pool.specs.AsTaken.{KeepsAsHeld, HoldsAsTaken}
 use Rattle.buffer_pool.specs.Calls.{Does, DoesSilently}
 use Rattle.buffer_pool.specs.Forests.{IsFittedTree}
 use Rattle.buffer_pool.specs.Frames.{GivesFrame}
 use Rattle.buffer_pool.specs.Hands.{LacksFrame}
 use Rattle.buffer_pool.proofs.AddedLemmas.{none_added, only_given, only_said, held_adds, none_spares}
+use Rattle.buffer_pool.proofs.AsTakenLemmas.{keeps_both, keeps_same, keeps_took}
 use Rattle.buffer_pool.proofs.CallLemmas.{does_both, does_none, does_again, does_among}
 use Rattle.tree_facts.specs.TreeFrames.{low_of, high_of}
 use Rattle.tree_descent.specs.Ways.{HoldsPage}
@@ -58,7 +60,7 @@ use Rattle.tree_cursor.specs.Pieces.{HoldsStand, IsNextLeaf, IsEnd, GoesOn, Give
 use Rattle.tree_cursor.specs.Starts.{place_of, BeginsAt}
 use Rattle.tree_cursor.specs.Telling.{MayTell, MayTellNext, TellsLeaf, GivesBoth}
 use Rattle.tree_cursor.proofs.LeafMapLemmas.{bounds_rise, leaf_rows_behind}
-use Rattle.tree_cursor.proofs.PieceLemmas.{rows_kept, sooner, gives_does, gives_leaf}
+use Rattle.tree_cursor.proofs.PieceLemmas.{rows_kept, sooner, gives_does, gives_keeps, gives_leaf}
 use Rattle.tree_cursor.proofs.ReferLemmas.{given_frames_refer}
 use Rattle.tree_cursor.proofs.StoreLemmas.{row_within}
 use Rattle.tree_cursor.proofs.ToldLemmas.{range, is_for, same_terms, told_does, told_least, told_most, told_cause, cause_told, told_ends, onward, onward_has}
@@ -174,7 +176,7 @@ module _ (p s : TreePass) (b m i : ℕ) (c : Cursor) (low : KeyPlace) (h : Holds
     (all : rows_from_place start may.holds.is.page.rows ≡ may.holds.is.page.rows)
     (leaf : IsNextLeaf (shape_of_pass p) b i h.frame h.is.page (place_of c) m may.holds.frame
     may.holds.is.page.rows)
-    (known : IsKnown s) where
+    (known : IsKnown s) (taken : HoldsAsTaken (view s) m) where
   shape : shape_of_pass s ≡ shape_of_pass p
   shape = ap (λ (z : Terms Shape). z.shape) first.does.adds.numbers.terms
 
@@ -258,6 +260,24 @@ module _ (p s : TreePass) (b m i : ℕ) (c : Cursor) (low : KeyPlace) (h : Holds
           ),
         )
 
+    both_keeps : KeepsAsHeld (view r) (view q) (both_added given_b given_m).references
+    both_keeps = keeps_both (view r) (view u) (view q) given_b.references given_m.references
+        (gives_keeps (shape_of_pass p) i r u b kept.frame shape_r knows_b kept.is gave.first)
+        (gives_keeps (shape_of_pass p) i u q m may.holds.frame shape_u knows_m may.holds.is
+        gave.second)
+
+    pub whole_keeps : (middle : Added) → middle.references ≡ []
+        → KeepsAsHeld (view p) (view q)
+        (first.added.references ++ (middle.references ++ (both_added given_b given_m).references))
+    whole_keeps middle nothing =
+        let back : List (Reference Object) = (both_added given_b given_m).references in
+        keeps_both (view p) (view s) (view q) first.added.references (middle.references ++ back)
+        (keeps_took (view p) (view s) m first.does.adds.numbers first.does.rest taken
+        first.added.references none)
+        (subst (λ qs. KeepsAsHeld (view s) (view q) (qs ++ back)) (sym nothing)
+        (keeps_both (view s) (view r) (view q) [] back
+        (keeps_same (view s) (view r) held [] refl) both_keeps))
+
     pub refers_then : (c' : Cursor) → c'.block ≡ m → HasCursor may.holds.frame c'
         → Referred (view q) c'
     refers_then c' block has = given_frames_refer u q c' may.holds.frame
@@ -283,6 +303,7 @@ module _ (p s : TreePass) (b m i : ℕ) (c : Cursor) (low : KeyPlace) (h : Holds
     does = whole s q refl refl gave none_added nothing_done;
     silent = ap (λ qs. qs ++ []) first.silent;
     leaves = leaves_given s q refl refl gave none_added refl;
+    keeps = whole_keeps s q refl refl gave none_added refl;
   }
 
   -- it was told
@@ -357,6 +378,7 @@ module _ (p s : TreePass) (b m i : ℕ) (c : Cursor) (low : KeyPlace) (h : Holds
           does = whole r q terms tells.kept.held gave middle told_between;
           said = ap (λ qs. qs ++ range_said i (view p).low ask told_range ∷ []) first.silent;
           leaves = leaves_given r q terms tells.kept.held gave middle refl;
+          keeps = whole_keeps r q terms tells.kept.held gave middle refl;
           least = least;
           most = λ zs at. told_most s m i start low ask to left columns old new step c c' r may
               some_left tells zs

@@ -27,11 +27,13 @@ use Rattle.call_law.specs.Hands.{KnowsFrame}
 use Rattle.call_law.specs.Spoken.{View}
 use Rattle.call_law.specs.Trace.{Added}
 use Rattle.call_law.proofs.TraceLemmas.{both_added}
+use Rattle.buffer_pool.specs.AsTaken.{KeepsAsHeld}
 use Rattle.buffer_pool.specs.Calls.{Does}
 use Rattle.buffer_pool.specs.Forests.{IsFittedTree}
 use Rattle.buffer_pool.specs.Frames.{GivesFrame}
 use Rattle.buffer_pool.specs.Pages.{HasTreePage}
 use Rattle.buffer_pool.proofs.AddedLemmas.{only_given, only_said}
+use Rattle.buffer_pool.proofs.AsTakenLemmas.{keeps_both, keeps_gave, keeps_same}
 use Rattle.buffer_pool.proofs.CallLemmas.{does_both, does_none, gave_frame}
 use Rattle.tree_descent.specs.Ways.{HoldsPage}
 use Rattle.engine_law.proofs.KnownLemmas.{knows_same}
@@ -82,6 +84,13 @@ module _ (shape : Shape) (i : ℕ) (r q : TreePass) (b : ℕ) (f : Frame)
       (λ s. Does r q (frame_id s b ∷ [])
       (only_given (frame_id s b) gave.taken (object.Frame gave.frame))) same
       (gave_frame r q known b gave)
+
+  pub gives_keeps : KeepsAsHeld (view r) (view q)
+      (reference (frame_id shape b) gave.taken (object.Frame gave.frame) ∷ [])
+  gives_keeps = subst
+      (λ s. KeepsAsHeld (view r) (view q)
+      (reference (frame_id s b) gave.taken (object.Frame gave.frame) ∷ [])) same
+      (keeps_gave r q b gave)
 
   pub gives_leaf : IsLeafReference shape i
       (reference (frame_id shape b) gave.taken (object.Frame gave.frame))
@@ -253,6 +262,10 @@ module _ (p : TreePass) (b i : ℕ) (c : Cursor) (low : KeyPlace) (start : Optio
             gives_leaf (shape_of_pass p) i r q b h.frame same_shape knows_then h.is t.gave,
             tt,
           );
+          keeps = keeps_both (view p) (view r) (view q) []
+              (reference (frame_id (shape_of_pass p) b) t.gave.taken (object.Frame t.gave.frame) ∷ [])
+              (keeps_same (view p) (view r) tells.kept.held [] refl)
+              (gives_keeps (shape_of_pass p) i r q b h.frame same_shape knows_then h.is t.gave);
           least = told_least p b i start low ask to left columns old new step c c' r may_tell
               some_left tells;
           most = λ zs at. told_most p b i start low ask to left columns old new step c c' r may_tell
@@ -278,4 +291,5 @@ gives_up p q b i only h gave = record {
   does = gives_does (shape_of_pass p) i p q b h.frame refl h.knows h.is gave only.known;
   silent = refl;
   leaves = (gives_leaf (shape_of_pass p) i p q b h.frame refl h.knows h.is gave, tt);
+  keeps = gives_keeps (shape_of_pass p) i p q b h.frame refl h.knows h.is gave;
 }

@@ -87,7 +87,8 @@ module _ (p : TreePass) (b i : ℕ) (c : Cursor) (low : KeyPlace)
       tells_next p s b m i c low stand.holds took.silently took.none took.lacked
       (beside_keeps p b i Right m s took stand.holds) took.beside.other t.start may
       (from_place [] next.holds.is.page.rows t.start next.holds.order.places (t.first next.holds))
-      (next_leaf p b i c low stand begins m s took fitted) known fitted ask to left columns old new
+      (next_leaf p b i c low stand begins m s took fitted) known took.held_as_taken fitted ask to left
+      columns old new
       step c' t.between q some_left (t.tells next.holds) t.gave
   next_if (Err e) ask to left columns old new c' q some_left t = tt
 
@@ -101,4 +102,4 @@ module _ (p : TreePass) (b i : ℕ) (c : Cursor) (low : KeyPlace)
       gives_both_up p s b m i c low stand.holds took.silently took.none took.lacked
       (beside_keeps p b i Right m s took stand.holds) took.beside.other at.0 may
       (from_place [] next.holds.is.page.rows at.0 next.holds.order.places at.1)
-      (next_leaf p b i c low stand begins m s took fitted) known q gave
+      (next_leaf p b i c low stand begins m s took fitted) known took.held_as_taken q gave

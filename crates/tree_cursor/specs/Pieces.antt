@@ -25,6 +25,7 @@ use Rattle.forest_law.specs.State.{bound, page_within, fields_for}
 use Rattle.forest_world.specs.Held.{TreePass, shape_of_pass}
 use Rattle.call_law.specs.Spoken.{View}
 use Rattle.call_law.specs.Trace.{Added, frame_references}
+use Rattle.buffer_pool.specs.AsTaken.{KeepsAsHeld}
 use Rattle.buffer_pool.specs.Calls.{Does}
 use Rattle.tree_facts.specs.TreeFrames.{low_of, high_of}
 use Rattle.tree_descent.specs.Ways.{HoldsPage}
@@ -117,7 +118,8 @@ pub record GoesOn (v : View) (f : Frame) (taken : List Row) (b : ℕ) (high : Ke
 
 -- A piece was told: rows of one leaf, as many as are left, or up to the first that isn't below TO, or
 -- all. This alone was said, of the range from the place on, at a point no less than what was seen,
--- and which is seen then. Nothing is held, and leaves of the index were given back, no tree.
+-- and which is seen then. Nothing is held, and leaves of the index were given back, no tree, as they
+-- were in hand or were taken.
 pub record TellsPiece (p : TreePass) (b i : ℕ) (ask : Ask) (to : Option FieldList) (c : Cursor)
     (place : KeyPlace) (left : ℕ) (columns : Columns) (old new : Map) (step : Step) (c' : Cursor)
     (q : TreePass) : Type 0 where
@@ -139,6 +141,7 @@ pub record TellsPiece (p : TreePass) (b i : ℕ) (ask : Ask) (to : Option FieldL
   pub said : added.said ≡ range_said i (view p).low ask range ∷ []
   pub leaves : AllByRecursion (IsLeafReference (shape_of_pass p) i)
       (frame_references added.references)
+  pub keeps : KeepsAsHeld (view p) (view q) added.references
   pub least : (ys : Entries) → get_elem? (view p).seen i ≡ some ys → length ys ≤ step.point
   pub most : (zs : Entries) → get_elem? (view q).seen i ≡ some zs → step.point ≤ length zs
   pub end_has_cause : step.end ≡ true
@@ -148,10 +151,12 @@ pub record TellsPiece (p : TreePass) (b i : ℕ) (ask : Ask) (to : Option FieldL
   pub goes_on : step.end ≡ false
       → GoesOn (view q) leaf.frame took.taken leaf.block range.high c c'
 
--- memory lacked: nothing was said, and leaves of the index were given back, no tree
+-- memory lacked: nothing was said, and leaves of the index were given back, no tree, as they were in
+-- hand or were taken
 pub record GivesUp (p : TreePass) (b i : ℕ) (q : TreePass) : Type 0 where
   pub added : Added
   pub does : Does p q (frame_id (shape_of_pass p) b ∷ []) added
   pub silent : added.said ≡ []
   pub leaves : AllByRecursion (IsLeafReference (shape_of_pass p) i)
       (frame_references added.references)
+  pub keeps : KeepsAsHeld (view p) (view q) added.references
