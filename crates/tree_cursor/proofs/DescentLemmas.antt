@@ -12,7 +12,7 @@ use Rattle.tree_neighbours.proofs.PairLemmas.{leaf_page}
 use Rattle.tree_cursor.specs.Storing.{MayStore}
 
 -- a row stands at a row's place
-row_there : (rows : List Row) (place : ℕ) (o : Option Row) → IsAt rows (Some place) o
+pub row_there : (rows : List Row) (place : ℕ) (o : Option Row) → IsAt rows (Some place) o
     → IsSome (find_row place rows)
 row_there rows place None at = absurd cc
 row_there rows place (Some row) at =

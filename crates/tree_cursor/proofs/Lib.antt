@@ -7,8 +7,10 @@ pub mod FillLemmas
 pub mod LeafMapLemmas
 pub mod RangeEndLemmas
 pub mod EndingLemmas
+pub mod SayLemmas
 pub mod ToldLemmas
 pub mod PieceLemmas
+pub mod EmptyLemmas
 pub mod NextLemmas
 pub mod ReadLemmas
 pub mod TellLemmas

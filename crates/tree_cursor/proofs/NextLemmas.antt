@@ -61,7 +61,7 @@ use Rattle.tree_cursor.specs.Starts.{place_of, BeginsAt}
 use Rattle.tree_cursor.specs.Telling.{MayTell, MayTellNext, TellsLeaf, GivesBoth}
 use Rattle.tree_cursor.proofs.LeafMapLemmas.{bounds_rise, leaf_rows_behind}
 use Rattle.tree_cursor.proofs.PieceLemmas.{rows_kept, sooner, gives_does, gives_keeps, gives_leaf}
-use Rattle.tree_cursor.proofs.ReferLemmas.{given_frames_refer}
+use Rattle.tree_cursor.proofs.ReferLemmas.{given_frames_refer, given_index}
 use Rattle.tree_cursor.proofs.StoreLemmas.{row_within}
 use Rattle.tree_cursor.proofs.ToldLemmas.{range, is_for, same_terms, told_does, told_least, told_most, told_cause, cause_told, told_ends, onward, onward_has}
 
@@ -284,6 +284,13 @@ module _ (p s : TreePass) (b m i : ℕ) (c : Cursor) (low : KeyPlace) (h : Holds
         (subst (λ j. KnowsFrame (view u) j may.holds.frame) (sym block) knows_m) has
         (subst (λ j. GivesFrame u j q) (sym block) gave.second)
 
+    pub refers_index : (c' : Cursor) (block : c'.block ≡ m) (has : HasCursor may.holds.frame c')
+        → (refers_then c' block has).has.page.index ≡ i
+    unfolding refers_then
+    refers_index c' block has = given_index u q i c' may.holds.frame
+        (subst (λ j. KnowsFrame (view u) j may.holds.frame) (sym block) knows_m) has
+        (subst (λ j. GivesFrame u j q) (sym block) gave.second) may.holds.is
+
     pub seen_then : (view q).seen ≡ (view r).seen
     seen_then = ap (λ (z : View). z.seen) gave.second.view ∙ ap (λ (z : View). z.seen) gave.first.view
 
@@ -329,7 +336,7 @@ module _ (p s : TreePass) (b m i : ℕ) (c : Cursor) (low : KeyPlace) (h : Holds
         (told_does s m i start low ask to left columns old new step c c' r may some_left tells known)
 
     goes_on : step.end ≡ false
-        → GoesOn (view q) may.holds.frame tells.fills.took.taken m told_range.high c c'
+        → GoesOn (view q) i may.holds.frame tells.fills.took.taken m told_range.high c c'
     goes_on e =
         let on = onward s m i start low ask to left columns old new step c c' r may some_left tells e
         in
@@ -339,6 +346,9 @@ module _ (p s : TreePass) (b m i : ℕ) (c : Cursor) (low : KeyPlace) (h : Holds
               on.2.behind;
           ends = on.0;
           referred = refers_then r q terms tells.kept.held gave c' on.2.block
+              (onward_has s m i start low ask to left columns old new step c c' r may some_left tells
+              e fitted);
+          of_index = refers_index r q terms tells.kept.held gave c' on.2.block
               (onward_has s m i start low ask to left columns old new step c c' r may some_left tells
               e fitted);
           fields = on.2.fields;

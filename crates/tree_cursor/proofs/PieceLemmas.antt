@@ -52,7 +52,7 @@ use Rattle.tree_cursor.specs.MapRows.{AreMapRows}
 use Rattle.tree_cursor.specs.Starts.{place_of, BeginsAt}
 use Rattle.tree_cursor.specs.Telling.{MayTell, TellsLeaf, TellsAndGives}
 use Rattle.tree_cursor.proofs.LeafMapLemmas.{leaf_rows_from}
-use Rattle.tree_cursor.proofs.ReferLemmas.{given_frames_refer}
+use Rattle.tree_cursor.proofs.ReferLemmas.{given_frames_refer, given_index}
 use Rattle.tree_cursor.proofs.ToldLemmas.{range, is_for, same_terms, told_does, told_least, told_most, told_cause, cause_told, told_ends, onward, onward_has}
 
 -- the rows from where the cursor has them before it
@@ -184,7 +184,7 @@ module _ (p : TreePass) (b i : ℕ) (c : Cursor) (low : KeyPlace) (start : Optio
         no_rows [] at none = (let some : IsSome {T = ℕ} None = subst IsSome at has in cc)
         no_rows (x ∷ xs) at none = cc
 
-    goes_on : step.end ≡ false → GoesOn (view q) h.frame tells.fills.took.taken b
+    goes_on : step.end ≡ false → GoesOn (view q) i h.frame tells.fills.took.taken b
         (range p b i start low ask to left columns old new step c c' r may_tell some_left
         tells).high c c'
     unfolding may_tell
@@ -200,6 +200,11 @@ module _ (p : TreePass) (b i : ℕ) (c : Cursor) (low : KeyPlace) (start : Optio
               (onward_has p b i start low ask to left columns old new step c c' r may_tell some_left
               tells e fitted)
               (subst (λ k. GivesFrame r k q) (sym on.2.block) t.gave);
+          of_index = given_index r q i c' h.frame
+              (subst (λ k. KnowsFrame (view r) k h.frame) (sym on.2.block) knows_then)
+              (onward_has p b i start low ask to left columns old new step c c' r may_tell some_left
+              tells e fitted)
+              (subst (λ k. GivesFrame r k q) (sym on.2.block) t.gave) h.is;
           fields = on.2.fields;
           room = on.2.room;
         }

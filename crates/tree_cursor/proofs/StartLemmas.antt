@@ -104,7 +104,7 @@ key_found rows place key differ has =
     (in_found rows has.row differ has.among)
 
 -- the rows before a row are below it, and those after it above
-rows_below : (left : List Row) (row : Row) (right : List Row) → RowsAscend (left ++ row ∷ right)
+pub rows_below : (left : List Row) (row : Row) (right : List Row) → RowsAscend (left ++ row ∷ right)
     → AllByRecursion (λ (x : Row). before (At x.key) (At row.key) ≡ true) left
 rows_below [] row right rise = tt
 rows_below (x ∷ left) row right rise = (
@@ -112,7 +112,7 @@ rows_below (x ∷ left) row right rise = (
   rows_below left row right rise.1,
 )
 
-rows_above : (left : List Row) (row : Row) (right : List Row) → RowsAscend (left ++ row ∷ right)
+pub rows_above : (left : List Row) (row : Row) (right : List Row) → RowsAscend (left ++ row ∷ right)
     → AllByRecursion (λ (y : Row). before (At row.key) (At y.key) ≡ true) right
 rows_above left row right rise = (ascends_right left (row ∷ right) rise).0
 

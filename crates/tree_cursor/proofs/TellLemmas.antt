@@ -39,7 +39,7 @@ use Rattle.tree_cursor.proofs.EndingLemmas.{pairs_count, piece_reaches}
 use Rattle.tree_cursor.proofs.ReadLemmas.{found_is, found_paged}
 
 -- no more rows are taken than are left
-few_taken : (to : Option FieldList) (left n : ℕ) (rest : List Row) (stop : Stop)
+pub few_taken : (to : Option FieldList) (left n : ℕ) (rest : List Row) (stop : Stop)
     → StopsAt to left n rest stop → n ≤ left
 few_taken to left n rest AtLimit why = omega (arith, why)
 few_taken to left n rest AtTo why = let fewer = why.0 in omega (arith, fewer)

@@ -1,11 +1,10 @@
 -- A piece that was told of a leaf in hand: what was said, and how the scan stands.
-use Rattle.std.proofs.Common.{◌≡◌, inl, inr, ℕ, ◌-◌, ◌<◌, ◌≤◌, true, false, Option, None, List, [], length, sym, ap, subst, ◌∙◌, refl, arith}
+use Rattle.std.proofs.Common.{◌≡◌, inl, inr, ℕ, ◌-◌, ◌<◌, ◌≤◌, true, false, Option, List, [], length, sym, ap, subst, ◌∙◌, refl, arith}
 use Rattle.std.proofs.lemmas.Bool.{both_ways}
 use mathlib.Core.Option.{some}
 use lib.ListN.{get_elem?}
 use Rattle.key_tuple.specs.Order.{FieldList}
 use Rattle.key_tuple.specs.KeyPlace.{KeyPlace, At}
-use Rattle.latch_law.specs.Views.{answer_said}
 use Rattle.latch_space.specs.Has.{IsKnown}
 use Rattle.latch_space.specs.Passes.{view}
 use Rattle.map_history.specs.Map.{Map}
@@ -17,17 +16,14 @@ use Rattle.index_page.specs.Rows.{Row}
 use Rattle.tree_law.specs.Pages.{row_pairs}
 use Rattle.tree_law.specs.TreeShape.{In}
 use Rattle.tree_law.proofs.LeafLemmas.{pairs_each, each_in}
-use Rattle.index_law.specs.Answers.{Piece}
 use Rattle.index_law.specs.State.{Entries}
 use Rattle.forest_law.specs.declared.objects.Frame.{Frame}
 use Rattle.forest_law.specs.State.{bound}
-use Rattle.forest_world.specs.Held.{TreePass, shape_of_pass}
-use Rattle.call_law.specs.Spoken.{View, OwnAnswer}
+use Rattle.forest_world.specs.Held.{TreePass}
+use Rattle.call_law.specs.Spoken.{View}
 use Rattle.buffer_pool.specs.Calls.{Does}
 use Rattle.buffer_pool.specs.Forests.{IsFittedTree}
-use Rattle.buffer_pool.proofs.AddedLemmas.{only_said, read_adds}
-use Rattle.engine_law.proofs.FrameTraceLemmas.{said_spares}
-use Rattle.engine_law.proofs.SeenLemmas.{extends_length, now_seen}
+use Rattle.buffer_pool.proofs.AddedLemmas.{only_said}
 use Rattle.page_view.specs.Taking.{AreBelow, rows_from_place}
 use Rattle.scan_law.specs.ScanLaws.{ReadRange}
 use Rattle.scan_law.specs.SaidScans.{IsRangeFor, EndsScan}
@@ -43,6 +39,7 @@ use Rattle.tree_cursor.specs.Starts.{place_of}
 use Rattle.tree_cursor.specs.Telling.{MayTell, end_of, is_end, TellsLeaf}
 use Rattle.tree_cursor.proofs.EndingLemmas.{piece_reaches}
 use Rattle.tree_cursor.proofs.RangeEndLemmas.{end_ends}
+use Rattle.tree_cursor.proofs.SayLemmas.{said_does, said_least, said_most}
 use Rattle.tree_cursor.proofs.StoreLemmas.{cursor_with, has_cursor}
 
 -- the end is told where it has a cause, and the cause where the end is told
@@ -107,45 +104,19 @@ module _ (p : TreePass) (b i : ℕ) (start : Option ℕ) (low : KeyPlace) (ask :
         tells.fills.took.below;
   }
 
-  abbrev said : OwnAnswer
-  said = answer_said (view p) i tells.did.list
-      (Piece ask low range.high (row_pairs taken) None columns)
-
-  said_is : said ≡ range_said i (view p).low ask range
-  said_is = λ k. record {
-    index = i;
-    point = sym tells.did.point k;
-    by = (view p).low;
-    what = said.what;
-  }
-
   pub same_terms : (view r).terms ≡ (view p).terms
   same_terms = ap (λ (z : View). z.terms) tells.did.view
 
   -- this was said alone, and the pass holds what it held
   pub told_does : IsKnown p → Does p r [] (only_said (range_said i (view p).low ask range))
-  told_does known = subst (λ (q : OwnAnswer). Does p r [] (only_said q)) said_is (record {
-    adds = read_adds (view p) (view r) i tells.did.list
-        (Piece ask low range.high (row_pairs taken) None columns) tells.did.extends tells.did.view;
-    spares = said_spares (shape_of_pass p) (only_said said)
-        (record { refused = refl; references = refl });
-    rest = λ k apart. ap (λ hs. get_elem? hs k) tells.kept.held;
-    known = λ j x held. ap (λ vs. get_elem? vs j) tells.kept.values
-        ∙ known j x (ap (λ hs. get_elem? hs j) (sym tells.kept.held) ∙ held);
-  })
+  told_does known = said_does p r i ask range tells.did tells.kept known
 
   -- at a point no less than what was seen, and seen then
   pub told_least : (ys : Entries) → get_elem? (view p).seen i ≡ some ys → length ys ≤ step.point
-  told_least ys at =
-      let long = extends_length (view p) i tells.did.list tells.did.extends (view r).seen
-      (ap (λ (z : View). z.seen) tells.did.view) ys at in
-      let point = tells.did.point in omega (arith, long, point)
+  told_least ys at = said_least p r i ask range tells.did tells.kept ys at
 
   pub told_most : (zs : Entries) → get_elem? (view r).seen i ≡ some zs → step.point ≤ length zs
-  told_most zs at =
-      let same = ap length (now_seen (view p) i tells.did.list tells.did.extends (view r).seen
-      (ap (λ (z : View). z.seen) tells.did.view) zs at) in
-      let point = tells.did.point in omega (arith, same, point)
+  told_most zs at = said_most p r i ask range tells.did tells.kept zs at
 
   pub told_cause : step.end ≡ true → IsEnd to left step.count rows (bound may.holds.frame.high)
   told_cause e = end_cause may.holds.frame may.holds.is.page b to left step.count rows taken c c'

@@ -7,3 +7,4 @@ pub mod Fills
 pub mod MapRows
 pub mod Telling
 pub mod Pieces
+pub mod EmptyPieces

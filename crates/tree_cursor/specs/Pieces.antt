@@ -106,13 +106,14 @@ abbrev pub IsEnd : Option FieldList → (left n : ℕ) → List Row → Option F
 IsEnd to left n rows high = (n ≡ left) ⊎ HasRowPast to rows ⊎ (is_past_at to high ≡ true)
 
 -- the scan goes on from the cursor: it stands behind what was taken, where the range ends, and one
--- of the pass's references says it; its key may be refilled as before
-pub record GoesOn (v : View) (f : Frame) (taken : List Row) (b : ℕ) (high : KeyPlace)
+-- of the pass's references says it, of a leaf of the index; its key may be refilled as before
+pub record GoesOn (v : View) (i : ℕ) (f : Frame) (taken : List Row) (b : ℕ) (high : KeyPlace)
     (old new : Cursor) : Type 0 where
   pub block : new.block ≡ b
   pub stands : StandsBehind f taken new
   pub ends : high ≡ place_of new
   pub referred : Referred v new
+  pub of_index : referred.has.page.index ≡ i
   pub fields : length new.key.tuple ≡ length old.key.tuple
   pub room : new.key.room ≡ old.key.room
 
@@ -149,7 +150,7 @@ pub record TellsPiece (p : TreePass) (b i : ℕ) (ask : Ask) (to : Option FieldL
   pub cause_ends : IsEnd to left step.count leaf.rows (bound leaf.frame.high) → step.end ≡ true
   pub ends : step.end ≡ true → EndsScan to (left - step.count) range.high
   pub goes_on : step.end ≡ false
-      → GoesOn (view q) leaf.frame took.taken leaf.block range.high c c'
+      → GoesOn (view q) i leaf.frame took.taken leaf.block range.high c c'
 
 -- memory lacked: nothing was said, and leaves of the index were given back, no tree, as they were in
 -- hand or were taken

@@ -3,6 +3,7 @@
 #![tactic(auto)]
 
 mod cursor;
+mod empty;
 mod filling;
 mod laws;
 mod pieces;
