@@ -103,7 +103,7 @@ LastLeaf shape f i mode tuple spot = (is : IsLeafFor shape f i mode tuple spot)
 module _ (q r : TreePass) (l m : Knows) (i b : ℕ) (figures : Figures) (told : Note)
     (taught : Teaches q l i b figures told r m) where
   -- what is held besides is held still
-  learnt_only : (cs : List ℕ) → HoldsLeavesAlone q (b ∷ cs) → HoldsLeavesAlone r (b ∷ cs)
+  pub learnt_only : (cs : List ℕ) → HoldsLeavesAlone q (b ∷ cs) → HoldsLeavesAlone r (b ∷ cs)
   learnt_only cs only = only_then q r (b ∷ cs) (b ∷ cs) (frame_id (shape_of_pass q) b ∷ []) only
       (record {
         added = tries_and_given taught.becomes.refused taught.given;
@@ -118,10 +118,10 @@ module _ (q r : TreePass) (l m : Knows) (i b : ℕ) (figures : Figures) (told : 
   shapes : shape_of_pass q ≡ shape_of_pass r
   shapes = sym (taught_shape q r l m i b figures told taught)
 
-  knows_new : KnowsFrame (view r) b taught.new
+  pub knows_new : KnowsFrame (view r) b taught.new
   knows_new = (taught_leaf q r l m i b figures told taught).knows
 
-  same_as : (f : Frame) → KnowsFrame (view q) b f → HasSamePage f taught.new
+  pub same_as : (f : Frame) → KnowsFrame (view q) b f → HasSamePage f taught.new
   same_as f knows = subst (λ z. HasSamePage z taught.new)
       (one_frame (view q) b taught.leaf.frame f taught.leaf.knows knows) taught.same
 
@@ -210,7 +210,7 @@ pub record ComesToLeaves (but : Exception) (p : TreePass) (i : ℕ) (mode : Mode
   pub path : AddsPath p (cut_in (shape_of_pass p) i mode tuple) i 0 number added
 
 -- who holds nothing holds no object
-none_held_of : (p : TreePass) → count p ≡ 0 → (k : ℕ) (h : Holding Object) → Holds (view p) k h → ⊥
+pub none_held_of : (p : TreePass) → count p ≡ 0 → (k : ℕ) (h : Holding Object) → Holds (view p) k h → ⊥
 none_held_of p none k h held = let all = p.all in let below = inside (view p).held k (Some h) held in
     not_both (view p).held k h (lacks_each p k none (omega (arith, below, all.0))) held
 
@@ -221,7 +221,7 @@ taught_leaf_given q r l m i b figures told taught =
     reference (frame_id (shape_of_pass q) b) taught.becomes.taken (object.Frame taught.new)
 
 -- after a lesson that frame alone isn't as it was taken
-taught_hand : (q r : TreePass) (l m : Knows) (i b : ℕ) (figures : Figures) (told : Note)
+pub taught_hand : (q r : TreePass) (l m : Knows) (i b : ℕ) (figures : Figures) (told : Note)
     → (taught : Teaches q l i b figures told r m)
     → ((k : ℕ) (h : Holding Object) → Holds (view q) k h → IsAsTaken h.taken h.known)
     → (q' : Reference Object) → held_in (view r) q' → IsAsTaken q'.taken q'.released

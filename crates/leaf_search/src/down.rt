@@ -114,7 +114,7 @@ pub fn key_spot(space: &ForestSpace, pass: &ForestPass, block: u32, index: u32, 
 }
 
 /// The rows of the leaf in the block's frame are in order.
-pub(crate) fn leaf_is_in_order(space: &ForestSpace, pass: &ForestPass, block: u32, index: u32)
+pub fn leaf_is_in_order(space: &ForestSpace, pass: &ForestPass, block: u32, index: u32)
     requires own { IsForest space.now × IsPassOf space.now pass.now }
     requires leaf { HoldsPage (view pass.now) block index 0 }
     requires known { IsKnown pass.now }

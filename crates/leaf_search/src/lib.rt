@@ -8,7 +8,7 @@ mod lesson;
 mod searched;
 mod searching;
 
-pub use down::key_spot;
+pub use down::{key_spot, leaf_is_in_order};
 pub use lesson::learn_leaf;
 pub use searched::{KeySearch, Searched};
 pub use searching::{how_of, note_of_hit, search_key};

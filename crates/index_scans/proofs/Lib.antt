@@ -1,0 +1,13 @@
+pub mod OrderLemmas
+pub mod FirstLemmas
+pub mod StandLemmas
+pub mod AgainLemmas
+pub mod ComeLemmas
+pub mod SoFarLemmas
+pub mod TakenLemmas
+pub mod ChainLemmas
+pub mod LoopLemmas
+pub mod ColumnLemmas
+pub mod ToldLemmas
+pub mod FoundLemmas
+pub mod WholeLemmas

@@ -1,0 +1,3 @@
+pub mod FirstLeaves
+pub mod ScanSteps
+pub mod Scans
