@@ -1,8 +1,10 @@
 -- What a clause says of an engine and its passes.
-use Rattle.std.specs.Prelude.{ℕ, ◌≡◌, ◌≤◌, length}
+use Rattle.std.specs.Prelude.{ℕ, ◌≡◌, ◌≤◌, Option, IfSome, length}
+use denote.Ref.{Bor}
 use mathlib.Core.Option.{some}
 use lib.ListN.{get_elem?}
 use Rattle.key_tuple.specs.Order.{FieldList}
+use Rattle.key_tuple.specs.Parts.{Buffered}
 use Rattle.latch_space.specs.Passes.{view, IsSamePass}
 use Rattle.latch_space.specs.Spaces.{IsPassOf}
 use Rattle.search_info.specs.declared.knows.Knows.{Knows}
@@ -45,3 +47,7 @@ FitsKey engine i key = get_elem? engine.space.terms.shape.fields i ≡ some (len
 -- the tuple has at most as many fields as the keys of the index
 abbrev pub FitsTuple : Engine → ℕ → FieldList → Type 0
 FitsTuple engine i tuple = length tuple ≤ fields_for engine.space.terms.shape i
+
+-- so does the tuple at which a scan ends, if there is one
+abbrev pub FitsEnd : Engine → ℕ → Option (Bor Buffered) → Type 0
+FitsEnd engine i to = IfSome to (λ t. FitsTuple engine i t.now.fields)

@@ -11,6 +11,7 @@ mod error;
 mod finding;
 mod growing;
 mod opening;
+mod scanning;
 mod write;
 mod writing;
 
