@@ -1,7 +1,19 @@
-//! The lines of a report, read one after another and borrowed from its bytes. Nothing here judges
-//! what they say.
+//! A report, read line by line from its bytes, or the number of the first line at which none can
+//! stand. Nothing here judges what a report says.
 #![tactic(auto)]
 
+mod columns;
+mod count_line;
+mod digits;
+mod entry_line;
+mod kind;
+mod misread;
+mod row_line;
+mod rows;
+mod scan_line;
 mod text;
 
+pub use columns::ReadColumns;
+pub use entry_line::ReadEntry;
+pub use misread::Misread;
 pub use text::ReportText;
