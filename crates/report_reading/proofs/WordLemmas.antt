@@ -1,6 +1,7 @@
 -- What a word or two tell, as it passes the limits.
 use Rattle.std.proofs.Common.{◌≡◌, ℕ, ◌≤◌, ◌&&◌, Bool, true, false, cond, eqb, ltb, leb, List, [], ◌∷◌, length, Option, Some, None, Ok, Err, refl, sym, ap, ◌∙◌, subst, arith}
 use Rattle.std.proofs.lemmas.Bool.{eqb-true, ltb-true, ltb-false, lt-leb, le-leb}
+use Rattle.std.specs.Str.{bytes_eq}
 use Rattle.key_tuple.specs.Order.{FieldList, byte_count}
 use Rattle.key_tuple.specs.declared.TheConstants.{MAX_KEY_BYTES, MAX_VALUE_BYTES}
 use Rattle.map_history.specs.Bytes.{AreBytes}
@@ -15,12 +16,23 @@ use Rattle.script.specs.declared.error.Refusal.TheVariants as refusal
 use Rattle.script.specs.Grammar.{both, exactly, field_of, tuple_of, key_spelled, short_key, short_value}
 use Rattle.script.specs.Steps.{Fails, or_bad}
 use Rattle.script.proofs.ByteFacts.{field_small, tuple_written}
-use Rattle.script.proofs.Results.{some_of, given, not_chosen, and_false}
+use Rattle.script.proofs.Results.{some_of, given, not_chosen, and_false, both_so}
 use Rattle.report_reading.specs.declared.misread.Misread.{Misread}
 use Rattle.report_reading.specs.declared.misread.Misread.TheVariants as misread
 use Rattle.report_reading.specs.Reads.{passing, TellsNone}
 use Rattle.report_reading.specs.Refusals.{misread_of}
 use Rattle.report_reading.specs.Rows.{row_in}
+
+-- a word that is compared with another
+pub word_is : (xs ys : List ℕ) → bytes_eq xs ys ≡ true → xs ≡ ys
+word_is [] [] e = refl
+word_is [] (y ∷ ys) e = absurd cc
+word_is (x ∷ xs) [] e = absurd cc
+word_is (x ∷ xs) (y ∷ ys) e =
+    let h = both_so (eqb x y) (bytes_eq xs ys) e in
+    let first : x ≡ y = eqb-true _ _ h.0 in
+    let rest = word_is xs ys h.1 in
+    cc
 
 none_passes : {A : Type 0} (passes : A → Bool) (o : Option A) (f : Flaw) → or_bad o ≡ Err f → passing passes o ≡ None
 none_passes passes None f h = refl

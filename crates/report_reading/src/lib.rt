@@ -2,6 +2,7 @@
 //! stand. Nothing here judges what a report says.
 #![tactic(auto)]
 
+mod answer_line;
 mod columns;
 mod count_line;
 mod digits;
@@ -13,6 +14,7 @@ mod rows;
 mod scan_line;
 mod text;
 
+pub use answer_line::{ReadAnswer, ReadReply};
 pub use columns::ReadColumns;
 pub use entry_line::ReadEntry;
 pub use misread::Misread;
