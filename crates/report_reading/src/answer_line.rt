@@ -52,6 +52,7 @@ pub enum ReadAnswer {
 }
 
 /// The line that answers an operation, with the number of the operation's own line.
+#[derive(Drop)]
 pub struct AnswerLine<'a> {
     pub fields: u8,
     pub number: u64,

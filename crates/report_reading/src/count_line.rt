@@ -13,6 +13,7 @@ use script::{Pieces, one_word};
 use std::alloc::Global;
 
 /// The line of an index of this name.
+#[derive(Drop)]
 pub struct CountLine<'a> {
     pub name: &'a str,
 }

@@ -28,6 +28,7 @@ pub struct ReadEntry {
 }
 
 /// The line of the entry with this number, from 1, of an index whose keys have so many fields.
+#[derive(Drop)]
 pub struct EntryLine {
     pub fields: u8,
     pub number: u64,

@@ -9,13 +9,17 @@ mod digits;
 mod entry_line;
 mod kind;
 mod misread;
+mod pieces;
 mod row_line;
 mod rows;
 mod scan_line;
 mod text;
+mod told;
 
 pub use answer_line::{ReadAnswer, ReadReply};
 pub use columns::ReadColumns;
 pub use entry_line::ReadEntry;
 pub use misread::Misread;
+pub use pieces::ReadPiece;
 pub use text::ReportText;
+pub use told::{ReadLine, ReadTold};

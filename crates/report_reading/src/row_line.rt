@@ -17,6 +17,7 @@ use script::Pieces;
 use std::alloc::Global;
 
 /// The line of a row of an index whose keys have so many fields.
+#[derive(Drop)]
 pub struct RowLine {
     pub fields: u8,
 }

@@ -15,6 +15,7 @@ use script::{Pieces, two_words};
 use std::alloc::Global;
 
 /// The first line of a scan's answer on the line with this number: how many pieces and rows.
+#[derive(Drop)]
 pub struct ScanLine {
     pub number: u64,
 }
