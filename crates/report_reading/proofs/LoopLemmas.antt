@@ -1,5 +1,12 @@
 -- What was read so far, and what the lines that are left are read to, are what all lines are.
-use Rattle.std.proofs.Common.{◌≡◌, ℕ, zero, suc, ◌+◌, ◌-◌, ◌<◌, ◌≤◌, Bool, true, List, [], ◌∷◌, ◌++◌, length, Ok, Err, refl, sym, ap, ◌∙◌, append_assoc, append-nil, arith}
+use Rattle.std.proofs.Common.{◌≡◌, ℕ, zero, suc, ◌+◌, ◌-◌, ◌<◌, ◌≤◌, Bool, true, List, [], ◌∷◌, ◌++◌, length, get_or, drop, map, Vec, Ok, Err, refl, sym, ap, ◌∙◌, append_assoc, append-nil, add-one, arith}
+use Rattle.std.specs.List.{zip, enumerate_from}
+use Rattle.std.specs.String.{string_bytes}
+use Rattle.std.specs.declared.string.String.{String}
+use Rattle.std.specs.declared.alloc.Global.{Global}
+use Rattle.std.proofs.lemmas.List.{drop_more}
+use Rattle.map_history.specs.declared.line.Line.{Line}
+use Rattle.map_history.specs.Lines.{line_texts}
 use Rattle.map_history.specs.Report.{ScanPiece}
 use Rattle.line_forms.specs.LineForms.{Lines, Reading, read_second, read_as}
 use Rattle.report_forms.specs.Lists.{in_front, read_each, numbers_from}
@@ -7,6 +14,7 @@ use Rattle.report_forms.specs.Scans.{PieceTurn, read_piece, read_pieces}
 use Rattle.report_reading.specs.declared.misread.Misread.{Misread}
 use Rattle.report_reading.specs.declared.misread.Misread.TheVariants as misread
 use Rattle.report_reading.specs.Reads.{Stops}
+use Rattle.report_reading.specs.Told.{lane_asked}
 
 -- things in front of those that are read
 abbrev pub joined : {A : Type 0} → List A → Reading (List A) → Reading (List A)
@@ -78,3 +86,24 @@ module _ (fields : ℕ) where
   pieces_done front later left count done text whole high so_far =
       let none : count - done ≡ 0 = omega (arith, high) in
       sym so_far ∙ (ap (λ (m : ℕ). joined front (read_pieces fields later left m text)) none ∙ ap (λ (xs : List ScanPiece). Ok (xs, text)) (append-nil front))
+
+-- what is left behind a place
+pub item_next : {X : Type 0} (xs : List X) (i : ℕ) (x : X) → i < length xs → x ≡ get_or xs i x → drop i xs ≡ x ∷ drop (i + 1) xs
+item_next xs i x low is = drop_more xs i x low ∙ ap (λ y. y ∷ drop (i + 1) xs) (sym is)
+
+-- names and numbers of fields that are left
+pub part_next : (names : List (String Global)) (fields : List ℕ) (i : ℕ) (string : String Global) (name : List ℕ) → i < length names → length fields ≡ length names → string ≡ get_or names i string → name ≡ string_bytes string
+    → zip (map string_bytes (drop i names)) (drop i fields) ≡ (name, get_or fields i 0) ∷ zip (map string_bytes (drop (i + 1) names)) (drop (i + 1) fields)
+part_next names fields i string name low paired is same =
+    let first = item_next names i string low is in
+    let second = drop_more fields i 0 (omega (arith, low, paired)) in
+    ap (λ (ns : List (String Global)). zip (map string_bytes ns) (drop i fields)) first
+    ∙ (ap (λ (fs : List ℕ). zip (string_bytes string ∷ map string_bytes (drop (i + 1) names)) fs) second
+    ∙ ap (λ (n : List ℕ). (n, get_or fields i 0) ∷ zip (map string_bytes (drop (i + 1) names)) (drop (i + 1) fields)) (sym same))
+
+-- lanes that are left
+pub lane_next : (lanes : List (Vec Line Global)) (i : ℕ) (lane : Vec Line Global) (lines : List Line) → i < length lanes → lane ≡ get_or lanes i lane → lines ≡ lane.items
+    → enumerate_from i (map lane_asked (drop i lanes)) ≡ (i, line_texts lines) ∷ enumerate_from (i + 1) (map lane_asked (drop (i + 1) lanes))
+lane_next lanes i lane lines low is same =
+    ap (λ (ls : List (Vec Line Global)). enumerate_from i (map lane_asked ls)) (item_next lanes i lane low is)
+    ∙ ap (λ (ls : List Line). (i, line_texts ls) ∷ enumerate_from (i + 1) (map lane_asked (drop (i + 1) lanes))) (sym same)

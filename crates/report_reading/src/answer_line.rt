@@ -1,5 +1,5 @@
 //! The line of an answer that isn't in pieces.
-ghost use Rattle.std.specs.Prelude.{◌≡◌, ◌∷◌, ◌++◌, ℕ, OnOk, option_map};
+ghost use Rattle.std.specs.Prelude.{◌≡◌, [], ◌∷◌, ◌++◌, ℕ, OnOk, option_map};
 ghost use Rattle.std.specs.Fmt.{decimal};
 ghost use Rattle.map_history.specs.LegalReport as form;
 ghost use Rattle.map_history.specs.Operation.{operation_of};
@@ -49,6 +49,19 @@ pub enum ReadAnswer {
     SpaceFull {
         columns: ReadColumns,
     },
+}
+
+impl ReadAnswer {
+    /// Its columns.
+    pub fn columns(&self) -> ReadColumns
+        ensures { form.columns_of (answer_seen self.now) ≡ columns_seen result ∷ [] }
+    {
+        match self {
+            ReadAnswer::Replied { columns, .. }
+            | ReadAnswer::LogFull { columns, .. }
+            | ReadAnswer::SpaceFull { columns } => *columns,
+        }
+    }
 }
 
 /// The line that answers an operation, with the number of the operation's own line.

@@ -5,9 +5,12 @@
 mod answer_line;
 mod columns;
 mod count_line;
+mod counts;
 mod digits;
+mod entries;
 mod entry_line;
 mod kind;
+mod lanes;
 mod misread;
 mod pieces;
 mod row_line;
