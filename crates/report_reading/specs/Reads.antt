@@ -1,6 +1,6 @@
 -- What the program gives, beside what reading the lines that are left gives.
 use Rattle.std.specs.Prelude.{ℕ, ◌≡◌, Bool, if◌then◌else◌, Option, Some, None, option_and_then, List, [], ◌∷◌, Result, Ok, Err}
-use Rattle.line_forms.specs.LineForms.{Lines, Reading}
+use Rattle.line_forms.specs.LineForms.{Lines, Reading, read_as}
 use Rattle.report_reading.specs.declared.misread.Misread.{Misread}
 use Rattle.report_reading.specs.declared.misread.Misread.TheVariants as misread
 
@@ -33,3 +33,7 @@ TellsNone misread.NoMemory told = Unit {0}
 abbrev pub Tells : {X Y : Type 0} → (X → Y) → Result X Misread → Option Y → Type 0
 Tells view (Ok x) told = told ≡ Some (view x)
 Tells view (Err e) told = TellsNone e told
+
+-- whether things are read, and not which
+abbrev pub without_things : {A : Type 0} → Reading A → Reading (Unit {0})
+without_things read = read_as (λ _. tt) read

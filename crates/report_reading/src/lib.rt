@@ -13,9 +13,11 @@ mod kind;
 mod lanes;
 mod misread;
 mod pieces;
+mod report;
 mod row_line;
 mod rows;
 mod scan_line;
+mod stats;
 mod text;
 mod told;
 
@@ -24,5 +26,6 @@ pub use columns::ReadColumns;
 pub use entry_line::ReadEntry;
 pub use misread::Misread;
 pub use pieces::ReadPiece;
+pub use report::{ReadReport, ReportError, read_report};
 pub use text::ReportText;
 pub use told::{ReadLine, ReadTold};
