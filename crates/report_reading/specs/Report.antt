@@ -6,6 +6,7 @@ use Rattle.map_history.specs.declared.line.Line.{Line}
 use Rattle.map_history.specs.LegalReport.{Run}
 use Rattle.map_history.specs.Report.{Report}
 use Rattle.map_history.specs.Spelling.{stats_text}
+use Rattle.audit_law.specs.Verdicts.{TellsReport, HasNoForm}
 use Rattle.line_forms.specs.Anew.{exactly}
 use Rattle.line_forms.specs.LineForms.{Lines, Reading, read_line}
 use Rattle.report_forms.specs.Reports.{parts_from}
@@ -46,3 +47,11 @@ StopsAtLine error.NoMemory lines read = Unit {0}
 abbrev pub ReadsWhole : Run → Result ReadReport ReportError → Lines → Result Report Lines → Type 0
 ReadsWhole run (Ok x) lines read = read ≡ Ok (report_seen run x)
 ReadsWhole run (Err e) lines read = StopsAtLine e lines read
+
+-- what is read is the report that the bytes tell, and the line that is told is the first at which no
+-- report can stand, unless memory ran out
+abbrev pub IsJudged : Run → List ℕ → List ℕ → Result ReadReport ReportError → Type 0
+IsJudged run fields bytes (Ok x) = TellsReport run fields bytes (report_seen run x)
+IsJudged run fields bytes (Err (error.BadLine line)) =
+    HasNoForm run fields bytes (record { line = line; point = 1 })
+IsJudged run fields bytes (Err error.NoMemory) = Unit {0}

@@ -103,12 +103,7 @@ impl<'a> LineKind for AnswerLine<'a> {
     }
 }
 
-fn tell_answer(
-    alloc: Global,
-    fields: u8,
-    op: &Op,
-    words: Pieces<'_>,
-) -> Result<ReadAnswer, Misread>
+fn tell_answer(alloc: Global, fields: u8, op: &Op, words: Pieces<'_>) -> Result<ReadAnswer, Misread>
     requires { IsFieldCount fields }
     ensures { Tells answer_seen result (passing (is_answer_to fields (operation_of op.now).ask)
         (answer_told (pieces_left words.entry))) }
@@ -219,7 +214,14 @@ fn tell_found(alloc: Global, fields: u8, mut words: Pieces<'_>) -> Result<ReadAn
     let Some((fourth, fifth)) = two_words(words) else {
         return Err(Misread::BadLine);
     };
-    tell_row(alloc, fields, first, second, third, columns_in(fourth, fifth))
+    tell_row(
+        alloc,
+        fields,
+        first,
+        second,
+        third,
+        columns_in(fourth, fifth),
+    )
 }
 
 fn tell_value(

@@ -57,7 +57,11 @@ fn read_pieces(
     let mut left = rows;
     for done in 0..count {
         let behind = count - done - 1;
-        let turn = Turn { is_later, behind, left };
+        let turn = Turn {
+            is_later,
+            behind,
+            left,
+        };
         let piece = read_piece(alloc, fields, turn, text)?;
         is_later = true;
         left = left.saturating_sub(piece.rows.count() as u64);

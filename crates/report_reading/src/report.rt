@@ -4,8 +4,9 @@ ghost use Rattle.std.specs.List.{All};
 ghost use Rattle.audit_law.specs.TextLines.{ended_lines};
 ghost use Rattle.line_forms.specs.LineForms.{read_whole};
 ghost use Rattle.report_forms.specs.Reports as reports;
+ghost use Rattle.report_forms.specs.Reports.{IsReadRun};
 ghost use Rattle.report_reading.specs.Reads.{Reads};
-ghost use Rattle.report_reading.specs.Report.{ReadsWhole, report_seen, run_asked};
+ghost use Rattle.report_reading.specs.Report.{IsJudged, ReadsWhole, report_seen, run_asked};
 ghost use Rattle.report_reading.specs.Told.{AskKnown};
 
 use crate::counts::count_lanes;
@@ -39,6 +40,25 @@ pub enum ReportError {
 
 /// The report of a run of these lanes that some bytes are.
 pub fn read_report(
+    alloc: Global,
+    schema: &Schema,
+    lanes: &[Vec<Line>],
+    report: &[u8],
+) -> Result<ReadReport, ReportError>
+    requires known { All (AskKnown (length schema.now.fields.items)) lanes.now }
+    requires few { length lanes.now < 2 ^ 32 }
+    requires short { length report.now + 1 < 2 ^ 32 }
+    // What is read is the report, and the line that is told is the first at which none can stand.
+    ensures judged { IsReadRun (run_asked schema.now lanes.now) schema.now.fields.items
+        → IsJudged (run_asked schema.now lanes.now) schema.now.fields.items report.now result }
+    ensures exact { ReadsWhole (run_asked schema.now lanes.now) result (ended_lines report.now)
+        (read_whole (reports.read_report (run_asked schema.now lanes.now) schema.now.fields.items
+        (ended_lines report.now))) }
+{
+    read_bytes(alloc, schema, lanes, report)
+}
+
+fn read_bytes(
     alloc: Global,
     schema: &Schema,
     lanes: &[Vec<Line>],

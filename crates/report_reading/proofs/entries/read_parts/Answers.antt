@@ -24,7 +24,7 @@ loop-index-preserved c =
     let part = entries_seen c.in_ok-part.part in
     let next = part_next c.args.names.now c.args.fields.now i c.index-names-index.result c.as_str.result.now c.loop-index-test.true c.requires.paired c.index-names-index.is c.as_str.ensures.value in
     let more = each_goes_on read_part (map entries_seen c.loop-index.parts.items) (zip (map string_bytes (drop i c.args.names.now)) (drop i c.args.fields.now)) _ _ c.loop-index.text c.read_entries.new.text part _
-        next c.in_ok-part.ensures c.loop-index.invariant in
+    next c.in_ok-part.ensures c.loop-index.invariant in
     let grown : map entries_seen c.push.new.self.items ≡ map entries_seen c.loop-index.parts.items ++ part ∷ [] = rw c.in_ok-push.ensures.items (map_push _ c.loop-index.parts.items c.in_ok-part.part) in
     subst (λ (front : List (List ChangeLine)). joined front (read_each read_part (zip (map string_bytes (drop (i + 1) c.args.names.now)) (drop (i + 1) c.args.fields.now)) c.read_entries.new.text)
     ≡ read_each read_part (zip (map string_bytes c.args.names.now) c.args.fields.now) c.args.text.now) (sym grown) more

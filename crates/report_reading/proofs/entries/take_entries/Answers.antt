@@ -23,6 +23,6 @@ loop-done-preserved c =
     let count = c.args.count in
     let entry = entry_seen c.in_ok-entry.entry in
     let more = each_goes_on (read_entry c.args.fields) (entries_seen c.loop-done.entries) (numbers_from (done + 1) (count - done)) (numbers_from (done + 1 + 1) (count - (done + 1))) (done + 1) c.loop-done.text c.read_kind.new.text entry _
-        (number_more (done + 1) count done c.loop-done-test.true) c.in_ok-entry.ensures c.loop-done.invariant in
+    (number_more (done + 1) count done c.loop-done-test.true) c.in_ok-entry.ensures c.loop-done.invariant in
     let grown : entries_seen c.push.new.self ≡ entries_seen c.loop-done.entries ++ entry ∷ [] = rw c.in_ok-push.ensures.items (map_push _ c.loop-done.entries.items c.in_ok-entry.entry) in
     subst (λ (front : List ChangeLine). joined front (read_each (read_entry c.args.fields) (numbers_from (done + 1 + 1) (count - (done + 1))) c.read_kind.new.text) ≡ read_each (read_entry c.args.fields) (numbers_from 1 count) c.args.text.now) (sym grown) more

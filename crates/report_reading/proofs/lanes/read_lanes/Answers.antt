@@ -24,7 +24,7 @@ loop-lane-preserved c =
     let lines = lines_seen c.in_ok-lines.lines in
     let next = lane_next c.args.lanes.now i c.index-lanes-lane.result c.deref.result.now c.loop-lane-test.true c.index-lanes-lane.is c.deref.ensures.value in
     let more = each_goes_on (read_lane c.args.fields.now) (map lines_seen c.loop-lane.told.items) (enumerate_from i (map lane_asked (drop i c.args.lanes.now))) _ _ c.loop-lane.text c.read_lane.new.text lines _
-        next c.in_ok-lines.ensures c.loop-lane.invariant in
+    next c.in_ok-lines.ensures c.loop-lane.invariant in
     let grown : map lines_seen c.push.new.self.items ≡ map lines_seen c.loop-lane.told.items ++ lines ∷ [] = rw c.in_ok-push.ensures.items (map_push _ c.loop-lane.told.items c.in_ok-lines.lines) in
     subst (λ (front : List (List AnswerLine)). joined front (read_each (read_lane c.args.fields.now) (enumerate_from (i + 1) (map lane_asked (drop (i + 1) c.args.lanes.now))) c.read_lane.new.text)
     ≡ read_each (read_lane c.args.fields.now) (enumerate_from 0 (map lane_asked c.args.lanes.now)) c.args.text.now) (sym grown) more

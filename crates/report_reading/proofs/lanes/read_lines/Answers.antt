@@ -29,6 +29,6 @@ loop-place-preserved c =
     let answer = line_seen c.in_ok-answer.answer in
     let told = subst (λ (count : ℕ). read_as (answer_to line.line) (read_asked count line.line (operation_of line.op).ask c.loop-place.text) ≡ Ok (answer, c.read_told.new.text)) c.fields_of-count.ensures.count c.in_ok-answer.ensures in
     let more = each_goes_on (read_told c.args.fields.now) (lines_seen c.loop-place.told) (line_texts (drop place c.args.lines.now)) (line_texts (drop (place + 1) c.args.lines.now)) (line_text line) c.loop-place.text c.read_told.new.text answer _
-        (ap line_texts (item_next c.args.lines.now place line c.loop-place-test.true c.index-lines-place.is)) told c.loop-place.invariant in
+    (ap line_texts (item_next c.args.lines.now place line c.loop-place-test.true c.index-lines-place.is)) told c.loop-place.invariant in
     let grown : lines_seen c.push.new.self ≡ lines_seen c.loop-place.told ++ answer ∷ [] = rw c.in_ok-push.ensures.items (map_push _ c.loop-place.told.items c.in_ok-answer.answer) in
     subst (λ (front : List AnswerLine). joined front (read_each (read_told c.args.fields.now) (line_texts (drop (place + 1) c.args.lines.now)) c.read_told.new.text) ≡ read_each (read_told c.args.fields.now) (line_texts c.args.lines.now) c.args.text.now) (sym grown) more

@@ -23,8 +23,8 @@ loop-preserved c =
     let count = c.args.count in
     let key = c.in_ok-key.key.tuple in
     let is : c.push.new.self ≡ c.loop.rows ++ row_seen (c.in_ok-key.key, c.in_ok-key.value) ∷ [] =
-        c.in_ok-push.ensures.ok ∙ ap (λ (v : List ℕ). c.loop.rows ++ row_from key v ∷ []) c.as_bytes.ensures.bytes in
+    c.in_ok-push.ensures.ok ∙ ap (λ (v : List ℕ). c.loop.rows ++ row_from key v ∷ []) c.as_bytes.ensures.bytes in
     let more = each_goes_on (λ (k : ℕ). read_row c.args.fields) c.loop.rows (numbers_from n (count - n)) (numbers_from (n + 1) (count - (n + 1))) n c.loop.text c.read_kind.new.text (row_seen (c.in_ok-key.key, c.in_ok-key.value)) _
-        (number_more n count n c.loop-test.true) c.in_ok-key.ensures c.loop.invariant in
+    (number_more n count n c.loop-test.true) c.in_ok-key.ensures c.loop.invariant in
     subst (λ (rows : Map). joined rows (read_each (λ (k : ℕ). read_row c.args.fields) (numbers_from (n + 1) (count - (n + 1))) c.read_kind.new.text)
     ≡ read_each (λ (k : ℕ). read_row c.args.fields) (numbers_from 0 count) c.args.text.now) (sym is) more
