@@ -6,7 +6,7 @@ use Rattle.key_tuple.specs.Order.{FieldList}
 use Rattle.map_history.specs.LegalReport.{has_form}
 use Rattle.map_history.specs.Operation.{Ask}
 use Rattle.map_history.specs.Reply.{MapReply, Value, Row, Done, Absent, Duplicate}
-use Rattle.map_history.specs.Report.{Columns, Answer, Replied, LogFull, SpaceFull}
+use Rattle.map_history.specs.Report.{Columns, Answer, Replied, LogFull}
 use Rattle.report_forms.specs.Answers.{answer_told, columns_told, counted_answer, is_answer_to, is_small, prints_row, point_told, row_answer, value_answer}
 use Rattle.report_forms.specs.Limits.{is_key, is_value}
 use Rattle.script.specs.Grammar.{only, both, decimal_from, field_of, tuple_of}

@@ -1,5 +1,5 @@
 -- What is read is told by the bytes, and the line that is told is the first that can't stand.
-use Rattle.std.proofs.Common.{◌≡◌, ℕ, suc, ◌+◌, ◌-◌, List, length, Result, Ok, Err, refl, ◌∙◌, arith}
+use Rattle.std.proofs.Common.{ℕ, List, Result, Ok, Err, refl, ◌∙◌, arith}
 use Rattle.audit_law.specs.TextLines.{ended_lines}
 use Rattle.line_forms.specs.LineForms.{read_whole}
 use Rattle.map_history.specs.LegalReport.{Run}

@@ -1,5 +1,5 @@
 -- What was read so far, and what the lines that are left are read to, are what all lines are.
-use Rattle.std.proofs.Common.{◌≡◌, ℕ, zero, suc, ◌+◌, ◌-◌, ◌<◌, ◌≤◌, Bool, true, List, [], ◌∷◌, ◌++◌, length, get_or, drop, map, Vec, Ok, Err, refl, sym, ap, ◌∙◌, append_assoc, append-nil, add-one, arith}
+use Rattle.std.proofs.Common.{◌≡◌, ℕ, suc, ◌+◌, ◌-◌, ◌<◌, ◌≤◌, Bool, true, List, [], ◌∷◌, ◌++◌, length, get_or, drop, map, Vec, Ok, Err, refl, sym, ap, ◌∙◌, append_assoc, append-nil, arith}
 use Rattle.std.specs.List.{zip, enumerate_from}
 use Rattle.std.specs.String.{string_bytes}
 use Rattle.std.specs.declared.string.String.{String}
@@ -10,7 +10,7 @@ use Rattle.map_history.specs.Lines.{line_texts}
 use Rattle.map_history.specs.Report.{ScanPiece}
 use Rattle.line_forms.specs.LineForms.{Lines, Reading, read_second, read_as}
 use Rattle.report_forms.specs.Lists.{in_front, read_each, numbers_from}
-use Rattle.report_forms.specs.Scans.{PieceTurn, read_piece, read_pieces}
+use Rattle.report_forms.specs.Scans.{read_piece, read_pieces}
 use Rattle.report_reading.specs.declared.misread.Misread.{Misread}
 use Rattle.report_reading.specs.declared.misread.Misread.TheVariants as misread
 use Rattle.report_reading.specs.Reads.{Stops}

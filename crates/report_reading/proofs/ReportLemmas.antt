@@ -1,5 +1,5 @@
 -- A report is read as its parts are, one after another.
-use Rattle.std.proofs.Common.{◌≡◌, ℕ, zero, suc, ◌+◌, List, [], ◌∷◌, length, Some, Ok, Err, refl, sym, ap, ◌∙◌, subst, arith}
+use Rattle.std.proofs.Common.{◌≡◌, ℕ, suc, ◌+◌, List, [], ◌∷◌, length, Some, Ok, Err, refl, sym, ap, ◌∙◌, subst, arith}
 use Rattle.std.specs.Prelude.{codes}
 use Rattle.std.specs.List.{enumerate_from, slice_get, zip}
 use Rattle.column_counts.specs.Counted.{AreCounts}
@@ -12,7 +12,7 @@ use Rattle.map_history.specs.Spelling.{stats_text}
 use Rattle.map_history.specs.Statistics.{counts_of}
 use Rattle.map_history.specs.Text.{line_of}
 use Rattle.report_forms.specs.Lists.{in_front, read_each}
-use Rattle.report_forms.specs.Reports.{ReadParts, read_lane, read_report, read_stats, report_from, stats_told}
+use Rattle.report_forms.specs.Reports.{read_lane, read_report, read_stats, report_from}
 use Rattle.report_reading.specs.declared.misread.Misread.{Misread}
 use Rattle.report_reading.specs.declared.misread.Misread.TheVariants as misread
 use Rattle.report_reading.specs.Counts.{columns_among}

@@ -1,5 +1,5 @@
 -- A schema and lanes that were read ask for a run whose reports are a form of lines.
-use Rattle.std.proofs.Common.{◌≡◌, ℕ, ◌<◌, ◌&&◌, not, Bool, true, false, eqb, ltb, List, [], ◌∷◌, length, refl, sym, ap, ◌∙◌, subst, arith}
+use Rattle.std.proofs.Common.{◌≡◌, ℕ, ◌<◌, ◌&&◌, not, Bool, true, false, eqb, ltb, List, [], ◌∷◌, length, refl, subst, arith}
 use Rattle.std.specs.List.{AllByRecursion, list_all}
 use Rattle.std.proofs.lemmas.Bool.{eqb-true}
 use Rattle.std.proofs.lemmas.List.Elements.{recursion_from_All}
@@ -9,7 +9,7 @@ use Rattle.report_laws.specs.SpellingLaws.{IsPlainName}
 use Rattle.script.specs.declared.TheConstants.{MAX_NAME_BYTES}
 use Rattle.script.specs.Grammar.{is_letter, is_name, is_name_byte}
 use Rattle.script.specs.Lane.{AreLaneLines, IsLaneLine}
-use Rattle.script.specs.Schema.{SchemaText, IsSchema, IsFieldCount}
+use Rattle.script.specs.Schema.{SchemaText, IsFieldCount}
 use Rattle.script.proofs.Results.{both_so}
 use Rattle.report_reading.specs.Laws.{ReadRunsAreAsked, HasSmallNumber}
 

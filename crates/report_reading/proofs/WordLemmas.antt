@@ -1,10 +1,9 @@
 -- What a word or two tell, as it passes the limits.
-use Rattle.std.proofs.Common.{◌≡◌, ℕ, ◌≤◌, ◌&&◌, Bool, true, false, cond, eqb, ltb, leb, List, [], ◌∷◌, length, Option, Some, None, Ok, Err, refl, sym, ap, ◌∙◌, subst, arith}
-use Rattle.std.proofs.lemmas.Bool.{eqb-true, ltb-true, ltb-false, lt-leb, le-leb}
+use Rattle.std.proofs.Common.{◌≡◌, ℕ, ◌≤◌, ◌&&◌, Bool, true, false, cond, eqb, ltb, List, [], ◌∷◌, length, Option, Some, None, Ok, Err, refl, sym, ap, ◌∙◌, subst}
+use Rattle.std.proofs.lemmas.Bool.{eqb-true, ltb-true, ltb-false, lt-leb}
 use Rattle.std.specs.Str.{bytes_eq}
 use Rattle.key_tuple.specs.Order.{FieldList, byte_count}
 use Rattle.key_tuple.specs.declared.TheConstants.{MAX_KEY_BYTES, MAX_VALUE_BYTES}
-use Rattle.map_history.specs.Bytes.{AreBytes}
 use Rattle.map_history.specs.Map.{Pair}
 use Rattle.audit_law.specs.Verdicts.{IsKey}
 use Rattle.report_forms.specs.Limits.{are_bytes, is_key, is_value, is_row}

@@ -1,5 +1,5 @@
 -- The columns that the statistics count.
-use Rattle.std.specs.Prelude.{ℕ, ◌++◌, List, length}
+use Rattle.std.specs.Prelude.{ℕ, ◌++◌, List}
 use Rattle.std.specs.List.{flat_map, zip}
 use Rattle.column_counts.specs.Counted.{AreCounts}
 use Rattle.map_history.specs.declared.counts.Counts.{Counts}

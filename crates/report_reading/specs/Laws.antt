@@ -1,5 +1,5 @@
 -- What a schema and lanes that were read ask for.
-use Rattle.std.specs.Prelude.{ℕ, ◌<◌, ◌^◌, List, length}
+use Rattle.std.specs.Prelude.{◌<◌, ◌^◌, List, length}
 use Rattle.std.specs.List.{AllByRecursion}
 use Rattle.map_history.specs.LegalReport.{Line}
 use Rattle.report_forms.specs.Reports.{IsReadRun}

@@ -1,5 +1,5 @@
 -- Pieces of scans that are read.
-use Rattle.std.specs.Prelude.{ℕ, ◌&&◌, ◌^◌, nat_lt, Bool}
+use Rattle.std.specs.Prelude.{◌&&◌, ◌^◌, nat_lt, Bool}
 use Rattle.map_history.specs.Report.{ScanPiece}
 use Rattle.report_forms.specs.Scans.{PieceHead, PieceTurn, has_turn, stands_later}
 use Rattle.report_reading.specs.declared.scan_line.ReadHead.{ReadHead}

@@ -1,5 +1,5 @@
 -- A number, or a point, behind its word.
-use Rattle.std.proofs.Common.{◌≡◌, ℕ, List, ◌∷◌, [], true, false, refl, sym, subst, ap, ◌∙◌}
+use Rattle.std.proofs.Common.{◌≡◌, ℕ, List, ◌∷◌, true, false, refl, sym, subst, ap, ◌∙◌}
 use Rattle.std.specs.Str.{bytes_eq}
 use Rattle.script.specs.Pieces.{pieces_left}
 use Rattle.report_reading.specs.Answers.{reply_seen}

@@ -1,5 +1,5 @@
 -- Four words or five.
-use Rattle.std.proofs.Common.{refl, sym, ◌∙◌}
+use Rattle.std.proofs.Common.{sym}
 use Rattle.script.specs.Pieces.{pieces_left}
 use Rattle.report_reading.proofs.ToldLemmas.{five_words}
 use Rattle.report_reading.proofs.AnswerToldLemmas.{four_words}

@@ -5,7 +5,6 @@ use Rattle.std.specs.List.{flat_map, zip}
 use Rattle.std.specs.declared.alloc.Global.{Global}
 use Rattle.column_counts.specs.Counted.{AreCounts}
 use Rattle.column_counts.proofs.SumLemmas.{counts_as}
-use Rattle.map_history.specs.declared.counts.Counts.{Counts}
 use Rattle.map_history.specs.declared.line.Line.{Line}
 use Rattle.map_history.specs.LegalReport as asked
 use Rattle.map_history.specs.LegalReport.{columns_in}

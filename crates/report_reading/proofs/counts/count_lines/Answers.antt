@@ -1,5 +1,5 @@
 -- One answer more, or none.
-use Rattle.std.proofs.Common.{ℕ, ap, map, arith}
+use Rattle.std.proofs.Common.{ℕ, ap, arith}
 use Rattle.map_history.specs.LegalReport.{columns_in}
 use Rattle.map_history.specs.Lines.{line_text}
 use Rattle.report_reading.specs.Told.{line_seen}

@@ -1,4 +1,4 @@
-use Rattle.std.proofs.Common.{set, refl, ap, ◌∙◌}
+use Rattle.std.proofs.Common.{set, ap}
 use Rattle.std.proofs.lemmas.Result.{on_ok_weaker}
 use Rattle.report_reading.specs.Columns.{columns_seen}
 use Rattle.report_reading.proofs.CountLemmas.{counts_one}

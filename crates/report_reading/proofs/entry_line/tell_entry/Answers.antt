@@ -1,5 +1,5 @@
 -- Three words, and those of the change.
-use Rattle.std.proofs.Common.{ℕ, List, ◌∷◌, refl, sym, ap, ◌∙◌}
+use Rattle.std.proofs.Common.{refl, sym}
 use Rattle.std.proofs.lemmas.Result.{err_from_is_err_and}
 use Rattle.script.specs.Pieces.{pieces_left}
 use Rattle.report_reading.proofs.ToldLemmas.{three_words, entry_of, no_change}

@@ -1,7 +1,7 @@
 -- One row more, or none that can stand.
 use Rattle.std.proofs.Common.{◌≡◌, ℕ, ◌+◌, ◌-◌, List, [], ◌∷◌, ◌++◌, sym, subst, ap, ◌∙◌}
 use Rattle.std.proofs.lemmas.Result.{err_from_is_err_and}
-use Rattle.map_history.specs.Map.{Pair, Map}
+use Rattle.map_history.specs.Map.{Map}
 use Rattle.map_history.specs.Rows.{row_from}
 use Rattle.report_forms.specs.Lists.{read_each, numbers_from}
 use Rattle.report_forms.specs.Scans.{read_row}

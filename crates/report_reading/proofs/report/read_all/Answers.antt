@@ -1,5 +1,5 @@
 -- The parts of a report, one after another.
-use Rattle.std.proofs.Common.{◌≡◌, ℕ, List, Vec, String, map, Ok, subst, ◌∙◌, arith}
+use Rattle.std.proofs.Common.{◌≡◌, ℕ, List, Vec, String, map, Ok, subst, arith}
 use Rattle.std.specs.Prelude.{string_bytes}
 use Rattle.std.specs.List.{enumerate_from, zip}
 use Rattle.std.specs.declared.alloc.Global.{Global}

@@ -1,5 +1,4 @@
 -- A value that isn't spelled, one that is too long, and one that is read.
-use Rattle.std.proofs.Common.{List}
 use Rattle.std.proofs.lemmas.Result.{err_from_is_err_and}
 use Rattle.report_reading.proofs.WordLemmas.{value_refused, value_long, value_read}
 use Rattle.report_reading.proofs.rows.value_in.Goals as goal

@@ -1,4 +1,4 @@
-use Rattle.std.proofs.Common.{refl, sym, ◌∙◌, Option}
+use Rattle.std.proofs.Common.{refl, sym, ◌∙◌}
 use Rattle.script.specs.Pieces.{pieces_left}
 use Rattle.report_forms.specs.Scans.{piece_head_told}
 use Rattle.report_reading.specs.Pieces.{turn_seen}
