@@ -17,11 +17,15 @@ mod schema;
 mod verb;
 mod words;
 
-pub use error::{Flaw, ScriptError};
+pub use error::{Flaw, Refusal, ScriptError};
+pub use field::field as read_field;
 pub use map_history::Line;
 use map_history::Sizes;
+pub use pieces::Pieces;
 pub use reading::{read_lane, read_schema};
+pub use rows::{KeyText, key_text, key_within, value_within};
 pub use schema::Schema;
+pub use words::{one_word, two_words};
 
 /// The most bytes of a file that is read: 64 MiB.
 pub const MAX_FILE_BYTES: usize = 67_108_864;

@@ -18,7 +18,7 @@ use std::alloc::Global;
 
 /// The fields of a key's or a tuple's word: their bytes one behind another, and where each ends.
 #[derive(Drop)]
-struct KeyText {
+pub struct KeyText {
     bytes: Vec<u8>,
     ends: ArrayVec<usize, 4>,
 }
@@ -70,7 +70,7 @@ pub fn read_search(alloc: Global, count: u8, words: Pieces<'_>) -> Result<(Mode,
 }
 
 /// The fields of a key's word, if there are exactly so many.
-fn key_text(alloc: Global, count: u8, word: &[u8]) -> Result<KeyText, Refusal>
+pub fn key_text(alloc: Global, count: u8, word: &[u8]) -> Result<KeyText, Refusal>
     requires { count ≤ MAX_FIELDS }
     ensures fields { Gives text_fields result (or_bad (key_spelled count word.now)) }
     ensures counted { IfOk result (λ t. length t.ends.items ≡ count) }
@@ -102,7 +102,8 @@ fn tuple_text(alloc: Global, most: u8, word: &[u8]) -> Result<KeyText, Refusal>
     Ok(KeyText { bytes, ends })
 }
 
-fn key_within(text: KeyText) -> Result<Key, Refusal>
+/// The key of these fields, if it isn't too long.
+pub fn key_within(text: KeyText) -> Result<Key, Refusal>
     requires some { 0 < length text.ends.items }
     requires few { length text.ends.items ≤ MAX_FIELDS }
     requires rise { RiseTo 0 text.ends.items (length text.bytes.items) }
@@ -129,7 +130,8 @@ fn tuple_within(text: KeyText) -> Result<Tuple, Refusal>
     }
 }
 
-fn value_within(bytes: Vec<u8>) -> Result<Value, Refusal>
+/// The value of these bytes, if it isn't too long.
+pub fn value_within(bytes: Vec<u8>) -> Result<Value, Refusal>
     ensures { Gives (λ v. v) result (short_value bytes.items) }
 {
     match Value::try_new(bytes) {

@@ -1,0 +1,17 @@
+-- A point and a value.
+use Rattle.std.proofs.Common.{refl, sym}
+use Rattle.std.proofs.lemmas.Result.{err_from_is_err_and}
+use Rattle.report_reading.specs.Columns.{columns_seen}
+use Rattle.report_reading.proofs.AnswerToldLemmas.{value_of, value_none}
+use Rattle.report_reading.proofs.answer_line.tell_value.Goals as goal
+
+pub returns-in_default : goal.returns-in_default
+returns-in_default c fields = rw (value_of fields c.args.value.now c.args.point.now (columns_seen c.args.columns), sym c.in_default.ensures) refl
+
+pub returns-in_err-value : goal.returns-in_err-value
+returns-in_err-value c fields =
+    let p = err_from_is_err_and c.from_residual.result c.from_residual.ensures.1 in
+    rw (p.1, p.2) (value_none fields c.args.value.now c.args.point.now (columns_seen c.args.columns) c.in_err-value.field-0.0 c.in_err-value.ensures)
+
+pub returns : goal.returns
+returns c fields = rw (value_of fields c.args.value.now c.args.point.now (columns_seen c.args.columns), sym c.in-Some.ensures, c.in_ok-value.ensures) refl
