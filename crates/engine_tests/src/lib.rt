@@ -32,6 +32,8 @@ mod room;
 #[cfg(test)]
 mod rounds;
 #[cfg(test)]
+mod scans;
+#[cfg(test)]
 mod sets;
 #[cfg(test)]
 mod setup;

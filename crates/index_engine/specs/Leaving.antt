@@ -5,8 +5,8 @@ use Rattle.key_tuple.specs.declared.mode.Mode.TheVariants as mode
 use Rattle.latch_space.specs.Passes.{view, count}
 use Rattle.map_history.specs.declared.reply.Reply.TheVariants as words
 use Rattle.map_history.specs.declared.reply.Told.{Told}
-use Rattle.map_history.specs.Map.{Pair, Del}
-use Rattle.map_history.specs.Operation.{Ask, Make}
+use Rattle.map_history.specs.Map.{Del}
+use Rattle.map_history.specs.Operation.{Make}
 use Rattle.index_law.specs.Meanings.{lent_row}
 use Rattle.forest_law.specs.declared.objects.Frame.{Frame}
 use Rattle.forest_law.specs.Numbers.{frame_id}
@@ -21,7 +21,7 @@ use Rattle.tree_descent.specs.declared.descending.Leaf.{Leaf}
 use Rattle.tree_descent.specs.Leaves.{IsLeafFor}
 use Rattle.tree_growth.specs.Growing.{GrowsSilently}
 use Rattle.leaf_changes.specs.Holds.{KeepsNumber}
-use Rattle.leaf_changes.specs.Says.{AnswersAndLeaves, SaysBeside, LooksBeside}
+use Rattle.leaf_changes.specs.Says.{AnswersAndLeaves, LooksBeside}
 use Rattle.index_engine.specs.Traces.{Finding, IsFullLeaf, HasLightPage, SeesEach}
 
 -- the leaf with the key's position is held besides, and was found so by the references that were
