@@ -35,6 +35,8 @@ mod order;
 #[cfg(test)]
 mod rows;
 #[cfg(test)]
+mod scan_lines;
+#[cfg(test)]
 mod schema_sizes;
 #[cfg(test)]
 mod script_limits;
