@@ -1,1 +1,4 @@
 mod EmptyLemmas
+mod SiteLemmas
+mod MarkLemmas
+mod StandLemmas

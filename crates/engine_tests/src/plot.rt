@@ -13,16 +13,17 @@ use crate::names::{Row, key_of};
 use buffer_pool::give_back;
 use engine_law::Found;
 use forest_world::{ForestPass, ForestSpace};
+use index_page::PageError;
 use key_tuple::{Key, Mode, Value};
 use leaf_changes::TreeCall;
 use leaf_search::{KeySearch, search_key};
-use map_history::{How, Note, Reply};
+use map_history::{How, Note, Reply, Told};
 use std::process::Abort;
 use std::sync::Wait;
 use tree_descent::{Leaf, descend};
 
 /// Goes down from the root, and holds the leaf.
-fn hold_leaf<R: Wait>(call: &TreeCall<'_, R>, pass: &mut ForestPass) -> Leaf
+pub(crate) fn hold_leaf<R: Wait>(call: &TreeCall<'_, R>, pass: &mut ForestPass) -> Leaf
     requires own { IsPassOf call.now.space.now pass.old }
     requires nothing { count pass.old ≡ 0 }
     ensures own { IsSamePass pass.old pass.new × IsPassOf call.now.space.now pass.new }
@@ -32,14 +33,13 @@ fn hold_leaf<R: Wait>(call: &TreeCall<'_, R>, pass: &mut ForestPass) -> Leaf
     descend(call.space, pass, call.index, call.key, Mode::Ge, call.wait)
 }
 
-/// Puts the row, of at most so many changes.
-fn put<R: Abort + Wait>(
-    rt: &R,
+/// Puts a row, of at most so many changes, if its leaf has room for it.
+pub(crate) fn put_once<R: Wait>(
     call: &TreeCall<'_, R>,
     pass: &mut ForestPass,
     most: u64,
     value: &Value,
-)
+) -> Result<Told, PageError>
     requires own { IsPassOf call.now.space.now pass.old }
     requires most { most ≡ call.now.space.now.terms.max_changes }
     requires nothing { count pass.old ≡ 0 }
@@ -50,8 +50,7 @@ fn put<R: Abort + Wait>(
     let part = call.hold_to_change(pass, &leaf);
     let told = call.put_held(pass, &leaf, most, value);
     call.let_both_go(pass, leaf.block, part);
-    let reply = told.expect(rt, "memory for a row").reply;
-    ensure(rt, reply == Reply::Ok, "a row that is put");
+    told
 }
 
 /// Puts the row of a name, in a space of at most 100 changes.
@@ -85,7 +84,8 @@ pub(crate) fn put_row<R: AllocGlobal + Abort + Wait>(
         found,
         wait: rt,
     };
-    put(rt, &call, pass, 100, &value);
+    let told = put_once(&call, pass, 100, &value).expect(rt, "room for a row");
+    ensure(rt, told.reply == Reply::Ok, "a row that is put");
 }
 
 /// Lets a search go down to the leaf of the key, which has it hashed.
