@@ -1,0 +1,14 @@
+//! Tests of `report_reading`: of what no clause of it says. Nothing stands on this crate, and it has
+//! no code but tests.
+#![tactic(auto)]
+
+#[cfg(test)]
+mod edits;
+#[cfg(test)]
+mod forms;
+#[cfg(test)]
+mod scans;
+#[cfg(test)]
+mod setup;
+#[cfg(test)]
+mod told;
