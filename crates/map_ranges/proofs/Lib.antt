@@ -1,0 +1,3 @@
+pub mod TupleCutLemmas
+pub mod BoundLemmas
+pub mod RowLemmas
