@@ -1,4 +1,4 @@
-//! Tests of `report_reading`: of what no clause of it says. Nothing stands on this crate, and it has
+//! Tests of `report_reading` and of `map_ranges`: of what no clause of them says. Nothing stands on this crate, and it has
 //! no code but tests.
 #![tactic(auto)]
 
@@ -8,6 +8,8 @@ mod edits;
 mod forms;
 #[cfg(test)]
 mod scans;
+#[cfg(test)]
+mod seeks;
 #[cfg(test)]
 mod setup;
 #[cfg(test)]
